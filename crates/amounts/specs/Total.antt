@@ -1,0 +1,12 @@
+-- An order's total (TPC-C 5.11, clause 2.4.2.2).
+use Rattle.std.specs.Prelude.{ℕ, ◌+◌, ◌-◌, ℤ, pos, ◌+ℤ◌, ◌*ℤ◌, ◌≤ℤ◌, ◌<ℤ◌}
+
+-- the sum less the discount, with both taxes, in hundred-millionths of a cent
+abbrev pub scaled_total : ℤ → ℕ → ℕ → ℕ → ℤ
+scaled_total sum discount warehouse_tax district_tax =
+    sum *ℤ pos (10000 - discount) *ℤ pos (10000 + warehouse_tax + district_tax)
+
+-- the total is the nearest cent, and a half goes up
+pub record IsNearestCent (scaled total : ℤ) : Type 0 where
+  pub low : (pos 100000000 *ℤ total) ≤ℤ (scaled +ℤ pos 50000000)
+  pub high : scaled <ℤ (pos 100000000 *ℤ total +ℤ pos 50000000)

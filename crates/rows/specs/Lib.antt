@@ -1,0 +1,7 @@
+pub mod Text
+pub mod Ranged
+pub mod Keys
+pub mod Restock
+pub mod Brand
+pub mod PaymentNote
+pub mod LastName

@@ -1,0 +1,19 @@
+-- Texts of a column's width (clause 1.3.1: fixed and variable text).
+use Rattle.std.specs.Prelude.{ℕ, ◌≤◌, List, Bool, ◌&&◌, nat_le, length, IsTrue, Result, Ok, Err, if◌then◌else◌}
+use Rattle.std.specs.List.{list_all}
+use Rattle.rows.specs.declared.text.TextFault.{TextFault}
+use Rattle.rows.specs.declared.text.TextFault.TheVariants.{Byte, Width}
+
+-- printable ASCII
+abbrev pub is_printable_byte : ℕ → Bool
+is_printable_byte byte = nat_le 32 byte && nat_le byte 126
+
+-- printable ASCII, of at most the width
+pub record IsText (width : ℕ) (bytes : List ℕ) : Type 0 where
+  pub fits : length bytes ≤ width
+  pub printable : IsTrue (list_all is_printable_byte bytes)
+
+-- the bytes as a text of that width; a byte that is not printable is reported before the width
+abbrev pub text_of : ℕ → List ℕ → Result (List ℕ) TextFault
+text_of width bytes =
+    if list_all is_printable_byte bytes then (if nat_le (length bytes) width then Ok bytes else Err Width) else Err Byte

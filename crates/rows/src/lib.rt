@@ -1,0 +1,30 @@
+//! The rows of the nine tables of an order-entry database, with the range of every column kept by
+//! its type, and the small rules on single rows. Clauses are those of TPC-C 5.11.
+#![tactic(auto)]
+
+mod keys;
+mod moment;
+mod names;
+mod payment_note;
+mod ranged;
+mod records;
+mod stock_rules;
+mod text;
+
+pub use keys::{CustomerKey, DistrictKey, OrderKey, OrderLineKey, StockKey};
+pub use moment::Moment;
+pub use names::last_name;
+pub use payment_note::prepend_data;
+pub use ranged::{
+    CarrierId, Counter, ImageId, LineAmount, LineCount, LineQuantity, NextOrderId, Price, Ranged,
+    StockQuantity,
+};
+pub use records::{
+    Address, Credit, Customer, District, History, Item, NewOrder, Order, OrderLine, Stock,
+    Warehouse,
+};
+pub use stock_rules::{BrandGeneric, brand, restock};
+pub use text::{Text, TextFault};
+
+#[cfg(test)]
+mod tests;

@@ -1,0 +1,87 @@
+ghost use Rattle.std.specs.Prelude.{◌≡◌, ◌+◌, ◌≤◌};
+ghost use Rattle.rows.specs.Ranged.{in_range};
+
+use std::marker::Model;
+
+/// A whole number from `LOW` to `HIGH`, both included.
+#[derive(Clone, Copy, Debug, PartialEq, Eq, Hash, PartialOrd, Ord)]
+pub struct Ranged<const LOW: u32, const HIGH: u32> {
+    number: u32,
+}
+
+/// A count that only grows: S_YTD, S_ORDER_CNT, S_REMOTE_CNT, C_PAYMENT_CNT, C_DELIVERY_CNT.
+pub type Counter = Ranged<0, 999_999_999>;
+
+/// D_NEXT_O_ID: the number that the district's next order gets, or 10,000,000 where all are used.
+pub type NextOrderId = Ranged<1, 10_000_000>;
+
+/// S_QUANTITY: how many of an item a warehouse has.
+pub type StockQuantity = Ranged<10, 100>;
+
+/// I_PRICE, in cents.
+pub type Price = Ranged<1, 99_999>;
+
+/// I_IM_ID: the number of the item's picture.
+pub type ImageId = Ranged<1, 10_000>;
+
+/// O_CARRIER_ID: who delivers.
+pub type CarrierId = Ranged<1, 10>;
+
+/// O_OL_CNT: how many lines an order has.
+pub type LineCount = Ranged<1, 15>;
+
+/// OL_QUANTITY: how many of an item a line orders.
+pub type LineQuantity = Ranged<1, 10>;
+
+/// OL_AMOUNT, in cents.
+pub type LineAmount = Ranged<0, 999_999>;
+
+impl<const LOW: u32, const HIGH: u32> Model for Ranged<LOW, HIGH> {
+    ghost use Rattle.std.specs.Prelude.{ℕ, ◌≤◌};
+
+    ghost Value = { ℕ };
+
+    ghost view = { λ r. r.number };
+
+    ghost invariant = { λ r. (LOW ≤ r.number) × (r.number ≤ HIGH) };
+
+    ghost inverse = { λ number. record { number = number } };
+}
+
+impl<const LOW: u32, const HIGH: u32> Ranged<LOW, HIGH> {
+    /// That number, which is known to be from `LOW` to `HIGH`.
+    pub fn new(number: u32) -> Self
+        requires low { LOW ≤ number }
+        requires high { number ≤ HIGH }
+        ensures { result ≡ number }
+    {
+        Ranged { number }
+    }
+
+    /// The number, or `None` where it is out of range.
+    pub fn checked_new(number: u32) -> Option<Self>
+        ensures { result ≡ in_range LOW HIGH number }
+    {
+        if LOW <= number && number <= HIGH {
+            Some(Ranged { number })
+        } else {
+            None
+        }
+    }
+
+    /// The number itself, from `LOW` to `HIGH`.
+    pub fn get(self) -> u32
+        ensures value { result ≡ self.entry }
+        ensures low { LOW ≤ self.entry }
+        ensures high { self.entry ≤ HIGH }
+    {
+        self.number
+    }
+
+    /// The sum, or `None` where it is out of range.
+    pub fn checked_add(self, more: u32) -> Option<Self>
+        ensures { result ≡ in_range LOW HIGH (self.entry + more) }
+    {
+        Ranged::checked_new(self.number.checked_add(more)?)
+    }
+}

@@ -1,0 +1,106 @@
+-- What a contract sees of the nine tables: finite maps from keys to rows (clause 1.3).
+use Rattle.std.specs.Prelude.{◌≡◌, ℕ, Bool, ◌&&◌, List, [], ◌∷◌, ◌++◌, IsTrue, unwrap_or}
+use Rattle.std.specs.List.{list_all}
+use Rattle.std.specs.Ordering.{nat_cmp}
+use Rattle.std.specs.FinMap as map
+use Rattle.rows.specs.declared.keys.DistrictKey.{DistrictKey}
+use Rattle.rows.specs.declared.keys.StockKey.{StockKey}
+use Rattle.rows.specs.declared.keys.CustomerKey.{CustomerKey}
+use Rattle.rows.specs.declared.keys.OrderKey.{OrderKey}
+use Rattle.rows.specs.declared.records.Item.{Item}
+use Rattle.rows.specs.declared.records.Warehouse.{Warehouse}
+use Rattle.rows.specs.declared.records.District.{District}
+use Rattle.rows.specs.declared.records.Stock.{Stock}
+use Rattle.rows.specs.declared.records.Customer.{Customer}
+use Rattle.rows.specs.declared.records.History.{History}
+use Rattle.rows.specs.declared.records.Order.{Order}
+use Rattle.rows.specs.declared.records.NewOrder.{NewOrder}
+use Rattle.rows.specs.declared.records.OrderLine.{OrderLine}
+use Rattle.rows.specs.Keys.{district_cmp, stock_cmp, customer_cmp, order_cmp, line_cmp, order_of_line}
+use Rattle.rows.specs.Ranged.{is_between}
+use Rattle.schema.specs.declared.scale.Scale.{Scale}
+use Rattle.schema.specs.Scale.{has_item, has_warehouse, has_district, has_stock, has_customer}
+use Rattle.schema.specs.EachRow.{EachRow}
+
+abbrev pub HistoryTable : Type 0
+HistoryTable = map.FinMap district_cmp (List History)
+
+-- the payments of a district, the oldest first
+abbrev pub list_at : HistoryTable → DistrictKey → List History
+list_at histories key = unwrap_or (map.get histories key) []
+
+-- the district's list with one payment more, at its end
+abbrev pub with_payment : HistoryTable → DistrictKey → History → HistoryTable
+with_payment histories key row = map.insert histories key (list_at histories key ++ row ∷ [])
+
+pub record Database : Type 0 where
+  pub scale : Scale
+  pub items : map.FinMap nat_cmp Item
+  pub warehouses : map.FinMap nat_cmp Warehouse
+  pub districts : map.FinMap district_cmp District
+  pub stocks : map.FinMap stock_cmp Stock
+  pub customers : map.FinMap customer_cmp Customer
+  pub histories : HistoryTable
+  pub orders : map.FinMap order_cmp Order
+  pub new_orders : map.FinMap order_cmp NewOrder
+  pub lines : map.FinMap line_cmp OrderLine
+
+-- ---- the rules of the scale
+
+-- every payment of a list names a customer of the scale
+abbrev pub are_payers_known : Scale → List History → Bool
+are_payers_known scale rows = list_all (λ row. has_customer scale row.customer) rows
+
+-- the customer of an order, which is of the order's district
+abbrev pub customer_of_order : OrderKey → Order → CustomerKey
+customer_of_order key row = record { w_id = key.w_id; d_id = key.d_id; c_id = row.c_id }
+
+-- O_ID is from 1 to 9,999,999
+abbrev pub is_order_id : ℕ → Bool
+is_order_id number = is_between 1 9999999 number
+
+-- OL_NUMBER is from 1 to 15
+abbrev pub is_line_number : ℕ → Bool
+is_line_number number = is_between 1 15 number
+
+abbrev pub PayersKnown : Database → Type 0
+PayersKnown t = EachRow (λ _ rows. are_payers_known t.scale rows) t.histories
+
+abbrev pub OrdersNumbered : Database → Type 0
+OrdersNumbered t = EachRow (λ key _. is_order_id key.o_id) t.orders
+
+abbrev pub OrdersHaveCustomers : Database → Type 0
+OrdersHaveCustomers t = EachRow (λ key row. has_customer t.scale (customer_of_order key row)) t.orders
+
+abbrev pub NewOrdersHaveOrders : Database → Type 0
+NewOrdersHaveOrders t = EachRow (λ key _. map.contains_key t.orders key) t.new_orders
+
+abbrev pub LinesHaveOrders : Database → Type 0
+LinesHaveOrders t = EachRow (λ key _. map.contains_key t.orders (order_of_line key)) t.lines
+
+abbrev pub LinesNumbered : Database → Type 0
+LinesNumbered t = EachRow (λ key _. is_line_number key.number) t.lines
+
+abbrev pub LinesHaveItems : Database → Type 0
+LinesHaveItems t = EachRow (λ _ row. has_item t.scale row.i_id) t.lines
+
+abbrev pub LinesHaveSuppliers : Database → Type 0
+LinesHaveSuppliers t = EachRow (λ _ row. has_warehouse t.scale row.supply_w_id) t.lines
+
+-- The keys of six tables are exactly those of the scale, each district has a list of payments, and no row of the
+-- others refers to a row that isn't there.
+pub record IsWithinScale (t : Database) : Type 0 where
+  pub items : (key : ℕ) → map.contains_key t.items key ≡ has_item t.scale key
+  pub warehouses : (key : ℕ) → map.contains_key t.warehouses key ≡ has_warehouse t.scale key
+  pub districts : (key : DistrictKey) → map.contains_key t.districts key ≡ has_district t.scale key
+  pub stocks : (key : StockKey) → map.contains_key t.stocks key ≡ has_stock t.scale key
+  pub customers : (key : CustomerKey) → map.contains_key t.customers key ≡ has_customer t.scale key
+  pub histories : (key : DistrictKey) → map.contains_key t.histories key ≡ has_district t.scale key
+  pub payers_known : PayersKnown t
+  pub orders_numbered : OrdersNumbered t
+  pub orders_have_customers : OrdersHaveCustomers t
+  pub new_orders_have_orders : NewOrdersHaveOrders t
+  pub lines_have_orders : LinesHaveOrders t
+  pub lines_numbered : LinesNumbered t
+  pub lines_have_items : LinesHaveItems t
+  pub lines_have_suppliers : LinesHaveSuppliers t

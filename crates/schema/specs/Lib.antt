@@ -1,0 +1,6 @@
+pub mod Limits
+pub mod Dense
+pub mod EachRow
+pub mod Scale
+pub mod Database
+pub mod Rows

@@ -1,0 +1,91 @@
+ghost use Rattle.std.specs.Prelude.{◌≡◌, ◌↔◌, IsTrue, is_some};
+ghost use Rattle.std.specs.List.{list_all};
+ghost use Rattle.std.specs.BTreeMap.{IsOrdered, get};
+ghost use Rattle.rows.specs.Keys.{order_cmp, line_cmp, order_of_line};
+ghost use Rattle.schema.specs.Scale.{has_item, has_warehouse, has_customer};
+ghost use Rattle.schema.specs.Database.{customer_of_order, is_order_id, is_line_number, are_payers_known};
+
+use crate::{HistoryList, Scale};
+use rows::{CustomerKey, NewOrder, Order, OrderKey, OrderLine, OrderLineKey};
+use std::collections::BTreeMap;
+
+/// Whether every payment names a customer of the scale.
+pub fn name_payers_customers(histories: &[HistoryList], scale: Scale) -> bool
+    ensures { result ≡ list_all (are_payers_known scale) histories.now }
+{
+    histories.iter().all(|list| list.are_payers_known(scale))
+}
+
+/// Whether every O_ID is in its range.
+pub fn are_orders_numbered(orders: &BTreeMap<OrderKey, Order>) -> bool
+    ensures each { result ≡ list_all (λ e. is_order_id e.0.o_id) orders.now.entries }
+    ensures ordered { IsOrdered order_cmp orders.now }
+{
+    orders
+        .iter()
+        .all(|(key, _)| (1..=9_999_999).contains(&key.o_id))
+}
+
+/// Whether every order names a customer of the scale.
+pub fn have_orders_customers(orders: &BTreeMap<OrderKey, Order>, scale: Scale) -> bool
+    ensures each { result ≡ list_all (λ e. has_customer scale (customer_of_order e.0 e.1)) orders.now.entries }
+    ensures ordered { IsOrdered order_cmp orders.now }
+{
+    orders.iter().all(|(key, row)| {
+        scale.has_customer(CustomerKey {
+            w_id: key.w_id,
+            d_id: key.d_id,
+            c_id: row.c_id,
+        })
+    })
+}
+
+/// Whether every new order is an order.
+pub fn have_new_orders_orders(
+    new_orders: &BTreeMap<OrderKey, NewOrder>,
+    orders: &BTreeMap<OrderKey, Order>,
+) -> bool
+    ensures each { result ≡ list_all (λ e. is_some (get order_cmp orders.now e.0)) new_orders.now.entries }
+    ensures ordered { IsOrdered order_cmp new_orders.now }
+{
+    new_orders.iter().all(|(key, _)| orders.contains_key(key))
+}
+
+/// Whether every line belongs to an order.
+pub fn have_lines_orders(
+    lines: &BTreeMap<OrderLineKey, OrderLine>,
+    orders: &BTreeMap<OrderKey, Order>,
+) -> bool
+    ensures each { result ≡ list_all (λ e. is_some (get order_cmp orders.now (order_of_line e.0))) lines.now.entries }
+    ensures ordered { IsOrdered line_cmp lines.now }
+{
+    lines
+        .iter()
+        .all(|(key, _)| orders.contains_key(&key.order()))
+}
+
+/// Whether every OL_NUMBER is in its range.
+pub fn are_lines_numbered(lines: &BTreeMap<OrderLineKey, OrderLine>) -> bool
+    ensures each { result ≡ list_all (λ e. is_line_number e.0.number) lines.now.entries }
+    ensures ordered { IsOrdered line_cmp lines.now }
+{
+    lines.iter().all(|(key, _)| (1..=15).contains(&key.number))
+}
+
+/// Whether every line orders an item of the scale.
+pub fn have_lines_items(lines: &BTreeMap<OrderLineKey, OrderLine>, scale: Scale) -> bool
+    ensures each { result ≡ list_all (λ e. has_item scale e.1.i_id) lines.now.entries }
+    ensures ordered { IsOrdered line_cmp lines.now }
+{
+    lines.iter().all(|(_, row)| scale.has_item(row.i_id))
+}
+
+/// Whether a warehouse of the scale supplies every line.
+pub fn have_lines_suppliers(lines: &BTreeMap<OrderLineKey, OrderLine>, scale: Scale) -> bool
+    ensures each { result ≡ list_all (λ e. has_warehouse scale e.1.supply_w_id) lines.now.entries }
+    ensures ordered { IsOrdered line_cmp lines.now }
+{
+    lines
+        .iter()
+        .all(|(_, row)| scale.has_warehouse(row.supply_w_id))
+}

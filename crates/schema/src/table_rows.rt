@@ -1,0 +1,123 @@
+ghost use Rattle.std.specs.Prelude.{MatchOption, IfOk};
+ghost use Rattle.schema.specs.Rows.{HasCounts, FitsScale, Breaks, AreSameRows};
+
+use crate::row_rules::{
+    are_lines_numbered, are_orders_numbered, have_lines_items, have_lines_orders,
+    have_lines_suppliers, have_new_orders_orders, have_orders_customers, name_payers_customers,
+};
+use crate::{HistoryList, NoMemory, Scale, ScaleFault};
+use rows::{
+    Customer, District, Item, NewOrder, Order, OrderKey, OrderLine, OrderLineKey,
+    Stock, Warehouse,
+};
+use std::collections::BTreeMap;
+
+/// The rows of the nine tables, as they come and go. Those of six tables, whose keys are exactly the
+/// scale's, stand in ascending order of their keys, without them.
+#[derive(Drop)]
+pub struct TableRows {
+    /// By I_ID.
+    pub items: Vec<Item>,
+    /// By W_ID.
+    pub warehouses: Vec<Warehouse>,
+    /// By (D_W_ID, D_ID).
+    pub districts: Vec<District>,
+    /// By (S_W_ID, S_I_ID).
+    pub stocks: Vec<Stock>,
+    /// By (C_W_ID, C_D_ID, C_ID).
+    pub customers: Vec<Customer>,
+    /// By (H_W_ID, H_D_ID).
+    pub histories: Vec<HistoryList>,
+    pub orders: BTreeMap<OrderKey, Order>,
+    pub new_orders: BTreeMap<OrderKey, NewOrder>,
+    pub lines: BTreeMap<OrderLineKey, OrderLine>,
+}
+
+impl TableRows {
+    /// Equal rows.
+    pub fn try_clone(&self) -> Result<TableRows, NoMemory>
+        ensures { IfOk result (AreSameRows self.now) }
+    {
+        Ok(TableRows {
+            items: self.items.clone()?,
+            warehouses: self.warehouses.clone()?,
+            districts: self.districts.clone()?,
+            stocks: self.stocks.clone()?,
+            customers: self.customers.clone()?,
+            histories: self.histories.clone()?,
+            orders: self.orders.clone()?,
+            new_orders: self.new_orders.clone()?,
+            lines: self.lines.clone()?,
+        })
+    }
+
+    /// A rule of the scale that the rows break, `None` where they make tables within the scale.
+    pub fn fault(&self, scale: Scale) -> Option<ScaleFault>
+        ensures { MatchOption result (FitsScale scale self.now) (λ fault. Breaks fault scale self.now) }
+    {
+        match self.count_fault(scale) {
+            Some(fault) => Some(fault),
+            None => self.reference_fault(scale),
+        }
+    }
+
+    // Which of the six tables has a row missing or too many.
+    fn count_fault(&self, scale: Scale) -> Option<ScaleFault>
+        ensures { MatchOption result (HasCounts scale self.now) (λ fault. Breaks fault scale self.now) }
+    {
+        let items = scale.items as usize;
+        let warehouses = scale.warehouses as usize;
+        let districts = warehouses * 10;
+        if self.items.len() != items {
+            return Some(ScaleFault::ItemCount);
+        }
+        if self.warehouses.len() != warehouses {
+            return Some(ScaleFault::WarehouseCount);
+        }
+        if self.districts.len() != districts {
+            return Some(ScaleFault::DistrictCount);
+        }
+        if self.stocks.len() != warehouses * items {
+            return Some(ScaleFault::StockCount);
+        }
+        if self.customers.len() != districts * scale.customers as usize {
+            return Some(ScaleFault::CustomerCount);
+        }
+        if self.histories.len() != districts {
+            return Some(ScaleFault::HistoryCount);
+        }
+        None
+    }
+
+    // Which rows refer to one that isn't there, or have a number out of its range in their keys.
+    fn reference_fault(&self, scale: Scale) -> Option<ScaleFault>
+        requires { HasCounts scale self.now }
+        ensures { MatchOption result (FitsScale scale self.now) (λ fault. Breaks fault scale self.now) }
+    {
+        if !name_payers_customers(&self.histories, scale) {
+            return Some(ScaleFault::HistoryCustomer);
+        }
+        if !are_orders_numbered(&self.orders) {
+            return Some(ScaleFault::OrderNumber);
+        }
+        if !have_orders_customers(&self.orders, scale) {
+            return Some(ScaleFault::OrderCustomer);
+        }
+        if !have_new_orders_orders(&self.new_orders, &self.orders) {
+            return Some(ScaleFault::NewOrderOrder);
+        }
+        if !have_lines_orders(&self.lines, &self.orders) {
+            return Some(ScaleFault::LineOrder);
+        }
+        if !are_lines_numbered(&self.lines) {
+            return Some(ScaleFault::LineNumber);
+        }
+        if !have_lines_items(&self.lines, scale) {
+            return Some(ScaleFault::LineItem);
+        }
+        if !have_lines_suppliers(&self.lines, scale) {
+            return Some(ScaleFault::LineSupplier);
+        }
+        None
+    }
+}

@@ -1,0 +1,223 @@
+ghost use Rattle.std.specs.Prelude.{◌≡◌, ◌↔◌, ◌++◌, ◌∷◌, [], ℕ, IsTrue, IsOk, IfOk, IfErr, OnOk, OnErr, unwrap_or};
+ghost use Rattle.std.specs.Option.{option_copied};
+ghost use Rattle.std.specs.FinMap as map;
+ghost use Rattle.schema.specs.Scale.{has_customer};
+ghost use Rattle.schema.specs.Database.{IsWithinScale, with_payment};
+ghost use Rattle.schema.specs.Rows.{database, FitsScale, Breaks};
+
+use crate::{NoMemory, Scale, ScaleFault, TableRows};
+use rows::{
+    Customer, CustomerKey, District, DistrictKey, History, Item, NewOrder, Order, OrderKey,
+    OrderLine, OrderLineKey, Stock, StockKey, Warehouse,
+};
+use std::marker::Model;
+
+/// The nine tables, within their scale: seen as nine finite maps from keys to rows.
+#[derive(Drop)]
+pub struct Tables {
+    scale: Scale,
+    rows: TableRows,
+}
+
+impl Model for Tables {
+    ghost use Rattle.std.specs.Prelude.{refl};
+    ghost use Rattle.std.specs.Coded.{code_by, coded×, coded_ℕ, coded_list};
+    ghost use Rattle.std.specs.FinMap as map;
+    ghost use Rattle.rows.specs.contracts.keys.DistrictKey as district_key;
+    ghost use Rattle.rows.specs.contracts.keys.StockKey as stock_key;
+    ghost use Rattle.rows.specs.contracts.keys.CustomerKey as customer_key;
+    ghost use Rattle.rows.specs.contracts.keys.OrderKey as order_key;
+    ghost use Rattle.rows.specs.contracts.keys.OrderLineKey as line_key;
+    ghost use Rattle.rows.specs.contracts.records.Item as item;
+    ghost use Rattle.rows.specs.contracts.records.Warehouse as warehouse;
+    ghost use Rattle.rows.specs.contracts.records.District as district;
+    ghost use Rattle.rows.specs.contracts.records.Stock as stock;
+    ghost use Rattle.rows.specs.contracts.records.Customer as customer;
+    ghost use Rattle.rows.specs.contracts.records.History as history;
+    ghost use Rattle.rows.specs.contracts.records.Order as order;
+    ghost use Rattle.rows.specs.contracts.records.NewOrder as new_order;
+    ghost use Rattle.rows.specs.contracts.records.OrderLine as line;
+    ghost use Rattle.schema.specs.contracts.scale.Scale as scale_kind;
+    ghost use Rattle.schema.specs.Database.{Database};
+    ghost use Rattle.schema.specs.Rows.{database, FitsScale};
+
+    ghost Value = { Database };
+
+    ghost coded = { code_by _
+        (coded× scale_kind.the_row.coded
+        (coded× (map.code coded_ℕ item.the_row.coded)
+        (coded× (map.code coded_ℕ warehouse.the_row.coded)
+        (coded× (map.code district_key.the_row.coded district.the_row.coded)
+        (coded× (map.code stock_key.the_row.coded stock.the_row.coded)
+        (coded× (map.code customer_key.the_row.coded customer.the_row.coded)
+        (coded× (map.code district_key.the_row.coded (coded_list history.the_row.coded))
+        (coded× (map.code order_key.the_row.coded order.the_row.coded)
+        (coded× (map.code order_key.the_row.coded new_order.the_row.coded)
+        (map.code line_key.the_row.coded line.the_row.coded))))))))))
+        (λ t. (t.scale, (t.items, (t.warehouses, (t.districts, (t.stocks, (t.customers, (t.histories, (t.orders, (t.new_orders, t.lines))))))))))
+        (λ p. record {
+          scale = p.0;
+          items = p.1.0;
+          warehouses = p.1.1.0;
+          districts = p.1.1.1.0;
+          stocks = p.1.1.1.1.0;
+          customers = p.1.1.1.1.1.0;
+          histories = p.1.1.1.1.1.1.0;
+          orders = p.1.1.1.1.1.1.1.0;
+          new_orders = p.1.1.1.1.1.1.1.1.0;
+          lines = p.1.1.1.1.1.1.1.1.1;
+        })
+        (λ _. refl) };
+
+    ghost view = { λ t. database t.scale t.rows };
+
+    ghost invariant = { λ t. FitsScale t.scale t.rows };
+}
+
+impl Tables {
+    /// The tables of these rows. `Err` is a rule of the scale that the rows break, and comes exactly
+    /// where they are no tables within the scale. It takes no memory.
+    pub fn checked(scale: Scale, rows: TableRows) -> Result<Tables, ScaleFault>
+        ensures made { IfOk result (λ tables. tables ≡ database scale rows) }
+        ensures fits { IsOk result ↔ FitsScale scale rows }
+        ensures broken { IfErr result (λ fault. Breaks fault scale rows) }
+    {
+        match rows.fault(scale) {
+            Some(fault) => Err(fault),
+            None => Ok(Tables { scale, rows }),
+        }
+    }
+
+    /// The rows again, in the order in which `checked` takes them. It takes no memory.
+    pub fn into_rows(self) -> (Scale, TableRows)
+        ensures same { database result.0 result.1 ≡ self }
+        ensures fits { FitsScale result.0 result.1 }
+    {
+        (self.scale, self.rows)
+    }
+
+    /// Equal tables.
+    pub fn try_clone(&self) -> Result<Tables, NoMemory>
+        ensures { IfOk result (λ copy. copy ≡ self.now) }
+    {
+        let rows = self.rows.try_clone()?;
+        Ok(Tables {
+            scale: self.scale,
+            rows,
+        })
+    }
+
+    /// The scale of the tables.
+    pub fn scale(&self) -> Scale
+        ensures value { result ≡ self.now.scale }
+        ensures within { IsWithinScale self.now }
+    {
+        self.scale
+    }
+
+    /// The row of the item, `None` where there is none. So for the other tables.
+    pub fn item(&self, item: u32) -> Option<&Item>
+        ensures { option_copied result ≡ map.get self.now.items item }
+    {
+        self.rows.items.get(self.scale.item_slot(item)?)
+    }
+
+    pub fn warehouse(&self, warehouse: u32) -> Option<&Warehouse>
+        ensures { option_copied result ≡ map.get self.now.warehouses warehouse }
+    {
+        self.rows.warehouses.get(self.scale.warehouse_slot(warehouse)?)
+    }
+
+    pub fn district(&self, key: DistrictKey) -> Option<&District>
+        ensures { option_copied result ≡ map.get self.now.districts key }
+    {
+        self.rows.districts.get(self.scale.district_slot(key)?)
+    }
+
+    pub fn stock(&self, key: StockKey) -> Option<&Stock>
+        ensures { option_copied result ≡ map.get self.now.stocks key }
+    {
+        self.rows.stocks.get(self.scale.stock_slot(key)?)
+    }
+
+    pub fn customer(&self, key: CustomerKey) -> Option<&Customer>
+        ensures { option_copied result ≡ map.get self.now.customers key }
+    {
+        self.rows.customers.get(self.scale.customer_slot(key)?)
+    }
+
+    /// The payments of the district, the oldest first.
+    pub fn history(&self, key: DistrictKey) -> Option<&[History]>
+        ensures { option_copied result ≡ map.get self.now.histories key }
+    {
+        Some(self.rows.histories.get(self.scale.district_slot(key)?)?.rows())
+    }
+
+    pub fn order(&self, key: OrderKey) -> Option<&Order>
+        ensures { option_copied result ≡ map.get self.now.orders key }
+    {
+        self.rows.orders.get(&key)
+    }
+
+    pub fn new_order(&self, key: OrderKey) -> Option<&NewOrder>
+        ensures { option_copied result ≡ map.get self.now.new_orders key }
+    {
+        self.rows.new_orders.get(&key)
+    }
+
+    pub fn line(&self, key: OrderLineKey) -> Option<&OrderLine>
+        ensures { option_copied result ≡ map.get self.now.lines key }
+    {
+        self.rows.lines.get(&key)
+    }
+
+    /// Puts a row in place of the warehouse's. So for the next three tables.
+    pub fn replace_warehouse(&mut self, warehouse: u32, row: Warehouse)
+        requires { IsTrue (map.contains_key self.old.warehouses warehouse) }
+        ensures { self.new ≡ record self.old { warehouses = map.insert self.old.warehouses warehouse row } }
+    {
+        if let Some(slot) = self.scale.warehouse_slot(warehouse) {
+            self.rows.warehouses[slot] = row;
+        }
+    }
+
+    pub fn replace_district(&mut self, key: DistrictKey, row: District)
+        requires { IsTrue (map.contains_key self.old.districts key) }
+        ensures { self.new ≡ record self.old { districts = map.insert self.old.districts key row } }
+    {
+        if let Some(slot) = self.scale.district_slot(key) {
+            self.rows.districts[slot] = row;
+        }
+    }
+
+    pub fn replace_stock(&mut self, key: StockKey, row: Stock)
+        requires { IsTrue (map.contains_key self.old.stocks key) }
+        ensures { self.new ≡ record self.old { stocks = map.insert self.old.stocks key row } }
+    {
+        if let Some(slot) = self.scale.stock_slot(key) {
+            self.rows.stocks[slot] = row;
+        }
+    }
+
+    pub fn replace_customer(&mut self, key: CustomerKey, row: Customer)
+        requires { IsTrue (map.contains_key self.old.customers key) }
+        ensures { self.new ≡ record self.old { customers = map.insert self.old.customers key row } }
+    {
+        if let Some(slot) = self.scale.customer_slot(key) {
+            self.rows.customers[slot] = row;
+        }
+    }
+
+    /// Adds a payment at the end of the district's list; an error changes nothing.
+    pub fn push_history(&mut self, key: DistrictKey, row: History) -> Result<(), NoMemory>
+        requires list { IsTrue (map.contains_key self.old.histories key) }
+        requires payer { IsTrue (has_customer self.old.scale row.customer) }
+        ensures ok { OnOk result (self.new ≡ record self.old { histories = with_payment self.old.histories key row }) }
+        ensures err { OnErr result (self.new ≡ self.old) }
+    {
+        match self.scale.district_slot(key) {
+            Some(slot) => self.rows.histories[slot].push(row),
+            None => Ok(()),
+        }
+    }
+}
