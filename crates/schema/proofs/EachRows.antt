@@ -72,9 +72,10 @@ module _ {K X : Type 0} {R : K → K → Ordering} (o : IsTotalOrder R) (a : IsA
   -- a test of the entries in order is the test of each row
   pub EachRow-entries : (test : K → X → Bool) (es : List (K × X)) → IsStrictlySortedBy R (keys_of es)
       → IsTrue (list_all (λ e. test e.0 e.1) es) ↔ EachRow {R = R} test (from_entries es)
-  EachRow-entries test es sorted =
-      ( λ h key row found. passes-found test es h key row (sym (get-from_entries o es key) ∙ found)
-      , λ h. passes-all test es sorted (λ key row found. h key row (get-from_entries o es key ∙ found)))
+  EachRow-entries test es sorted = (
+    λ h key row found. passes-found test es h key row (sym (get-from_entries o es key) ∙ found),
+    λ h. passes-all test es sorted (λ key row found. h key row (get-from_entries o es key ∙ found)),
+  )
 
 passes-at : {X : Type 0} (test : X → Bool) (xs : List X) (n : ℕ) (x : X) → IsTrue (list_all test xs) → slice_get xs n ≡ Some x → IsTrue (test x)
 passes-at test [] n x h found = absurd cc
@@ -95,13 +96,14 @@ module _ {K X : Type 0} {R : K → K → Ordering} (o : IsTotalOrder R) (a : IsA
   pub EachRow-dense : (test : X → Bool) (ks : List K) (xs : List X) → length xs ≡ length ks
       → (key_at : ℕ → K) → ((n : ℕ) → n < length ks → place (eq_by_cmp R (key_at n)) ks ≡ Some n)
       → IsTrue (list_all test xs) ↔ EachRow {R = R} (λ _ row. test row) (from_entries (zip ks xs))
-  EachRow-dense test ks xs even key_at placed =
-      ( λ h key row found.
-          let there : option_and_then (slice_get xs) (place (eq_by_cmp R key) ks) ≡ Some row = sym (get-dense o a ks xs key) ∙ found in
-          elim (place (eq_by_cmp R key) ks) as (λ r. option_and_then (slice_get xs) r ≡ Some row → IsTrue (test row)) [
-            | None ↦ λ e. absurd cc
-            | Some n ↦ λ e. passes-at test xs n row h e
-          ] there
-      , λ h. passes-each test xs (λ n x e.
-          let below : n < length xs = within_of xs n x e in
-          h (key_at n) x (get-dense o a ks xs (key_at n) ∙ ap (option_and_then (slice_get xs)) (placed n (omega arith)) ∙ e)))
+  EachRow-dense test ks xs even key_at placed = (
+    λ h key row found.
+        let there : option_and_then (slice_get xs) (place (eq_by_cmp R key) ks) ≡ Some row = sym (get-dense o a ks xs key) ∙ found in
+        elim (place (eq_by_cmp R key) ks) as (λ r. option_and_then (slice_get xs) r ≡ Some row → IsTrue (test row)) [
+          | None ↦ λ e. absurd cc
+          | Some n ↦ λ e. passes-at test xs n row h e
+        ] there,
+    λ h. passes-each test xs (λ n x e.
+        let below : n < length xs = within_of xs n x e in
+        h (key_at n) x (get-dense o a ks xs (key_at n) ∙ ap (option_and_then (slice_get xs)) (placed n (omega arith)) ∙ e)),
+  )

@@ -5,3 +5,5 @@ pub mod ScalePlaces
 pub mod RowReads
 pub mod ScaleRules
 pub mod RowWrites
+pub mod OrderedParts
+pub mod DistrictRows

@@ -61,7 +61,7 @@ module _ {K X : Type 0} {R : K → K → Ordering} (o : IsTotalOrder R) (a : IsA
   find-zip-set q p v (k ∷ ks) [] n h l = absurd (omega arith)
   find-zip-set q p v (k ∷ ks) (x ∷ xs) n h l =
       elim (eq_by_cmp R q k) as (λ b. eq_by_cmp R q k ≡ b → cond b (Some 0) (option_map (λ m. suc m) (place (eq_by_cmp R q) ks)) ≡ Some n
-          → find R p (zip (k ∷ ks) (slice_set (x ∷ xs) n v)) ≡ cond (eq_by_cmp R p q) (Some v) (cond (eq_by_cmp R p k) (Some x) (find R p (zip ks xs)))) [
+      → find R p (zip (k ∷ ks) (slice_set (x ∷ xs) n v)) ≡ cond (eq_by_cmp R p q) (Some v) (cond (eq_by_cmp R p k) (Some x) (find R p (zip ks xs)))) [
         | true ↦ λ t e.
             let z : n ≡ 0 = cc in
             let same : q ≡ k = a q k (is_equal _ t) in
@@ -121,7 +121,7 @@ map_next n (Some p) = ap Some (let e : suc (n + p) ≡ suc n + p = omega arith i
 in_block : {K : Type 0} (test : K → Bool) (key : ℕ → K) (is_outer : Bool) (inner low count : ℕ) (rest : List K)
     → ((j : ℕ) → test (key j) ≡ (is_outer && eqb inner j))
     → place test (map key (range_with_len low count) ++ rest)
-      ≡ cond (is_outer && (nat_le low inner && nat_lt inner (low + count))) (Some (inner - low)) (option_map (λ p. count + p) (place test rest))
+    ≡ cond (is_outer && (nat_le low inner && nat_lt inner (low + count))) (Some (inner - low)) (option_map (λ p. count + p) (place test rest))
 in_block test key is_outer inner low zero rest h =
     elim is_outer as (λ b. place test rest ≡ cond (b && (nat_le low inner && nat_lt inner (low + 0))) (Some (inner - low)) (option_map (λ p. 0 + p) (place test rest))) [
       | true ↦ let out : (nat_le low inner && nat_lt inner (low + 0)) ≡ false = grind (arith, nat_tests) in rw out (sym (map_zero (place test rest)))
@@ -131,13 +131,13 @@ in_block test key true inner low (suc count) rest h =
     let here : test (key low) ≡ eqb inner low = h low in
     let later = in_block test key true inner (low + 1) count rest h in
     rw (here, later) (elim (eqb inner low) as (λ b. eqb inner low ≡ b → cond b (Some 0) (option_map (λ m. suc m) (cond (nat_le (low + 1) inner && nat_lt inner (low + 1 + count)) (Some (inner - (low + 1))) (option_map (λ p. count + p) (place test rest))))
-        ≡ cond (nat_le low inner && nat_lt inner (low + suc count)) (Some (inner - low)) (option_map (λ p. suc count + p) (place test rest))) [
+    ≡ cond (nat_le low inner && nat_lt inner (low + suc count)) (Some (inner - low)) (option_map (λ p. suc count + p) (place test rest))) [
       | true ↦ λ e.
           let inside : (nat_le low inner && nat_lt inner (low + suc count)) ≡ true = grind (arith, nat_tests) in
           rw inside (ap Some (grind (arith, nat_tests)))
       | false ↦ λ e.
           elim (nat_le (low + 1) inner && nat_lt inner (low + 1 + count)) as (λ b. (nat_le (low + 1) inner && nat_lt inner (low + 1 + count)) ≡ b → option_map (λ m. suc m) (cond b (Some (inner - (low + 1))) (option_map (λ p. count + p) (place test rest)))
-              ≡ cond (nat_le low inner && nat_lt inner (low + suc count)) (Some (inner - low)) (option_map (λ p. suc count + p) (place test rest))) [
+          ≡ cond (nat_le low inner && nat_lt inner (low + suc count)) (Some (inner - low)) (option_map (λ p. suc count + p) (place test rest))) [
             | true ↦ λ f.
                 let inside : (nat_le low inner && nat_lt inner (low + suc count)) ≡ true = grind (arith, nat_tests) in
                 rw inside (ap Some (grind (arith, nat_tests)))
@@ -161,7 +161,7 @@ over true count inner (Some p) = ap Some (let e : suc p * count + inner ≡ coun
 pub place-grid : {O K : Type 0} (test : K → Bool) (outer_test : O → Bool) (key : O → ℕ → K) (inner count : ℕ) (os : List O)
     → ((o : O) (j : ℕ) → test (key o j) ≡ (outer_test o && eqb inner j))
     → place test (grid key count os)
-      ≡ cond (nat_le 1 inner && nat_le inner count) (option_map (λ p. p * count + (inner - 1)) (place outer_test os)) None
+    ≡ cond (nat_le 1 inner && nat_le inner count) (option_map (λ p. p * count + (inner - 1)) (place outer_test os)) None
 place-grid test outer_test key inner count [] h =
     elim (nat_le 1 inner && nat_le inner count) as (λ b. None ≡ cond b (option_map (λ p. p * count + (inner - 1)) None) None) [ true ↦ refl | false ↦ refl ]
 place-grid test outer_test key inner count (o ∷ os) h =
@@ -170,7 +170,7 @@ place-grid test outer_test key inner count (o ∷ os) h =
     let rest = place-grid test outer_test key inner count os h in
     in_block test (key o) (outer_test o) inner 1 count (grid key count os) (h o)
     ∙ rw (bound, rest) (elim (outer_test o) as (λ b. cond (b && inside) (Some (inner - 1)) (option_map (λ p. count + p) (cond inside (option_map (λ p. p * count + (inner - 1)) (place outer_test os)) None))
-        ≡ cond inside (option_map (λ p. p * count + (inner - 1)) (cond b (Some 0) (option_map (λ m. suc m) (place outer_test os)))) None) [
+    ≡ cond inside (option_map (λ p. p * count + (inner - 1)) (cond b (Some 0) (option_map (λ m. suc m) (place outer_test os)))) None) [
       | true ↦ elim inside as (λ i. cond i (Some (inner - 1)) (option_map (λ p. count + p) (cond i (option_map (λ p. p * count + (inner - 1)) (place outer_test os)) None))
           ≡ cond i (Some (0 * count + (inner - 1))) None) [
             | true ↦ ap Some (let e : inner - 1 ≡ 0 * count + (inner - 1) = grind arith in e)

@@ -64,22 +64,25 @@ module _ (scale : Scale) (rows : TableRows) (h : FitsScale scale rows) where
         customers = h.counts.customers;
         histories = h.counts.histories;
       } in
-      record { counts = counts; within = record {
-        items = h.within.items;
-        warehouses = warehouse_keys scale new counts;
-        districts = district_keys_are scale new counts;
-        stocks = stock_keys_are scale new counts;
-        customers = customer_keys_are scale new counts;
-        histories = h.within.histories;
-        payers_known = h.within.payers_known;
-        orders_numbered = h.within.orders_numbered;
-        orders_have_customers = h.within.orders_have_customers;
-        new_orders_have_orders = h.within.new_orders_have_orders;
-        lines_have_orders = h.within.lines_have_orders;
-        lines_numbered = h.within.lines_numbered;
-        lines_have_items = h.within.lines_have_items;
-        lines_have_suppliers = h.within.lines_have_suppliers;
-      } }
+      record {
+        counts = counts;
+        within = record {
+          items = h.within.items;
+          warehouses = warehouse_keys scale new counts;
+          districts = district_keys_are scale new counts;
+          stocks = stock_keys_are scale new counts;
+          customers = customer_keys_are scale new counts;
+          histories = h.within.histories;
+          payers_known = h.within.payers_known;
+          orders_numbered = h.within.orders_numbered;
+          orders_have_customers = h.within.orders_have_customers;
+          new_orders_have_orders = h.within.new_orders_have_orders;
+          lines_have_orders = h.within.lines_have_orders;
+          lines_numbered = h.within.lines_numbered;
+          lines_have_items = h.within.lines_have_items;
+          lines_have_suppliers = h.within.lines_have_suppliers;
+        };
+      }
 
   pub district_within : (key : DistrictKey) (n : ℕ) → district_slot scale key ≡ Some n → n < length rows.districts.items
   district_within key n is = slot_within _ (district_keys scale) (district_slot scale key) n (length rows.districts.items) (district_place scale key) is (h.counts.districts ∙ sym (length-district_keys scale))
@@ -101,22 +104,25 @@ module _ (scale : Scale) (rows : TableRows) (h : FitsScale scale rows) where
         customers = h.counts.customers;
         histories = h.counts.histories;
       } in
-      record { counts = counts; within = record {
-        items = h.within.items;
-        warehouses = warehouse_keys scale new counts;
-        districts = district_keys_are scale new counts;
-        stocks = stock_keys_are scale new counts;
-        customers = customer_keys_are scale new counts;
-        histories = h.within.histories;
-        payers_known = h.within.payers_known;
-        orders_numbered = h.within.orders_numbered;
-        orders_have_customers = h.within.orders_have_customers;
-        new_orders_have_orders = h.within.new_orders_have_orders;
-        lines_have_orders = h.within.lines_have_orders;
-        lines_numbered = h.within.lines_numbered;
-        lines_have_items = h.within.lines_have_items;
-        lines_have_suppliers = h.within.lines_have_suppliers;
-      } }
+      record {
+        counts = counts;
+        within = record {
+          items = h.within.items;
+          warehouses = warehouse_keys scale new counts;
+          districts = district_keys_are scale new counts;
+          stocks = stock_keys_are scale new counts;
+          customers = customer_keys_are scale new counts;
+          histories = h.within.histories;
+          payers_known = h.within.payers_known;
+          orders_numbered = h.within.orders_numbered;
+          orders_have_customers = h.within.orders_have_customers;
+          new_orders_have_orders = h.within.new_orders_have_orders;
+          lines_have_orders = h.within.lines_have_orders;
+          lines_numbered = h.within.lines_numbered;
+          lines_have_items = h.within.lines_have_items;
+          lines_have_suppliers = h.within.lines_have_suppliers;
+        };
+      }
 
   pub stock_within : (key : StockKey) (n : ℕ) → stock_slot scale key ≡ Some n → n < length rows.stocks.items
   stock_within key n is = slot_within _ (stock_keys scale) (stock_slot scale key) n (length rows.stocks.items) (stock_place scale key) is (h.counts.stocks ∙ sym (length-stock_keys scale))
@@ -138,22 +144,25 @@ module _ (scale : Scale) (rows : TableRows) (h : FitsScale scale rows) where
         customers = h.counts.customers;
         histories = h.counts.histories;
       } in
-      record { counts = counts; within = record {
-        items = h.within.items;
-        warehouses = warehouse_keys scale new counts;
-        districts = district_keys_are scale new counts;
-        stocks = stock_keys_are scale new counts;
-        customers = customer_keys_are scale new counts;
-        histories = h.within.histories;
-        payers_known = h.within.payers_known;
-        orders_numbered = h.within.orders_numbered;
-        orders_have_customers = h.within.orders_have_customers;
-        new_orders_have_orders = h.within.new_orders_have_orders;
-        lines_have_orders = h.within.lines_have_orders;
-        lines_numbered = h.within.lines_numbered;
-        lines_have_items = h.within.lines_have_items;
-        lines_have_suppliers = h.within.lines_have_suppliers;
-      } }
+      record {
+        counts = counts;
+        within = record {
+          items = h.within.items;
+          warehouses = warehouse_keys scale new counts;
+          districts = district_keys_are scale new counts;
+          stocks = stock_keys_are scale new counts;
+          customers = customer_keys_are scale new counts;
+          histories = h.within.histories;
+          payers_known = h.within.payers_known;
+          orders_numbered = h.within.orders_numbered;
+          orders_have_customers = h.within.orders_have_customers;
+          new_orders_have_orders = h.within.new_orders_have_orders;
+          lines_have_orders = h.within.lines_have_orders;
+          lines_numbered = h.within.lines_numbered;
+          lines_have_items = h.within.lines_have_items;
+          lines_have_suppliers = h.within.lines_have_suppliers;
+        };
+      }
 
   pub customer_within : (key : CustomerKey) (n : ℕ) → customer_slot scale key ≡ Some n → n < length rows.customers.items
   customer_within key n is = slot_within _ (customer_keys scale) (customer_slot scale key) n (length rows.customers.items) (customer_place scale key) is (h.counts.customers ∙ sym (length-customer_keys scale))
@@ -175,22 +184,25 @@ module _ (scale : Scale) (rows : TableRows) (h : FitsScale scale rows) where
         customers = length-set rows.customers.items n row ∙ h.counts.customers;
         histories = h.counts.histories;
       } in
-      record { counts = counts; within = record {
-        items = h.within.items;
-        warehouses = warehouse_keys scale new counts;
-        districts = district_keys_are scale new counts;
-        stocks = stock_keys_are scale new counts;
-        customers = customer_keys_are scale new counts;
-        histories = h.within.histories;
-        payers_known = h.within.payers_known;
-        orders_numbered = h.within.orders_numbered;
-        orders_have_customers = h.within.orders_have_customers;
-        new_orders_have_orders = h.within.new_orders_have_orders;
-        lines_have_orders = h.within.lines_have_orders;
-        lines_numbered = h.within.lines_numbered;
-        lines_have_items = h.within.lines_have_items;
-        lines_have_suppliers = h.within.lines_have_suppliers;
-      } }
+      record {
+        counts = counts;
+        within = record {
+          items = h.within.items;
+          warehouses = warehouse_keys scale new counts;
+          districts = district_keys_are scale new counts;
+          stocks = stock_keys_are scale new counts;
+          customers = customer_keys_are scale new counts;
+          histories = h.within.histories;
+          payers_known = h.within.payers_known;
+          orders_numbered = h.within.orders_numbered;
+          orders_have_customers = h.within.orders_have_customers;
+          new_orders_have_orders = h.within.new_orders_have_orders;
+          lines_have_orders = h.within.lines_have_orders;
+          lines_numbered = h.within.lines_numbered;
+          lines_have_items = h.within.lines_have_items;
+          lines_have_suppliers = h.within.lines_have_suppliers;
+        };
+      }
 
 -- ---- a payment more
 
@@ -257,23 +269,26 @@ module _ (scale : Scale) (rows : TableRows) (h : FitsScale scale rows) where
         customers = h.counts.customers;
         histories = length-set rows.histories.items n list ∙ h.counts.histories;
       } in
-      record { counts = counts; within = record {
-        items = h.within.items;
-        warehouses = h.within.warehouses;
-        districts = h.within.districts;
-        stocks = h.within.stocks;
-        customers = h.within.customers;
-        histories = history_keys scale new counts;
-        payers_known = subst (λ m. EachRow (λ _ rows. are_payers_known scale rows) m) (sym (ap (λ (t : Database). t.histories) (history_put key list n is)))
-            (EachRow-insert districts_total districts_exact (λ _ rows. are_payers_known scale rows) (database scale rows).histories key list h.within.payers_known known);
-        orders_numbered = h.within.orders_numbered;
-        orders_have_customers = h.within.orders_have_customers;
-        new_orders_have_orders = h.within.new_orders_have_orders;
-        lines_have_orders = h.within.lines_have_orders;
-        lines_numbered = h.within.lines_numbered;
-        lines_have_items = h.within.lines_have_items;
-        lines_have_suppliers = h.within.lines_have_suppliers;
-      } }
+      record {
+        counts = counts;
+        within = record {
+          items = h.within.items;
+          warehouses = h.within.warehouses;
+          districts = h.within.districts;
+          stocks = h.within.stocks;
+          customers = h.within.customers;
+          histories = history_keys scale new counts;
+          payers_known = subst (λ m. EachRow (λ _ rows. are_payers_known scale rows) m) (sym (ap (λ (t : Database). t.histories) (history_put key list n is)))
+              (EachRow-insert districts_total districts_exact (λ _ rows. are_payers_known scale rows) (database scale rows).histories key list h.within.payers_known known);
+          orders_numbered = h.within.orders_numbered;
+          orders_have_customers = h.within.orders_have_customers;
+          new_orders_have_orders = h.within.new_orders_have_orders;
+          lines_have_orders = h.within.lines_have_orders;
+          lines_numbered = h.within.lines_numbered;
+          lines_have_items = h.within.lines_have_items;
+          lines_have_suppliers = h.within.lines_have_suppliers;
+        };
+      }
 
   -- the list with a payment more
   pub payment_fits : (key : DistrictKey) (n : ℕ) (list : List History) (row : History) → district_slot scale key ≡ Some n → list ≡ slice_index_or rows.histories.items n list
@@ -286,7 +301,7 @@ module _ (scale : Scale) (rows : TableRows) (h : FitsScale scale rows) where
   payment_put key n list row is read =
       history_put key (list ++ row ∷ []) n is
       ∙ ap (λ (l : List History). record (database scale rows) { histories = map.insert (database scale rows).histories key (l ++ row ∷ []) })
-        (sym (ap (λ r. unwrap_or r []) (list_read key n list is read)))
+      (sym (ap (λ r. unwrap_or r []) (list_read key n list is read)))
 
   -- a list put in its own place changes nothing
   pub history_same : (n : ℕ) (list : List History) → list ≡ slice_index_or rows.histories.items n list

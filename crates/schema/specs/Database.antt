@@ -1,12 +1,14 @@
 -- What a contract sees of the nine tables: finite maps from keys to rows (clause 1.3).
-use Rattle.std.specs.Prelude.{◌≡◌, ℕ, Bool, ◌&&◌, List, [], ◌∷◌, ◌++◌, IsTrue, unwrap_or}
-use Rattle.std.specs.List.{list_all}
+use Rattle.std.specs.Prelude.{◌≡◌, ℕ, Bool, ◌&&◌, ◌==◌, List, [], ◌∷◌, ◌++◌, IsTrue, unwrap_or}
+use Rattle.std.specs.List.{list_all, filter}
+use Rattle.std.specs.declared.cmp.Ordering.{Ordering}
 use Rattle.std.specs.Ordering.{nat_cmp}
 use Rattle.std.specs.FinMap as map
 use Rattle.rows.specs.declared.keys.DistrictKey.{DistrictKey}
 use Rattle.rows.specs.declared.keys.StockKey.{StockKey}
 use Rattle.rows.specs.declared.keys.CustomerKey.{CustomerKey}
 use Rattle.rows.specs.declared.keys.OrderKey.{OrderKey}
+use Rattle.rows.specs.declared.keys.OrderLineKey.{OrderLineKey}
 use Rattle.rows.specs.declared.records.Item.{Item}
 use Rattle.rows.specs.declared.records.Warehouse.{Warehouse}
 use Rattle.rows.specs.declared.records.District.{District}
@@ -104,3 +106,15 @@ pub record IsWithinScale (t : Database) : Type 0 where
   pub lines_numbered : LinesNumbered t
   pub lines_have_items : LinesHaveItems t
   pub lines_have_suppliers : LinesHaveSuppliers t
+
+-- ---- parts of tables
+
+-- the rows whose keys pass the test, in the order of the keys
+abbrev pub rows_where : {K X : Type 0} {R : K → K → Ordering} → (K → Bool) → map.FinMap R X → List (K × X)
+rows_where test table = filter (λ e. test e.0) (map.entries table)
+
+abbrev pub is_of_district : DistrictKey → OrderKey → Bool
+is_of_district home key = (key.w_id == home.w_id) && (key.d_id == home.d_id)
+
+abbrev pub is_of_order : OrderKey → OrderLineKey → Bool
+is_of_order order key = (key.w_id == order.w_id) && ((key.d_id == order.d_id) && (key.o_id == order.o_id))

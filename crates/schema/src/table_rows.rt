@@ -7,8 +7,7 @@ use crate::row_rules::{
 };
 use crate::{HistoryList, NoMemory, Scale, ScaleFault};
 use rows::{
-    Customer, District, Item, NewOrder, Order, OrderKey, OrderLine, OrderLineKey,
-    Stock, Warehouse,
+    Customer, District, Item, NewOrder, Order, OrderKey, OrderLine, OrderLineKey, Stock, Warehouse,
 };
 use std::collections::BTreeMap;
 

@@ -1,8 +1,9 @@
-ghost use Rattle.std.specs.Prelude.{◌≡◌, ◌↔◌, ◌++◌, ◌∷◌, [], ℕ, IsTrue, IsOk, IfOk, IfErr, OnOk, OnErr, unwrap_or};
+ghost use Rattle.std.specs.Prelude.{◌≡◌, ◌↔◌, ◌+◌, ℕ, IsTrue, is_some, IfSome, IsOk, IfOk, IfErr, OnOk, OnErr};
 ghost use Rattle.std.specs.Option.{option_copied};
 ghost use Rattle.std.specs.FinMap as map;
-ghost use Rattle.schema.specs.Scale.{has_customer};
-ghost use Rattle.schema.specs.Database.{IsWithinScale, with_payment};
+ghost use Rattle.std.specs.List.{slice_get};
+ghost use Rattle.schema.specs.Scale.{has_customer, has_district, customer_key};
+ghost use Rattle.schema.specs.Database.{IsWithinScale, with_payment, rows_where, is_of_district, is_of_order};
 ghost use Rattle.schema.specs.Rows.{database, FitsScale, Breaks};
 
 use crate::{NoMemory, Scale, ScaleFault, TableRows};
@@ -10,6 +11,7 @@ use rows::{
     Customer, CustomerKey, District, DistrictKey, History, Item, NewOrder, Order, OrderKey,
     OrderLine, OrderLineKey, Stock, StockKey, Warehouse,
 };
+use std::collections::btree_map::Range;
 use std::marker::Model;
 
 /// The nine tables, within their scale: seen as nine finite maps from keys to rows.
@@ -125,7 +127,9 @@ impl Tables {
     pub fn warehouse(&self, warehouse: u32) -> Option<&Warehouse>
         ensures { option_copied result ≡ map.get self.now.warehouses warehouse }
     {
-        self.rows.warehouses.get(self.scale.warehouse_slot(warehouse)?)
+        self.rows
+            .warehouses
+            .get(self.scale.warehouse_slot(warehouse)?)
     }
 
     pub fn district(&self, key: DistrictKey) -> Option<&District>
@@ -150,7 +154,12 @@ impl Tables {
     pub fn history(&self, key: DistrictKey) -> Option<&[History]>
         ensures { option_copied result ≡ map.get self.now.histories key }
     {
-        Some(self.rows.histories.get(self.scale.district_slot(key)?)?.rows())
+        Some(
+            self.rows
+                .histories
+                .get(self.scale.district_slot(key)?)?
+                .rows(),
+        )
     }
 
     pub fn order(&self, key: OrderKey) -> Option<&Order>
@@ -169,6 +178,41 @@ impl Tables {
         ensures { option_copied result ≡ map.get self.now.lines key }
     {
         self.rows.lines.get(&key)
+    }
+
+    /// The orders of the district, by O_ID.
+    pub fn orders_of(&self, home: DistrictKey) -> Range<'_, OrderKey, Order>
+        ensures { result ≡ rows_where (is_of_district home) self.now.orders }
+    {
+        self.rows.orders.range(first_order(home)..=last_order(home))
+    }
+
+    /// The new orders of the district, by NO_O_ID.
+    pub fn new_orders_of(&self, home: DistrictKey) -> Range<'_, OrderKey, NewOrder>
+        ensures { result ≡ rows_where (is_of_district home) self.now.new_orders }
+    {
+        self.rows
+            .new_orders
+            .range(first_order(home)..=last_order(home))
+    }
+
+    /// The lines of the order, by OL_NUMBER.
+    pub fn lines_of(&self, order: OrderKey) -> Range<'_, OrderLineKey, OrderLine>
+        ensures { result ≡ rows_where (is_of_order order) self.now.lines }
+    {
+        self.rows.lines.range(first_line(order)..=last_line(order))
+    }
+
+    /// The customers of the district, by C_ID from 1; `None` where the scale has no such district.
+    pub fn customers_of(&self, home: DistrictKey) -> Option<&[Customer]>
+        ensures district { is_some result ≡ has_district self.now.scale home }
+        ensures rows { IfSome result (λ rows. (c : ℕ) → slice_get rows.now c ≡ map.get self.now.customers (customer_key home (c + 1))) }
+    {
+        let slot = self.scale.district_slot(home)?;
+        let customers = self.scale.customers as usize;
+        self.rows
+            .customers
+            .get(slot * customers..(slot + 1) * customers)
     }
 
     /// Puts a row in place of the warehouse's. So for the next three tables.
@@ -219,5 +263,47 @@ impl Tables {
             Some(slot) => self.rows.histories[slot].push(row),
             None => Ok(()),
         }
+    }
+}
+
+fn first_order(home: DistrictKey) -> OrderKey
+    ensures { result ≡ record { w_id = home.w_id; d_id = home.d_id; o_id = 0 } }
+{
+    OrderKey {
+        w_id: home.w_id,
+        d_id: home.d_id,
+        o_id: 0,
+    }
+}
+
+fn last_order(home: DistrictKey) -> OrderKey
+    ensures { result ≡ record { w_id = home.w_id; d_id = home.d_id; o_id = 4294967295 } }
+{
+    OrderKey {
+        w_id: home.w_id,
+        d_id: home.d_id,
+        o_id: u32::MAX,
+    }
+}
+
+fn first_line(order: OrderKey) -> OrderLineKey
+    ensures { result ≡ record { w_id = order.w_id; d_id = order.d_id; o_id = order.o_id; number = 0 } }
+{
+    OrderLineKey {
+        w_id: order.w_id,
+        d_id: order.d_id,
+        o_id: order.o_id,
+        number: 0,
+    }
+}
+
+fn last_line(order: OrderKey) -> OrderLineKey
+    ensures { result ≡ record { w_id = order.w_id; d_id = order.d_id; o_id = order.o_id; number = 4294967295 } }
+{
+    OrderLineKey {
+        w_id: order.w_id,
+        d_id: order.d_id,
+        o_id: order.o_id,
+        number: u32::MAX,
     }
 }

@@ -1,0 +1,145 @@
+-- The part of an ordered map between two keys, against the rows of one district or of one order.
+use Rattle.std.proofs.Common.{◌≡◌, ℕ, ◌+◌, ◌≤◌, ◌<◌, ◌*◌, ◌-◌, zero, suc, Bool, true, false, cond, not, ◌&&◌, ◌==◌, nat_le, nat_lt, List, [], ◌∷◌, length, Option, Some, None, IsTrue, is_some, refl, sym, ap, subst, ◌∙◌, arith}
+use Rattle.std.specs.List.{list_all, filter, AllByRecursion}
+use Rattle.std.specs.List.Sorted.{IsStrictlySortedBy}
+use Rattle.std.specs.Map.{keys_of}
+use Rattle.std.specs.BTreeMap.Range.{range_contains, entries_between}
+use Rattle.std.specs.declared.ops.Bound.TheVariants.{Included}
+use Rattle.std.specs.declared.cmp.Ordering.{Ordering}
+use Rattle.std.specs.declared.cmp.Ordering.TheVariants.{Less, Equal, Greater}
+use Rattle.std.specs.Ordering.{nat_cmp, ordering_then, is_le, is_lt}
+use Rattle.std.specs.Cmp.{IsTotalOrder}
+use Rattle.std.specs.FinMap as map
+use Rattle.std.specs.FinMap.{FinMap, entries, from_entries, entries-insert, IsAntisymmetric}
+use Rattle.std.specs.FinMap.Entries.{put}
+use Rattle.std.proofs.lemmas.Bool.Decides.{nat_tests}
+use Rattle.std.proofs.lemmas.Map.Keys.{sorted_head, sorted_tail}
+use Rattle.rows.specs.declared.keys.DistrictKey.{DistrictKey}
+use Rattle.rows.specs.declared.keys.OrderKey.{OrderKey}
+use Rattle.rows.specs.declared.keys.OrderLineKey.{OrderLineKey}
+use Rattle.rows.specs.Keys.{order_cmp, line_cmp}
+use Rattle.schema.specs.Database.{Database, IsWithinScale, is_order_id, is_line_number, rows_where, is_of_district, is_of_order}
+use Rattle.schema.specs.EachRow.{EachRow}
+use Rattle.schema.proofs.EachRows.{EachRow-entries}
+use Rattle.schema.proofs.KeyOrders.{orders_total, orders_exact, lines_total, lines_exact}
+
+-- a key before all others is put first
+put_first : {K X : Type 0} (R : K → K → Ordering) (k : K) (v : X) (es : List (K × X)) → AllByRecursion (λ q. R k q ≡ Less) (keys_of es) → put R k v es ≡ (k, v) ∷ es
+put_first R k v [] below = refl
+put_first R k v (e ∷ es) below = rw below.0 refl
+
+no_length : {X : Type 0} (xs : List X) → length xs ≡ 0 → xs ≡ []
+no_length [] h = refl
+no_length (x ∷ xs) h = absurd (omega arith)
+
+same_entries_of_empty : {K X : Type 0} (R : K → K → Ordering) → entries (map.empty {X = X} {R = R}) ≡ []
+same_entries_of_empty {X = X} R = no_length _ (sym (map.len-entries (map.empty {X = X} {R = R})) ∙ map.len-empty R X)
+
+-- the entries of the table that entries in order make
+pub entries-ordered : {K X : Type 0} {R : K → K → Ordering} → IsTotalOrder R → (es : List (K × X)) → IsStrictlySortedBy R (keys_of es) → entries (from_entries {R = R} es) ≡ es
+entries-ordered {R = R} o [] sorted = same_entries_of_empty R
+entries-ordered {R = R} o (e ∷ es) sorted =
+    entries-insert o (from_entries es) e.0 e.1
+    ∙ ap (put R e.0 e.1) (entries-ordered o es (sorted_tail R e.0 (keys_of es) sorted))
+    ∙ put_first R e.0 e.1 es (sorted_head R e.0 (keys_of es) sorted)
+
+first : (b c : Bool) → IsTrue (b && c) → IsTrue b
+first true c h = refl
+first false c h = h
+
+second : (b c : Bool) → IsTrue (b && c) → IsTrue c
+second true c h = h
+second false c h = absurd cc
+
+-- tests that agree on what passes a third keep the same elements
+filter_agrees : {X : Type 0} (known p q : X → Bool) → ((x : X) → IsTrue (known x) → p x ≡ q x) → (xs : List X) → IsTrue (list_all known xs) → filter p xs ≡ filter q xs
+filter_agrees known p q h [] all = refl
+filter_agrees known p q h (x ∷ xs) all =
+    let here : p x ≡ q x = h x (first _ _ all) in
+    let rest : filter p xs ≡ filter q xs = filter_agrees known p q h xs (second _ _ all) in
+    ap (λ b. cond b (x ∷ filter p xs) (filter p xs)) here ∙ ap (λ l. cond (q x) (x ∷ l) l) rest
+
+-- one number of the key after another
+level : (a x : ℕ) (low high : Ordering)
+    → (is_le (ordering_then (nat_cmp a x) low) && not (is_lt (ordering_then (nat_cmp a x) high))) ≡ ((x == a) && (is_le low && not (is_lt high)))
+level a x low high =
+    elim (nat_cmp a x) as (λ r. nat_cmp a x ≡ r → (is_le (ordering_then r low) && not (is_lt (ordering_then r high))) ≡ ((x == a) && (is_le low && not (is_lt high)))) [
+      | Less ↦ λ e. let other : (x == a) ≡ false = grind (arith, nat_tests) in rw other refl
+      | Equal ↦ λ e. let same : (x == a) ≡ true = grind (arith, nat_tests) in rw same refl
+      | Greater ↦ λ e. let other : (x == a) ≡ false = grind (arith, nat_tests) in rw other refl
+    ] refl
+
+last_level : (x : ℕ) → x ≤ 4294967295 → (is_le (nat_cmp 0 x) && not (is_lt (nat_cmp 4294967295 x))) ≡ true
+last_level x h = grind (arith, nat_tests)
+
+and_true : (b : Bool) → (b && true) ≡ b
+and_true true = refl
+and_true false = refl
+
+order_between : (home : DistrictKey) (key : OrderKey) → key.o_id ≤ 4294967295
+    → range_contains order_cmp (Included (record { w_id = home.w_id; d_id = home.d_id; o_id = 0 })) (Included (record { w_id = home.w_id; d_id = home.d_id; o_id = 4294967295 })) key
+    ≡ is_of_district home key
+order_between home key h =
+    level home.w_id key.w_id (ordering_then (nat_cmp home.d_id key.d_id) (nat_cmp 0 key.o_id)) (ordering_then (nat_cmp home.d_id key.d_id) (nat_cmp 4294967295 key.o_id))
+    ∙ ap (λ b. (key.w_id == home.w_id) && b)
+    (level home.d_id key.d_id (nat_cmp 0 key.o_id) (nat_cmp 4294967295 key.o_id) ∙ ap (λ b. (key.d_id == home.d_id) && b) (last_level key.o_id h) ∙ and_true _)
+
+line_between : (order : OrderKey) (key : OrderLineKey) → key.number ≤ 4294967295
+    → range_contains line_cmp (Included (record { w_id = order.w_id; d_id = order.d_id; o_id = order.o_id; number = 0 })) (Included (record { w_id = order.w_id; d_id = order.d_id; o_id = order.o_id; number = 4294967295 })) key
+    ≡ is_of_order order key
+line_between order key h =
+    let low = nat_cmp 0 key.number in
+    let high = nat_cmp 4294967295 key.number in
+    level order.w_id key.w_id (ordering_then (nat_cmp order.d_id key.d_id) (ordering_then (nat_cmp order.o_id key.o_id) low)) (ordering_then (nat_cmp order.d_id key.d_id) (ordering_then (nat_cmp order.o_id key.o_id) high))
+    ∙ ap (λ b. (key.w_id == order.w_id) && b)
+    (level order.d_id key.d_id (ordering_then (nat_cmp order.o_id key.o_id) low) (ordering_then (nat_cmp order.o_id key.o_id) high)
+    ∙ ap (λ b. (key.d_id == order.d_id) && b)
+    (level order.o_id key.o_id low high ∙ ap (λ b. (key.o_id == order.o_id) && b) (last_level key.number h) ∙ and_true _))
+
+abbrev first_order : DistrictKey → OrderKey
+first_order home = record { w_id = home.w_id; d_id = home.d_id; o_id = 0 }
+
+abbrev last_order : DistrictKey → OrderKey
+last_order home = record { w_id = home.w_id; d_id = home.d_id; o_id = 4294967295 }
+
+abbrev first_line : OrderKey → OrderLineKey
+first_line order = record { w_id = order.w_id; d_id = order.d_id; o_id = order.o_id; number = 0 }
+
+abbrev last_line : OrderKey → OrderLineKey
+last_line order = record { w_id = order.w_id; d_id = order.d_id; o_id = order.o_id; number = 4294967295 }
+
+small_order : (number : ℕ) → IsTrue (is_order_id number) → number ≤ 4294967295
+small_order number h = grind (arith, nat_tests)
+
+small_line : (number : ℕ) → IsTrue (is_line_number number) → number ≤ 4294967295
+small_line number h = grind (arith, nat_tests)
+
+-- the orders between the first and the last that a district can have are the district's
+pub orders_part : {X : Type 0} (home : DistrictKey) (low high : OrderKey) → low ≡ first_order home → high ≡ last_order home → (es : List (OrderKey × X)) → IsStrictlySortedBy order_cmp (keys_of es)
+    → EachRow {R = order_cmp} (λ key _. is_order_id key.o_id) (from_entries es)
+    → entries_between order_cmp (Included low) (Included high) es ≡ rows_where {R = order_cmp} (is_of_district home) (from_entries es)
+orders_part home low high is_low is_high es sorted numbered =
+    ap (λ lo. entries_between order_cmp (Included lo) (Included high) es) is_low
+    ∙ ap (λ hi. entries_between order_cmp (Included (first_order home)) (Included hi) es) is_high
+    ∙ filter_agrees (λ e. is_order_id e.0.o_id) _ _ (λ e h. order_between home e.0 (small_order e.0.o_id h)) es
+    ((EachRow-entries orders_total orders_exact (λ key _. is_order_id key.o_id) es sorted).1 numbered)
+    ∙ ap (filter (λ e. is_of_district home e.0)) (sym (entries-ordered orders_total es sorted))
+
+-- the lines between the first and the last that an order can have are the order's
+pub lines_part : {X : Type 0} (order : OrderKey) (low high : OrderLineKey) → low ≡ first_line order → high ≡ last_line order → (es : List (OrderLineKey × X)) → IsStrictlySortedBy line_cmp (keys_of es)
+    → EachRow {R = line_cmp} (λ key _. is_line_number key.number) (from_entries es)
+    → entries_between line_cmp (Included low) (Included high) es ≡ rows_where {R = line_cmp} (is_of_order order) (from_entries es)
+lines_part order low high is_low is_high es sorted numbered =
+    ap (λ lo. entries_between line_cmp (Included lo) (Included high) es) is_low
+    ∙ ap (λ hi. entries_between line_cmp (Included (first_line order)) (Included hi) es) is_high
+    ∙ filter_agrees (λ e. is_line_number e.0.number) _ _ (λ e h. line_between order e.0 (small_line e.0.number h)) es
+    ((EachRow-entries lines_total lines_exact (λ key _. is_line_number key.number) es sorted).1 numbered)
+    ∙ ap (filter (λ e. is_of_order order e.0)) (sym (entries-ordered lines_total es sorted))
+
+-- the number of a new order is that of an order
+pub new_orders_numbered : (t : Database) → IsWithinScale t → EachRow (λ key _. is_order_id key.o_id) t.new_orders
+new_orders_numbered t h key row found =
+    elim (map.get t.orders key) as (λ r. map.get t.orders key ≡ r → IsTrue (is_some r) → IsTrue (is_order_id key.o_id)) [
+      | None ↦ λ e there. absurd cc
+      | Some order ↦ λ e there. h.orders_numbered key order e
+    ] refl (h.new_orders_have_orders key row found)
