@@ -7,3 +7,5 @@ pub mod ScaleRules
 pub mod RowWrites
 pub mod OrderedParts
 pub mod DistrictRows
+pub mod TableSums
+pub mod ScaleKept

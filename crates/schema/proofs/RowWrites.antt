@@ -27,6 +27,7 @@ use Rattle.schema.specs.EachRow.{EachRow}
 use Rattle.schema.specs.Scale.{has_warehouse, has_district, has_stock, has_customer, warehouse_ids, district_keys, stock_keys, customer_keys, warehouse_slot, district_slot, stock_slot, customer_slot}
 use Rattle.schema.specs.Database.{Database, IsWithinScale, list_at, with_payment, are_payers_known, PayersKnown}
 use Rattle.schema.specs.Rows.{HasCounts, FitsScale, database}
+use Rattle.schema.proofs.ScaleKept.{known-append, EachRow-insert}
 use Rattle.schema.proofs.Places.{place-within, insert-dense, get-dense}
 use Rattle.schema.proofs.KeyOrders.{districts_total, districts_exact, stocks_total, stocks_exact, customers_total, customers_exact}
 use Rattle.schema.proofs.ScalePlaces.{warehouse_place, district_place, stock_place, customer_place, length-warehouse_ids, length-district_keys, length-stock_keys, length-customer_keys}
@@ -205,33 +206,6 @@ module _ (scale : Scale) (rows : TableRows) (h : FitsScale scale rows) where
       }
 
 -- ---- a payment more
-
-known-append : (scale : Scale) (rows : List History) (row : History) → IsTrue (are_payers_known scale rows)
-    → IsTrue (has_customer scale row.customer) → IsTrue (are_payers_known scale (rows ++ row ∷ []))
-known-append scale [] row h known = rw known refl
-known-append scale (first ∷ rows) row h known =
-    elim (has_customer scale first.customer) as (λ b. IsTrue (b && are_payers_known scale rows) → IsTrue (b && are_payers_known scale (rows ++ row ∷ []))) [
-      | true ↦ λ k. known-append scale rows row k known
-      | false ↦ λ k. cc
-    ] h
-
-is_equal : (r : Ordering) → is_eq r ≡ true → r ≡ Equal
-is_equal Less h = cc
-is_equal Equal h = refl
-is_equal Greater h = cc
-
--- a row that passes the test is put in
-EachRow-insert : {K X : Type 0} {R : K → K → Ordering} → IsTotalOrder R → IsAntisymmetric R → (test : K → X → Bool) (m : FinMap R X) (k : K) (v : X)
-    → EachRow test m → IsTrue (test k v) → EachRow test (map.insert m k v)
-EachRow-insert {R = R} o a test m k v each here q row found =
-    let at : cond (eq_by_cmp R q k) (Some v) (map.get m q) ≡ Some row = sym (get-insert o m k v q) ∙ found in
-    elim (eq_by_cmp R q k) as (λ b. eq_by_cmp R q k ≡ b → cond b (Some v) (map.get m q) ≡ Some row → IsTrue (test q row)) [
-      | true ↦ λ t f.
-          let same_key : q ≡ k = a q k (is_equal _ t) in
-          let same_row : v ≡ row = cc in
-          rw (same_key, ← same_row) here
-      | false ↦ λ t f. each q row f
-    ] refl at
 
 -- what follows from each outcome follows
 pub by_outcome : {T E P Q G : Type 0} (r : Result T E) → OnOk r P → OnErr r Q → (P → G) → (Q → G) → G

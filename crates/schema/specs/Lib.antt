@@ -4,3 +4,4 @@ pub mod EachRow
 pub mod Scale
 pub mod Database
 pub mod Rows
+pub mod Sums
