@@ -2,6 +2,7 @@
 //! its type, and the small rules on single rows. Clauses are those of TPC-C 5.11.
 #![tactic(auto)]
 
+mod copies;
 mod keys;
 mod moment;
 mod names;
@@ -23,6 +24,7 @@ pub use records::{
     Address, Credit, Customer, District, History, Item, NewOrder, Order, OrderLine, Stock,
     Warehouse,
 };
+pub use std::alloc::AllocError as NoMemory;
 pub use stock_rules::{BrandGeneric, brand, restock};
 pub use text::{Text, TextFault};
 

@@ -12,12 +12,11 @@ pub use history_list::HistoryList;
 pub use rows::{
     Address, BrandGeneric, CarrierId, Counter, Credit, Customer, CustomerKey, District,
     DistrictKey, History, ImageId, Item, LineAmount, LineCount, LineQuantity, Moment, NewOrder,
-    NextOrderId, Order, OrderKey, OrderLine, OrderLineKey, Price, Ranged, Stock, StockKey,
-    StockQuantity, Text, TextFault, Warehouse, brand, last_name, prepend_data, restock,
+    NextOrderId, NoMemory, Order, OrderKey, OrderLine, OrderLineKey, Price, Ranged, Stock,
+    StockKey, StockQuantity, Text, TextFault, Warehouse, brand, last_name, prepend_data, restock,
 };
 pub use scale::Scale;
 pub use scale_fault::ScaleFault;
-pub use std::alloc::AllocError as NoMemory;
 pub use table_rows::TableRows;
 pub use tables::Tables;
 

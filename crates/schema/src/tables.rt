@@ -2,7 +2,7 @@ ghost use Rattle.std.specs.Prelude.{◌≡◌, ◌↔◌, ◌+◌, ℕ, IsTrue, 
 ghost use Rattle.std.specs.Option.{option_copied};
 ghost use Rattle.std.specs.FinMap as map;
 ghost use Rattle.std.specs.List.{slice_get};
-ghost use Rattle.schema.specs.Scale.{has_customer, has_district, customer_key};
+ghost use Rattle.schema.specs.Scale.{has_district, customer_key};
 ghost use Rattle.schema.specs.Database.{IsWithinScale, with_payment, rows_where, is_of_district, is_of_order};
 ghost use Rattle.schema.specs.Rows.{database, FitsScale, Breaks};
 
@@ -254,8 +254,8 @@ impl Tables {
 
     /// Adds a payment at the end of the district's list; an error changes nothing.
     pub fn push_history(&mut self, key: DistrictKey, row: History) -> Result<(), NoMemory>
-        requires list { IsTrue (map.contains_key self.old.histories key) }
-        requires payer { IsTrue (has_customer self.old.scale row.customer) }
+        requires district { IsTrue (map.contains_key self.old.districts key) }
+        requires payer { IsTrue (map.contains_key self.old.customers row.customer) }
         ensures ok { OnOk result (self.new ≡ record self.old { histories = with_payment self.old.histories key row }) }
         ensures err { OnErr result (self.new ≡ self.old) }
     {

@@ -1,8 +1,8 @@
 use Rattle.std.proofs.Common.{◌≡◌, List, [], ◌∷◌, ◌++◌, IsTrue, sym, ap, subst, ◌∙◌}
+use Rattle.std.specs.FinMap as map
 use Rattle.std.proofs.lemmas.Result.{on_ok_weaker, on_err_weaker}
 use Rattle.std.specs.Vec.{with_item}
 use Rattle.rows.specs.declared.records.History.{History}
-use Rattle.schema.specs.Scale.{has_customer}
 use Rattle.schema.specs.Database.{Database, with_payment}
 use Rattle.schema.specs.Rows.{FitsScale, database}
 use Rattle.schema.proofs.RowWrites.{by_outcome, list_read, history_fits, history_same, payment_fits, payment_put}
@@ -14,7 +14,8 @@ invariant_of-self c =
     let found = sym c.district_slot.ensures ∙ c.in-Some.is in
     let list = c.index_mut.result.now in
     let read = c.index_mut.ensures.value in
-    let known = subst (λ (m : Database). IsTrue (has_customer m.scale c.args.row.customer)) (sym c.self.view_is) c.requires.payer in
+    let payer = subst (λ (m : Database). IsTrue (map.contains_key m.customers c.args.row.customer)) (sym c.self.view_is) c.requires.payer in
+    let known = sym (c.self.invariant.within.customers c.args.row.customer) ∙ payer in
     let fits = λ (l : List History). FitsScale t.scale (record t.rows { histories = with_item t.rows.histories c.in-Some.slot l }) in
     by_outcome c.push.result c.push.ensures.ok c.push.ensures.err
     (λ e. subst fits (sym e) (payment_fits t.scale t.rows c.self.invariant c.args.key c.in-Some.slot list c.args.row found read known))
