@@ -14,7 +14,7 @@ mod words;
 
 pub use limit_set::{set_e, set_e_rows};
 pub use set_error::SetError;
-pub use small_set::{set_k, set_k_of, set_k_rows};
+pub use small_set::{set_k, set_k_of, set_k_rows, set_scale};
 
 #[cfg(test)]
 mod tests;

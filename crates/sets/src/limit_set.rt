@@ -1,5 +1,5 @@
 use crate::SetError;
-use crate::small_set::{add_order, remove_order, scale_of, set_k_rows};
+use crate::small_set::{add_order, remove_order, set_k_rows, set_scale};
 use amounts::Cents;
 use schema::{HistoryList, NextOrderId, NoMemory, OrderKey, TableRows, Tables};
 use std::alloc::Global;
@@ -11,7 +11,7 @@ use std::mem;
 /// - The first payment of customer (2, 1, 1) is of 999,999,999,951,000 cents, so that W_YTD of
 ///   warehouse 2 is 1,000,000,000,000,000 cents.
 pub fn set_e(alloc: Global) -> Result<Tables, SetError> {
-    let scale = scale_of(2)?;
+    let scale = set_scale(2)?;
     Ok(Tables::checked(scale, set_e_rows(alloc)?)?)
 }
 

@@ -7,6 +7,7 @@ use std::alloc::Global;
 use std::collections::BTreeMap;
 
 const ITEMS: u32 = 70;
+
 const CUSTOMERS: u32 = 5;
 
 /// Set K of two warehouses.
@@ -16,12 +17,12 @@ pub fn set_k(alloc: Global) -> Result<Tables, SetError> {
 
 /// Set K of this many warehouses, all alike but for their numbers.
 pub fn set_k_of(alloc: Global, warehouses: u32) -> Result<Tables, SetError> {
-    let scale = scale_of(warehouses)?;
+    let scale = set_scale(warehouses)?;
     Ok(Tables::checked(scale, set_k_rows(alloc, warehouses)?)?)
 }
 
 /// The scale of a set of this many warehouses.
-pub fn scale_of(warehouses: u32) -> Result<Scale, SetError> {
+pub fn set_scale(warehouses: u32) -> Result<Scale, SetError> {
     Scale::checked_new(warehouses, ITEMS, CUSTOMERS).ok_or(SetError::Warehouses)
 }
 

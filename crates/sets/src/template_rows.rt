@@ -136,7 +136,11 @@ pub fn order(customer: u32, is_new: bool) -> Order {
     Order {
         c_id: customer,
         entry_d: new_year(),
-        carrier_id: if is_new { None } else { Some(CarrierId::new(1)) },
+        carrier_id: if is_new {
+            None
+        } else {
+            Some(CarrierId::new(1))
+        },
         ol_cnt: LineCount::new(5),
         all_local: true,
     }

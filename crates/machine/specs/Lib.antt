@@ -1,0 +1,4 @@
+pub mod Outcome
+pub mod Payment
+pub mod Machine
+pub mod PaymentLaws

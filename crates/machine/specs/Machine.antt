@@ -1,0 +1,22 @@
+-- The machine that carries out requests one at a time.
+use Rattle.std.specs.Prelude.{List, [], ◌∷◌}
+use Rattle.schema.specs.Database.{Database}
+use Rattle.requests.specs.declared.request.Request.{Request}
+use Rattle.requests.specs.declared.request.Request.TheVariants.{Payment}
+use Rattle.requests.specs.declared.reply.Reply.{Reply}
+use Rattle.machine.specs.Outcome.{Outcome}
+use Rattle.machine.specs.Payment.{payment}
+
+-- what one request leaves and answers
+abbrev pub transaction : Database → Request → Outcome
+transaction t (Payment p) = payment t p
+
+-- the replies to requests, one after another
+abbrev pub replies : Database → List Request → List Reply
+replies t [] = []
+replies t (request ∷ requests) = (transaction t request).reply ∷ replies (transaction t request).tables requests
+
+-- the tables after them
+abbrev pub tables_after : Database → List Request → Database
+tables_after t [] = t
+tables_after t (request ∷ requests) = tables_after (transaction t request).tables requests

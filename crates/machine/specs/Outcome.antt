@@ -1,0 +1,13 @@
+-- What a transaction leaves and answers.
+use Rattle.schema.specs.Database.{Database}
+use Rattle.requests.specs.declared.reply.Reply.{Reply}
+use Rattle.requests.specs.declared.reply.Reply.TheVariants.{RolledBack}
+use Rattle.requests.specs.declared.reply.Fault.{Fault}
+
+pub record Outcome : Type 0 where
+  pub tables : Database
+  pub reply : Reply
+
+-- a rollback changes nothing (clause 2.4.2.3)
+abbrev pub rolled_back : Database → Fault → Outcome
+rolled_back t fault = record { tables = t; reply = RolledBack fault }

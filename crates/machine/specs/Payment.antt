@@ -1,0 +1,103 @@
+-- Payment (clause 2.5).
+use Rattle.std.specs.Prelude.{ℕ, ◌+◌, ℤ, pos, ◌+ℤ◌, ◌-ℤ◌, List, [], ◌++◌, take, codes, Option, Some, None}
+use Rattle.std.specs.Option.{option_map}
+use Rattle.std.specs.FinMap as map
+use Rattle.amounts.specs.Money.{money}
+use Rattle.rows.specs.Ranged.{in_range}
+use Rattle.schema.specs.Database.{with_payment}
+use Rattle.rows.specs.PaymentNote.{payment_note}
+use Rattle.schema.specs.Database.{Database}
+use Rattle.rows.specs.declared.keys.DistrictKey.{DistrictKey}
+use Rattle.rows.specs.declared.keys.CustomerKey.{CustomerKey}
+use Rattle.rows.specs.declared.records.Warehouse.{Warehouse}
+use Rattle.rows.specs.declared.records.District.{District}
+use Rattle.rows.specs.declared.records.Customer.{Customer}
+use Rattle.rows.specs.declared.records.History.{History}
+use Rattle.rows.specs.declared.records.Credit.{Credit}
+use Rattle.rows.specs.declared.records.Credit.TheVariants.{Good, Bad}
+use Rattle.requests.specs.declared.request.Choice.{Choice}
+use Rattle.requests.specs.declared.request.Choice.TheVariants.{Number}
+use Rattle.requests.specs.declared.request.Payment.{Payment}
+use Rattle.requests.specs.declared.reply.PaymentReply.{PaymentReply}
+use Rattle.requests.specs.declared.reply.Reply.TheVariants.{Payment as Paid}
+use Rattle.requests.specs.declared.reply.Fault.TheVariants.{NoCustomer, Range}
+use Rattle.machine.specs.Outcome.{Outcome, rolled_back}
+
+-- the key of the customer that is chosen in a district (clause 2.5.1.2)
+abbrev pub chosen : DistrictKey → Choice → CustomerKey
+chosen home (Number customer) = record { w_id = home.w_id; d_id = home.d_id; c_id = customer }
+
+-- W_YTD grows by the amount (clause 2.5.2.2)
+abbrev pub warehouse_paid : Warehouse → ℤ → Option Warehouse
+warehouse_paid row amount = option_map (λ ytd. record row { ytd = ytd }) (money (row.ytd +ℤ amount))
+
+-- D_YTD grows by the amount (clause 2.5.2.2)
+abbrev pub district_paid : District → ℤ → Option District
+district_paid row amount = option_map (λ ytd. record row { ytd = ytd }) (money (row.ytd +ℤ amount))
+
+-- a note of the payment is put before the data of a customer of bad credit, and of no other (clause 2.5.2.2)
+abbrev pub data_after : Credit → List ℕ → List ℕ → List ℕ
+data_after Good note text = text
+data_after Bad note text = take 500 (note ++ text)
+
+-- what of the data is shown: its first 200 bytes, for a customer of bad credit (clause 2.5.3.4)
+abbrev pub data_shown : Credit → List ℕ → List ℕ
+data_shown Good text = []
+data_shown Bad text = take 200 text
+
+-- the row with these sums, where each is in range
+abbrev pub with_sums : Customer → List ℕ → Option ℤ → Option ℤ → Option ℕ → Option Customer
+with_sums row text (Some balance) (Some ytd_payment) (Some payment_cnt) =
+    Some (record row { balance = balance; ytd_payment = ytd_payment; payment_cnt = payment_cnt; «data» = text })
+with_sums row text _ _ _ = None
+
+-- C_BALANCE falls by the amount, C_YTD_PAYMENT grows by it, and C_PAYMENT_CNT grows by 1 (clause 2.5.2.2)
+abbrev pub customer_paid : Customer → List ℕ → ℤ → Option Customer
+customer_paid row note amount =
+    with_sums row (data_after row.credit note row.data)
+    (money (row.balance -ℤ amount)) (money (row.ytd_payment +ℤ amount)) (in_range 0 999999999 (row.payment_cnt + 1))
+
+-- the row of HISTORY: its text is W_NAME, four spaces and D_NAME (clause 2.5.2.2)
+abbrev pub payment_row : Payment → CustomerKey → Warehouse → District → History
+payment_row p key w d =
+    record { customer = key; date = p.moment; amount = pos p.amount; «data» = w.name ++ codes "    " ++ d.name }
+
+-- what is shown of the customer (clause 2.5.3.4)
+abbrev pub payment_reply : CustomerKey → Customer → PaymentReply
+payment_reply key c = record {
+  c_id = key.c_id;
+  first = c.first;
+  middle = c.middle;
+  last = c.last;
+  credit = c.credit;
+  discount = c.discount;
+  balance = c.balance;
+  «data» = data_shown c.credit c.data;
+}
+
+-- all rows change at once, or none where a sum would leave its range
+abbrev pub posted : Database → Payment → CustomerKey → History → Option Warehouse → Option District → Option Customer → Outcome
+posted t p key row (Some w) (Some d) (Some c) = record {
+  tables = record t {
+    warehouses = map.insert t.warehouses p.home.w_id w;
+    districts = map.insert t.districts p.home d;
+    customers = map.insert t.customers key c;
+    histories = with_payment t.histories p.home row;
+  };
+  reply = Paid (payment_reply key c);
+}
+posted t p key row _ _ _ = rolled_back t Range
+
+-- by the rows that are there; within the scale only the customer's can be missing
+abbrev pub paid : Database → Payment → CustomerKey → Option Warehouse → Option District → Option Customer → Outcome
+paid t p key (Some w) (Some d) (Some c) =
+    posted t p key (payment_row p key w d)
+    (warehouse_paid w (pos p.amount)) (district_paid d (pos p.amount))
+    (customer_paid c (payment_note key p.home p.amount) (pos p.amount))
+paid t p key _ _ _ = rolled_back t NoCustomer
+
+-- what a payment leaves and answers
+abbrev pub payment : Database → Payment → Outcome
+payment t p =
+    let key = chosen p.customer_home p.customer in
+    paid t p key (map.get t.warehouses p.home.w_id) (map.get t.districts p.home) (map.get t.customers key)

@@ -1,0 +1,43 @@
+-- What every payment does, said of the definition of a payment.
+use Rattle.std.specs.Prelude.{◌≡◌, ◌≢◌, ℕ, List, [], ◌∷◌, ℤ, pos, ◌+ℤ◌, ◌-ℤ◌}
+use Rattle.std.specs.FinMap as map
+use Rattle.rows.specs.declared.keys.DistrictKey.{DistrictKey}
+use Rattle.rows.specs.declared.keys.CustomerKey.{CustomerKey}
+use Rattle.rows.specs.declared.records.History.{History}
+use Rattle.schema.specs.Sums.{sum_rows}
+use Rattle.schema.specs.Database.{Database, IsWithinScale}
+use Rattle.requests.specs.declared.request.Payment.{Payment}
+use Rattle.machine.specs.Payment.{chosen, payment}
+
+-- no row is changed but those of the home warehouse, the home district, its list of payments and the customer
+pub record ChangesItsRowsAlone (p : Payment) (old new : Database) : Type 0 where
+  pub scale : new.scale ≡ old.scale
+  pub items : new.items ≡ old.items
+  pub warehouses : (key : ℕ) → key ≢ p.home.w_id → map.get new.warehouses key ≡ map.get old.warehouses key
+  pub districts : (key : DistrictKey) → key ≢ p.home → map.get new.districts key ≡ map.get old.districts key
+  pub stocks : new.stocks ≡ old.stocks
+  pub customers : (key : CustomerKey) → key ≢ chosen p.customer_home p.customer → map.get new.customers key ≡ map.get old.customers key
+  pub histories : (key : DistrictKey) → key ≢ p.home → map.get new.histories key ≡ map.get old.histories key
+  pub orders : new.orders ≡ old.orders
+  pub new_orders : new.new_orders ≡ old.new_orders
+  pub lines : new.lines ≡ old.lines
+
+abbrev pub PaymentIsLocal : Type 0
+PaymentIsLocal = (t : Database) (p : Payment) → ChangesItsRowsAlone p t (payment t p).tables
+
+-- the tables stay within the scale
+abbrev pub PaymentKeepsScale : Type 0
+PaymentKeepsScale = (t : Database) (p : Payment) → IsWithinScale t → IsWithinScale (payment t p).tables
+
+-- what the payments of a list come to
+abbrev pub amounts_of : List History → ℤ
+amounts_of [] = pos 0
+amounts_of (row ∷ rows) = row.amount +ℤ amounts_of rows
+
+-- what the warehouses have been paid, less what the lists of payments have
+abbrev pub unexplained : Database → ℤ
+unexplained t = sum_rows (λ _ row. row.ytd) t.warehouses -ℤ sum_rows (λ _ rows. amounts_of rows) t.histories
+
+-- each cent that a warehouse is paid stands in a list of payments
+abbrev pub PaymentKeepsSums : Type 0
+PaymentKeepsSums = (t : Database) (p : Payment) → unexplained (payment t p).tables ≡ unexplained t

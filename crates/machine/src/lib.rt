@@ -1,0 +1,10 @@
+//! The plain engine, which carries out one request at a time on all tables, and the definitions of
+//! the transactions. Clauses named are those of TPC-C 5.11.
+#![tactic(auto)]
+
+mod laws;
+mod payment;
+mod plain;
+
+pub use laws::{payment_is_local, payment_keeps_scale, payment_keeps_sums};
+pub use plain::Plain;

@@ -1,0 +1,117 @@
+ghost use Rattle.std.specs.Prelude.{◌≡◌, pos, IfOk};
+ghost use Rattle.rows.specs.PaymentNote.{payment_note};
+ghost use Rattle.machine.specs.Payment as spec;
+
+use amounts::Cents;
+use requests::{Choice, Payment, PaymentReply};
+use schema::{
+    Credit, Customer, CustomerKey, District, DistrictKey, History, NoMemory, Text, Warehouse,
+    prepend_data,
+};
+
+/// The key of the customer that is chosen in a district.
+pub fn chosen(home: DistrictKey, choice: &Choice) -> CustomerKey
+    ensures { result ≡ spec.chosen home choice.now }
+{
+    match choice {
+        Choice::Number(customer) => CustomerKey {
+            w_id: home.w_id,
+            d_id: home.d_id,
+            c_id: *customer,
+        },
+    }
+}
+
+/// The warehouse's row after a payment, or `None` where its sum leaves its range.
+pub fn warehouse_paid(row: &Warehouse, amount: Cents) -> Result<Option<Warehouse>, NoMemory>
+    ensures { IfOk result (λ r. r ≡ spec.warehouse_paid row.now amount) }
+{
+    let Some(ytd) = row.ytd.checked_add(amount) else {
+        return Ok(None);
+    };
+    let mut row = row.clone()?;
+    row.ytd = ytd;
+    Ok(Some(row))
+}
+
+/// The district's row after a payment, or `None` where its sum leaves its range.
+pub fn district_paid(row: &District, amount: Cents) -> Result<Option<District>, NoMemory>
+    ensures { IfOk result (λ r. r ≡ spec.district_paid row.now amount) }
+{
+    let Some(ytd) = row.ytd.checked_add(amount) else {
+        return Ok(None);
+    };
+    let mut row = row.clone()?;
+    row.ytd = ytd;
+    Ok(Some(row))
+}
+
+/// The customer's row after a payment, or `None` where a sum leaves its range.
+pub fn customer_paid(
+    row: &Customer,
+    key: CustomerKey,
+    home: DistrictKey,
+    amount: u32,
+) -> Result<Option<Customer>, NoMemory>
+    ensures { IfOk result (λ r. r ≡ spec.customer_paid row.now (payment_note key home amount) (pos amount)) }
+{
+    let cents = Cents::new(i64::from(amount));
+    let Some(balance) = row.balance.checked_sub(cents) else {
+        return Ok(None);
+    };
+    let Some(ytd_payment) = row.ytd_payment.checked_add(cents) else {
+        return Ok(None);
+    };
+    let Some(payment_cnt) = row.payment_cnt.checked_add(1) else {
+        return Ok(None);
+    };
+    let mut row = row.clone()?;
+    row.balance = balance;
+    row.ytd_payment = ytd_payment;
+    row.payment_cnt = payment_cnt;
+    if row.credit == Credit::Bad {
+        row.data = prepend_data(&row.data, key, home, amount);
+    }
+    Ok(Some(row))
+}
+
+/// The row of HISTORY that a payment adds.
+pub fn payment_row(
+    payment: &Payment,
+    key: CustomerKey,
+    warehouse: &Warehouse,
+    district: &District,
+) -> History
+    ensures { result ≡ spec.payment_row payment.now key warehouse.now district.now }
+{
+    let mut text = Text::new();
+    text.push_fitting(warehouse.name.as_str());
+    text.push_fitting("    ");
+    text.push_fitting(district.name.as_str());
+    History {
+        customer: key,
+        date: payment.moment,
+        amount: Cents::new(i64::from(payment.amount)),
+        data: text,
+    }
+}
+
+/// What a payment shows of its customer's row after it.
+pub fn payment_reply(key: CustomerKey, row: &Customer) -> Result<PaymentReply, NoMemory>
+    ensures { IfOk result (λ r. r ≡ spec.payment_reply key row.now) }
+{
+    let data = match row.credit {
+        Credit::Good => Text::new(),
+        Credit::Bad => row.data.prefix(),
+    };
+    Ok(PaymentReply {
+        c_id: key.c_id,
+        first: row.first.clone()?,
+        middle: row.middle.clone()?,
+        last: row.last.clone()?,
+        credit: row.credit,
+        discount: row.discount,
+        balance: row.balance,
+        data,
+    })
+}

@@ -1,0 +1,3 @@
+pub mod Group
+pub mod Refusal
+pub mod Check

@@ -1,0 +1,5 @@
+//! Worked examples over all crates, on the small sets.
+#![tactic(auto)]
+
+#[cfg(test)]
+mod tests;
