@@ -1,11 +1,11 @@
 -- The laws of payments, by the two ways that a payment ends: rolled back, or with four rows put in.
-use Rattle.std.proofs.Common.{◌≡◌, ◌≢◌, ℕ, Bool, true, false, cond, List, [], ◌∷◌, ◌++◌, Option, Some, None, IsTrue, is_some, unwrap_or, refl, sym, ap, subst, ◌∙◌, arith}
-use Rattle.std.specs.Prelude.{ℤ, pos, ◌+ℤ◌, ◌-ℤ◌}
+use Rattle.std.proofs.Common.{◌≡◌, ◌≢◌, true, false, cond, List, [], ◌∷◌, ◌++◌, Option, Some, None, IsTrue, is_some, unwrap_or, refl, sym, ap, ◌∙◌, arith}
+use Rattle.std.specs.Prelude.{ℤ, pos, ◌+ℤ◌}
 use Rattle.std.proofs.lemmas.Int.{ints}
 use Rattle.std.specs.Option.{option_map}
 use Rattle.std.specs.declared.cmp.Ordering.{Ordering}
 use Rattle.std.specs.declared.cmp.Ordering.TheVariants.{Less, Equal, Greater}
-use Rattle.std.specs.Ordering.{nat_cmp, eq_by_cmp, is_eq}
+use Rattle.std.specs.Ordering.{is_eq}
 use Rattle.std.specs.Cmp.{IsTotalOrder, nat_cmp_total}
 use Rattle.std.specs.FinMap as map
 use Rattle.std.specs.FinMap.{FinMap, get-insert, IsAntisymmetric, nat_cmp-IsAntisymmetric}
@@ -17,8 +17,8 @@ use Rattle.rows.specs.declared.records.Warehouse.{Warehouse}
 use Rattle.rows.specs.declared.records.District.{District}
 use Rattle.rows.specs.declared.records.Customer.{Customer}
 use Rattle.rows.specs.declared.records.History.{History}
-use Rattle.schema.specs.Sums.{sum_rows, weight_at}
-use Rattle.schema.specs.Scale.{has_district, has_customer}
+use Rattle.schema.specs.Sums.{weight_at}
+use Rattle.schema.specs.Scale.{has_customer}
 use Rattle.schema.specs.Database.{Database, IsWithinScale, list_at, with_payment}
 use Rattle.schema.proofs.KeyOrders.{districts_total, districts_exact, customers_total, customers_exact}
 use Rattle.schema.proofs.TableSums.{sum_rows-insert}

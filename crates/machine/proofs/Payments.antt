@@ -1,5 +1,5 @@
 -- What a payment is, by the rows that were found and those that were made.
-use Rattle.std.proofs.Common.{◌≡◌, ℤ, Option, Some, sym, ap, ◌∙◌}
+use Rattle.std.proofs.Common.{◌≡◌, ℤ, Some, sym, ap, ◌∙◌}
 use Rattle.std.specs.Prelude.{pos}
 use Rattle.std.specs.FinMap as map
 use Rattle.rows.specs.PaymentNote.{payment_note}

@@ -28,9 +28,9 @@ refused_by None = Ok tt
 refused_by (Some refusal) = Err refusal
 
 -- what the check of a request answers: the first refusal that applies to it
-abbrev pub verdict : Scale → Request → Result (Unit {0}) Refusal
-verdict scale request = refused_by (find (applies scale request) refusals)
+abbrev pub check_of : Scale → Request → Result (Unit {0}) Refusal
+check_of scale request = refused_by (find (applies scale request) refusals)
 
 -- no refusal applies to the request
 abbrev pub IsAccepted : Scale → Request → Type 0
-IsAccepted scale request = verdict scale request ≡ Ok tt
+IsAccepted scale request = check_of scale request ≡ Ok tt

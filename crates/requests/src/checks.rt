@@ -1,6 +1,6 @@
 ghost use Rattle.std.specs.Prelude.{◌≡◌};
 ghost use Rattle.rows.specs.Ranged.{is_between};
-ghost use Rattle.requests.specs.Check.{verdict};
+ghost use Rattle.requests.specs.Check.{check_of};
 
 use crate::{Payment, Refusal, Request};
 use schema::{DistrictKey, Scale};
@@ -8,7 +8,7 @@ use schema::{DistrictKey, Scale};
 /// The first of the refusals `BadWarehouse` to `BadCarrier` that applies to the request, in this
 /// order; `Ok` exactly where none does. It takes no memory.
 pub fn check(scale: &Scale, request: &Request) -> Result<(), Refusal>
-    ensures { result ≡ verdict scale.now request.now }
+    ensures { result ≡ check_of scale.now request.now }
 {
     match request {
         Request::Payment(payment) => check_payment(*scale, payment),
@@ -16,7 +16,7 @@ pub fn check(scale: &Scale, request: &Request) -> Result<(), Refusal>
 }
 
 fn check_payment(scale: Scale, payment: &Payment) -> Result<(), Refusal>
-    ensures { result ≡ verdict scale (Request.Payment payment.now) }
+    ensures { result ≡ check_of scale (Request.Payment payment.now) }
 {
     let home = payment.home;
     let customer_home = payment.customer_home;

@@ -1,18 +1,17 @@
 -- The customers of a district, who stand next to each other.
-use Rattle.std.proofs.Common.{◌≡◌, ℕ, zero, suc, ◌+◌, ◌-◌, ◌*◌, ◌<◌, ◌≤◌, Bool, true, false, cond, ◌&&◌, nat_le, nat_lt, List, [], ◌∷◌, length, take, drop, Option, Some, None, Bor, IfSome, IsTrue, is_some, refl, sym, ap, subst, ◌∙◌, arith}
-use Rattle.std.specs.List.{slice_get, zip, slice_range, PartBy}
+use Rattle.std.proofs.Common.{◌≡◌, ℕ, zero, suc, ◌+◌, ◌-◌, ◌*◌, ◌<◌, ◌≤◌, true, false, cond, nat_lt, List, [], ◌∷◌, length, take, drop, Option, Some, None, Bor, IfSome, IsTrue, is_some, refl, sym, ap, ◌∙◌, arith}
+use Rattle.std.specs.List.{slice_get, slice_range, PartBy}
 use Rattle.std.specs.Option.{option_and_then}
 use Rattle.std.specs.FinMap as map
 use Rattle.std.proofs.lemmas.Bool.Decides.{nat_tests}
 use Rattle.std.proofs.Math.Nat.{mul-le-mul_right}
 use Rattle.rows.specs.declared.keys.DistrictKey.{DistrictKey}
 use Rattle.rows.specs.declared.records.Customer.{Customer}
-use Rattle.rows.specs.Keys.{customer_cmp}
 use Rattle.rows.specs.Ranged.{is_between}
 use Rattle.schema.specs.declared.scale.Scale.{Scale}
 use Rattle.schema.specs.declared.table_rows.TableRows.{TableRows}
-use Rattle.schema.specs.Scale.{has_district, has_customer, district_slot, customer_slot, customer_key, customer_keys, district_keys}
-use Rattle.schema.specs.Rows.{HasCounts, FitsScale, database}
+use Rattle.schema.specs.Scale.{has_district, district_slot, customer_slot, customer_key, customer_keys, district_keys}
+use Rattle.schema.specs.Rows.{FitsScale, database}
 use Rattle.schema.proofs.Places.{get-dense, place-within}
 use Rattle.schema.proofs.KeyOrders.{customers_total, customers_exact}
 use Rattle.schema.proofs.ScalePlaces.{customer_place, district_place, length-district_keys}

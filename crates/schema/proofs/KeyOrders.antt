@@ -1,15 +1,10 @@
 -- The orders of the keys are total, and keys that compare alike are equal.
-use Rattle.std.proofs.Common.{◌≡◌, ℕ, ap}
-use Rattle.std.specs.Ordering.{nat_cmp, ordering_then}
+use Rattle.std.proofs.Common.{ℕ, ap}
+use Rattle.std.specs.Ordering.{nat_cmp}
 use Rattle.std.specs.Cmp.{IsTotalOrder, nat_cmp_total}
 use Rattle.std.specs.FinMap.{IsAntisymmetric}
 use Rattle.std.proofs.lemmas.Cmp.{on_total, then_total}
 use Rattle.std.proofs.lemmas.Map.Lookups.{exact_pairs, exact_unsigned}
-use Rattle.rows.specs.declared.keys.DistrictKey.{DistrictKey}
-use Rattle.rows.specs.declared.keys.StockKey.{StockKey}
-use Rattle.rows.specs.declared.keys.CustomerKey.{CustomerKey}
-use Rattle.rows.specs.declared.keys.OrderKey.{OrderKey}
-use Rattle.rows.specs.declared.keys.OrderLineKey.{OrderLineKey}
 use Rattle.rows.specs.Keys.{district_cmp, stock_cmp, customer_cmp, order_cmp, line_cmp}
 
 pub districts_total : IsTotalOrder district_cmp

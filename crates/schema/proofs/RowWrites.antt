@@ -1,14 +1,11 @@
 -- A row in place of another, and a payment more: the rows still fit the scale, and the table has the row put in.
-use Rattle.std.proofs.Common.{◌≡◌, ℕ, ◌<◌, Bool, true, false, cond, ◌&&◌, List, [], ◌∷◌, ◌++◌, length, Option, Some, None, Result, Ok, Err, OnOk, OnErr, IsTrue, is_some, unwrap_or, slice_set, slice_index_or, refl, sym, ap, subst, ◌∙◌, arith}
-use Rattle.std.specs.List.{list_all, zip, slice_get}
+use Rattle.std.proofs.Common.{◌≡◌, ℕ, ◌<◌, Bool, cond, List, [], ◌∷◌, ◌++◌, length, Option, Some, None, Result, Ok, Err, OnOk, OnErr, IsTrue, unwrap_or, slice_set, slice_index_or, sym, ap, subst, ◌∙◌, arith}
+use Rattle.std.specs.List.{zip, slice_get}
 use Rattle.std.specs.Option.{option_and_then}
 use Rattle.std.specs.Vec.{with_item}
-use Rattle.std.specs.Ordering.{nat_cmp, eq_by_cmp, is_eq}
-use Rattle.std.specs.declared.cmp.Ordering.{Ordering}
-use Rattle.std.specs.declared.cmp.Ordering.TheVariants.{Less, Equal, Greater}
-use Rattle.std.specs.Cmp.{IsTotalOrder, nat_cmp_total}
+use Rattle.std.specs.Cmp.{nat_cmp_total}
 use Rattle.std.specs.FinMap as map
-use Rattle.std.specs.FinMap.{FinMap, get-insert, IsAntisymmetric, nat_cmp-IsAntisymmetric}
+use Rattle.std.specs.FinMap.{nat_cmp-IsAntisymmetric}
 use Rattle.std.proofs.lemmas.List.{length-set, set-get_or}
 use Rattle.std.proofs.lemmas.Option.{slice_get-get_or}
 use Rattle.rows.specs.declared.keys.DistrictKey.{DistrictKey}
@@ -19,19 +16,18 @@ use Rattle.rows.specs.declared.records.District.{District}
 use Rattle.rows.specs.declared.records.Stock.{Stock}
 use Rattle.rows.specs.declared.records.Customer.{Customer}
 use Rattle.rows.specs.declared.records.History.{History}
-use Rattle.rows.specs.Keys.{district_cmp, stock_cmp, customer_cmp}
 use Rattle.schema.specs.declared.scale.Scale.{Scale}
 use Rattle.schema.specs.declared.table_rows.TableRows.{TableRows}
 use Rattle.schema.specs.Dense.{place}
 use Rattle.schema.specs.EachRow.{EachRow}
-use Rattle.schema.specs.Scale.{has_warehouse, has_district, has_stock, has_customer, warehouse_ids, district_keys, stock_keys, customer_keys, warehouse_slot, district_slot, stock_slot, customer_slot}
-use Rattle.schema.specs.Database.{Database, IsWithinScale, list_at, with_payment, are_payers_known, PayersKnown}
+use Rattle.schema.specs.Scale.{has_customer, warehouse_ids, district_keys, stock_keys, customer_keys, warehouse_slot, district_slot, stock_slot, customer_slot}
+use Rattle.schema.specs.Database.{Database, with_payment, are_payers_known}
 use Rattle.schema.specs.Rows.{HasCounts, FitsScale, database}
 use Rattle.schema.proofs.ScaleKept.{known-append, EachRow-insert}
 use Rattle.schema.proofs.Places.{place-within, insert-dense, get-dense}
 use Rattle.schema.proofs.KeyOrders.{districts_total, districts_exact, stocks_total, stocks_exact, customers_total, customers_exact}
 use Rattle.schema.proofs.ScalePlaces.{warehouse_place, district_place, stock_place, customer_place, length-warehouse_ids, length-district_keys, length-stock_keys, length-customer_keys}
-use Rattle.schema.proofs.ScaleRules.{item_keys, warehouse_keys, district_keys_are, stock_keys_are, customer_keys_are, history_keys}
+use Rattle.schema.proofs.ScaleRules.{warehouse_keys, district_keys_are, stock_keys_are, customer_keys_are, history_keys}
 
 -- a key of the scale has a slot
 pub has_slot : (inside : Bool) (n : ℕ) (slot : Option ℕ) → slot ≡ cond inside (Some n) None → slot ≡ None → IsTrue inside → ⊥

@@ -1,5 +1,5 @@
 -- A row in place of another, and a payment more, leave the tables within the scale.
-use Rattle.std.proofs.Common.{◌≡◌, ℕ, Bool, true, false, cond, ◌&&◌, List, [], ◌∷◌, ◌++◌, Option, Some, None, IsTrue, is_some, unwrap_or, refl, sym, ap, ◌∙◌}
+use Rattle.std.proofs.Common.{◌≡◌, ℕ, Bool, true, false, cond, ◌&&◌, List, [], ◌∷◌, ◌++◌, Some, None, IsTrue, is_some, unwrap_or, refl, sym, ap, ◌∙◌}
 use Rattle.std.specs.Ordering.{eq_by_cmp, is_eq}
 use Rattle.std.specs.declared.cmp.Ordering.{Ordering}
 use Rattle.std.specs.declared.cmp.Ordering.TheVariants.{Less, Equal, Greater}
@@ -14,7 +14,7 @@ use Rattle.rows.specs.declared.records.Customer.{Customer}
 use Rattle.rows.specs.declared.records.History.{History}
 use Rattle.schema.specs.declared.scale.Scale.{Scale}
 use Rattle.schema.specs.EachRow.{EachRow}
-use Rattle.schema.specs.Scale.{has_district, has_customer}
+use Rattle.schema.specs.Scale.{has_customer}
 use Rattle.schema.specs.Database.{Database, IsWithinScale, list_at, with_payment, are_payers_known}
 use Rattle.schema.proofs.KeyOrders.{districts_total, districts_exact, customers_total, customers_exact}
 

@@ -1,5 +1,5 @@
 -- The scale's keys in order: how many there are, and the place of each.
-use Rattle.std.proofs.Common.{◌≡◌, ℕ, ◌+◌, ◌-◌, ◌*◌, ◌/◌, ◌%◌, ◌<◌, ◌≤◌, Bool, true, false, cond, ◌&&◌, nat_le, eqb, nat_lt, List, length, Option, Some, None, refl, sym, ap, ◌∙◌, arith}
+use Rattle.std.proofs.Common.{◌≡◌, ℕ, ◌+◌, ◌-◌, ◌*◌, ◌/◌, ◌%◌, ◌<◌, Bool, true, false, cond, ◌&&◌, eqb, length, Some, None, refl, ap, ◌∙◌, arith}
 use Rattle.std.specs.List.{range_with_len}
 use Rattle.std.specs.Option.{option_map}
 use Rattle.std.specs.declared.cmp.Ordering.{Ordering}
@@ -13,7 +13,7 @@ use Rattle.rows.specs.declared.keys.CustomerKey.{CustomerKey}
 use Rattle.rows.specs.Keys.{district_cmp, stock_cmp, customer_cmp, district_of_customer}
 use Rattle.rows.specs.Ranged.{is_between}
 use Rattle.schema.specs.declared.scale.Scale.{Scale}
-use Rattle.schema.specs.Dense.{place, grid}
+use Rattle.schema.specs.Dense.{place}
 use Rattle.schema.specs.Scale.{has_warehouse, has_district, item_ids, warehouse_ids, district_key, district_keys, stock_key, stock_keys, customer_key, customer_keys, item_slot, warehouse_slot, district_slot, stock_slot, customer_slot}
 use Rattle.schema.proofs.Places.{place-grid, place-numbers, length-grid}
 

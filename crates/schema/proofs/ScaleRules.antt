@@ -1,28 +1,22 @@
 -- Tests of rows, against the rules of the scale on the tables that they make.
-use Rattle.std.proofs.Common.{◌≡◌, ◌↔◌, ℕ, ◌*◌, Bool, true, false, cond, ◌&&◌, List, [], ◌∷◌, length, Option, Some, None, Result, Ok, Err, IsOk, IfErr, IsTrue, is_some, refl, sym, ap, subst, ◌∙◌}
-use Rattle.std.specs.List.{list_all, zip}
-use Rattle.std.specs.List.Sorted.{IsStrictlySortedBy}
-use Rattle.std.specs.Map.{keys_of}
-use Rattle.std.specs.BTreeMap.{BTreeMap, IsOrdered, is_at}
+use Rattle.std.proofs.Common.{◌≡◌, ◌↔◌, ℕ, Bool, true, false, cond, ◌&&◌, List, [], ◌∷◌, Some, None, IsTrue, is_some, refl, sym, ap, subst, ◌∙◌}
+use Rattle.std.specs.List.{list_all}
+use Rattle.std.specs.BTreeMap.{IsOrdered}
 use Rattle.std.specs.BTreeMap as tree
-use Rattle.std.specs.Ordering.{nat_cmp, eq_by_cmp}
-use Rattle.std.specs.declared.cmp.Ordering.{Ordering}
-use Rattle.std.specs.Cmp.{IsTotalOrder, nat_cmp_total}
+use Rattle.std.specs.Cmp.{nat_cmp_total}
 use Rattle.std.specs.FinMap as map
-use Rattle.std.specs.FinMap.{IsAntisymmetric, nat_cmp-IsAntisymmetric}
+use Rattle.std.specs.FinMap.{nat_cmp-IsAntisymmetric}
 use Rattle.rows.specs.declared.keys.OrderKey.{OrderKey}
 use Rattle.rows.specs.declared.keys.OrderLineKey.{OrderLineKey}
 use Rattle.rows.specs.declared.records.Order.{Order}
 use Rattle.rows.specs.declared.records.OrderLine.{OrderLine}
-use Rattle.rows.specs.Keys.{district_cmp, stock_cmp, customer_cmp, order_cmp, line_cmp, order_of_line}
+use Rattle.rows.specs.Keys.{order_cmp, line_cmp, order_of_line}
 use Rattle.schema.specs.declared.scale.Scale.{Scale}
 use Rattle.schema.specs.declared.table_rows.TableRows.{TableRows}
-use Rattle.schema.specs.declared.scale_fault.ScaleFault.{ScaleFault}
-use Rattle.schema.specs.Dense.{place}
 use Rattle.schema.specs.EachRow.{EachRow}
 use Rattle.schema.specs.Scale.{has_item, has_warehouse, has_district, has_stock, has_customer, item_ids, warehouse_ids, district_keys, stock_keys, customer_keys}
-use Rattle.schema.specs.Database.{Database, IsWithinScale, are_payers_known, customer_of_order, is_order_id, is_line_number, PayersKnown, OrdersNumbered, OrdersHaveCustomers, NewOrdersHaveOrders, LinesHaveOrders, LinesNumbered, LinesHaveItems, LinesHaveSuppliers}
-use Rattle.schema.specs.Rows.{HasCounts, FitsScale, Breaks, database}
+use Rattle.schema.specs.Database.{are_payers_known, PayersKnown, NewOrdersHaveOrders, LinesHaveOrders}
+use Rattle.schema.specs.Rows.{HasCounts, database}
 use Rattle.schema.proofs.Places.{contains-dense}
 use Rattle.schema.proofs.EachRows.{EachRow-entries, EachRow-dense}
 use Rattle.schema.proofs.KeyOrders.{districts_total, districts_exact, stocks_total, stocks_exact, customers_total, customers_exact, orders_total, orders_exact, lines_total, lines_exact}

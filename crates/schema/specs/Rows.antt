@@ -1,5 +1,5 @@
 -- Which tables rows make, and which rules of the scale they break.
-use Rattle.std.specs.Prelude.{◌≡◌, ◌≢◌, ℕ, ◌*◌, List, length}
+use Rattle.std.specs.Prelude.{◌≡◌, ◌≢◌, ◌*◌, length}
 use Rattle.std.specs.List.{zip}
 use Rattle.std.specs.FinMap as map
 use Rattle.schema.specs.declared.scale.Scale.{Scale}

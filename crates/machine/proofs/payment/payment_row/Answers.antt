@@ -1,8 +1,7 @@
-use Rattle.std.proofs.Common.{◌≡◌, ℕ, ◌≤◌, ◌+◌, List, [], ◌++◌, codes, length, take, refl, sym, ap, ◌∙◌, arith, length-append}
+use Rattle.std.proofs.Common.{◌≡◌, ℕ, ◌≤◌, ◌+◌, List, [], ◌++◌, codes, length, take, ap, ◌∙◌, arith, length-append}
 use Rattle.std.proofs.lemmas.Int.{ints}
 use Rattle.std.proofs.lemmas.List.{take_all}
 use Rattle.std.specs.Prelude.{pos}
-use Rattle.machine.specs.Payment as spec
 use Rattle.machine.proofs.payment.payment_row.Goals as goal
 
 -- a text that fits is appended whole

@@ -1,6 +1,5 @@
 use Rattle.std.proofs.Common.{ap, ◌∙◌}
 use Rattle.std.specs.List.{list_all}
-use Rattle.rows.specs.Keys.{order_of_line}
 use Rattle.schema.specs.Scale.{has_item, has_warehouse, has_customer}
 use Rattle.schema.specs.Database.{customer_of_order, is_order_id, is_line_number, are_payers_known}
 use Rattle.schema.proofs.ScaleRules.{fails, payers_rule, order_rule, line_rule, new_order_rule, line_order_rule, item_keys, warehouse_keys, district_keys_are, stock_keys_are, customer_keys_are, history_keys}

@@ -1,9 +1,9 @@
-use Rattle.std.proofs.Common.{◌≡◌, sym, ap, ◌∙◌}
+use Rattle.std.proofs.Common.{sym, ap, ◌∙◌}
 use Rattle.schema.proofs.KeyOrders.{customers_total, customers_exact}
 use Rattle.std.specs.FinMap as map
 use Rattle.schema.specs.Scale.{customer_keys, customer_slot}
 use Rattle.schema.proofs.ScalePlaces.{customer_place}
-use Rattle.schema.proofs.RowReads.{copied_item, read_slot, read_no_slot}
+use Rattle.schema.proofs.RowReads.{copied_item, read_slot}
 use Rattle.schema.proofs.tables.Tables.customer.Goals as goal
 
 pub returns : goal.returns

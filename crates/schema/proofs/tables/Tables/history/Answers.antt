@@ -1,4 +1,4 @@
-use Rattle.std.proofs.Common.{◌≡◌, Some, sym, ap, ◌∙◌}
+use Rattle.std.proofs.Common.{Some, sym, ap, ◌∙◌}
 use Rattle.std.specs.FinMap as map
 use Rattle.schema.specs.Scale.{district_keys, district_slot}
 use Rattle.schema.proofs.KeyOrders.{districts_total, districts_exact}

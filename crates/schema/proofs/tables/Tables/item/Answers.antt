@@ -1,10 +1,10 @@
-use Rattle.std.proofs.Common.{◌≡◌, sym, ap, ◌∙◌}
+use Rattle.std.proofs.Common.{sym, ap, ◌∙◌}
 use Rattle.std.specs.Cmp.{nat_cmp_total}
 use Rattle.std.specs.FinMap.{nat_cmp-IsAntisymmetric}
 use Rattle.std.specs.FinMap as map
 use Rattle.schema.specs.Scale.{item_ids, item_slot}
 use Rattle.schema.proofs.ScalePlaces.{item_place}
-use Rattle.schema.proofs.RowReads.{copied_item, read_slot, read_no_slot}
+use Rattle.schema.proofs.RowReads.{copied_item, read_slot}
 use Rattle.schema.proofs.tables.Tables.item.Goals as goal
 
 pub returns : goal.returns

@@ -1,6 +1,5 @@
-use Rattle.std.proofs.Common.{◌≡◌, sym, ap, ◌∙◌, rules}
+use Rattle.std.proofs.Common.{ap, ◌∙◌}
 use Rattle.schema.specs.Database.{Database, rows_where, is_of_district}
-use Rattle.schema.specs.Rows.{database}
 use Rattle.schema.proofs.OrderedParts.{orders_part}
 use Rattle.schema.proofs.tables.Tables.orders_of.Goals as goal
 

@@ -1,9 +1,9 @@
-use Rattle.std.proofs.Common.{◌≡◌, sym, ap, ◌∙◌}
+use Rattle.std.proofs.Common.{sym, ap, ◌∙◌}
 use Rattle.schema.proofs.KeyOrders.{stocks_total, stocks_exact}
 use Rattle.std.specs.FinMap as map
 use Rattle.schema.specs.Scale.{stock_keys, stock_slot}
 use Rattle.schema.proofs.ScalePlaces.{stock_place}
-use Rattle.schema.proofs.RowReads.{copied_item, read_slot, read_no_slot}
+use Rattle.schema.proofs.RowReads.{copied_item, read_slot}
 use Rattle.schema.proofs.tables.Tables.stock.Goals as goal
 
 pub returns : goal.returns
