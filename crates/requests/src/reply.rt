@@ -19,8 +19,35 @@ pub struct PaymentReply {
     pub data: Text<200>,
 }
 
+impl PaymentReply {
+    /// An equal reply. It takes no memory.
+    pub fn copy(&self) -> PaymentReply
+        ensures { result ≡ self.now }
+    {
+        PaymentReply {
+            c_id: self.c_id,
+            first: copy_of(&self.first),
+            middle: copy_of(&self.middle),
+            last: copy_of(&self.last),
+            credit: self.credit,
+            discount: self.discount,
+            balance: self.balance,
+            data: copy_of(&self.data),
+        }
+    }
+}
+
+// An equal text.
+fn copy_of<const WIDTH: usize>(text: &Text<WIDTH>) -> Text<WIDTH>
+    ensures { result ≡ text.now }
+{
+    let mut copy = Text::new();
+    copy.push_fitting(text.as_str());
+    copy
+}
+
 /// Why a transaction that was carried out and logged changed nothing.
-#[derive(Clone, Debug, PartialEq, Eq, Drop)]
+#[derive(Clone, Copy, Debug, PartialEq, Eq)]
 pub enum Fault {
     /// The district has no customer of that choice.
     NoCustomer,
@@ -36,6 +63,16 @@ pub enum Reply {
 }
 
 impl Reply {
+    /// An equal reply. It takes no memory.
+    pub fn copy(&self) -> Reply
+        ensures { result ≡ self.now }
+    {
+        match self {
+            Reply::Payment(shown) => Reply::Payment(shown.copy()),
+            Reply::RolledBack(fault) => Reply::RolledBack(*fault),
+        }
+    }
+
     /// An equal reply. `NoMemory` leaves nothing behind.
     pub fn try_clone(&self) -> Result<Self, NoMemory>
         ensures { IfOk result (λ copy. copy ≡ self.now) }

@@ -7,6 +7,7 @@ use sets::{set_e, set_k};
 use std::process::Abort;
 use std::test::Fail;
 
+mod log;
 mod payments;
 
 // 2024-05-01T12:00:00

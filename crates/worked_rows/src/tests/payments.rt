@@ -1,4 +1,5 @@
 use super::*;
+use std::alloc::Global;
 
 // What a payment of 100 cents changes: the sums of the home warehouse and district, the customer's
 // sums and count, and the list of the district.
@@ -101,18 +102,31 @@ fn a_payment_out_of_range_changes_nothing(rt: HostRuntime) -> Result<(), Fail> {
     Ok(())
 }
 
-// With each allocation failing in turn, want of memory is answered and nothing has changed.
+// Set K after three payments, so that the next one makes the list of payments grow; `None` where memory
+// was refused.
+fn after_three_payments(rt: &impl Abort, alloc: Global) -> Option<Plain> {
+    let mut plain = Plain::open(set_k(alloc).ok()?);
+    for _ in 0..3 {
+        carry_out(rt, &mut plain, &one_dollar()).ok()?;
+    }
+    Some(plain)
+}
+
+fn one_dollar() -> Request {
+    payment(district_key(1, 1), customer_key(1, 1, 1), 100)
+}
+
+// Whichever allocation is refused: a payment is carried out, or it answers `NoMemory` and has changed
+// nothing.
 #[test]
 fn want_of_memory_changes_nothing(rt: HostRuntime) {
-    let Ok(before) = set_k(rt.alloc()) else {
+    let Some(before) = after_three_payments(&rt, rt.alloc()) else {
         return;
     };
-    let Ok(tables) = set_k(rt.alloc()) else {
+    let Some(mut plain) = after_three_payments(&rt, rt.alloc()) else {
         return;
     };
-    let mut plain = Plain::open(tables);
-    let request = payment(district_key(1, 1), customer_key(1, 1, 1), 100);
-    let answer = carry_out(&rt, &mut plain, &request);
-    let unchanged = same_tables(plain.into_tables(), before);
+    let answer = carry_out(&rt, &mut plain, &one_dollar());
+    let unchanged = same_tables(plain.into_tables(), before.into_tables());
     assert_eq!(rt; answer.is_err(), unchanged);
 }

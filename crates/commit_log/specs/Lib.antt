@@ -1,0 +1,3 @@
+pub mod NoTables
+pub mod Logged
+pub mod Log

@@ -1,0 +1,19 @@
+-- What a log says, and when it is honest.
+use Rattle.std.specs.Prelude.{◌≡◌, List, map}
+use Rattle.schema.specs.Database.{Database}
+use Rattle.requests.specs.declared.request.Request.{Request}
+use Rattle.requests.specs.declared.reply.Reply.{Reply}
+use Rattle.machine.specs.Machine.{replies, tables_after}
+use Rattle.commit_log.specs.declared.entry.Entry.{Entry}
+
+abbrev pub requests_of : List Entry → List Request
+requests_of entries = map (λ entry. entry.request) entries
+
+abbrev pub replies_of : List Entry → List Reply
+replies_of entries = map (λ entry. entry.reply) entries
+
+-- The replies are those of a machine that carries out the log's requests one at a time, in log order, from the
+-- opening, and the tables are those that it leaves.
+pub record IsLegal (opening : Database) (entries : List Entry) (tables : Database) : Type 0 where
+  pub replied : replies_of entries ≡ replies opening (requests_of entries)
+  pub left : tables ≡ tables_after opening (requests_of entries)

@@ -1,0 +1,5 @@
+-- The log is opened on the tables that the test makes.
+use Rattle.worked_rows.proofs.tests.log.payments_are_logged_in_turn.Given as goal
+
+abbrev pub ghosts-two_payments : goal.ghosts-two_payments
+ghosts-two_payments g a = record { opening = a.tables }
