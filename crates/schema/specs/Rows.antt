@@ -1,5 +1,5 @@
 -- Which tables rows make, and which rules of the scale they break.
-use Rattle.std.specs.Prelude.{◌≡◌, ◌≢◌, ◌*◌, length}
+use Rattle.std.specs.Prelude.{[], ◌≡◌, ◌≢◌, ◌*◌, length}
 use Rattle.std.specs.List.{zip}
 use Rattle.std.specs.FinMap as map
 use Rattle.schema.specs.declared.scale.Scale.{Scale}
@@ -37,6 +37,18 @@ pub record HasCounts (scale : Scale) (rows : TableRows) : Type 0 where
 pub record FitsScale (scale : Scale) (rows : TableRows) : Type 0 where
   pub counts : HasCounts scale rows
   pub within : IsWithinScale (database scale rows)
+
+-- no row in any table
+pub record AreNoRows (rows : TableRows) : Type 0 where
+  pub items : rows.items.items ≡ []
+  pub warehouses : rows.warehouses.items ≡ []
+  pub districts : rows.districts.items ≡ []
+  pub stocks : rows.stocks.items ≡ []
+  pub customers : rows.customers.items ≡ []
+  pub histories : rows.histories.items ≡ []
+  pub orders : rows.orders.entries ≡ []
+  pub new_orders : rows.new_orders.entries ≡ []
+  pub lines : rows.lines.entries ≡ []
 
 -- the same rows in each table
 pub record AreSameRows (old new : TableRows) : Type 0 where

@@ -1,5 +1,5 @@
 ghost use Rattle.std.specs.Prelude.{MatchOption, IfOk};
-ghost use Rattle.schema.specs.Rows.{HasCounts, FitsScale, Breaks, AreSameRows};
+ghost use Rattle.schema.specs.Rows.{HasCounts, FitsScale, Breaks, AreNoRows, AreSameRows};
 
 use crate::row_rules::{
     are_lines_numbered, are_orders_numbered, have_lines_items, have_lines_orders,
@@ -9,6 +9,7 @@ use crate::{HistoryList, NoMemory, Scale, ScaleFault};
 use rows::{
     Customer, District, Item, NewOrder, Order, OrderKey, OrderLine, OrderLineKey, Stock, Warehouse,
 };
+use std::alloc::Global;
 use std::collections::BTreeMap;
 
 /// The rows of the nine tables, as they come and go. Those of six tables, whose keys are exactly the
@@ -33,6 +34,23 @@ pub struct TableRows {
 }
 
 impl TableRows {
+    /// No rows. It takes no memory.
+    pub fn new(alloc: Global) -> Self
+        ensures { AreNoRows result }
+    {
+        TableRows {
+            items: Vec::new(alloc),
+            warehouses: Vec::new(alloc),
+            districts: Vec::new(alloc),
+            stocks: Vec::new(alloc),
+            customers: Vec::new(alloc),
+            histories: Vec::new(alloc),
+            orders: BTreeMap::new(alloc),
+            new_orders: BTreeMap::new(alloc),
+            lines: BTreeMap::new(alloc),
+        }
+    }
+
     /// Equal rows.
     pub fn try_clone(&self) -> Result<TableRows, NoMemory>
         ensures { IfOk result (AreSameRows self.now) }

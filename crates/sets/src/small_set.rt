@@ -4,7 +4,6 @@ use schema::{
     DistrictKey, HistoryList, NewOrder, NoMemory, OrderKey, OrderLineKey, Scale, TableRows, Tables,
 };
 use std::alloc::Global;
-use std::collections::BTreeMap;
 
 const ITEMS: u32 = 70;
 
@@ -28,7 +27,7 @@ pub fn set_scale(warehouses: u32) -> Result<Scale, SetError> {
 
 /// The rows of set K of this many warehouses, which nothing has checked.
 pub fn set_k_rows(alloc: Global, warehouses: u32) -> Result<TableRows, NoMemory> {
-    let mut rows = no_rows(alloc);
+    let mut rows = TableRows::new(alloc);
     for number in 1..=ITEMS {
         rows.items.push(item(number))?;
     }
@@ -36,20 +35,6 @@ pub fn set_k_rows(alloc: Global, warehouses: u32) -> Result<TableRows, NoMemory>
         add_warehouse(&mut rows, number)?;
     }
     Ok(rows)
-}
-
-fn no_rows(alloc: Global) -> TableRows {
-    TableRows {
-        items: Vec::new(alloc),
-        warehouses: Vec::new(alloc),
-        districts: Vec::new(alloc),
-        stocks: Vec::new(alloc),
-        customers: Vec::new(alloc),
-        histories: Vec::new(alloc),
-        orders: BTreeMap::new(alloc),
-        new_orders: BTreeMap::new(alloc),
-        lines: BTreeMap::new(alloc),
-    }
 }
 
 fn add_warehouse(rows: &mut TableRows, number: u32) -> Result<(), NoMemory> {

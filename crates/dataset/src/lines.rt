@@ -1,0 +1,35 @@
+use files::Fields;
+use rows::{OrderLine, OrderLineKey};
+use schema::{NoMemory, Scale};
+use std::collections::BTreeMap;
+
+/// Takes the key of a record of ORDER-LINE, its second to fifth field; OL_NUMBER is 1 to 15.
+pub fn key(fields: &mut Fields, scale: Scale) -> OrderLineKey {
+    OrderLineKey {
+        w_id: fields.whole(1, scale.warehouses),
+        d_id: fields.whole(1, 10),
+        o_id: fields.whole(1, 9_999_999),
+        number: fields.whole(1, 15),
+    }
+}
+
+/// Takes the other fields, and adds the row if the record has no fault.
+pub fn add(
+    fields: &mut Fields,
+    scale: Scale,
+    key: OrderLineKey,
+    lines: &mut BTreeMap<OrderLineKey, OrderLine>,
+) -> Result<(), NoMemory> {
+    let row = OrderLine {
+        i_id: fields.whole(1, scale.items),
+        supply_w_id: fields.whole(1, scale.warehouses),
+        delivery_d: fields.optional_moment(),
+        quantity: fields.ranged(),
+        amount: fields.ranged(),
+        dist_info: fields.text(),
+    };
+    if fields.finish().is_none() {
+        lines.insert(key, row)?;
+    }
+    Ok(())
+}

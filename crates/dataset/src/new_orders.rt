@@ -1,0 +1,16 @@
+use files::Fields;
+use rows::{NewOrder, OrderKey};
+use schema::NoMemory;
+use std::collections::BTreeMap;
+
+/// Adds the row of a record of NEW-ORDER, which has no field beside its key, if it has no fault.
+pub fn add(
+    fields: &mut Fields,
+    key: OrderKey,
+    new_orders: &mut BTreeMap<OrderKey, NewOrder>,
+) -> Result<(), NoMemory> {
+    if fields.finish().is_none() {
+        new_orders.insert(key, NewOrder)?;
+    }
+    Ok(())
+}

@@ -1,0 +1,27 @@
+use rows::{CustomerKey, DistrictKey, OrderKey, OrderLineKey, StockKey};
+
+/// Where a record stands in the order of a dataset: by table, and in its table by key.
+#[derive(Clone, Copy, Debug, PartialEq, Eq, PartialOrd, Ord)]
+pub enum Place {
+    Header,
+    Item(u32),
+    Warehouse(u32),
+    District(DistrictKey),
+    Stock(StockKey),
+    Customer(CustomerKey),
+    History(DistrictKey),
+    Order(OrderKey),
+    NewOrder(OrderKey),
+    Line(OrderLineKey),
+}
+
+impl Place {
+    /// Whether a record at this place may come right after one at `last`. Only the rows of HISTORY, which
+    /// have no key, may share a place.
+    pub fn follows(self, last: Place) -> bool {
+        match self {
+            Place::History(_) => last <= self,
+            _ => last < self,
+        }
+    }
+}

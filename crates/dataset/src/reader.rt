@@ -1,0 +1,74 @@
+use crate::header;
+use crate::loader::{Loader, Taken};
+use files::{FaultKind, FileFault, ReadFault, Records};
+use schema::{Scale, Tables};
+use std::alloc::Global;
+use std::io::Read;
+
+/// The tables of the dataset that `source` gives.
+///
+/// A fault comes with its record, and nothing else is given then. The first faulty record decides, and
+/// of its faults the least one; a broken rule of the scale is looked for after the whole file was read,
+/// and named at the end record. Memory is taken row by row, never by the numbers of the header.
+pub fn read<R: Read + Drop>(alloc: Global, source: R) -> Result<Tables, ReadFault> {
+    let mut records = Records::new(alloc, source);
+    let scale = read_header(&mut records)?;
+    let mut loader = Loader::new(alloc, scale);
+    read_rows(&mut records, &mut loader)?;
+    finish(records, loader)
+}
+
+// The scale of the first record, which is the header.
+fn read_header<R: Read + Drop>(records: &mut Records<R>) -> Result<Scale, ReadFault> {
+    if !records.advance()? {
+        return Err(records.fault(FaultKind::NoHeader));
+    }
+    match header::parse(&mut records.fields()) {
+        Ok(scale) => Ok(scale),
+        Err(kind) => Err(records.fault(kind)),
+    }
+}
+
+// Takes the records up to the end record, which is then under way.
+fn read_rows<R: Read + Drop>(
+    records: &mut Records<R>,
+    loader: &mut Loader,
+) -> Result<(), ReadFault> {
+    for _ in 0..u64::MAX {
+        if !records.advance()? {
+            break;
+        }
+        if read_record(records, loader)? == Taken::End {
+            return Ok(());
+        }
+    }
+    Err(records.fault(FaultKind::NoEnd))
+}
+
+// Takes the record under way.
+fn read_record<R: Read + Drop>(
+    records: &Records<R>,
+    loader: &mut Loader,
+) -> Result<Taken, ReadFault> {
+    let mut fields = records.fields();
+    let taken = loader.take(&mut fields)?;
+    match fields.fault() {
+        Some(kind) => Err(records.fault(kind)),
+        None => Ok(taken),
+    }
+}
+
+// The tables, after the end record, which has to be the last.
+fn finish<R: Read + Drop>(mut records: Records<R>, loader: Loader) -> Result<Tables, ReadFault> {
+    let end = records.number();
+    if records.advance()? {
+        return Err(records.fault(FaultKind::AfterEnd));
+    }
+    match loader.finish()? {
+        Ok(tables) => Ok(tables),
+        Err(_) => Err(ReadFault::File(FileFault {
+            kind: FaultKind::ScaleBroken,
+            record: end,
+        })),
+    }
+}

@@ -1,0 +1,21 @@
+-- The numbers of the faults.
+use Rattle.std.specs.Prelude.{ℕ, nat_le, if◌then◌else◌}
+use Rattle.files.specs.declared.fault.FaultKind.{FaultKind}
+use Rattle.files.specs.declared.fault.FaultKind.TheVariants as fault
+
+-- the number by which the program names a fault
+abbrev pub fault_number : FaultKind → ℕ
+fault_number fault.NoHeader = 1
+fault_number fault.WrongShape = 2
+fault_number fault.NotOfKind = 3
+fault_number fault.OutOfRange = 4
+fault_number fault.OutOfOrder = 5
+fault_number fault.ScaleBroken = 6
+fault_number fault.NoEnd = 7
+fault_number fault.WrongCount = 8
+fault_number fault.AfterEnd = 9
+fault_number fault.Io = 10
+
+-- the one of the least number
+abbrev pub least_fault : FaultKind → FaultKind → FaultKind
+least_fault a b = if nat_le (fault_number a) (fault_number b) then a else b

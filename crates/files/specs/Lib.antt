@@ -1,0 +1,6 @@
+pub mod Fault
+pub mod Number
+pub mod MomentText
+pub mod Word
+pub mod Taken
+pub mod Place

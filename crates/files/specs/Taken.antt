@@ -1,0 +1,19 @@
+-- What is known of a record while its fields are taken.
+use Rattle.std.specs.Prelude.{ℕ, List, drop, Option, Some, None}
+use Rattle.csv.specs.Records.{fields_of}
+use Rattle.files.specs.declared.fault.FaultKind.{FaultKind}
+use Rattle.files.specs.declared.fields.Fields.{Fields}
+use Rattle.files.specs.Fault.{least_fault}
+
+-- the fields that are left
+abbrev pub fields_left : Fields → List (List ℕ)
+fields_left f = drop f.place (fields_of f.record.now)
+
+-- the least fault so far
+abbrev pub fault_of : Fields → Option FaultKind
+fault_of f = f.fault
+
+-- the least fault, where one more is noted
+abbrev pub with_fault : Option FaultKind → FaultKind → FaultKind
+with_fault None kind = kind
+with_fault (Some fault) kind = least_fault fault kind

@@ -1,0 +1,95 @@
+ghost use Rattle.std.specs.Prelude.{◌≡◌};
+ghost use Rattle.files.specs.Fault.{fault_number, least_fault};
+ghost use Rattle.files.specs.declared.fault.ReadFault.TheVariants.{NoMemory};
+
+use std::alloc::AllocError;
+use std::fmt;
+
+/// What can be wrong with a file. Of several faults of one record the least is given, in this order.
+#[derive(Clone, Copy, Debug, PartialEq, Eq)]
+pub enum FaultKind {
+    /// The header record is missing or not of this format.
+    NoHeader,
+    /// An unknown letter or a wrong number of fields.
+    WrongShape,
+    /// A field is not a number, moment or text of its kind.
+    NotOfKind,
+    /// A value is out of its column's range.
+    OutOfRange,
+    /// A record is out of order, or a key stands twice.
+    OutOfOrder,
+    /// A rule of the scale is broken: a row missing or too many, or a reference to no row.
+    ScaleBroken,
+    /// The end record is missing.
+    NoEnd,
+    /// A count in the end record is wrong.
+    WrongCount,
+    /// A record comes after the end record.
+    AfterEnd,
+    /// Reading or writing failed.
+    Io,
+}
+
+impl FaultKind {
+    /// The number by which the program names the fault, from 1 to 10.
+    pub fn number(self) -> u8
+        ensures { result ≡ fault_number self }
+    {
+        match self {
+            FaultKind::NoHeader => 1,
+            FaultKind::WrongShape => 2,
+            FaultKind::NotOfKind => 3,
+            FaultKind::OutOfRange => 4,
+            FaultKind::OutOfOrder => 5,
+            FaultKind::ScaleBroken => 6,
+            FaultKind::NoEnd => 7,
+            FaultKind::WrongCount => 8,
+            FaultKind::AfterEnd => 9,
+            FaultKind::Io => 10,
+        }
+    }
+
+    /// The lesser of two faults of one record, which is the one given.
+    pub fn least(self, other: FaultKind) -> FaultKind
+        ensures { result ≡ least_fault self other }
+    {
+        if self.number() <= other.number() {
+            self
+        } else {
+            other
+        }
+    }
+}
+
+/// A fault of a file, and the record where it was found.
+#[derive(Clone, Copy, Debug, PartialEq, Eq)]
+pub struct FileFault {
+    pub kind: FaultKind,
+    /// From 1; 0 where the file can't be opened or made.
+    pub record: u64,
+}
+
+impl fmt::Display for FileFault {
+    fn fmt<W: fmt::Write>(&self, f: &mut fmt::Formatter<W>) -> fmt::Result {
+        let record = self.record;
+        let number = self.kind.number();
+        write!(f, "row {record}: fault {number}")
+    }
+}
+
+/// Why a file gave nothing.
+#[derive(Clone, Copy, Debug, PartialEq, Eq)]
+pub enum ReadFault {
+    /// There was no memory for what the file holds.
+    NoMemory,
+    /// The file has a fault.
+    File(FileFault),
+}
+
+impl From<AllocError> for ReadFault {
+    ghost from_gives = { λ _ fault. fault ≡ NoMemory };
+
+    fn from(_error: AllocError) -> ReadFault {
+        ReadFault::NoMemory
+    }
+}

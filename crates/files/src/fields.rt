@@ -1,0 +1,184 @@
+ghost use Rattle.std.specs.Prelude.{◌≡◌, ◌≤◌, None};
+ghost use Rattle.csv.specs.Records.{fields_of};
+
+use crate::{
+    FaultKind, parse_cents, parse_credit, parse_moment, parse_ranged, parse_rate, parse_text,
+    parse_whole,
+};
+use amounts::{Cents, Rate};
+use csv::ByteRecord;
+use rows::{Credit, Moment, Ranged, Text};
+use std::str::from_utf8;
+
+/// The fields of one record, taken from left to right. A field that is faulty gives some value of its
+/// column in its place, and the least fault so far is kept: so a record is taken whole, and then asked
+/// for its fault.
+#[derive(Drop)]
+pub struct Fields<'r> {
+    record: &'r ByteRecord,
+    // The place of the next field.
+    place: usize,
+    fault: Option<FaultKind>,
+}
+
+impl<'r> Fields<'r> {
+    ghost use Rattle.files.specs.Taken.{fields_left, fault_of, with_fault};
+
+    /// All fields of the record, none taken and without a fault.
+    pub fn new(record: &'r ByteRecord) -> Self
+        ensures left { fields_left result ≡ fields_of «record».now }
+        ensures fault { fault_of result ≡ None }
+    {
+        Fields {
+            record,
+            place: 0,
+            fault: None,
+        }
+    }
+
+    /// How many fields the record has.
+    pub fn count(&self) -> usize {
+        self.record.len()
+    }
+
+    /// The least fault so far.
+    pub fn fault(&self) -> Option<FaultKind>
+        ensures { result ≡ fault_of self.now }
+    {
+        self.fault
+    }
+
+    /// Keeps the fault, unless a lesser one is kept.
+    pub fn note(&mut self, kind: FaultKind)
+        ensures fault { fault_of self.new ≡ Some (with_fault (fault_of self.old) kind) }
+        ensures left { fields_left self.new ≡ fields_left self.old }
+    {
+        self.fault = match self.fault {
+            Some(fault) => Some(fault.least(kind)),
+            None => Some(kind),
+        };
+    }
+
+    /// The least fault of the record, all of whose fields should be taken: `WrongShape` where some are
+    /// left.
+    pub fn finish(&mut self) -> Option<FaultKind>
+        ensures { result ≡ fault_of self.new }
+    {
+        if self.place < self.record.len() {
+            self.note(FaultKind::WrongShape);
+        }
+        self.fault
+    }
+
+    /// The next field as it stands. `""` where there is none, which is noted as `WrongShape`, and where
+    /// its bytes are no text at all, noted as `NotOfKind`.
+    pub fn word(&mut self) -> &'r str {
+        match self.record.get(self.place) {
+            Some(bytes) => {
+                self.place += 1;
+                match from_utf8(bytes) {
+                    Ok(word) => word,
+                    Err(_) => {
+                        self.note(FaultKind::NotOfKind);
+                        ""
+                    }
+                }
+            }
+            None => {
+                self.note(FaultKind::WrongShape);
+                ""
+            }
+        }
+    }
+
+    /// The next field as a number from `low` to `high`; `low` after a fault.
+    pub fn whole(&mut self, low: u32, high: u32) -> u32 {
+        match parse_whole(self.word(), u64::from(low), u64::from(high)) {
+            Ok(number) => number as u32,
+            Err(kind) => {
+                self.note(kind);
+                low
+            }
+        }
+    }
+
+    /// The next field as a number of its column's range.
+    pub fn ranged<const LOW: u32, const HIGH: u32>(&mut self) -> Ranged<LOW, HIGH>
+        requires { LOW ≤ HIGH }
+    {
+        let number = parse_ranged(self.word());
+        self.or_note(number, Ranged::new(LOW))
+    }
+
+    /// The same, and `None` where the field is empty.
+    pub fn optional_ranged<const LOW: u32, const HIGH: u32>(
+        &mut self,
+    ) -> Option<Ranged<LOW, HIGH>> {
+        let word = self.word();
+        if word.is_empty() {
+            return None;
+        }
+        let number = parse_ranged(word).map(Some);
+        self.or_note(number, None)
+    }
+
+    /// The next field as a text; the empty one after a fault.
+    pub fn text<const WIDTH: usize>(&mut self) -> Text<WIDTH> {
+        let text = parse_text(self.word());
+        self.or_note(text, Text::new())
+    }
+
+    /// The next field as money; 0 after a fault.
+    pub fn cents(&mut self) -> Cents {
+        let cents = parse_cents(self.word());
+        self.or_note(cents, Cents::ZERO)
+    }
+
+    /// The next field as a rate; 0 after a fault.
+    pub fn rate(&mut self) -> Rate {
+        let rate = parse_rate(self.word());
+        self.or_note(rate, Rate::new(0))
+    }
+
+    /// The next field as C_CREDIT; good after a fault.
+    pub fn credit(&mut self) -> Credit {
+        let credit = parse_credit(self.word());
+        self.or_note(credit, Credit::Good)
+    }
+
+    /// The next field as a moment; the first one after a fault.
+    pub fn moment(&mut self) -> Moment {
+        let moment = parse_moment(self.word());
+        self.or_note(moment, Moment::new(0))
+    }
+
+    /// The same, and `None` where the field is empty.
+    pub fn optional_moment(&mut self) -> Option<Moment> {
+        let word = self.word();
+        if word.is_empty() {
+            return None;
+        }
+        let moment = parse_moment(word).map(Some);
+        self.or_note(moment, None)
+    }
+
+    /// Notes `WrongCount` where the next field is another number than `count`.
+    pub fn expect_count(&mut self, count: u64) {
+        match parse_whole(self.word(), count, count) {
+            Ok(_) => {}
+            Err(FaultKind::OutOfRange) => self.note(FaultKind::WrongCount),
+            Err(kind) => self.note(kind),
+        }
+    }
+
+    // The value that was parsed; `other` where none was, and the fault is noted.
+    fn or_note<T: Drop>(&mut self, parsed: Result<T, FaultKind>, other: T) -> T {
+        match parsed {
+            Ok(value) => value,
+            Err(kind) => {
+                self.note(kind);
+                other
+            }
+        }
+    }
+}

@@ -1,0 +1,48 @@
+ghost use Rattle.std.specs.Prelude.{◌≡◌, ◌↔◌, ℕ, ◌≤◌, IfOk, IfErr, IsTrue, pos};
+ghost use Rattle.jiff.specs.Names.{iso_datetime_text};
+ghost use Rattle.jiff_core.specs.DateTime.{civil_seconds};
+ghost use Rattle.jiff_core.specs.declared.civil.datetime.DateTime.{DateTime as Civil};
+ghost use Rattle.files.specs.MomentText.{Spells};
+
+use crate::FaultKind;
+use jiff::civil::DateTime;
+use jiff::fmt::temporal::DateTimePrinter;
+use rows::Moment;
+
+/// The moment that the field spells: `YYYY-MM-DDTHH:MM:SS`, a date and time that exist, in the years
+/// 1970 to 9999, with seconds from 00 to 59. Any other spelling is `NotOfKind`.
+pub fn parse_moment(field: &str) -> Result<Moment, FaultKind>
+    ensures spelt { IfOk result (λ seconds. (moment : Civil) × Spells moment field.now seconds) }
+    ensures reads { (moment : Civil) (seconds : ℕ) → Spells moment field.now seconds → seconds ≤ 253402300799 → result ≡ Ok seconds }
+    ensures faults { IfErr result (λ kind. kind ≡ FaultKind.NotOfKind) }
+{
+    let Ok(moment) = field.parse::<DateTime>() else {
+        return Err(FaultKind::NotOfKind);
+    };
+    if !is_spelt(field, moment) {
+        return Err(FaultKind::NotOfKind);
+    }
+    match seconds_of(moment) {
+        Ok(seconds) => Ok(seconds),
+        Err(kind) => Err(kind),
+    }
+}
+
+// Whether the field is what is written for the moment, which has no fraction of a second.
+fn is_spelt(field: &str, moment: DateTime) -> bool
+    ensures { IsTrue result ↔ ((iso_datetime_text moment ≡ field.now) × (moment.time.subsec_nanosecond ≡ 0)) }
+{
+    let spelling = DateTimePrinter::new().datetime_text(moment.to_plain());
+    spelling.as_str() == field && moment.subsec_nanosecond() == 0
+}
+
+// The moment, which is known to be before the year 10000; `NotOfKind` before 1970.
+fn seconds_of(moment: DateTime) -> Result<Moment, FaultKind>
+    ensures reads { (seconds : ℕ) → (result ≡ Ok seconds) ↔ ((civil_seconds moment ≡ pos seconds) × (seconds ≤ 253402300799)) }
+    ensures faults { IfErr result (λ kind. kind ≡ FaultKind.NotOfKind) }
+{
+    match u64::try_from(moment.to_plain().to_second()) {
+        Ok(seconds) => Moment::checked_new(seconds).ok_or(FaultKind::NotOfKind),
+        Err(_) => Err(FaultKind::NotOfKind),
+    }
+}

@@ -1,0 +1,110 @@
+ghost use Rattle.std.specs.Prelude.{◌≡◌, ◌↔◌, ℕ, ℤ, ◌≤◌, ◌<◌, ◌⊎◌, false, IfOk, IfErr};
+ghost use Rattle.std.specs.Char.{is_ascii_digit};
+ghost use Rattle.std.specs.Fmt.{decimal, signed_decimal};
+ghost use Rattle.std.specs.List.{list_all};
+ghost use Rattle.amounts.specs.Money.{IsMoney};
+ghost use Rattle.files.specs.Number.{is_positive, is_number};
+
+use crate::FaultKind;
+use amounts::{Cents, Rate};
+use rows::Ranged;
+
+/// The number from `low` to `high` that the field spells: decimal digits without leading zeros.
+/// `NotOfKind` where the field spells no whole number at all, else `OutOfRange`.
+pub fn parse_whole(field: &str, low: u64, high: u64) -> Result<u64, FaultKind>
+    ensures value { IfOk result (λ number. decimal number ≡ field.now) }
+    ensures range { IfOk result (λ number. (low ≤ number) × (number ≤ high)) }
+    ensures reads { (number : ℕ) → decimal number ≡ field.now → low ≤ number → number ≤ high → result ≡ Ok number }
+    ensures not_of_kind { (result ≡ Err FaultKind.NotOfKind) ↔ (is_number field.now ≡ false) }
+    ensures faults { IfErr result (λ kind. (kind ≡ FaultKind.NotOfKind) ⊎ (kind ≡ FaultKind.OutOfRange)) }
+{
+    if !is_number(field.as_bytes()) {
+        return Err(FaultKind::NotOfKind);
+    }
+    match field.parse::<u64>() {
+        Ok(number) => {
+            if (low..=high).contains(&number) {
+                Ok(number)
+            } else {
+                Err(FaultKind::OutOfRange)
+            }
+        }
+        Err(_) => Err(FaultKind::OutOfRange),
+    }
+}
+
+/// The number that the field spells, within the column's range. Its faults are those of `parse_whole`.
+pub fn parse_ranged<const LOW: u32, const HIGH: u32>(
+    field: &str,
+) -> Result<Ranged<LOW, HIGH>, FaultKind>
+    ensures value { IfOk result (λ number. decimal number ≡ field.now) }
+    ensures reads { (number : ℕ) → decimal number ≡ field.now → LOW ≤ number → number ≤ HIGH → result ≡ Ok number }
+    ensures not_of_kind { (result ≡ Err FaultKind.NotOfKind) ↔ (is_number field.now ≡ false) }
+    ensures faults { IfErr result (λ kind. (kind ≡ FaultKind.NotOfKind) ⊎ (kind ≡ FaultKind.OutOfRange)) }
+{
+    match parse_whole(field, u64::from(LOW), u64::from(HIGH)) {
+        Ok(number) => Ok(Ranged::new(number as u32)),
+        Err(kind) => Err(kind),
+    }
+}
+
+/// The rate in ten-thousandths, from 0 to 9,999. Its faults are those of `parse_whole`.
+pub fn parse_rate(field: &str) -> Result<Rate, FaultKind>
+    ensures value { IfOk result (λ number. decimal number ≡ field.now) }
+    ensures reads { (number : ℕ) → decimal number ≡ field.now → number < 10000 → result ≡ Ok number }
+    ensures not_of_kind { (result ≡ Err FaultKind.NotOfKind) ↔ (is_number field.now ≡ false) }
+    ensures faults { IfErr result (λ kind. (kind ≡ FaultKind.NotOfKind) ⊎ (kind ≡ FaultKind.OutOfRange)) }
+{
+    match parse_whole(field, 0, 9_999) {
+        Ok(number) => Ok(Rate::new(number as u16)),
+        Err(kind) => Err(kind),
+    }
+}
+
+/// The amount of money in whole cents, from -10^15 to 10^15, with `-` before a negative one. Its faults
+/// are those of `parse_whole`.
+pub fn parse_cents(field: &str) -> Result<Cents, FaultKind>
+    ensures value { IfOk result (λ cents. signed_decimal cents ≡ field.now) }
+    ensures reads { (cents : ℤ) → signed_decimal cents ≡ field.now → IsMoney cents → result ≡ Ok cents }
+    ensures not_of_kind { (result ≡ Err FaultKind.NotOfKind) ↔ (is_number field.now ≡ false) }
+    ensures faults { IfErr result (λ kind. (kind ≡ FaultKind.NotOfKind) ⊎ (kind ≡ FaultKind.OutOfRange)) }
+{
+    if !is_number(field.as_bytes()) {
+        return Err(FaultKind::NotOfKind);
+    }
+    match field.parse::<i64>() {
+        Ok(number) => match Cents::checked_new(number) {
+            Some(cents) => Ok(cents),
+            None => Err(FaultKind::OutOfRange),
+        },
+        Err(_) => Err(FaultKind::OutOfRange),
+    }
+}
+
+// Whether the bytes spell a whole number: `0`, a positive one, or `-` and a positive one.
+fn is_number(bytes: &[u8]) -> bool
+    ensures { result ≡ is_number bytes.now }
+{
+    match bytes {
+        [] => false,
+        [b'-', digits @ ..] => is_positive(digits),
+        [b'0', rest @ ..] => rest.is_empty(),
+        digits => is_positive(digits),
+    }
+}
+
+// Whether the bytes are decimal digits, of which the first is not 0.
+fn is_positive(digits: &[u8]) -> bool
+    ensures { result ≡ is_positive digits.now }
+{
+    match digits {
+        [] | [b'0', ..] => false,
+        digits => are_digits(digits),
+    }
+}
+
+fn are_digits(bytes: &[u8]) -> bool
+    ensures { result ≡ list_all is_ascii_digit bytes.now }
+{
+    bytes.iter().all(|byte| byte.is_ascii_digit())
+}

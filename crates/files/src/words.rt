@@ -1,0 +1,36 @@
+ghost use Rattle.std.specs.Prelude.{◌≡◌, ◌↔◌, ◌⊎◌, codes, false, IfErr};
+ghost use Rattle.std.specs.List.{list_all};
+ghost use Rattle.rows.specs.Text.{is_printable_byte};
+ghost use Rattle.files.specs.Word.{text_read};
+
+use crate::FaultKind;
+use rows::{Credit, Text, TextFault};
+
+/// The text of at most `WIDTH` bytes: `NotOfKind` where a byte is not printable ASCII (32 to 126), else
+/// `OutOfRange` where the field is too long.
+pub fn parse_text<const WIDTH: usize>(field: &str) -> Result<Text<WIDTH>, FaultKind>
+    ensures { result ≡ text_read WIDTH field.now }
+{
+    match Text::parse(field) {
+        Ok(text) => Ok(text),
+        Err(TextFault::Byte) => Err(FaultKind::NotOfKind),
+        Err(TextFault::Width) => Err(FaultKind::OutOfRange),
+    }
+}
+
+/// Good for `GC` and bad for `BC`: `NotOfKind` where a byte is not printable ASCII, and `OutOfRange`
+/// for other words.
+pub fn parse_credit(field: &str) -> Result<Credit, FaultKind>
+    ensures good { (result ≡ Ok Credit.Good) ↔ (field.now ≡ codes "GC") }
+    ensures bad { (result ≡ Ok Credit.Bad) ↔ (field.now ≡ codes "BC") }
+    ensures faults { IfErr result (λ kind. (kind ≡ FaultKind.NotOfKind) ⊎ (kind ≡ FaultKind.OutOfRange)) }
+{
+    match field {
+        "GC" => Ok(Credit::Good),
+        "BC" => Ok(Credit::Bad),
+        _ => match Text::<2>::parse(field) {
+            Err(TextFault::Byte) => Err(FaultKind::NotOfKind),
+            _ => Err(FaultKind::OutOfRange),
+        },
+    }
+}
