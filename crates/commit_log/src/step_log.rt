@@ -1,4 +1,4 @@
-ghost use Rattle.std.specs.Prelude.{◌≡◌, ◌≤◌, ◌↔◌, [], ◌∷◌, ◌++◌, length, IfOk, IfErr, OnErr, IsOk};
+ghost use Rattle.std.specs.Prelude.{◌≡◌, ◌≤◌, ◌↔◌, [], ◌∷◌, ◌++◌, length, IfOk, OnErr};
 ghost use Rattle.requests.specs.Check.{IsAccepted};
 ghost use Rattle.machine.specs.Machine.{transaction};
 ghost use Rattle.commit_log.specs.Log.{IsLegal};
@@ -6,7 +6,7 @@ ghost use Rattle.commit_log.specs.Log.{IsLegal};
 use crate::{Entry, Opening};
 use machine::Plain;
 use requests::{Reply, Request};
-use schema::{NoMemory, Tables};
+use schema::Tables;
 use std::alloc::Global;
 use std::marker::{Model, PhantomData};
 

@@ -1,10 +1,15 @@
+ghost use Rattle.std.specs.Prelude.{IsTrue};
+ghost use Rattle.schema.specs.Scale.{has_customer};
+
 use crate::warehouses::address;
 use files::Fields;
 use rows::{Customer, CustomerKey};
 use schema::{NoMemory, Scale};
 
 /// Takes the key of a customer, three fields.
-pub fn key(fields: &mut Fields, scale: Scale) -> CustomerKey {
+pub fn key(fields: &mut Fields, scale: Scale) -> CustomerKey
+    ensures { IsTrue (has_customer scale result) }
+{
     CustomerKey {
         w_id: fields.whole(1, scale.warehouses),
         d_id: fields.whole(1, 10),

@@ -1,10 +1,15 @@
+ghost use Rattle.std.specs.Prelude.{IsTrue};
+ghost use Rattle.schema.specs.Scale.{has_district};
+
 use crate::warehouses::address;
 use files::Fields;
 use rows::{District, DistrictKey};
 use schema::{NoMemory, Scale};
 
 /// Takes the key of a district, two fields.
-pub fn key(fields: &mut Fields, scale: Scale) -> DistrictKey {
+pub fn key(fields: &mut Fields, scale: Scale) -> DistrictKey
+    ensures { IsTrue (has_district scale result) }
+{
     DistrictKey {
         w_id: fields.whole(1, scale.warehouses),
         d_id: fields.whole(1, 10),

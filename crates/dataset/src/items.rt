@@ -1,9 +1,14 @@
+ghost use Rattle.std.specs.Prelude.{IsTrue};
+ghost use Rattle.schema.specs.Scale.{has_item};
+
 use files::Fields;
 use rows::Item;
 use schema::{NoMemory, Scale};
 
 /// Takes I_ID, the second field of a record of ITEM.
-pub fn key(fields: &mut Fields, scale: Scale) -> u32 {
+pub fn key(fields: &mut Fields, scale: Scale) -> u32
+    ensures { IsTrue (has_item scale result) }
+{
     fields.whole(1, scale.items)
 }
 

@@ -1,10 +1,18 @@
+ghost use Rattle.std.specs.Prelude.{IsTrue};
+ghost use Rattle.schema.specs.Scale.{has_district};
+ghost use Rattle.schema.specs.Database.{is_order_id, is_line_number};
+
 use files::Fields;
 use rows::{OrderLine, OrderLineKey};
 use schema::{NoMemory, Scale};
 use std::collections::BTreeMap;
 
 /// Takes the key of a record of ORDER-LINE, its second to fifth field; OL_NUMBER is 1 to 15.
-pub fn key(fields: &mut Fields, scale: Scale) -> OrderLineKey {
+pub fn key(fields: &mut Fields, scale: Scale) -> OrderLineKey
+    ensures district { IsTrue (has_district scale (record { w_id = result.w_id; d_id = result.d_id })) }
+    ensures order { IsTrue (is_order_id result.o_id) }
+    ensures number { IsTrue (is_line_number result.number) }
+{
     OrderLineKey {
         w_id: fields.whole(1, scale.warehouses),
         d_id: fields.whole(1, 10),

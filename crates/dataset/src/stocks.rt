@@ -1,9 +1,14 @@
+ghost use Rattle.std.specs.Prelude.{IsTrue};
+ghost use Rattle.schema.specs.Scale.{has_stock};
+
 use files::Fields;
 use rows::{Stock, StockKey, Text};
 use schema::{NoMemory, Scale};
 
 /// Takes the key of a record of STOCK, its second and third field.
-pub fn key(fields: &mut Fields, scale: Scale) -> StockKey {
+pub fn key(fields: &mut Fields, scale: Scale) -> StockKey
+    ensures { IsTrue (has_stock scale result) }
+{
     StockKey {
         w_id: fields.whole(1, scale.warehouses),
         i_id: fields.whole(1, scale.items),

@@ -1,9 +1,14 @@
+ghost use Rattle.std.specs.Prelude.{IsTrue};
+ghost use Rattle.schema.specs.Scale.{has_warehouse};
+
 use files::Fields;
 use rows::{Address, Warehouse};
 use schema::{NoMemory, Scale};
 
 /// Takes W_ID, the second field of a record of WAREHOUSE.
-pub fn key(fields: &mut Fields, scale: Scale) -> u32 {
+pub fn key(fields: &mut Fields, scale: Scale) -> u32
+    ensures { IsTrue (has_warehouse scale result) }
+{
     fields.whole(1, scale.warehouses)
 }
 

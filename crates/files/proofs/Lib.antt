@@ -1,3 +1,4 @@
 pub mod Numerals
 pub mod Amounts
 pub mod Moments
+pub mod FieldsLeft

@@ -1,4 +1,4 @@
-ghost use Rattle.std.specs.Prelude.{◌≡◌, ◌≤◌, None};
+ghost use Rattle.std.specs.Prelude.{◌≡◌, ◌≢◌, ◌≤◌, ℕ, List, [], ◌∷◌, drop, None, Some, IsUtf8};
 ghost use Rattle.csv.specs.Records.{fields_of};
 
 use crate::{
@@ -62,7 +62,9 @@ impl<'r> Fields<'r> {
     /// The least fault of the record, all of whose fields should be taken: `WrongShape` where some are
     /// left.
     pub fn finish(&mut self) -> Option<FaultKind>
-        ensures { result ≡ fault_of self.new }
+        ensures fault { result ≡ fault_of self.new }
+        ensures none_left { fields_left self.old ≡ [] → fault_of self.new ≡ fault_of self.old }
+        ensures some_left { fields_left self.old ≢ [] → fault_of self.new ≡ Some (with_fault (fault_of self.old) FaultKind.WrongShape) }
     {
         if self.place < self.record.len() {
             self.note(FaultKind::WrongShape);
@@ -72,7 +74,12 @@ impl<'r> Fields<'r> {
 
     /// The next field as it stands. `""` where there is none, which is noted as `WrongShape`, and where
     /// its bytes are no text at all, noted as `NotOfKind`.
-    pub fn word(&mut self) -> &'r str {
+    pub fn word(&mut self) -> &'r str
+        ensures left { fields_left self.new ≡ drop 1 (fields_left self.old) }
+        ensures none { fields_left self.old ≡ [] → fault_of self.new ≡ Some (with_fault (fault_of self.old) FaultKind.WrongShape) }
+        ensures no_text { (field : List ℕ) (rest : List (List ℕ)) → fields_left self.old ≡ field ∷ rest → ¬ IsUtf8 field → fault_of self.new ≡ Some (with_fault (fault_of self.old) FaultKind.NotOfKind) }
+        ensures text { (field : List ℕ) (rest : List (List ℕ)) → fields_left self.old ≡ field ∷ rest → IsUtf8 field → (result.now ≡ field) × (fault_of self.new ≡ fault_of self.old) }
+    {
         match self.record.get(self.place) {
             Some(bytes) => {
                 self.place += 1;
@@ -92,7 +99,9 @@ impl<'r> Fields<'r> {
     }
 
     /// The next field as a number from `low` to `high`; `low` after a fault.
-    pub fn whole(&mut self, low: u32, high: u32) -> u32 {
+    pub fn whole(&mut self, low: u32, high: u32) -> u32
+        ensures { low ≤ high → (low ≤ result) × (result ≤ high) }
+    {
         match parse_whole(self.word(), u64::from(low), u64::from(high)) {
             Ok(number) => number as u32,
             Err(kind) => {

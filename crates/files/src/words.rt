@@ -1,6 +1,4 @@
-ghost use Rattle.std.specs.Prelude.{◌≡◌, ◌↔◌, ◌⊎◌, codes, false, IfErr};
-ghost use Rattle.std.specs.List.{list_all};
-ghost use Rattle.rows.specs.Text.{is_printable_byte};
+ghost use Rattle.std.specs.Prelude.{◌≡◌, ◌↔◌, ◌⊎◌, codes, IfErr};
 ghost use Rattle.files.specs.Word.{text_read};
 
 use crate::FaultKind;

@@ -1,8 +1,8 @@
-ghost use Rattle.std.specs.Prelude.{◌≡◌, pos, Some, Ok, IsTrue, IfOk, OnOk, OnErr};
+ghost use Rattle.std.specs.Prelude.{◌≡◌, Some, Ok, IsTrue, IfOk, OnOk, OnErr};
 ghost use Rattle.std.specs.FinMap as map;
 ghost use Rattle.requests.specs.Check.{IsAccepted};
 ghost use Rattle.machine.specs.Payment as spec;
-ghost use Rattle.machine.specs.Machine.{transaction, replies, tables_after};
+ghost use Rattle.machine.specs.Machine.{transaction};
 
 use crate::payment::{
     chosen, customer_paid, district_paid, payment_reply, payment_row, warehouse_paid,
