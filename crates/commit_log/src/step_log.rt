@@ -75,6 +75,15 @@ impl<J: Opening> StepLog<J> {
         self.plain.tables()
     }
 
+    /// The entries and the tables. It takes no memory.
+    pub fn into_parts(self) -> (Vec<Entry>, Tables)
+        ensures entries { result.0.items ≡ self.entries }
+        ensures tables { result.1 ≡ self.tables }
+        ensures legal { IsLegal J.opening self.entries self.tables }
+    {
+        (self.entries, self.plain.into_tables())
+    }
+
     /// Carries out the request and logs it: the log has this entry more, at the place that is given.
     /// An error changes nothing.
     pub fn append_step(

@@ -20,6 +20,7 @@ use Rattle.rows.specs.declared.records.History.{History}
 use Rattle.schema.specs.Sums.{weight_at}
 use Rattle.schema.specs.Scale.{has_customer}
 use Rattle.schema.specs.Database.{Database, IsWithinScale, list_at, with_payment}
+use Rattle.schema.specs.Consistency.{amounts_of}
 use Rattle.schema.proofs.KeyOrders.{districts_total, districts_exact, customers_total, customers_exact}
 use Rattle.schema.proofs.TableSums.{sum_rows-insert}
 use Rattle.schema.proofs.ScaleKept.{scale-warehouse, scale-district, scale-customer, scale-payment}
@@ -28,7 +29,7 @@ use Rattle.requests.specs.declared.reply.Fault.{Fault}
 use Rattle.requests.specs.declared.reply.Fault.TheVariants.{NoCustomer, Range}
 use Rattle.machine.specs.Outcome.{Outcome, rolled_back}
 use Rattle.machine.specs.Payment.{chosen, payment, paid, posted, payment_row, warehouse_paid, district_paid, customer_paid}
-use Rattle.machine.specs.PaymentLaws.{ChangesItsRowsAlone, PaymentIsLocal, PaymentKeepsScale, PaymentKeepsSums, amounts_of, unexplained}
+use Rattle.machine.specs.PaymentLaws.{ChangesItsRowsAlone, PaymentIsLocal, PaymentKeepsScale, PaymentKeepsSums, unexplained}
 
 posted-cases : (t : Database) (p : Payment) (key : CustomerKey) (row : History) (ow : Option Warehouse) (od : Option District) (oc : Option Customer) (G : Outcome → Type 0)
     → ((fault : Fault) → G (rolled_back t fault))

@@ -1,11 +1,11 @@
 -- What every payment does, said of the definition of a payment.
-use Rattle.std.specs.Prelude.{◌≡◌, ◌≢◌, ℕ, List, [], ◌∷◌, ℤ, pos, ◌+ℤ◌, ◌-ℤ◌}
+use Rattle.std.specs.Prelude.{◌≡◌, ◌≢◌, ℕ, ℤ, ◌-ℤ◌}
 use Rattle.std.specs.FinMap as map
 use Rattle.rows.specs.declared.keys.DistrictKey.{DistrictKey}
 use Rattle.rows.specs.declared.keys.CustomerKey.{CustomerKey}
-use Rattle.rows.specs.declared.records.History.{History}
 use Rattle.schema.specs.Sums.{sum_rows}
 use Rattle.schema.specs.Database.{Database, IsWithinScale}
+use Rattle.schema.specs.Consistency.{amounts_of}
 use Rattle.requests.specs.declared.request.Payment.{Payment}
 use Rattle.machine.specs.Payment.{chosen, payment}
 
@@ -28,11 +28,6 @@ PaymentIsLocal = (t : Database) (p : Payment) → ChangesItsRowsAlone p t (payme
 -- the tables stay within the scale
 abbrev pub PaymentKeepsScale : Type 0
 PaymentKeepsScale = (t : Database) (p : Payment) → IsWithinScale t → IsWithinScale (payment t p).tables
-
--- what the payments of a list come to
-abbrev pub amounts_of : List History → ℤ
-amounts_of [] = pos 0
-amounts_of (row ∷ rows) = row.amount +ℤ amounts_of rows
 
 -- what the warehouses have been paid, less what the lists of payments have
 abbrev pub unexplained : Database → ℤ

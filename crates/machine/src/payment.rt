@@ -97,21 +97,21 @@ pub fn payment_row(
 }
 
 /// What a payment shows of its customer's row after it.
-pub fn payment_reply(key: CustomerKey, row: &Customer) -> Result<PaymentReply, NoMemory>
-    ensures { IfOk result (λ r. r ≡ spec.payment_reply key row.now) }
+pub fn payment_reply(key: CustomerKey, row: &Customer) -> PaymentReply
+    ensures { result ≡ spec.payment_reply key row.now }
 {
     let data = match row.credit {
         Credit::Good => Text::new(),
         Credit::Bad => row.data.prefix(),
     };
-    Ok(PaymentReply {
+    PaymentReply {
         c_id: key.c_id,
-        first: row.first.clone()?,
-        middle: row.middle.clone()?,
-        last: row.last.clone()?,
+        first: row.first.copy(),
+        middle: row.middle.copy(),
+        last: row.last.copy(),
         credit: row.credit,
         discount: row.discount,
         balance: row.balance,
         data,
-    })
+    }
 }

@@ -113,7 +113,7 @@ fn post(
         (spec.posted tables.old payment.now key row (Some warehouse) (Some district) (Some customer)).tables) }
     ensures err { OnErr result (tables.new ≡ tables.old) }
 {
-    let reply = payment_reply(key, &customer)?;
+    let reply = payment_reply(key, &customer);
     tables.push_history(payment.home, row)?;
     tables.replace_warehouse(payment.home.w_id, warehouse);
     tables.replace_district(payment.home, district);

@@ -8,6 +8,7 @@ mod group;
 mod refusal;
 mod reply;
 mod request;
+mod script;
 
 pub use answer::Answer;
 pub use checks::check;
@@ -15,6 +16,7 @@ pub use group::Group;
 pub use refusal::Refusal;
 pub use reply::{Fault, PaymentReply, Reply};
 pub use request::{Choice, Payment, Request};
+pub use script::{MOST_REQUESTS, Script};
 
 #[cfg(test)]
 mod tests;

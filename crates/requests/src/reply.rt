@@ -26,24 +26,15 @@ impl PaymentReply {
     {
         PaymentReply {
             c_id: self.c_id,
-            first: copy_of(&self.first),
-            middle: copy_of(&self.middle),
-            last: copy_of(&self.last),
+            first: self.first.copy(),
+            middle: self.middle.copy(),
+            last: self.last.copy(),
             credit: self.credit,
             discount: self.discount,
             balance: self.balance,
-            data: copy_of(&self.data),
+            data: self.data.copy(),
         }
     }
-}
-
-// An equal text.
-fn copy_of<const WIDTH: usize>(text: &Text<WIDTH>) -> Text<WIDTH>
-    ensures { result ≡ text.now }
-{
-    let mut copy = Text::new();
-    copy.push_fitting(text.as_str());
-    copy
 }
 
 /// Why a transaction that was carried out and logged changed nothing.

@@ -79,6 +79,15 @@ impl<const WIDTH: usize> Text<WIDTH> {
         self.string.push_str(&words[..room]);
     }
 
+    /// An equal text. It takes no memory.
+    pub fn copy(&self) -> Text<WIDTH>
+        ensures { result ≡ self.now }
+    {
+        let mut copy = Text::new();
+        copy.push_fitting(self.as_str());
+        copy
+    }
+
     /// The first `LENGTH` bytes, or all where there are fewer.
     pub fn prefix<const LENGTH: usize>(&self) -> Text<LENGTH>
         ensures { result ≡ take LENGTH self.now }

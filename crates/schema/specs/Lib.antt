@@ -5,3 +5,4 @@ pub mod Scale
 pub mod Database
 pub mod Rows
 pub mod Sums
+pub mod Consistency

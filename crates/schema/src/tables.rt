@@ -98,6 +98,14 @@ impl Tables {
         (self.scale, self.rows)
     }
 
+    /// All rows, in the order in which `checked` takes them.
+    pub fn rows(&self) -> &TableRows
+        ensures same { database self.now.scale result.now ≡ self.now }
+        ensures fits { FitsScale self.now.scale result.now }
+    {
+        &self.rows
+    }
+
     /// Equal tables.
     pub fn try_clone(&self) -> Result<Tables, NoMemory>
         ensures { IfOk result (λ copy. copy ≡ self.now) }

@@ -1,0 +1,50 @@
+ghost use Rattle.std.specs.Prelude.{◌≡◌, ◌↔◌, ◌≤◌, length, IsSome, IfSome};
+
+use crate::Request;
+use std::marker::Model;
+
+/// The most requests that a script has, so that a `u32` numbers each.
+pub const MOST_REQUESTS: usize = 4_294_967_296;
+
+/// The requests of one session, which asks them in turn. The number of a request is its place, from 0.
+#[derive(Drop)]
+pub struct Script {
+    requests: Vec<Request>,
+}
+
+impl Model for Script {
+    ghost use Rattle.std.specs.Prelude.{List, length, ◌≤◌};
+    ghost use Rattle.std.specs.Coded.{coded_list};
+    ghost use Rattle.requests.specs.declared.request.Request.{Request};
+    ghost use Rattle.requests.specs.contracts.request.Request as request;
+
+    ghost Value = { List Request };
+
+    ghost coded = { coded_list request.the_row.coded };
+
+    ghost view = { λ s. s.requests.items };
+
+    ghost invariant = { λ s. length s.requests.items ≤ 4294967296 };
+}
+
+impl Script {
+    /// A script of these requests; `None` exactly where they are more than `MOST_REQUESTS`. It takes no
+    /// memory.
+    pub fn checked_new(requests: Vec<Request>) -> Option<Script>
+        ensures value { IfSome result (λ script. script ≡ requests.items) }
+        ensures fits { IsSome result ↔ (length requests.items ≤ MOST_REQUESTS) }
+    {
+        if requests.len() > MOST_REQUESTS {
+            return None;
+        }
+        Some(Script { requests })
+    }
+
+    /// The requests, by their numbers.
+    pub fn requests(&self) -> &[Request]
+        ensures value { result.now ≡ self.now }
+        ensures most { length self.now ≤ MOST_REQUESTS }
+    {
+        self.requests.as_slice()
+    }
+}
