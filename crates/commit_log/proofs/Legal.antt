@@ -1,5 +1,5 @@
 -- A transaction more leaves a log legal.
-use Rattle.std.proofs.Common.{◌≡◌, ℕ, ◌+◌, ◌≤◌, Bool, true, cond, List, [], ◌∷◌, ◌++◌, map, Result, Ok, Err, is_ok, OnErr, refl, sym, ap, ◌∙◌, arith}
+use Rattle.std.proofs.Common.{◌≡◌, ℕ, ◌+◌, ◌≤◌, cond, List, [], ◌∷◌, ◌++◌, map, Result, Ok, Err, is_ok, OnErr, refl, sym, ap, subst, ◌∙◌, arith}
 use Rattle.schema.specs.Database.{Database}
 use Rattle.requests.specs.declared.request.Request.{Request}
 use Rattle.requests.specs.declared.request.Request.TheVariants.{Payment}
@@ -7,7 +7,7 @@ use Rattle.requests.specs.declared.reply.Reply.{Reply}
 use Rattle.machine.specs.Machine.{transaction, replies, tables_after}
 use Rattle.machine.proofs.PaymentCases.{payment_local}
 use Rattle.commit_log.specs.declared.entry.Entry.{Entry}
-use Rattle.commit_log.specs.Log.{IsLegal, requests_of, replies_of}
+use Rattle.commit_log.specs.Log.{IsLegal, requests_of}
 
 replies-append : (t : Database) (requests : List Request) (request : Request)
     → replies t (requests ++ request ∷ []) ≡ replies t requests ++ (transaction (tables_after t requests) request).reply ∷ []
@@ -54,6 +54,22 @@ pub legal-scale : (opening : Database) (entries : List Entry) (tables : Database
 legal-scale opening entries tables h = ap (λ (t : Database). t.scale) h.left ∙ scale-after opening (requests_of entries)
 
 -- with room a push succeeds
-pub push_fits : {U X Y : Type 0} (r : Result U X) (len capacity : ℕ) (with_it without : Y) → OnErr r (capacity ≤ len) → len + 1 ≤ capacity → cond (is_ok r) with_it without ≡ with_it
+push_fits : {U X Y : Type 0} (r : Result U X) (len capacity : ℕ) (with_it without : Y) → OnErr r (capacity ≤ len) → len + 1 ≤ capacity → cond (is_ok r) with_it without ≡ with_it
 push_fits (Ok u) len capacity with_it without full room = refl
 push_fits (Err x) len capacity with_it without full room = absurd (omega arith)
+
+-- An entry that was pushed with room, of a request that was carried out, leaves the log legal.
+pub legal-logged : {U X : Type 0} (opening : Database) (before reserved after : List Entry) (tables new_tables : Database) (session number : ℕ) (request copy : Request) (reply told : Reply)
+    (pushed : Result U X) (len capacity : ℕ)
+    → IsLegal opening before tables → copy ≡ request → told ≡ reply → reply ≡ (transaction tables request).reply → new_tables ≡ (transaction tables request).tables
+    → reserved ≡ before → len + 1 ≤ capacity → OnErr pushed (capacity ≤ len)
+    → after ≡ cond (is_ok pushed) (reserved ++ record { session = session; number = number; request = copy; reply = told } ∷ []) reserved
+    → IsLegal opening after new_tables
+legal-logged opening before reserved after tables new_tables session number request copy reply told pushed len capacity legal same_request same_reply reply_is tables_is same_entries room full after_is =
+    let entry : Entry = record { session = session; number = number; request = copy; reply = told } in
+    let entries_are : after ≡ before ++ entry ∷ [] =
+    after_is ∙ push_fits pushed len capacity (reserved ++ entry ∷ []) reserved full room ∙ ap (λ (l : List Entry). l ++ entry ∷ []) same_entries in
+    subst (λ (l : List Entry). IsLegal opening l new_tables) (sym entries_are)
+    (legal-append opening before tables new_tables entry legal
+    (same_reply ∙ reply_is ∙ ap (λ (r : Request). (transaction tables r).reply) (sym same_request))
+    (tables_is ∙ ap (λ (r : Request). (transaction tables r).tables) (sym same_request)))

@@ -99,6 +99,7 @@ impl<J: Opening> StepLog<J> {
         ensures reply { IfOk result (λ done. done.1 ≡ (transaction self.old.tables request.now).reply) }
         ensures tables { IfOk result (λ _. self.new.tables ≡ (transaction self.old.tables request.now).tables) }
         ensures full { (result ≡ Err AppendFault.LogFull) ↔ (MOST_ENTRIES ≤ length self.old.entries) }
+        ensures legal { IsLegal J.opening self.new.entries self.new.tables }
         ensures err { OnErr result (self.new ≡ self.old) }
     {
         let place = self.entries.len();

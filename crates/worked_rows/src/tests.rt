@@ -3,12 +3,13 @@ use requests::{Choice, Fault, Payment, PaymentReply, Reply, Request};
 use schema::{
     Credit, CustomerKey, DistrictKey, History, HistoryList, Moment, NoMemory, TableRows, Tables,
 };
-use sets::{set_e, set_k};
+use sets::{set_e, set_k, set_k_of};
 use std::process::Abort;
 use std::test::Fail;
 
 mod log;
 mod payments;
+mod serving;
 
 // 2024-05-01T12:00:00
 const NOON: u64 = 1_714_564_800;
