@@ -1,17 +1,11 @@
 -- The laws of payments, by the two ways that a payment ends: rolled back, or with four rows put in.
-use Rattle.std.proofs.Common.{◌≡◌, ◌≢◌, true, false, cond, List, [], ◌∷◌, ◌++◌, Option, Some, None, IsTrue, is_some, unwrap_or, refl, sym, ap, ◌∙◌, arith}
-use Rattle.std.specs.Prelude.{ℤ, pos, ◌+ℤ◌}
+use Rattle.std.proofs.Common.{◌≡◌, [], ◌∷◌, ◌++◌, Option, Some, None, IsTrue, is_some, refl, sym, ap, ◌∙◌, arith}
+use Rattle.std.specs.Prelude.{pos, ◌+ℤ◌}
 use Rattle.std.proofs.lemmas.Int.{ints}
-use Rattle.std.specs.Option.{option_map}
-use Rattle.std.specs.declared.cmp.Ordering.{Ordering}
-use Rattle.std.specs.declared.cmp.Ordering.TheVariants.{Less, Equal, Greater}
-use Rattle.std.specs.Ordering.{is_eq}
-use Rattle.std.specs.Cmp.{IsTotalOrder, nat_cmp_total}
+use Rattle.std.specs.Cmp.{nat_cmp_total}
 use Rattle.std.specs.FinMap as map
-use Rattle.std.specs.FinMap.{FinMap, get-insert, IsAntisymmetric, nat_cmp-IsAntisymmetric}
-use Rattle.amounts.specs.Money.{money, is_money}
+use Rattle.std.specs.FinMap.{nat_cmp-IsAntisymmetric}
 use Rattle.rows.specs.PaymentNote.{payment_note}
-use Rattle.rows.specs.declared.keys.DistrictKey.{DistrictKey}
 use Rattle.rows.specs.declared.keys.CustomerKey.{CustomerKey}
 use Rattle.rows.specs.declared.records.Warehouse.{Warehouse}
 use Rattle.rows.specs.declared.records.District.{District}
@@ -22,20 +16,22 @@ use Rattle.schema.specs.Scale.{has_customer}
 use Rattle.schema.specs.Database.{Database, IsWithinScale, list_at, with_payment}
 use Rattle.schema.specs.Consistency.{amounts_of}
 use Rattle.schema.proofs.KeyOrders.{districts_total, districts_exact, customers_total, customers_exact}
-use Rattle.schema.proofs.TableSums.{sum_rows-insert}
 use Rattle.schema.proofs.ScaleKept.{scale-warehouse, scale-district, scale-customer, scale-payment}
 use Rattle.requests.specs.declared.request.Payment.{Payment}
 use Rattle.requests.specs.declared.reply.Fault.{Fault}
 use Rattle.requests.specs.declared.reply.Fault.TheVariants.{NoCustomer, Range}
 use Rattle.machine.specs.Outcome.{Outcome, rolled_back}
 use Rattle.machine.specs.Payment.{chosen, payment, paid, posted, payment_row, warehouse_paid, district_paid, customer_paid}
+use Rattle.machine.proofs.TableChanges.{get-insert_elsewhere, sum_rows-grow}
+use Rattle.machine.proofs.ListedPayments.{amounts_of-append, sum_payments-grow}
+use Rattle.machine.proofs.PaidRows.{warehouse_paid-is}
 use Rattle.machine.specs.PaymentLaws.{ChangesItsRowsAlone, PaymentIsLocal, PaymentKeepsScale, PaymentKeepsSums, unexplained}
 
 posted-cases : (t : Database) (p : Payment) (key : CustomerKey) (row : History) (ow : Option Warehouse) (od : Option District) (oc : Option Customer) (G : Outcome → Type 0)
     → ((fault : Fault) → G (rolled_back t fault))
-    → ((w : Warehouse) (d : District) (c : Customer) → ow ≡ Some w → G (posted t p key row (Some w) (Some d) (Some c)))
+    → ((w : Warehouse) (d : District) (c : Customer) → ow ≡ Some w → od ≡ Some d → oc ≡ Some c → G (posted t p key row (Some w) (Some d) (Some c)))
     → G (posted t p key row ow od oc)
-posted-cases t p key row (Some w) (Some d) (Some c) G back put = put w d c refl
+posted-cases t p key row (Some w) (Some d) (Some c) G back put = put w d c refl refl refl
 posted-cases t p key row None od oc G back put = back Range
 posted-cases t p key row (Some w) None oc G back put = back Range
 posted-cases t p key row (Some w) (Some d) None G back put = back Range
@@ -51,29 +47,20 @@ paid-cases t p key (Some w) None oc G back put = back NoCustomer
 paid-cases t p key (Some w) (Some d) None G back put = back NoCustomer
 
 -- a payment is rolled back, or puts in four rows in place of those that were there
-payment-cases : (t : Database) (p : Payment) (G : Outcome → Type 0)
+pub payment-cases : (t : Database) (p : Payment) (G : Outcome → Type 0)
     → ((fault : Fault) → G (rolled_back t fault))
     → ((w new_w : Warehouse) (d new_d : District) (c new_c : Customer)
     → map.get t.warehouses p.home.w_id ≡ Some w → map.get t.districts p.home ≡ Some d → map.get t.customers (chosen p.customer_home p.customer) ≡ Some c
-    → warehouse_paid w (pos p.amount) ≡ Some new_w
+    → warehouse_paid w (pos p.amount) ≡ Some new_w → district_paid d (pos p.amount) ≡ Some new_d → customer_paid c (payment_note (chosen p.customer_home p.customer) p.home p.amount) (pos p.amount) ≡ Some new_c
     → G (posted t p (chosen p.customer_home p.customer) (payment_row p (chosen p.customer_home p.customer) w d) (Some new_w) (Some new_d) (Some new_c)))
     → G (payment t p)
 payment-cases t p G back put =
     let key = chosen p.customer_home p.customer in
     paid-cases t p key (map.get t.warehouses p.home.w_id) (map.get t.districts p.home) (map.get t.customers key) G back (λ w d c w_is d_is c_is.
     posted-cases t p key (payment_row p key w d) (warehouse_paid w (pos p.amount)) (district_paid d (pos p.amount)) (customer_paid c (payment_note key p.home p.amount) (pos p.amount)) G back
-    (λ new_w new_d new_c made. put w new_w d new_d c new_c w_is d_is c_is made))
+    (λ new_w new_d new_c w_made d_made c_made. put w new_w d new_d c new_c w_is d_is c_is w_made d_made c_made))
 
 -- ---- no other row
-
-elsewhere : {K X : Type 0} {R : K → K → Ordering} → IsTotalOrder R → IsAntisymmetric R → (m : FinMap R X) (k : K) (v : X) (q : K) → q ≢ k → map.get (map.insert m k v) q ≡ map.get m q
-elsewhere {R = R} o a m k v q apart =
-    get-insert o m k v q
-    ∙ elim (R q k) as (λ r. R q k ≡ r → cond (is_eq r) (Some v) (map.get m q) ≡ map.get m q) [
-      | Less ↦ λ e. refl
-      | Equal ↦ λ e. absurd (apart (a q k e))
-      | Greater ↦ λ e. refl
-    ] refl
 
 pub payment_local : PaymentIsLocal
 payment_local t p =
@@ -90,14 +77,14 @@ payment_local t p =
       new_orders = refl;
       lines = refl;
     })
-    (λ w new_w d new_d c new_c w_is d_is c_is made. record {
+    (λ w new_w d new_d c new_c w_is d_is c_is w_made d_made c_made. record {
       scale = refl;
       items = refl;
-      warehouses = λ key apart. elsewhere nat_cmp_total nat_cmp-IsAntisymmetric t.warehouses p.home.w_id new_w key apart;
-      districts = λ key apart. elsewhere districts_total districts_exact t.districts p.home new_d key apart;
+      warehouses = λ key apart. get-insert_elsewhere nat_cmp_total nat_cmp-IsAntisymmetric t.warehouses p.home.w_id new_w key apart;
+      districts = λ key apart. get-insert_elsewhere districts_total districts_exact t.districts p.home new_d key apart;
       stocks = refl;
-      customers = λ key apart. elsewhere customers_total customers_exact t.customers (chosen p.customer_home p.customer) new_c key apart;
-      histories = λ key apart. elsewhere districts_total districts_exact t.histories p.home
+      customers = λ key apart. get-insert_elsewhere customers_total customers_exact t.customers (chosen p.customer_home p.customer) new_c key apart;
+      histories = λ key apart. get-insert_elsewhere districts_total districts_exact t.histories p.home
           (list_at t.histories p.home ++ payment_row p (chosen p.customer_home p.customer) w d ∷ []) key apart;
       orders = refl;
       new_orders = refl;
@@ -113,7 +100,7 @@ pub payment_keeps_scale : PaymentKeepsScale
 payment_keeps_scale t p h =
     let key = chosen p.customer_home p.customer in
     payment-cases t p (λ o. IsWithinScale o.tables) (λ fault. h)
-    (λ w new_w d new_d c new_c w_is d_is c_is made.
+    (λ w new_w d new_d c new_c w_is d_is c_is w_made d_made c_made.
     let row = payment_row p key w d in
     let district_there : IsTrue (map.contains_key t.districts p.home) = there _ d d_is in
     let customer_there : IsTrue (map.contains_key t.customers key) = there _ c c_is in
@@ -129,32 +116,15 @@ payment_keeps_scale t p h =
 
 -- ---- sums
 
-amounts_of-append : (rows : List History) (row : History) → amounts_of (rows ++ row ∷ []) ≡ amounts_of rows +ℤ row.amount
-amounts_of-append [] row = omega (arith, ints)
-amounts_of-append (first ∷ rows) row = let rest = amounts_of-append rows row in omega (arith, ints, rest)
-
-list_weight : (r : Option (List History)) (key : DistrictKey) → weight_at (λ _ rows. amounts_of rows) key r ≡ amounts_of (unwrap_or r [])
-list_weight None key = refl
-list_weight (Some rows) key = refl
-
-grown : (ytd amount : ℤ) (row new_row : Warehouse) → option_map (λ y. record row { ytd = y }) (money (ytd +ℤ amount)) ≡ Some new_row → new_row.ytd ≡ ytd +ℤ amount
-grown ytd amount row new_row h =
-    elim (is_money (ytd +ℤ amount)) as (λ b. option_map (λ y. record row { ytd = y }) (cond b (Some (ytd +ℤ amount)) None) ≡ Some new_row → new_row.ytd ≡ ytd +ℤ amount) [
-      | true ↦ λ e. let same : record row { ytd = ytd +ℤ amount } ≡ new_row = cc in sym (ap (λ (w : Warehouse). w.ytd) same)
-      | false ↦ λ e. absurd cc
-    ] h
-
 pub payment_keeps_sums : PaymentKeepsSums
 payment_keeps_sums t p =
     let key = chosen p.customer_home p.customer in
     payment-cases t p (λ o. unexplained o.tables ≡ unexplained t) (λ fault. refl)
-    (λ w new_w d new_d c new_c w_is d_is c_is made.
+    (λ w new_w d new_d c new_c w_is d_is c_is w_made d_made c_made.
     let row = payment_row p key w d in
     let rows = list_at t.histories p.home in
-    let ytd = sum_rows-insert nat_cmp_total nat_cmp-IsAntisymmetric (λ _ (r : Warehouse). r.ytd) t.warehouses p.home.w_id new_w in
-    let listed = sum_rows-insert districts_total districts_exact (λ _ list. amounts_of list) t.histories p.home (rows ++ row ∷ []) in
-    let old_ytd : weight_at (λ _ (r : Warehouse). r.ytd) p.home.w_id (map.get t.warehouses p.home.w_id) ≡ w.ytd = ap (weight_at (λ _ (r : Warehouse). r.ytd) p.home.w_id) w_is in
-    let old_list = list_weight (map.get t.histories p.home) p.home in
-    let new_ytd : new_w.ytd ≡ w.ytd +ℤ pos p.amount = grown w.ytd (pos p.amount) w new_w made in
-    let new_list : amounts_of (rows ++ row ∷ []) ≡ amounts_of rows +ℤ pos p.amount = amounts_of-append rows row in
-    omega (arith, ints, ytd, listed, old_ytd, old_list, new_ytd, new_list))
+    let ytd = sum_rows-grow nat_cmp_total nat_cmp-IsAntisymmetric (λ _ (r : Warehouse). r.ytd) t.warehouses p.home.w_id new_w (pos p.amount)
+    (ap (λ (r : Warehouse). r.ytd) (warehouse_paid-is w new_w (pos p.amount) w_made)
+    ∙ ap (λ r. weight_at (λ _ (r : Warehouse). r.ytd) p.home.w_id r +ℤ pos p.amount) (sym w_is)) in
+    let listed = sum_payments-grow (λ _ rows. amounts_of rows) t.histories p.home row (pos p.amount) refl (amounts_of-append rows row) in
+    omega (arith, ints, ytd, listed))

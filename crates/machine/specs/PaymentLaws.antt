@@ -5,7 +5,7 @@ use Rattle.rows.specs.declared.keys.DistrictKey.{DistrictKey}
 use Rattle.rows.specs.declared.keys.CustomerKey.{CustomerKey}
 use Rattle.schema.specs.Sums.{sum_rows}
 use Rattle.schema.specs.Database.{Database, IsWithinScale}
-use Rattle.schema.specs.Consistency.{amounts_of}
+use Rattle.schema.specs.Consistency.{amounts_of, Consistent}
 use Rattle.requests.specs.declared.request.Payment.{Payment}
 use Rattle.machine.specs.Payment.{chosen, payment}
 
@@ -36,3 +36,7 @@ unexplained t = sum_rows (λ _ row. row.ytd) t.warehouses -ℤ sum_rows (λ _ ro
 -- each cent that a warehouse is paid stands in a list of payments
 abbrev pub PaymentKeepsSums : Type 0
 PaymentKeepsSums = (t : Database) (p : Payment) → unexplained (payment t p).tables ≡ unexplained t
+
+-- the tables stay consistent (clause 3.3)
+abbrev pub PaymentKeepsConsistency : Type 0
+PaymentKeepsConsistency = (t : Database) (p : Payment) → Consistent t → Consistent (payment t p).tables
