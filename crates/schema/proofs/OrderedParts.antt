@@ -1,5 +1,5 @@
 -- The part of an ordered map between two keys, against the rows of one district or of one order.
-use Rattle.std.proofs.Common.{◌≡◌, ℕ, ◌≤◌, Bool, true, false, cond, not, ◌&&◌, ◌==◌, List, [], ◌∷◌, length, Some, None, IsTrue, is_some, refl, sym, ap, ◌∙◌, arith}
+use Rattle.std.proofs.Common.{◌≡◌, ℕ, ◌+◌, ◌≤◌, Bool, true, false, cond, not, ◌&&◌, ◌==◌, List, [], ◌∷◌, length, Some, None, IsTrue, is_some, refl, sym, ap, ◌∙◌, arith}
 use Rattle.std.specs.List.{list_all, filter, AllByRecursion}
 use Rattle.std.specs.List.Sorted.{IsStrictlySortedBy}
 use Rattle.std.specs.Map.{keys_of}
@@ -17,7 +17,7 @@ use Rattle.std.proofs.lemmas.Map.Keys.{sorted_head, sorted_tail}
 use Rattle.rows.specs.declared.keys.DistrictKey.{DistrictKey}
 use Rattle.rows.specs.declared.keys.OrderKey.{OrderKey}
 use Rattle.rows.specs.declared.keys.OrderLineKey.{OrderLineKey}
-use Rattle.rows.specs.Keys.{order_cmp, line_cmp}
+use Rattle.rows.specs.Keys.{order_cmp, line_cmp, order_of_line}
 use Rattle.schema.specs.Database.{Database, IsWithinScale, is_order_id, is_line_number, rows_where, is_of_district, is_of_order}
 use Rattle.schema.specs.EachRow.{EachRow}
 use Rattle.schema.proofs.EachRows.{EachRow-entries}
@@ -96,6 +96,23 @@ line_between order key h =
     ∙ ap (λ b. (key.d_id == order.d_id) && b)
     (level order.o_id key.o_id low high ∙ ap (λ b. (key.o_id == order.o_id) && b) (last_level key.number h) ∙ and_true _))
 
+two_levels : (x y : ℕ) → x ≤ 4294967295 → y ≤ 4294967295
+    → (is_le (ordering_then (nat_cmp 0 x) (nat_cmp 0 y)) && not (is_lt (ordering_then (nat_cmp 4294967295 x) (nat_cmp 4294967295 y)))) ≡ true
+two_levels x y h k =
+    let low : is_le (ordering_then (nat_cmp 0 x) (nat_cmp 0 y)) ≡ true = grind (arith, nat_tests) in
+    let high : is_lt (ordering_then (nat_cmp 4294967295 x) (nat_cmp 4294967295 y)) ≡ false = grind (arith, nat_tests) in
+    rw (low, high) refl
+
+district_between : (home : DistrictKey) (key : OrderLineKey) → key.o_id ≤ 4294967295 → key.number ≤ 4294967295
+    → range_contains line_cmp (Included (record { w_id = home.w_id; d_id = home.d_id; o_id = 0; number = 0 })) (Included (record { w_id = home.w_id; d_id = home.d_id; o_id = 4294967295; number = 4294967295 })) key
+    ≡ is_of_district home (order_of_line key)
+district_between home key h k =
+    let low = ordering_then (nat_cmp 0 key.o_id) (nat_cmp 0 key.number) in
+    let high = ordering_then (nat_cmp 4294967295 key.o_id) (nat_cmp 4294967295 key.number) in
+    level home.w_id key.w_id (ordering_then (nat_cmp home.d_id key.d_id) low) (ordering_then (nat_cmp home.d_id key.d_id) high)
+    ∙ ap (λ b. (key.w_id == home.w_id) && b)
+    (level home.d_id key.d_id low high ∙ ap (λ b. (key.d_id == home.d_id) && b) (two_levels key.o_id key.number h k) ∙ and_true _)
+
 abbrev first_order : DistrictKey → OrderKey
 first_order home = record { w_id = home.w_id; d_id = home.d_id; o_id = 0 }
 
@@ -111,6 +128,12 @@ last_line order = record { w_id = order.w_id; d_id = order.d_id; o_id = order.o_
 small_order : (number : ℕ) → IsTrue (is_order_id number) → number ≤ 4294967295
 small_order number h = grind (arith, nat_tests)
 
+small_number : (number : ℕ) → IsTrue (is_order_id number) → number ≤ 9999999
+small_number number h = grind (arith, nat_tests)
+
+some_number : (number : ℕ) → IsTrue (is_order_id number) → 1 ≤ number
+some_number number h = grind (arith, nat_tests)
+
 small_line : (number : ℕ) → IsTrue (is_line_number number) → number ≤ 4294967295
 small_line number h = grind (arith, nat_tests)
 
@@ -125,6 +148,48 @@ orders_part home low high is_low is_high es sorted numbered =
     ((EachRow-entries orders_total orders_exact (λ key _. is_order_id key.o_id) es sorted).1 numbered)
     ∙ ap (filter (λ e. is_of_district home e.0)) (sym (entries-ordered orders_total es sorted))
 
+-- of two orders of a district the later has the greater number
+later_number : (home : DistrictKey) (a b : OrderKey) → IsTrue (is_of_district home a) → IsTrue (is_of_district home b) → order_cmp a b ≡ Less → a.o_id + 1 ≤ b.o_id
+later_number home a b h k less =
+    let same_warehouse : nat_cmp a.w_id b.w_id ≡ Equal = grind (arith, nat_tests) in
+    let same_district : nat_cmp a.d_id b.d_id ≡ Equal = grind (arith, nat_tests) in
+    let number : nat_cmp a.o_id b.o_id ≡ Less = sym (rw (same_warehouse, same_district) refl) ∙ less in
+    grind (arith, nat_tests)
+
+from_later : (home : DistrictKey) (a : OrderKey) (ks : List OrderKey) → IsTrue (is_of_district home a) → AllByRecursion (λ k. order_cmp a k ≡ Less) ks → AllByRecursion (λ k. IsTrue (is_of_district home k) → a.o_id + 1 ≤ k.o_id) ks
+from_later home a [] h below = tt
+from_later home a (k ∷ ks) h below = (λ there. later_number home a k h there below.0, from_later home a ks h below.1)
+
+few_from : {X : Type 0} (home : DistrictKey) (es : List (OrderKey × X)) → IsStrictlySortedBy order_cmp (keys_of es) → IsTrue (list_all (λ e. is_order_id e.0.o_id) es)
+    → (low : ℕ) → low ≤ 10000000 → AllByRecursion (λ k. IsTrue (is_of_district home k) → low ≤ k.o_id) (keys_of es)
+    → length (filter (λ e. is_of_district home e.0) es) + low ≤ 10000000
+few_from home [] sorted numbered low small above = omega arith
+few_from {X} home (e ∷ es) sorted numbered low small above =
+    let others : IsTrue (list_all (λ (x : OrderKey × X). is_order_id x.0.o_id) es) = second _ _ numbered in
+    elim (is_of_district home e.0) as (λ b. is_of_district home e.0 ≡ b → length (cond b (e ∷ filter (λ e. is_of_district home e.0) es) (filter (λ e. is_of_district home e.0) es)) + low ≤ 10000000) [
+      | true ↦ λ there.
+          let here : low ≤ e.0.o_id = above.0 there in
+          let last : e.0.o_id ≤ 9999999 = small_number e.0.o_id (first _ _ numbered) in
+          let rest : length (filter (λ (e : OrderKey × X). is_of_district home e.0) es) + (e.0.o_id + 1) ≤ 10000000 =
+          few_from {X = X} home es (sorted_tail order_cmp e.0 (keys_of es) sorted) others (e.0.o_id + 1) (omega arith) (from_later home e.0 (keys_of es) there (sorted_head order_cmp e.0 (keys_of es) sorted)) in
+          omega arith
+      | false ↦ λ there. few_from home es (sorted_tail order_cmp e.0 (keys_of es) sorted) others low small above.1
+    ] refl
+
+from_first : {X : Type 0} (home : DistrictKey) (es : List (OrderKey × X)) → IsTrue (list_all (λ e. is_order_id e.0.o_id) es) → AllByRecursion (λ k. IsTrue (is_of_district home k) → 1 ≤ k.o_id) (keys_of es)
+from_first home [] numbered = tt
+from_first home (e ∷ es) numbered = (λ there. some_number e.0.o_id (first _ _ numbered), from_first home es (second _ _ numbered))
+
+-- a district has at most as many orders as there are numbers for them
+pub few_orders : {X : Type 0} (home : DistrictKey) (es : List (OrderKey × X)) → IsStrictlySortedBy order_cmp (keys_of es)
+    → EachRow {R = order_cmp} (λ key _. is_order_id key.o_id) (from_entries es)
+    → length (rows_where {R = order_cmp} (is_of_district home) (from_entries es)) ≤ 9999999
+few_orders {X} home es sorted numbered =
+    let all = (EachRow-entries orders_total orders_exact (λ key _. is_order_id key.o_id) es sorted).1 numbered in
+    let few : length (filter (λ (e : OrderKey × X). is_of_district home e.0) es) + 1 ≤ 10000000 = few_from home es sorted all 1 (omega arith) (from_first home es all) in
+    let same = ap (λ (l : List (OrderKey × X)). length (filter (λ e. is_of_district home e.0) l)) (entries-ordered orders_total es sorted) in
+    omega arith
+
 -- the lines between the first and the last that an order can have are the order's
 pub lines_part : {X : Type 0} (order : OrderKey) (low high : OrderLineKey) → low ≡ first_line order → high ≡ last_line order → (es : List (OrderLineKey × X)) → IsStrictlySortedBy line_cmp (keys_of es)
     → EachRow {R = line_cmp} (λ key _. is_line_number key.number) (from_entries es)
@@ -135,6 +200,29 @@ lines_part order low high is_low is_high es sorted numbered =
     ∙ filter_agrees (λ e. is_line_number e.0.number) _ _ (λ e h. line_between order e.0 (small_line e.0.number h)) es
     ((EachRow-entries lines_total lines_exact (λ key _. is_line_number key.number) es sorted).1 numbered)
     ∙ ap (filter (λ e. is_of_order order e.0)) (sym (entries-ordered lines_total es sorted))
+
+-- the lines between the first and the last that a district can have are the district's
+pub district_lines_part : {X : Type 0} (home : DistrictKey) (low high : OrderLineKey) → low ≡ first_line (first_order home) → high ≡ last_line (last_order home) → (es : List (OrderLineKey × X)) → IsStrictlySortedBy line_cmp (keys_of es)
+    → EachRow {R = line_cmp} (λ key _. is_order_id key.o_id && is_line_number key.number) (from_entries es)
+    → entries_between line_cmp (Included low) (Included high) es ≡ rows_where {R = line_cmp} (λ key. is_of_district home (order_of_line key)) (from_entries es)
+district_lines_part home low high is_low is_high es sorted numbered =
+    ap (λ lo. entries_between line_cmp (Included lo) (Included high) es) is_low
+    ∙ ap (λ hi. entries_between line_cmp (Included (first_line (first_order home))) (Included hi) es) is_high
+    ∙ filter_agrees (λ e. is_order_id e.0.o_id && is_line_number e.0.number) _ _
+    (λ e h. district_between home e.0 (small_order e.0.o_id (first _ _ h)) (small_line e.0.number (second _ _ h))) es
+    ((EachRow-entries lines_total lines_exact (λ key _. is_order_id key.o_id && is_line_number key.number) es sorted).1 numbered)
+    ∙ ap (filter (λ e. is_of_district home (order_of_line e.0))) (sym (entries-ordered lines_total es sorted))
+
+both : (b c : Bool) → IsTrue b → IsTrue c → IsTrue (b && c)
+both b c h k = rw h k
+
+-- both numbers of a line are in their ranges
+pub lines_numbered_twice : (t : Database) → IsWithinScale t → EachRow (λ key _. is_order_id key.o_id && is_line_number key.number) t.lines
+lines_numbered_twice t h key row found =
+    elim (map.get t.orders (order_of_line key)) as (λ r. map.get t.orders (order_of_line key) ≡ r → IsTrue (is_some r) → IsTrue (is_order_id key.o_id && is_line_number key.number)) [
+      | None ↦ λ e there. absurd cc
+      | Some order ↦ λ e there. both _ _ (h.orders_numbered (order_of_line key) order e) (h.lines_numbered key row found)
+    ] refl (h.lines_have_orders key row found)
 
 -- the number of a new order is that of an order
 pub new_orders_numbered : (t : Database) → IsWithinScale t → EachRow (λ key _. is_order_id key.o_id) t.new_orders

@@ -1,5 +1,5 @@
 -- When the tables are consistent (clause 3.3.2).
-use Rattle.std.specs.Prelude.{◌≡◌, ◌≢◌, ◌↔◌, ℕ, ◌+◌, Bool, false, ◌&&◌, ◌==◌, if◌then◌else◌, cond, List, [], ◌∷◌, length, map, max, min, sum, ℤ, pos, ◌+ℤ◌, ◌-ℤ◌, Option, Some, None, is_some, IsTrue}
+use Rattle.std.specs.Prelude.{◌≡◌, ◌≢◌, ◌↔◌, ℕ, ◌+◌, Bool, false, ◌&&◌, ◌==◌, if◌then◌else◌, List, [], ◌∷◌, length, map, max, min, sum, ℤ, pos, ◌+ℤ◌, ◌-ℤ◌, Option, Some, None, is_some, IsTrue}
 use Rattle.std.specs.List.{filter}
 use Rattle.std.specs.FinMap as table
 use Rattle.rows.specs.declared.keys.DistrictKey.{DistrictKey}
@@ -13,7 +13,7 @@ use Rattle.rows.specs.declared.records.History.{History}
 use Rattle.rows.specs.declared.records.Order.{Order}
 use Rattle.rows.specs.declared.records.NewOrder.{NewOrder}
 use Rattle.rows.specs.declared.records.OrderLine.{OrderLine}
-use Rattle.rows.specs.Keys.{district_of_order, order_of_line}
+use Rattle.rows.specs.Keys.{order_of_line}
 use Rattle.schema.specs.Sums.{sum_rows}
 use Rattle.schema.specs.Database.{Database, list_at, rows_where, is_of_district, is_of_order}
 
@@ -81,21 +81,28 @@ WarehousesSumDistricts t = (warehouse : ℕ) (row : Warehouse) → table.get t.w
     → row.ytd ≡ sum_rows (λ key district. if key.w_id == warehouse then district.ytd else pos 0) t.districts
 
 -- 2 (clause 3.3.2.2): D_NEXT_O_ID - 1 is the greatest O_ID of the district, and its greatest NO_O_ID where it has one
-abbrev pub NextOrdersFollow : Database → Type 0
-NextOrdersFollow t = (home : DistrictKey) (row : District) → table.get t.districts home ≡ Some row
-    → (row.next_o_id ≡ greatest (numbers (orders_of t home)) + 1)
+abbrev pub NextOrderFollows : Database → DistrictKey → District → Type 0
+NextOrderFollows t home row =
+    (row.next_o_id ≡ greatest (numbers (orders_of t home)) + 1)
     × (new_orders_of t home ≢ [] → row.next_o_id ≡ greatest (numbers (new_orders_of t home)) + 1)
 
+abbrev pub NextOrdersFollow : Database → Type 0
+NextOrdersFollow t = (home : DistrictKey) (row : District) → table.get t.districts home ≡ Some row → NextOrderFollows t home row
+
 -- 3 (clause 3.3.2.3): the greatest NO_O_ID of a district, less the least, and 1 more is their count, where it has one
-abbrev pub NewOrdersHaveNoGap : Database → Type 0
-NewOrdersHaveNoGap t = (home : DistrictKey) (row : District) → table.get t.districts home ≡ Some row
-    → (first : ℕ) (others : List ℕ) → numbers (new_orders_of t home) ≡ first ∷ others
+abbrev pub HasNoGap : Database → DistrictKey → Type 0
+HasNoGap t home = (first : ℕ) (others : List ℕ) → numbers (new_orders_of t home) ≡ first ∷ others
     → greatest (first ∷ others) + 1 ≡ least first others + length (first ∷ others)
 
+abbrev pub NewOrdersHaveNoGap : Database → Type 0
+NewOrdersHaveNoGap t = (home : DistrictKey) (row : District) → table.get t.districts home ≡ Some row → HasNoGap t home
+
 -- 4 (clause 3.3.2.4): the sum of O_OL_CNT is the number of lines, by district
+abbrev pub CountsLines : Database → DistrictKey → Type 0
+CountsLines t home = sum (map (λ order. order.1.ol_cnt) (orders_of t home)) ≡ length (district_lines t home)
+
 abbrev pub DistrictsCountLines : Database → Type 0
-DistrictsCountLines t = (home : DistrictKey) (row : District) → table.get t.districts home ≡ Some row
-    → sum (map (λ order. order.1.ol_cnt) (orders_of t home)) ≡ length (district_lines t home)
+DistrictsCountLines t = (home : DistrictKey) (row : District) → table.get t.districts home ≡ Some row → CountsLines t home
 
 -- 5 (clause 3.3.2.5): O_CARRIER_ID is null exactly where there is a row of NEW-ORDER
 abbrev pub NewOrdersHaveNoCarrier : Database → Type 0
@@ -128,9 +135,11 @@ BalancesAreOwed t = (key : CustomerKey) (row : Customer) → table.get t.custome
     → row.balance ≡ delivered t key -ℤ paid t key
 
 -- 11 (clause 3.3.2.11), of a fresh set at full scale: 2,100 orders of each district were delivered
+abbrev pub IsFresh : Database → DistrictKey → Type 0
+IsFresh t home = length (orders_of t home) ≡ length (new_orders_of t home) + 2100
+
 abbrev pub OrdersAreFresh : Database → Type 0
-OrdersAreFresh t = (home : DistrictKey) (row : District) → table.get t.districts home ≡ Some row
-    → length (orders_of t home) ≡ length (new_orders_of t home) + 2100
+OrdersAreFresh t = (home : DistrictKey) (row : District) → table.get t.districts home ≡ Some row → IsFresh t home
 
 -- 12 (clause 3.3.2.12): C_BALANCE and C_YTD_PAYMENT are together what was delivered to the customer
 abbrev pub BalancesArePaid : Database → Type 0

@@ -1,7 +1,8 @@
-ghost use Rattle.std.specs.Prelude.{◌≡◌, ◌↔◌, ◌+◌, ℕ, IsTrue, is_some, IfSome, IsOk, IfOk, IfErr, OnOk, OnErr};
+ghost use Rattle.std.specs.Prelude.{◌≡◌, ◌↔◌, ◌+◌, ◌^◌, ◌<◌, ◌≤◌, ℕ, length, IsTrue, is_some, IfSome, IsOk, IfOk, IfErr, OnOk, OnErr};
 ghost use Rattle.std.specs.Option.{option_copied};
 ghost use Rattle.std.specs.FinMap as map;
 ghost use Rattle.std.specs.List.{slice_get};
+ghost use Rattle.rows.specs.Keys.{order_of_line};
 ghost use Rattle.schema.specs.Scale.{has_district, customer_key};
 ghost use Rattle.schema.specs.Database.{IsWithinScale, with_payment, rows_where, is_of_district, is_of_order};
 ghost use Rattle.schema.specs.Rows.{database, FitsScale, Breaks};
@@ -190,14 +191,16 @@ impl Tables {
 
     /// The orders of the district, by O_ID.
     pub fn orders_of(&self, home: DistrictKey) -> Range<'_, OrderKey, Order>
-        ensures { result ≡ rows_where (is_of_district home) self.now.orders }
+        ensures rows { result ≡ rows_where (is_of_district home) self.now.orders }
+        ensures few { length result ≤ 9999999 }
     {
         self.rows.orders.range(first_order(home)..=last_order(home))
     }
 
     /// The new orders of the district, by NO_O_ID.
     pub fn new_orders_of(&self, home: DistrictKey) -> Range<'_, OrderKey, NewOrder>
-        ensures { result ≡ rows_where (is_of_district home) self.now.new_orders }
+        ensures rows { result ≡ rows_where (is_of_district home) self.now.new_orders }
+        ensures fits { length result < 2 ^ 63 }
     {
         self.rows
             .new_orders
@@ -206,9 +209,20 @@ impl Tables {
 
     /// The lines of the order, by OL_NUMBER.
     pub fn lines_of(&self, order: OrderKey) -> Range<'_, OrderLineKey, OrderLine>
-        ensures { result ≡ rows_where (is_of_order order) self.now.lines }
+        ensures rows { result ≡ rows_where (is_of_order order) self.now.lines }
+        ensures fits { length result < 2 ^ 63 }
     {
         self.rows.lines.range(first_line(order)..=last_line(order))
+    }
+
+    /// The lines of the district's orders, by O_ID and then by OL_NUMBER.
+    pub fn lines_of_district(&self, home: DistrictKey) -> Range<'_, OrderLineKey, OrderLine>
+        ensures rows { result ≡ rows_where (λ key. is_of_district home (order_of_line key)) self.now.lines }
+        ensures fits { length result < 2 ^ 63 }
+    {
+        let first = first_line(first_order(home));
+        let last = last_line(last_order(home));
+        self.rows.lines.range(first..=last)
     }
 
     /// The customers of the district, by C_ID from 1; `None` where the scale has no such district.

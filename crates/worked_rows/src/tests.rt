@@ -7,6 +7,7 @@ use sets::{set_e, set_k, set_k_of};
 use std::process::Abort;
 use std::test::Fail;
 
+mod conditions;
 mod log;
 mod payments;
 mod serving;

@@ -1,0 +1,12 @@
+pub mod TotalsDense
+pub mod TotalsLoops
+pub mod TotalsBlocks
+pub mod PaymentsRows
+pub mod BalancesTotals
+pub mod BalancesPayments
+pub mod BalancesDeliveries
+pub mod BalancesRows
+pub mod CarriersRules
+pub mod OrderNumbersRules
+pub mod OrderNumbersGreatest
+pub mod LineCountsRules

@@ -1,0 +1,35 @@
+-- Totals of all customers, in the order of the customers' keys.
+use Rattle.std.specs.Prelude.{◌≡◌, ℕ, ◌<◌, ℤ, Bool, ◌&&◌, ◌==◌, List, length, slice_get, Option, Some, None, is_some, if◌then◌else◌}
+use Rattle.std.specs.Option.{option_map}
+use Rattle.std.specs.BTreeMap.{BTreeMap, get}
+use Rattle.rows.specs.declared.keys.CustomerKey.{CustomerKey}
+use Rattle.rows.specs.declared.keys.OrderKey.{OrderKey}
+use Rattle.rows.specs.declared.keys.OrderLineKey.{OrderLineKey}
+use Rattle.rows.specs.declared.records.Order.{Order}
+use Rattle.rows.specs.declared.records.OrderLine.{OrderLine}
+use Rattle.rows.specs.Keys.{order_cmp, order_of_line}
+use Rattle.schema.specs.declared.scale.Scale.{Scale}
+use Rattle.schema.specs.Scale.{customer_slot}
+use Rattle.schema.specs.Database.{customer_of_order}
+use Rattle.consistency.specs.Totals.{IsWithin}
+
+-- each customer's total stands at the customer's slot
+abbrev pub AreTotals : Scale → (CustomerKey → ℤ) → List ℤ → Type 0
+AreTotals scale total totals = (key : CustomerKey) (slot : ℕ) → customer_slot scale key ≡ Some slot → slice_get totals slot ≡ Some (total key)
+
+-- there is a place for each customer's total
+abbrev pub HasRoom : Scale → List ℤ → Type 0
+HasRoom scale totals = (key : CustomerKey) (slot : ℕ) → customer_slot scale key ≡ Some slot → slot < length totals
+
+-- every total is from -limit to limit
+abbrev pub AreWithin : ℕ → List ℤ → Type 0
+AreWithin limit totals = (slot : ℕ) (total : ℤ) → slice_get totals slot ≡ Some total → IsWithin limit total
+
+-- whether this is that customer
+abbrev pub is_customer : CustomerKey → CustomerKey → Bool
+is_customer key other = (other.w_id == key.w_id) && ((other.d_id == key.d_id) && (other.c_id == key.c_id))
+
+-- to whom the line was delivered, where it was
+abbrev pub receiver : BTreeMap OrderKey Order → OrderLineKey → OrderLine → Option CustomerKey
+receiver orders key line =
+    if is_some line.delivery_d then option_map (λ order. customer_of_order (order_of_line key) order) (get order_cmp orders (order_of_line key)) else None

@@ -1,0 +1,20 @@
+-- The twelve conditions by their numbers, and answers that tell which hold.
+use Rattle.std.specs.Prelude.{◌≡◌, ◌↔◌, ℕ, suc, Bool, List, [], ◌∷◌, IsTrue}
+use Rattle.schema.specs.Database.{Database}
+use Rattle.schema.specs.Consistency.{WarehousesSumDistricts, NextOrdersFollow, NewOrdersHaveNoGap, DistrictsCountLines, NewOrdersHaveNoCarrier, OrdersCountLines, LinesComeWithOrders, WarehousesSumPayments, DistrictsSumPayments, BalancesAreOwed, OrdersAreFresh, BalancesArePaid}
+
+-- condition n stands at place n - 1 (clauses 3.3.2.1 to 3.3.2.12)
+abbrev pub conditions : List (Database → Type 0)
+conditions =
+    WarehousesSumDistricts ∷ NextOrdersFollow ∷ NewOrdersHaveNoGap ∷ DistrictsCountLines
+    ∷ NewOrdersHaveNoCarrier ∷ OrdersCountLines ∷ LinesComeWithOrders ∷ WarehousesSumPayments
+    ∷ DistrictsSumPayments ∷ BalancesAreOwed ∷ OrdersAreFresh ∷ BalancesArePaid ∷ []
+
+-- each answer is true exactly where its condition holds, and there is one for each condition
+abbrev pub Tell : List (Database → Type 0) → Database → List Bool → Type 0
+Tell [] t [] = Unit
+Tell (condition ∷ others) t (answer ∷ answers) = (IsTrue answer ↔ condition t) × Tell others t answers
+Tell _ t _ = ⊥
+
+abbrev pub AreExact : Database → List Bool → Type 0
+AreExact t answers = Tell conditions t answers

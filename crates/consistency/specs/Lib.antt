@@ -1,0 +1,5 @@
+pub mod Totals
+pub mod Balances
+pub mod Carriers
+pub mod OrderNumbers
+pub mod Conditions

@@ -1,0 +1,35 @@
+ghost use Rattle.std.specs.Prelude.{IfOk};
+ghost use Rattle.consistency.specs.Conditions.{AreExact};
+
+use crate::balances::check_balances;
+use crate::carriers::{lines_come_with_orders, new_orders_have_no_carrier};
+use crate::line_counts::{districts_count_lines, orders_count_lines};
+use crate::order_numbers::{new_orders_have_no_gap, next_orders_follow, orders_are_fresh};
+use crate::payments::{districts_sum_payments, warehouses_sum_districts, warehouses_sum_payments};
+use schema::{NoMemory, Tables};
+use std::alloc::Global;
+
+/// Which of the twelve conditions of clause 3.3.2 the tables meet: condition n stands at place n - 1,
+/// and is true exactly where it holds. Condition 11 is meant for fresh tables at full scale; whoever
+/// asks of others passes it over.
+///
+/// It takes room for two totals of each customer. Its time grows with the number of rows.
+pub fn check(alloc: Global, tables: &Tables) -> Result<[bool; 12], NoMemory>
+    ensures { IfOk result (λ answers. AreExact tables.now answers) }
+{
+    let balances = check_balances(tables, alloc)?;
+    Ok([
+        warehouses_sum_districts(tables),
+        next_orders_follow(tables),
+        new_orders_have_no_gap(tables),
+        districts_count_lines(tables),
+        new_orders_have_no_carrier(tables),
+        orders_count_lines(tables),
+        lines_come_with_orders(tables),
+        warehouses_sum_payments(tables),
+        districts_sum_payments(tables),
+        balances.are_owed,
+        orders_are_fresh(tables),
+        balances.are_paid,
+    ])
+}

@@ -1,0 +1,12 @@
+//! Which of the twelve consistency conditions the tables meet (TPC-C 5.11, clause 3.3.2).
+#![tactic(auto)]
+
+mod balances;
+mod carriers;
+mod checks;
+mod line_counts;
+mod order_numbers;
+mod payments;
+mod totals;
+
+pub use checks::check;
