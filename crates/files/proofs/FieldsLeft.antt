@@ -1,7 +1,10 @@
 -- The next field of those that are left.
-use Rattle.std.proofs.Common.{◌≡◌, ℕ, zero, suc, ◌+◌, List, [], ◌∷◌, drop, Some, None, refl, arith}
+use Rattle.std.proofs.Common.{◌≡◌, ℕ, zero, suc, ◌+◌, List, [], ◌∷◌, drop, Some, None, Option, Result, Ok, Err, IfOk, IfErr, refl, sym, subst, ◌∙◌, arith}
 use Rattle.std.proofs.lemmas.List.{drop_all}
 use Rattle.csv.specs.Records.{field_at}
+use Rattle.files.specs.declared.fault.FaultKind.{FaultKind}
+use Rattle.files.specs.MomentText.{IsMomentText}
+use Rattle.files.specs.Taken.{with_fault}
 
 pub drop-next : {X : Type 0} (n : ℕ) (xs : List X) → drop (n + 1) xs ≡ drop 1 (drop n xs)
 drop-next zero [] = refl
@@ -29,3 +32,19 @@ none_is_left zero [] h = refl
 none_is_left zero (x ∷ xs) h = absurd cc
 none_is_left (suc n) [] h = refl
 none_is_left (suc n) (x ∷ xs) h = none_is_left n xs h
+
+pub first_of_left : (n : ℕ) (fields : List (List ℕ)) (field : List ℕ) → Some field ≡ field_at fields n → drop n fields ≡ field ∷ drop (n + 1) fields
+unfolding field_at
+first_of_left zero [] field h = absurd cc
+first_of_left zero (x ∷ xs) field h = let same : field ≡ x = cc in rw same refl
+first_of_left (suc n) [] field h = absurd cc
+first_of_left (suc n) (x ∷ xs) field h = let after : suc n + 1 ≡ suc (n + 1) = omega arith in rw after (first_of_left n xs field h)
+
+-- where no fault was noted, a moment was read
+pub moment_was_read : (parsed : Result ℕ FaultKind) (value : ℕ) (word : List ℕ) (before after : Option FaultKind) → IfOk parsed (λ seconds. IsMomentText word seconds)
+    → IfOk parsed (λ seconds. (value ≡ seconds) × (after ≡ before)) → IfErr parsed (λ kind. after ≡ Some (with_fault before kind))
+    → after ≡ None → (before ≡ None) × IsMomentText word value
+moment_was_read (Ok seconds) value word before after spelt ok err none =
+    let P : ℕ → Type 0 = IsMomentText word in
+    (sym ok.1 ∙ none, subst P (sym ok.0) spelt)
+moment_was_read (Err kind) value word before after spelt ok err none = absurd cc

@@ -2,3 +2,5 @@ pub mod Numerals
 pub mod Amounts
 pub mod Moments
 pub mod FieldsLeft
+pub mod Progress
+pub mod Texts

@@ -1,7 +1,9 @@
 -- `jiff` reads what it writes of a date and time.
-use Rattle.std.proofs.Common.{◌≡◌, ℕ, List, Result, Ok, Err, sym, ap, ◌∙◌}
+use Rattle.std.proofs.Common.{◌≡◌, ℕ, pos, ◌*ℤ◌, List, Result, Ok, Err, sym, ap, ◌∙◌, arith}
 use Rattle.jiff.specs.Names.{iso_datetime_text}
-use Rattle.jiff_core.specs.DateTime.{civil_seconds}
+use Rattle.jiff_core.specs.DateTime.{civil_nanos, civil_seconds}
+use Rattle.jiff_core.proofs.DateTimeLemmas.{civil_nanos-civil_seconds}
+use Rattle.jiff.proofs.SpanFacts.{signed_arith}
 use Rattle.jiff_core.specs.declared.civil.datetime.DateTime.{DateTime}
 use Rattle.jiff_core.specs.declared.error.Error.{Error}
 use Rattle.jiff_fmt.specs.Temporal.{DateParts, TimeParts, date_parts, time_parts, datetime_view, parse_datetime}
@@ -52,3 +54,10 @@ pub spelling_is_parsed : (r : Result DateTime Error) (text : List ℕ) (moment :
 spelling_is_parsed r text moment seconds error e s failed =
     let view = rw failed at (view_of_spelling r text moment seconds e s) in
     cc
+
+-- a date and time at a whole second has no fraction
+pub whole_seconds : (moment : DateTime) (seconds : ℕ) → civil_nanos moment ≡ pos seconds *ℤ pos 1_000_000_000 → (civil_seconds moment ≡ pos seconds) × (moment.time.subsec_nanosecond ≡ 0)
+whole_seconds moment seconds e =
+    let parts = civil_nanos-civil_seconds moment in
+    let small = moment.time.subsec_in in
+    (omega (arith, signed_arith), omega (arith, signed_arith))

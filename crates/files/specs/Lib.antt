@@ -4,3 +4,4 @@ pub mod MomentText
 pub mod Word
 pub mod Taken
 pub mod Place
+pub mod Written

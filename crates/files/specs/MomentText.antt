@@ -9,3 +9,7 @@ pub record Spells (moment : DateTime) (text : List ℕ) (seconds : ℕ) : Type 0
   pub is_text : iso_datetime_text moment ≡ text
   pub is_whole : moment.time.subsec_nanosecond ≡ 0
   pub is_second : civil_seconds moment ≡ pos seconds
+
+-- the text spells that moment
+abbrev pub IsMomentText : List ℕ → ℕ → Type 0
+IsMomentText text seconds = (moment : DateTime) × Spells moment text seconds

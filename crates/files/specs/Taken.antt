@@ -1,5 +1,5 @@
 -- What is known of a record while its fields are taken.
-use Rattle.std.specs.Prelude.{ℕ, List, drop, Option, Some, None}
+use Rattle.std.specs.Prelude.{◌≡◌, ℕ, List, ◌∷◌, ◌++◌, drop, Option, Some, None}
 use Rattle.csv.specs.Records.{fields_of}
 use Rattle.files.specs.declared.fault.FaultKind.{FaultKind}
 use Rattle.files.specs.declared.fields.Fields.{Fields}
@@ -17,3 +17,11 @@ fault_of f = f.fault
 abbrev pub with_fault : Option FaultKind → FaultKind → FaultKind
 with_fault None kind = kind
 with_fault (Some fault) kind = least_fault fault kind
+
+-- where no fault is known afterwards, none was known before, and this field was taken
+abbrev pub TakesWell : Fields → Fields → List ℕ → Type 0
+TakesWell old new field = fault_of new ≡ None → (fault_of old ≡ None) × (fields_left old ≡ field ∷ fields_left new)
+
+-- the same of several fields
+abbrev pub TakesAll : Fields → Fields → List (List ℕ) → Type 0
+TakesAll old new taken = fault_of new ≡ None → (fault_of old ≡ None) × (fields_left old ≡ taken ++ fields_left new)

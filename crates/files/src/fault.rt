@@ -1,6 +1,7 @@
 ghost use Rattle.std.specs.Prelude.{◌≡◌};
 ghost use Rattle.files.specs.Fault.{fault_number, least_fault};
 ghost use Rattle.files.specs.declared.fault.ReadFault.TheVariants.{NoMemory};
+ghost use Rattle.files.specs.declared.fault.WriteFault.TheVariants as write;
 
 use std::alloc::AllocError;
 use std::fmt;
@@ -91,5 +92,22 @@ impl From<AllocError> for ReadFault {
 
     fn from(_error: AllocError) -> ReadFault {
         ReadFault::NoMemory
+    }
+}
+
+/// Why a file was not written to its end.
+#[derive(Clone, Copy, Debug, PartialEq, Eq)]
+pub enum WriteFault {
+    /// There was no memory for a record.
+    NoMemory,
+    /// Writing failed: a fault of the kind `Io`.
+    File(FileFault),
+}
+
+impl From<AllocError> for WriteFault {
+    ghost from_gives = { λ _ fault. fault ≡ write.NoMemory };
+
+    fn from(_error: AllocError) -> WriteFault {
+        WriteFault::NoMemory
     }
 }

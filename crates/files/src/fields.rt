@@ -1,5 +1,8 @@
-ghost use Rattle.std.specs.Prelude.{◌≡◌, ◌≢◌, ◌≤◌, ℕ, List, [], ◌∷◌, drop, None, Some, IsUtf8};
+ghost use Rattle.std.specs.Prelude.{◌≡◌, ◌≢◌, ◌≤◌, ℕ, List, [], ◌∷◌, drop, None, Some, IfOk, IfErr, IsUtf8};
+ghost use Rattle.std.specs.Fmt.{decimal, signed_decimal};
 ghost use Rattle.csv.specs.Records.{fields_of};
+ghost use Rattle.files.specs.MomentText.{IsMomentText};
+ghost use Rattle.files.specs.Word.{credit_text};
 
 use crate::{
     FaultKind, parse_cents, parse_credit, parse_moment, parse_ranged, parse_rate, parse_text,
@@ -22,7 +25,7 @@ pub struct Fields<'r> {
 }
 
 impl<'r> Fields<'r> {
-    ghost use Rattle.files.specs.Taken.{fields_left, fault_of, with_fault};
+    ghost use Rattle.files.specs.Taken.{fields_left, fault_of, with_fault, TakesWell};
 
     /// All fields of the record, none taken and without a fault.
     pub fn new(record: &'r ByteRecord) -> Self
@@ -62,6 +65,7 @@ impl<'r> Fields<'r> {
     /// The least fault of the record, all of whose fields should be taken: `WrongShape` where some are
     /// left.
     pub fn finish(&mut self) -> Option<FaultKind>
+        ensures well { result ≡ None → (fields_left self.old ≡ []) × (fault_of self.old ≡ None) }
         ensures fault { result ≡ fault_of self.new }
         ensures none_left { fields_left self.old ≡ [] → fault_of self.new ≡ fault_of self.old }
         ensures some_left { fields_left self.old ≢ [] → fault_of self.new ≡ Some (with_fault (fault_of self.old) FaultKind.WrongShape) }
@@ -79,6 +83,7 @@ impl<'r> Fields<'r> {
         ensures none { fields_left self.old ≡ [] → fault_of self.new ≡ Some (with_fault (fault_of self.old) FaultKind.WrongShape) }
         ensures no_text { (field : List ℕ) (rest : List (List ℕ)) → fields_left self.old ≡ field ∷ rest → ¬ IsUtf8 field → fault_of self.new ≡ Some (with_fault (fault_of self.old) FaultKind.NotOfKind) }
         ensures text { (field : List ℕ) (rest : List (List ℕ)) → fields_left self.old ≡ field ∷ rest → IsUtf8 field → (result.now ≡ field) × (fault_of self.new ≡ fault_of self.old) }
+        ensures taken { TakesWell self.old self.new result.now }
     {
         match self.record.get(self.place) {
             Some(bytes) => {
@@ -100,7 +105,10 @@ impl<'r> Fields<'r> {
 
     /// The next field as a number from `low` to `high`; `low` after a fault.
     pub fn whole(&mut self, low: u32, high: u32) -> u32
-        ensures { low ≤ high → (low ≤ result) × (result ≤ high) }
+        ensures range { low ≤ high → (low ≤ result) × (result ≤ high) }
+        ensures reads { (number : ℕ) (rest : List (List ℕ)) → fields_left self.old ≡ decimal number ∷ rest → low ≤ number → number ≤ high → (result ≡ number) × (fault_of self.new ≡ fault_of self.old) }
+        ensures left { fields_left self.new ≡ drop 1 (fields_left self.old) }
+        ensures taken { TakesWell self.old self.new (decimal result) }
     {
         match parse_whole(self.word(), u64::from(low), u64::from(high)) {
             Ok(number) => number as u32,
@@ -114,6 +122,8 @@ impl<'r> Fields<'r> {
     /// The next field as a number of its column's range.
     pub fn ranged<const LOW: u32, const HIGH: u32>(&mut self) -> Ranged<LOW, HIGH>
         requires { LOW ≤ HIGH }
+        ensures left { fields_left self.new ≡ drop 1 (fields_left self.old) }
+        ensures taken { TakesWell self.old self.new (decimal result) }
     {
         let number = parse_ranged(self.word());
         self.or_note(number, Ranged::new(LOW))
@@ -132,31 +142,47 @@ impl<'r> Fields<'r> {
     }
 
     /// The next field as a text; the empty one after a fault.
-    pub fn text<const WIDTH: usize>(&mut self) -> Text<WIDTH> {
+    pub fn text<const WIDTH: usize>(&mut self) -> Text<WIDTH>
+        ensures left { fields_left self.new ≡ drop 1 (fields_left self.old) }
+        ensures taken { TakesWell self.old self.new result }
+    {
         let text = parse_text(self.word());
         self.or_note(text, Text::new())
     }
 
     /// The next field as money; 0 after a fault.
-    pub fn cents(&mut self) -> Cents {
+    pub fn cents(&mut self) -> Cents
+        ensures left { fields_left self.new ≡ drop 1 (fields_left self.old) }
+        ensures taken { TakesWell self.old self.new (signed_decimal result) }
+    {
         let cents = parse_cents(self.word());
         self.or_note(cents, Cents::ZERO)
     }
 
     /// The next field as a rate; 0 after a fault.
-    pub fn rate(&mut self) -> Rate {
+    pub fn rate(&mut self) -> Rate
+        ensures left { fields_left self.new ≡ drop 1 (fields_left self.old) }
+        ensures taken { TakesWell self.old self.new (decimal result) }
+    {
         let rate = parse_rate(self.word());
         self.or_note(rate, Rate::new(0))
     }
 
     /// The next field as C_CREDIT; good after a fault.
-    pub fn credit(&mut self) -> Credit {
+    pub fn credit(&mut self) -> Credit
+        ensures left { fields_left self.new ≡ drop 1 (fields_left self.old) }
+        ensures taken { TakesWell self.old self.new (credit_text result) }
+    {
         let credit = parse_credit(self.word());
         self.or_note(credit, Credit::Good)
     }
 
     /// The next field as a moment; the first one after a fault.
-    pub fn moment(&mut self) -> Moment {
+    pub fn moment(&mut self) -> Moment
+        ensures left { fields_left self.new ≡ drop 1 (fields_left self.old) }
+        ensures reads { (text : List ℕ) (seconds : ℕ) (rest : List (List ℕ)) → fields_left self.old ≡ text ∷ rest → IsUtf8 text → IsMomentText text seconds → seconds ≤ 253402300799 → (result ≡ seconds) × (fault_of self.new ≡ fault_of self.old) }
+        ensures taken { fault_of self.new ≡ None → (fault_of self.old ≡ None) × ((text : List ℕ) × IsMomentText text result × (fields_left self.old ≡ text ∷ fields_left self.new)) }
+    {
         let moment = parse_moment(self.word());
         self.or_note(moment, Moment::new(0))
     }
@@ -172,7 +198,10 @@ impl<'r> Fields<'r> {
     }
 
     /// Notes `WrongCount` where the next field is another number than `count`.
-    pub fn expect_count(&mut self, count: u64) {
+    pub fn expect_count(&mut self, count: u64)
+        ensures left { fields_left self.new ≡ drop 1 (fields_left self.old) }
+        ensures taken { TakesWell self.old self.new (decimal count) }
+    {
         match parse_whole(self.word(), count, count) {
             Ok(_) => {}
             Err(FaultKind::OutOfRange) => self.note(FaultKind::WrongCount),
@@ -181,7 +210,11 @@ impl<'r> Fields<'r> {
     }
 
     // The value that was parsed; `other` where none was, and the fault is noted.
-    fn or_note<T: Drop>(&mut self, parsed: Result<T, FaultKind>, other: T) -> T {
+    fn or_note<T: Drop>(&mut self, parsed: Result<T, FaultKind>, other: T) -> T
+        ensures left { fields_left self.new ≡ fields_left self.old }
+        ensures ok { IfOk parsed (λ value. (result ≡ value) × (fault_of self.new ≡ fault_of self.old)) }
+        ensures err { IfErr parsed (λ kind. fault_of self.new ≡ Some (with_fault (fault_of self.old) kind)) }
+    {
         match parsed {
             Ok(value) => value,
             Err(kind) => {

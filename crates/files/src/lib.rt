@@ -5,14 +5,18 @@
 mod fault;
 mod fields;
 mod moment;
+mod new_record;
 mod numbers;
+mod record_writer;
 mod records;
 mod words;
 
-pub use fault::{FaultKind, FileFault, ReadFault};
+pub use fault::{FaultKind, FileFault, ReadFault, WriteFault};
 pub use fields::Fields;
-pub use moment::parse_moment;
+pub use moment::{moment_text, parse_moment};
+pub use new_record::NewRecord;
 pub use numbers::{parse_cents, parse_ranged, parse_rate, parse_whole};
+pub use record_writer::RecordWriter;
 pub use records::Records;
 pub use words::{parse_credit, parse_text};
 

@@ -2,9 +2,10 @@ ghost use Rattle.std.specs.Prelude.{◌≡◌, ◌↔◌, ℕ, ◌≤◌, IfOk, 
 ghost use Rattle.jiff.specs.Names.{iso_datetime_text};
 ghost use Rattle.jiff_core.specs.DateTime.{civil_seconds};
 ghost use Rattle.jiff_core.specs.declared.civil.datetime.DateTime.{DateTime as Civil};
-ghost use Rattle.files.specs.MomentText.{Spells};
+ghost use Rattle.files.specs.MomentText.{Spells, IsMomentText};
 
 use crate::FaultKind;
+use arrayvec::ArrayString;
 use jiff::civil::DateTime;
 use jiff::fmt::temporal::DateTimePrinter;
 use rows::Moment;
@@ -45,4 +46,20 @@ fn seconds_of(moment: DateTime) -> Result<Moment, FaultKind>
         Ok(seconds) => Moment::checked_new(seconds).ok_or(FaultKind::NotOfKind),
         Err(_) => Err(FaultKind::NotOfKind),
     }
+}
+
+/// The text that spells the moment, which `parse_moment` reads as the same moment.
+pub fn moment_text(moment: Moment) -> ArrayString<32>
+    ensures { IsMomentText result.bytes moment }
+{
+    DateTimePrinter::new().datetime_text(date_time_of(moment))
+}
+
+// The date and time of the moment.
+fn date_time_of(moment: Moment) -> jiff_core::civil::DateTime
+    ensures second { civil_seconds result ≡ pos moment }
+    ensures whole { result.time.subsec_nanosecond ≡ 0 }
+{
+    let nanoseconds = i128::from(moment.seconds()) * 1_000_000_000;
+    jiff_core::civil::DateTime::from_nanosecond_in_range(nanoseconds)
 }

@@ -1,4 +1,5 @@
-ghost use Rattle.std.specs.Prelude.{◌≡◌, ◌⊎◌, ◌+◌, ◌-◌, ◌^◌, ◌<◌, IfErr};
+ghost use Rattle.std.specs.Prelude.{◌≡◌, ◌⊎◌, ◌+◌, ◌-◌, ◌^◌, ◌<◌, ℕ, List, [], Some, None, IfOk, IfErr};
+ghost use Rattle.files.specs.Taken.{fields_left, fault_of};
 
 use crate::{FaultKind, Fields, FileFault, ReadFault};
 use csv::{ByteRecord, Error, ErrorKind, Reader, ReaderBuilder};
@@ -15,11 +16,12 @@ pub struct Records<R> {
 }
 
 impl<R: Read> Records<R> {
-    ghost use Rattle.files.specs.Place.{record_number, file_fault};
+    ghost use Rattle.files.specs.Place.{record_number, record_fields, file_fault, HasRead, HasReadOn};
 
     /// The records that `source` gives, before the first.
     pub fn new(alloc: Global, source: R) -> Self
-        ensures { record_number result ≡ 0 }
+        ensures number { record_number result ≡ 0 }
+        ensures none_read { (text : List ℕ) → R.remaining source ≡ Some text → HasRead R.remaining text [] result }
     {
         let reader = ReaderBuilder::new()
             .has_headers(false)
@@ -35,6 +37,7 @@ impl<R: Read> Records<R> {
     /// Goes on to the next record, and says whether there is one. A failure of the source is the fault
     /// `Io` at the record under way; after it and after want of memory there are no more records.
     pub fn advance(&mut self) -> Result<bool, ReadFault>
+        ensures reads { IfOk result (λ found. (text : List ℕ) (rows : List (List (List ℕ))) → HasRead R.remaining text rows self.old → HasReadOn R.remaining text rows found self.new) }
         ensures number { record_number self.old < 2 ^ 64 - 1 → record_number self.new ≡ record_number self.old + 1 }
         ensures faults { IfErr result (λ fault. (fault ≡ ReadFault.NoMemory) ⊎ (fault ≡ file_fault FaultKind.Io (record_number self.new))) }
     {
@@ -53,7 +56,10 @@ impl<R: Read> Records<R> {
     }
 
     /// The fields of the record under way.
-    pub fn fields(&self) -> Fields<'_> {
+    pub fn fields(&self) -> Fields<'_>
+        ensures left { fields_left result ≡ record_fields self.now }
+        ensures fault { fault_of result ≡ None }
+    {
         Fields::new(&self.record)
     }
 

@@ -1,6 +1,6 @@
-use Rattle.std.proofs.Common.{◌≡◌, [], drop, refl, None, IsUtf8, sym, subst, ◌∙◌}
+use Rattle.std.proofs.Common.{◌≡◌, ◌∷◌, ◌+◌, ap, [], drop, refl, None, IsUtf8, sym, subst, ◌∙◌}
 use Rattle.csv.specs.Records.{fields_of, field_at}
-use Rattle.files.proofs.FieldsLeft.{drop-next, next_is_there, none_is_there, none_is_left}
+use Rattle.files.proofs.FieldsLeft.{drop-next, next_is_there, none_is_there, none_is_left, first_of_left}
 use Rattle.files.proofs.fields.Fields.word.Goals as goal
 
 pub returns-in-Ok-clause-left : goal.returns-in-Ok-clause-left
@@ -29,6 +29,13 @@ returns-in-Ok-clause-text c = λ field rest next text.
     let both = read ∙ there in
     let same : c.in-Some.bytes.now ≡ field = cc in
     ((rw c.in-Ok.is at c.from_utf8.ensures.cases).0 ∙ same, refl)
+
+pub returns-in-Ok-clause-taken : goal.returns-in-Ok-clause-taken
+returns-in-Ok-clause-taken c = λ none.
+    let fields = fields_of c.args.self.now.record.now in
+    let read = rw c.in-Some.is at c.get.ensures.value in
+    let same = (rw c.in-Ok.is at c.from_utf8.ensures.cases).0 in
+    (none, first_of_left c.args.self.now.place fields c.in-Some.bytes.now read ∙ ap (λ l. l ∷ drop (c.args.self.now.place + 1) fields) (sym same))
 
 pub returns-in-Err-clause-left : goal.returns-in-Err-clause-left
 returns-in-Err-clause-left c = c.note.ensures.left ∙ drop-next c.args.self.now.place (fields_of c.args.self.now.record.now)

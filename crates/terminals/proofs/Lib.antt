@@ -1,0 +1,2 @@
+pub mod ScriptRecords
+pub mod Rows

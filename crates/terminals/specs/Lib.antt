@@ -1,0 +1,4 @@
+pub mod RequestFields
+pub mod Script
+pub mod Answers
+pub mod LogRecord

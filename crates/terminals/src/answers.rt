@@ -1,0 +1,83 @@
+ghost use Rattle.std.specs.Prelude.{◌≡◌, ◌++◌, IfOk, OnOk};
+ghost use Rattle.std.specs.Io.KnownBytes.{Appends};
+ghost use Rattle.csv.specs.Records.{fields_of};
+ghost use Rattle.files.specs.Written.{csv_text};
+ghost use Rattle.terminals.specs.Answers.{answer_fields, answer_rows, refusal_fields};
+
+use crate::reply;
+use csv::ByteRecord;
+use files::{NewRecord, RecordWriter, WriteFault};
+use requests::{Answer, Refusal};
+use schema::NoMemory;
+use std::alloc::Global;
+use std::io::Write;
+
+/// The record of the answer to the request of that number of the session.
+pub fn answer_record(
+    alloc: Global,
+    session: u32,
+    number: u32,
+    answer: &Answer,
+) -> Result<ByteRecord, NoMemory>
+    ensures { IfOk result (λ row. fields_of row ≡ answer_fields session number answer.now) }
+{
+    let mut row = NewRecord::new(alloc);
+    put_answer(&mut row, session, u64::from(number), answer)?;
+    Ok(row.into_byte_record())
+}
+
+/// Writes the records of a session's answers, which stand in the order of their requests, and gives the
+/// sink back. Use a `&mut` to a sink that is needed after a fault too.
+pub fn write_answers<W: Write + Drop>(
+    alloc: Global,
+    sink: W,
+    session: u32,
+    answers: &[Answer],
+) -> Result<W, WriteFault>
+    ensures { IfOk result (λ full. Appends (W.contents sink) (W.contents full) (csv_text (answer_rows session 0 answers.now))) }
+{
+    let mut writer = RecordWriter::new(sink);
+    let mut row = NewRecord::new(alloc);
+    for (number, answer) in answers.iter().enumerate() {
+        row.clear();
+        put_answer(&mut row, session, number as u64, answer)?;
+        writer.write(&row)?;
+    }
+    writer.finish()
+}
+
+// Adds the fields of an answer.
+fn put_answer(
+    row: &mut NewRecord,
+    session: u32,
+    number: u64,
+    answer: &Answer,
+) -> Result<(), NoMemory>
+    ensures { OnOk result (row.new ≡ row.old ++ answer_fields session number answer.now) }
+{
+    row.push_number(u64::from(session))?;
+    row.push_number(number)?;
+    match answer {
+        Answer::Done { place, reply } => {
+            row.push("done")?;
+            row.push_number(u64::from(*place))?;
+            reply::put(row, reply)
+        }
+        Answer::Refused(refusal) => {
+            row.push("refused")?;
+            put_refusal(row, *refusal)
+        }
+    }
+}
+
+// Adds the fields of a refusal: its number, and why it died, if it did.
+fn put_refusal(row: &mut NewRecord, refusal: Refusal) -> Result<(), NoMemory>
+    ensures { OnOk result (row.new ≡ row.old ++ refusal_fields refusal) }
+{
+    row.push_number(u64::from(refusal.number()))?;
+    if let Refusal::Died { group, holder } = refusal {
+        row.push_display(&group)?;
+        row.push_number(holder)?;
+    }
+    Ok(())
+}

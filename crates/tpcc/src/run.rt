@@ -1,0 +1,97 @@
+ghost use Rattle.std.specs.Prelude.{◌≡◌, length, IfOk};
+ghost use Rattle.tpcc.specs.Settings.{HasSessions};
+
+use crate::run_fault::RunFault;
+use crate::settings::RunSettings;
+use crate::status::Status;
+use engine::{Answers, ServeFault, serve};
+use requests::Script;
+use schema::NoMemory;
+use std::alloc::Global;
+use std::io::{Read, Write};
+use terminals::{read_script, write_answers, write_log};
+
+// How the standard output is named in a fault.
+const STANDARD_OUTPUT: &str = "standard output";
+
+/// Serves the scripts from the dataset, and gives the exit status.
+///
+/// `data` is read first, and then the scripts in turn; the first fault decides, and then nothing was run.
+/// The answers go to `answers`, by session and number, and then the log to `log`. A fault is told on
+/// `errors`, as `tpcc: PATH: row R: fault N` or `tpcc: no memory`.
+pub fn run_over<D: Read + Drop, S: Read + Drop, A: Write, L: Write + Drop, E: Write>(
+    alloc: Global,
+    settings: &RunSettings,
+    data: D,
+    scripts: &mut [S],
+    answers: &mut A,
+    log: Option<L>,
+    errors: &mut E,
+) -> Status
+    requires sessions { HasSessions settings.now }
+    requires sources { length scripts.old ≡ length settings.now.scripts.items }
+{
+    match run(alloc, settings, data, scripts, answers, log) {
+        Ok(()) => Status::Success,
+        Err(fault) => fault.report(errors),
+    }
+}
+
+fn run<'a, D: Read + Drop, S: Read + Drop, A: Write, L: Write + Drop>(
+    alloc: Global,
+    settings: &RunSettings<'a>,
+    data: D,
+    scripts: &mut [S],
+    answers: &mut A,
+    log: Option<L>,
+) -> Result<(), RunFault<'a>>
+    requires sessions { HasSessions settings.now }
+    requires sources { length scripts.old ≡ length settings.now.scripts.items }
+{
+    let opening = match dataset::read(alloc, data) {
+        Ok(tables) => tables,
+        Err(fault) => return Err(RunFault::reading(settings.data, fault)),
+    };
+    let scripts = read_scripts(alloc, &settings.scripts, scripts)?;
+    let Ok(outcome) = serve(alloc, opening, scripts.as_slice()) else {
+        return Err(RunFault::NoMemory);
+    };
+    print_answers(alloc, answers, outcome.answers.as_slice())?;
+    if let (Some(path), Some(sink)) = (settings.log, log) {
+        if let Err(fault) = write_log(alloc, sink, outcome.log.as_slice()) {
+            return Err(RunFault::writing(path, fault));
+        }
+    }
+    Ok(())
+}
+
+fn read_scripts<'a, S: Read + Drop>(
+    alloc: Global,
+    paths: &[&'a str],
+    sources: &mut [S],
+) -> Result<Vec<Script>, RunFault<'a>>
+    requires { length sources.old ≡ length paths.now }
+    ensures { IfOk result (λ scripts. length scripts.items ≡ length paths.now) }
+{
+    let mut scripts = Vec::new(alloc);
+    for (session, source) in sources.iter_mut().enumerate() {
+        match read_script(alloc, source) {
+            Ok(script) => scripts.push(script)?,
+            Err(fault) => return Err(RunFault::reading(paths[session], fault)),
+        }
+    }
+    Ok(scripts)
+}
+
+fn print_answers<A: Write>(
+    alloc: Global,
+    sink: &mut A,
+    answers: &[Answers],
+) -> Result<(), RunFault<'static>> {
+    for (session, told) in (0u32..).zip(answers) {
+        if let Err(fault) = write_answers(alloc, &mut *sink, session, told.as_slice()) {
+            return Err(RunFault::writing(STANDARD_OUTPUT, fault));
+        }
+    }
+    Ok(())
+}

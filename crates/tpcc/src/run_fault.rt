@@ -1,0 +1,69 @@
+ghost use Rattle.tpcc.specs.declared.run_fault.RunFault.TheVariants.{NoMemory};
+ghost use Rattle.std.specs.Prelude.{◌≡◌};
+
+use crate::status::Status;
+use files::{FaultKind, FileFault, ReadFault, WriteFault};
+use std::alloc::AllocFailed;
+use std::fmt;
+use std::io::Write;
+
+/// Why a command ended early.
+#[derive(Clone, Copy, Debug, PartialEq, Eq)]
+pub enum RunFault<'a> {
+    NoMemory,
+    /// The file of that path has a fault.
+    File { path: &'a str, fault: FileFault },
+}
+
+impl<'a> RunFault<'a> {
+    /// A file that can't be opened or made.
+    pub fn not_opened(path: &'a str) -> RunFault<'a> {
+        let fault = FileFault {
+            kind: FaultKind::Io,
+            record: 0,
+        };
+        RunFault::File { path, fault }
+    }
+
+    /// A fault of the file that was read.
+    pub fn reading(path: &'a str, fault: ReadFault) -> RunFault<'a> {
+        match fault {
+            ReadFault::NoMemory => RunFault::NoMemory,
+            ReadFault::File(fault) => RunFault::File { path, fault },
+        }
+    }
+
+    /// A fault of the file that was written.
+    pub fn writing(path: &'a str, fault: WriteFault) -> RunFault<'a> {
+        match fault {
+            WriteFault::NoMemory => RunFault::NoMemory,
+            WriteFault::File(fault) => RunFault::File { path, fault },
+        }
+    }
+
+    /// Tells of the fault, and gives the exit status. That it can't be told changes nothing.
+    pub fn report<W: Write>(self, errors: &mut W) -> Status {
+        let _ = writeln!(errors, "tpcc: {self}");
+        match self {
+            RunFault::NoMemory => Status::NoMemory,
+            RunFault::File { .. } => Status::FileFault,
+        }
+    }
+}
+
+impl fmt::Display for RunFault<'_> {
+    fn fmt<W: fmt::Write>(&self, f: &mut fmt::Formatter<W>) -> fmt::Result {
+        match self {
+            RunFault::NoMemory => f.write_str("no memory"),
+            RunFault::File { path, fault } => write!(f, "{path}: {fault}"),
+        }
+    }
+}
+
+impl<T: Drop> From<AllocFailed<T>> for RunFault<'_> {
+    ghost from_gives = { λ _ fault. fault ≡ NoMemory };
+
+    fn from(_error: AllocFailed<T>) -> Self {
+        RunFault::NoMemory
+    }
+}

@@ -1,0 +1,27 @@
+ghost use Rattle.std.specs.Prelude.{◌≡◌};
+ghost use Rattle.tpcc.specs.Status.{exit_status};
+
+/// How the program ends.
+#[derive(Clone, Copy, Debug, PartialEq, Eq)]
+pub enum Status {
+    Success,
+    /// A file has a fault, or can't be opened, made, read or written.
+    FileFault,
+    /// The words of the command line are not understood, or out of their limits.
+    Usage,
+    NoMemory,
+}
+
+impl Status {
+    /// The exit status of the process.
+    pub fn code(self) -> u8
+        ensures { result ≡ exit_status self }
+    {
+        match self {
+            Status::Success => 0,
+            Status::FileFault => 1,
+            Status::Usage => 2,
+            Status::NoMemory => 4,
+        }
+    }
+}

@@ -1,0 +1,63 @@
+use super::*;
+
+// The text of the fault that the words have, which begin after the program's name.
+fn fault_text(alloc: Global, words: &[&str]) -> Result<Option<String>, AllocError> {
+    let words = all_words(alloc, words)?;
+    match read_words(alloc, words.as_slice()) {
+        Ok(_) => Ok(None),
+        Err(fault) => Ok(Some(fault.to_string(alloc)?)),
+    }
+}
+
+fn all_words(alloc: Global, words: &[&str]) -> Result<Vec<String>, AllocError> {
+    let mut all = Vec::new(alloc);
+    all.push(String::from_str(alloc, "tpcc")?)?;
+    for word in words {
+        all.push(String::from_str(alloc, word)?)?;
+    }
+    Ok(all)
+}
+
+#[test]
+fn a_run_has_its_files(rt: HostRuntime) -> Result<(), Fail> {
+    let words = all_words(rt.alloc(), &["run", "data", "--log", "log", "one", "two"])?;
+    let Settings::Run(run) = read_words(rt.alloc(), words.as_slice())?;
+    assert_eq!(rt; run.data, "data");
+    assert_eq!(rt; run.scripts.as_slice(), ["one", "two"].as_slice());
+    assert_eq!(rt; run.log, Some("log"));
+    let words = all_words(rt.alloc(), &["run", "data", "one"])?;
+    let Settings::Run(run) = read_words(rt.alloc(), words.as_slice())?;
+    assert_eq!(rt; run.log, None);
+    Ok(())
+}
+
+#[test]
+fn words_out_of_their_limits_are_told(rt: HostRuntime) -> Result<(), Fail> {
+    let mut words = ["script"; 67];
+    words[0] = "run";
+    let text = fault_text(rt.alloc(), &words[..66])?;
+    assert_eq!(rt; text, None);
+    let text = fault_text(rt.alloc(), &words)?.ok_or("a fault")?;
+    assert_eq!(rt; text.as_str(), "error: `tpcc run` takes 1 to 64 scripts\n");
+    for (words, told) in [
+        (["run", "data", "--log", "log"].as_slice(), "<SCRIPT>"),
+        (["serve"].as_slice(), "unrecognized subcommand 'serve'"),
+        (
+            ["run", "data", "one", "--lag", "log"].as_slice(),
+            "unexpected argument '--lag'",
+        ),
+        (
+            ["run", "data", "one", "--log"].as_slice(),
+            "a value is required for '--log <FILE>'",
+        ),
+        (["--help"].as_slice(), "Usage: tpcc <COMMAND>"),
+        (
+            ["run", "--help"].as_slice(),
+            "Usage: tpcc run [OPTIONS] <DATA> <SCRIPT>...",
+        ),
+    ] {
+        let text = fault_text(rt.alloc(), words)?.ok_or("a fault")?;
+        assert!(rt; text.as_str().contains(told), "{text}");
+    }
+    Ok(())
+}

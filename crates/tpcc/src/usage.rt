@@ -1,0 +1,52 @@
+use crate::status::Status;
+use clap::Error;
+use clap::error::ErrorKind;
+use std::alloc::AllocError;
+use std::fmt;
+
+/// Why the words of the command line give no settings. Its `Display` is the text for the user, which
+/// ends with a line feed.
+#[derive(Debug, Drop)]
+pub enum UsageFault {
+    /// The words are not understood, or ask for help.
+    Words(Error),
+    /// The words name no command.
+    NoCommand,
+    /// There are not 1 to 64 scripts.
+    ScriptCount,
+}
+
+impl UsageFault {
+    /// How the program ends after it.
+    pub fn status(&self) -> Status {
+        match self {
+            UsageFault::Words(error) if error.kind() == ErrorKind::OutOfMemory => Status::NoMemory,
+            _ => Status::Usage,
+        }
+    }
+}
+
+impl fmt::Display for UsageFault {
+    fn fmt<W: fmt::Write>(&self, f: &mut fmt::Formatter<W>) -> fmt::Result {
+        match self {
+            UsageFault::Words(error) => match error.kind() {
+                ErrorKind::OutOfMemory => f.write_str("tpcc: no memory\n"),
+                _ => write!(f, "{error}"),
+            },
+            UsageFault::NoCommand => f.write_str("error: no command: try `tpcc --help`\n"),
+            UsageFault::ScriptCount => f.write_str("error: `tpcc run` takes 1 to 64 scripts\n"),
+        }
+    }
+}
+
+impl From<Error> for UsageFault {
+    fn from(error: Error) -> UsageFault {
+        UsageFault::Words(error)
+    }
+}
+
+impl From<AllocError> for UsageFault {
+    fn from(error: AllocError) -> UsageFault {
+        UsageFault::Words(Error::from(error))
+    }
+}
