@@ -5,3 +5,4 @@ pub mod TableChanges
 pub mod ListedPayments
 pub mod ConsistencyKept
 pub mod RequestLaws
+pub mod PaymentGroups

@@ -1,5 +1,5 @@
 -- What holds of each row, and of a sum over the rows, after one row was put into a table.
-use Rattle.std.proofs.Common.{◌≡◌, ◌≢◌, cond, Some, refl, sym, ap, ◌∙◌, arith}
+use Rattle.std.proofs.Common.{◌≡◌, ◌≢◌, cond, Some, refl, sym, ◌∙◌, arith}
 use Rattle.std.specs.Prelude.{ℤ, ◌+ℤ◌}
 use Rattle.std.proofs.lemmas.Int.{ints}
 use Rattle.std.proofs.lemmas.Cmp.{tied_itself}
@@ -8,24 +8,11 @@ use Rattle.std.specs.declared.cmp.Ordering.TheVariants.{Less, Equal, Greater}
 use Rattle.std.specs.Ordering.{is_eq}
 use Rattle.std.specs.Cmp.{IsTotalOrder}
 use Rattle.std.specs.FinMap.{FinMap, get, insert, get-insert, IsAntisymmetric}
+pub use Rattle.groups.proofs.Parts.{get-insert_here, get-insert_elsewhere}
 use Rattle.schema.specs.Sums.{weight_at, sum_rows}
 use Rattle.schema.proofs.TableSums.{sum_rows-insert}
 
 module _ {K X : Type 0} {R : K → K → Ordering} (o : IsTotalOrder R) (a : IsAntisymmetric R) where
-  -- the row that was put in is found at its key
-  pub get-insert_here : (m : FinMap R X) (k : K) (v : X) → get (insert m k v) k ≡ Some v
-  get-insert_here m k v = get-insert o m k v k ∙ ap (λ r. cond (is_eq r) (Some v) (get m k)) (tied_itself o k)
-
-  -- and every other row as before
-  pub get-insert_elsewhere : (m : FinMap R X) (k : K) (v : X) (q : K) → q ≢ k → get (insert m k v) q ≡ get m q
-  get-insert_elsewhere m k v q apart =
-      get-insert o m k v q
-      ∙ elim (R q k) as (λ r. R q k ≡ r → cond (is_eq r) (Some v) (get m q) ≡ get m q) [
-        | Less ↦ λ e. refl
-        | Equal ↦ λ e. absurd (apart (a q k e))
-        | Greater ↦ λ e. refl
-      ] refl
-
   -- what holds of the row that is put in, and goes on to hold of each other row, holds of each row
   pub each_row-insert : (Before After : K → X → Type 0) (m : FinMap R X) (k : K) (v : X)
       → ((q : K) (row : X) → get m q ≡ Some row → Before q row)

@@ -7,6 +7,9 @@ use Rattle.schema.specs.Sums.{sum_rows}
 use Rattle.schema.specs.Database.{Database, IsWithinScale}
 use Rattle.schema.specs.Consistency.{amounts_of, Consistent}
 use Rattle.requests.specs.declared.request.Payment.{Payment}
+use Rattle.requests.specs.declared.group.Group.{Group}
+use Rattle.groups.specs.Content.{content, AreAlikeIn, IsNoneOf}
+use Rattle.groups.specs.Footprint.{payment_footprint, groups_of}
 use Rattle.machine.specs.Payment.{chosen, payment}
 
 -- no row is changed but those of the home warehouse, the home district, its list of payments and the customer
@@ -24,6 +27,19 @@ pub record ChangesItsRowsAlone (p : Payment) (old new : Database) : Type 0 where
 
 abbrev pub PaymentIsLocal : Type 0
 PaymentIsLocal = (t : Database) (p : Payment) → ChangesItsRowsAlone p t (payment t p).tables
+
+-- The reply, and what the payment's groups have after it, follow from what they have before: where other tables have the
+-- same in these groups, both are the same there.
+abbrev pub PaymentReadsItsGroups : Type 0
+PaymentReadsItsGroups =
+    (s t : Database) (p : Payment) → AreAlikeIn (groups_of (payment_footprint p)) s t
+    → ((payment s p).reply ≡ (payment t p).reply) × AreAlikeIn (groups_of (payment_footprint p)) (payment s p).tables (payment t p).tables
+
+-- what every other group has stays
+abbrev pub PaymentKeepsOtherGroups : Type 0
+PaymentKeepsOtherGroups =
+    (t : Database) (p : Payment) (group : Group) → IsNoneOf (groups_of (payment_footprint p)) group
+    → content (payment t p).tables group ≡ content t group
 
 -- the tables stay within the scale
 abbrev pub PaymentKeepsScale : Type 0

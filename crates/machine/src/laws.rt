@@ -1,11 +1,22 @@
 //! Laws of the definitions of transactions: functions that do nothing, and are proved.
-ghost use Rattle.machine.specs.PaymentLaws.{PaymentIsLocal, PaymentKeepsConsistency, PaymentKeepsScale, PaymentKeepsSums};
-ghost use Rattle.machine.specs.MachineLaws.{RequestsKeepConsistency, TransactionKeepsConsistency};
+ghost use Rattle.machine.specs.PaymentLaws.{PaymentIsLocal, PaymentKeepsConsistency, PaymentKeepsOtherGroups, PaymentKeepsScale, PaymentKeepsSums, PaymentReadsItsGroups};
+ghost use Rattle.machine.specs.MachineLaws.{RequestsKeepConsistency, TransactionKeepsConsistency, TransactionKeepsOtherGroups, TransactionReadsItsGroups};
 
 /// A payment changes no row but those of the home warehouse and district, the district's list of
 /// payments, and the customer (clause 2.5.2.2).
 pub fn payment_is_local()
     ensures { PaymentIsLocal }
+{}
+
+/// The reply to a payment, and what the groups that it claims have after it, follow from what these
+/// groups have before.
+pub fn payment_reads_its_groups()
+    ensures { PaymentReadsItsGroups }
+{}
+
+/// A payment changes nothing that a group has which it doesn't claim.
+pub fn payment_keeps_other_groups()
+    ensures { PaymentKeepsOtherGroups }
 {}
 
 /// After a payment the tables are within the scale as before.
@@ -32,4 +43,15 @@ pub fn transaction_keeps_consistency()
 /// (clause 3.3).
 pub fn requests_keep_consistency()
     ensures { RequestsKeepConsistency }
+{}
+
+/// The reply to any one request, and what the groups that it claims have after it, follow from the items
+/// and from what these groups have before.
+pub fn transaction_reads_its_groups()
+    ensures { TransactionReadsItsGroups }
+{}
+
+/// A request changes nothing that a group has which it doesn't claim.
+pub fn transaction_keeps_other_groups()
+    ensures { TransactionKeepsOtherGroups }
 {}

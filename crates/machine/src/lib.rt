@@ -6,5 +6,9 @@ mod laws;
 mod payment;
 mod plain;
 
-pub use laws::{payment_is_local, payment_keeps_scale, payment_keeps_sums};
+pub use laws::{
+    payment_is_local, payment_keeps_consistency, payment_keeps_other_groups, payment_keeps_scale,
+    payment_keeps_sums, payment_reads_its_groups, requests_keep_consistency,
+    transaction_keeps_consistency, transaction_keeps_other_groups, transaction_reads_its_groups,
+};
 pub use plain::Plain;

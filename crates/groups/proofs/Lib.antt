@@ -1,0 +1,4 @@
+pub mod SameGroups
+pub mod Parts
+pub mod RowsInGroups
+pub mod RowsPut

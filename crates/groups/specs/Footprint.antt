@@ -1,0 +1,29 @@
+-- The groups that a request claims.
+use Rattle.std.specs.Prelude.{List, [], ◌∷◌, map}
+use Rattle.requests.specs.declared.group.Group.{Group}
+use Rattle.requests.specs.declared.group.Group.TheVariants.{Warehouse, District, Customers, History}
+use Rattle.requests.specs.declared.request.Request.{Request}
+use Rattle.requests.specs.declared.request.Request.TheVariants as r
+use Rattle.requests.specs.declared.request.Payment.{Payment}
+use Rattle.groups.specs.declared.wishes.Mode.TheVariants.{Exclusive}
+use Rattle.groups.specs.declared.wishes.Wish.{Wish}
+
+abbrev pub exclusively : Group → Wish
+exclusively group = record { group = group; mode = Exclusive }
+
+-- A payment changes the home warehouse's row, the home district's, the row of a customer of the customer's district,
+-- and the list of payments taken at the home district (clause 2.5.2.2).
+abbrev pub payment_footprint : Payment → List Wish
+payment_footprint p =
+    exclusively (Warehouse p.home.w_id)
+    ∷ exclusively (District p.home.w_id p.home.d_id)
+    ∷ exclusively (Customers p.customer_home.w_id p.customer_home.d_id)
+    ∷ exclusively (History p.home.w_id p.home.d_id) ∷ []
+
+-- the groups that a request claims, in the order of groups
+abbrev pub footprint : Request → List Wish
+footprint (r.Payment p) = payment_footprint p
+
+-- the groups of wishes
+abbrev pub groups_of : List Wish → List Group
+groups_of wishes = map (λ wish. wish.group) wishes

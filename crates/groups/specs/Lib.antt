@@ -1,0 +1,4 @@
+pub mod Groups
+pub mod Content
+pub mod Footprint
+pub mod Laws

@@ -1,0 +1,42 @@
+//! Laws of the definitions of groups: functions that do nothing, and are proved.
+ghost use Rattle.std.specs.Prelude.{◌≡◌};
+ghost use Rattle.std.specs.Cmp.{IsTotalOrder};
+ghost use Rattle.std.specs.FinMap.{IsAntisymmetric};
+ghost use Rattle.requests.specs.declared.group.Group.{Group};
+ghost use Rattle.groups.specs.Groups.{group_cmp};
+ghost use Rattle.groups.specs.Laws.{ContentsMakeTables, EachPutChangesOneGroup, EachRowStandsInOneGroup, FootprintsAscend, ItemsStandInNoGroup};
+
+use requests::Group;
+
+/// Groups compare by kind, then by warehouse, and then by number, and only equal groups tie.
+pub fn groups_are_ordered()
+    ensures compared { (a b : Group) → ⟦<Group as Ord>⟧.cmp a b ≡ group_cmp a b }
+    ensures total { IsTotalOrder group_cmp }
+    ensures exact { IsAntisymmetric group_cmp }
+{}
+
+/// The groups that a request claims ascend, so none comes twice.
+pub fn footprints_ascend()
+    ensures { FootprintsAscend }
+{}
+
+/// Each row, and each list of HISTORY, stands in its own group as the table has it, and in no other.
+pub fn each_row_stands_in_one_group()
+    ensures { EachRowStandsInOneGroup }
+{}
+
+/// No item stands in a group.
+pub fn items_stand_in_no_group()
+    ensures { ItemsStandInNoGroup }
+{}
+
+/// What the groups have, with the scale and the items, makes the tables.
+pub fn contents_make_tables()
+    ensures { ContentsMakeTables }
+{}
+
+/// A row that is put into a table, or taken away from NEW-ORDER, changes what its own group has, as it
+/// changes the table, and what no other group has.
+pub fn each_put_changes_one_group()
+    ensures { EachPutChangesOneGroup }
+{}

@@ -1,0 +1,16 @@
+//! The groups of rows that are locked as one: which row belongs to which, what a group has, and which
+//! groups a request claims. Clauses named are those of TPC-C 5.11.
+#![tactic(auto)]
+
+mod content;
+mod grouping;
+mod laws;
+mod wishes;
+
+pub use content::Content;
+pub use grouping::group_of_stock;
+pub use laws::{
+    contents_make_tables, each_put_changes_one_group, each_row_stands_in_one_group,
+    footprints_ascend, groups_are_ordered, items_stand_in_no_group,
+};
+pub use wishes::{MOST_WISHES, Mode, Wish, footprint};
