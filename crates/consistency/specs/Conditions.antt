@@ -1,5 +1,5 @@
 -- The twelve conditions by their numbers, and answers that tell which hold.
-use Rattle.std.specs.Prelude.{◌≡◌, ◌↔◌, ℕ, suc, Bool, List, [], ◌∷◌, IsTrue}
+use Rattle.std.specs.Prelude.{◌↔◌, Bool, List, [], ◌∷◌, IsTrue}
 use Rattle.schema.specs.Database.{Database}
 use Rattle.schema.specs.Consistency.{WarehousesSumDistricts, NextOrdersFollow, NewOrdersHaveNoGap, DistrictsCountLines, NewOrdersHaveNoCarrier, OrdersCountLines, LinesComeWithOrders, WarehousesSumPayments, DistrictsSumPayments, BalancesAreOwed, OrdersAreFresh, BalancesArePaid}
 

@@ -130,6 +130,33 @@ past_last lists xs s k s_is h =
     out (y ∷ ys) zero l = absurd (omega arith)
     out (y ∷ ys) (suc n) l = out ys n (omega arith)
 
+-- one answer more, to one request more, stands where it is asked for
+told_at : {X Y : Type 0} (answers : List (List X)) (xs : List X) (x : X) (ss : List (List Y)) (rs : List Y)
+    → length answers ≡ length ss → length xs ≡ length rs → item_at (answers ++ (xs ++ x ∷ []) ∷ []) (length ss) (length rs) ≡ Some x
+told_at answers xs x ss rs even even' =
+    ap (λ n. item_at (answers ++ (xs ++ x ∷ []) ∷ []) n (length rs)) (sym even)
+    ∙ ap (item_at (answers ++ (xs ++ x ∷ []) ∷ []) (length answers)) (sym even')
+    ∙ stands answers xs x
+
+-- with one answer more to one request more, there are as many answers as requests as before
+answered_alike : {X Y : Type 0} (answers : List (List X)) (xs : List X) (x : X) (ss : List (List Y)) (rs : List Y) (request : Y)
+    → length answers ≡ length ss → length xs ≡ length rs
+    → ((s : ℕ) → option_map length (slice_get (answers ++ xs ∷ []) s) ≡ option_map length (slice_get (ss ++ rs ∷ []) s))
+    → (s : ℕ) → option_map length (slice_get (answers ++ (xs ++ x ∷ []) ∷ []) s) ≡ option_map length (slice_get (ss ++ (rs ++ request ∷ []) ∷ []) s)
+answered_alike answers xs x ss rs request even even' alike s =
+    length-pushed answers xs x s ∙ ap (λ n. cond (eqb s n) (Some (length xs + 1)) (option_map length (slice_get answers s))) even
+    ∙ ap (λ n. cond (eqb s (length ss)) (Some (n + 1)) (option_map length (slice_get answers s))) even'
+    ∙ elim (eqb s (length ss)) as (λ b. eqb s (length ss) ≡ b
+    → cond b (Some (length rs + 1)) (option_map length (slice_get answers s)) ≡ cond b (Some (length rs + 1)) (option_map length (slice_get ss s))) [
+      | true ↦ λ t. refl
+      | false ↦ λ t.
+          let other : eqb s (length answers) ≡ false = ap (eqb s) even ∙ t in
+          sym (length-last answers xs s ∙ ap (λ b. cond b (Some (length xs)) (option_map length (slice_get answers s))) other)
+          ∙ alike s
+          ∙ length-last ss rs s ∙ ap (λ b. cond b (Some (length rs)) (option_map length (slice_get ss s))) t
+    ] refl
+    ∙ sym (length-pushed ss rs request s)
+
 -- a refusal stands when the log has grown
 longer : (scale : Scale) (log : List Entry) (entry : Entry) (request : Request) (refusal : Refusal)
     → IsRefusal scale (length log) request refusal → IsRefusal scale (length (log ++ entry ∷ [])) request refusal
@@ -149,28 +176,13 @@ pub served_done : (opening : Database) (ss : List (List Request)) (rs : List Req
 served_done opening ss rs log last new_last answers xs request reply h even even' legal accepted =
     let entry = entry_of (length ss) (length rs) request reply in
     let x = Done (length log) reply in
-    let same_elsewhere = λ (s : ℕ). elim (eqb s (length ss)) as (λ b. eqb s (length ss) ≡ b
-    → cond b (Some (length rs + 1)) (option_map length (slice_get answers s)) ≡ cond b (Some (length rs + 1)) (option_map length (slice_get ss s))) [
-      | true ↦ λ t. refl
-      | false ↦ λ t.
-          let other : eqb s (length answers) ≡ false = ap (eqb s) even ∙ t in
-          sym (length-last answers xs s ∙ ap (λ b. cond b (Some (length xs)) (option_map length (slice_get answers s))) other)
-          ∙ h.answered s
-          ∙ length-last ss rs s ∙ ap (λ b. cond b (Some (length rs)) (option_map length (slice_get ss s))) t
-    ] refl in
     let asked_last : item_at (ss ++ (rs ++ request ∷ []) ∷ []) (length ss) (length rs) ≡ Some request = stands ss rs request in
     let entry_last : slice_get (log ++ entry ∷ []) (length log) ≡ Some entry =
     let here : eqb (length log) (length log) ≡ true = grind (arith, nat_tests) in slice_get-push log entry (length log) ∙ rw here refl in
-    let told_last : item_at (answers ++ (xs ++ x ∷ []) ∷ []) (length ss) (length rs) ≡ Some x =
-    ap (λ n. item_at (answers ++ (xs ++ x ∷ []) ∷ []) n (length rs)) (sym even)
-    ∙ ap (item_at (answers ++ (xs ++ x ∷ []) ∷ []) (length answers)) (sym even') ∙ stands answers xs x in
+    let told_last = told_at answers xs x ss rs even even' in
     record {
       legal = legal;
-      answered = λ s.
-          length-pushed answers xs x s ∙ ap (λ n. cond (eqb s n) (Some (length xs + 1)) (option_map length (slice_get answers s))) even
-          ∙ ap (λ n. cond (eqb s (length ss)) (Some (n + 1)) (option_map length (slice_get answers s))) even'
-          ∙ same_elsewhere s
-          ∙ sym (length-pushed ss rs request s);
+      answered = answered_alike answers xs x ss rs request even even' h.answered;
       done = λ s k place r at.
           by_place _ answers xs x (Done place r) s k at
           (λ s_is k_is same.
@@ -231,25 +243,10 @@ pub served_refused : (opening : Database) (ss : List (List Request)) (rs : List 
     → IsOutcome opening (ss ++ (rs ++ request ∷ []) ∷ []) log last (answers ++ (xs ++ Refused refusal ∷ []) ∷ [])
 served_refused opening ss rs log last answers xs request refusal h even even' is =
     let x = Refused refusal in
-    let same_elsewhere = λ (s : ℕ). elim (eqb s (length ss)) as (λ b. eqb s (length ss) ≡ b
-    → cond b (Some (length rs + 1)) (option_map length (slice_get answers s)) ≡ cond b (Some (length rs + 1)) (option_map length (slice_get ss s))) [
-      | true ↦ λ t. refl
-      | false ↦ λ t.
-          let other : eqb s (length answers) ≡ false = ap (eqb s) even ∙ t in
-          sym (length-last answers xs s ∙ ap (λ b. cond b (Some (length xs)) (option_map length (slice_get answers s))) other)
-          ∙ h.answered s
-          ∙ length-last ss rs s ∙ ap (λ b. cond b (Some (length rs)) (option_map length (slice_get ss s))) t
-    ] refl in
-    let told_last : item_at (answers ++ (xs ++ x ∷ []) ∷ []) (length ss) (length rs) ≡ Some x =
-    ap (λ n. item_at (answers ++ (xs ++ x ∷ []) ∷ []) n (length rs)) (sym even)
-    ∙ ap (item_at (answers ++ (xs ++ x ∷ []) ∷ []) (length answers)) (sym even') ∙ stands answers xs x in
+    let told_last = told_at answers xs x ss rs even even' in
     record {
       legal = h.legal;
-      answered = λ s.
-          length-pushed answers xs x s ∙ ap (λ n. cond (eqb s n) (Some (length xs + 1)) (option_map length (slice_get answers s))) even
-          ∙ ap (λ n. cond (eqb s (length ss)) (Some (n + 1)) (option_map length (slice_get answers s))) even'
-          ∙ same_elsewhere s
-          ∙ sym (length-pushed ss rs request s);
+      answered = answered_alike answers xs x ss rs request even even' h.answered;
       done = λ s k place r at.
           by_place _ answers xs x (Done place r) s k at (λ s_is k_is same. absurd cc)
           (λ apart old. let d = h.done s k place r old in (d.0, stays ss rs request d.0 s k d.1, d.2));
