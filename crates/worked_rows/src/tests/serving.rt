@@ -50,3 +50,18 @@ fn refused_requests_leave_the_log_empty(rt: HostRuntime) -> Result<(), Fail> {
     assert!(rt; outcome.log.is_empty());
     Ok(())
 }
+
+// A request that could not be logged for want of memory is answered so, and the script goes on.
+#[test]
+fn want_of_memory_is_answered(rt: HostRuntime) -> Result<(), Fail> {
+    let alloc = rt.alloc();
+    let opening = set_k(alloc)?;
+    let scripts = [script(alloc, 3, 100)?];
+    let outcome = serve(alloc, opening, &scripts)?;
+    let answers = outcome.answers[0].as_slice();
+    let refused = Answer::Refused(Refusal::NoMemory);
+    let wanting = answers.iter().filter(|answer| **answer == refused).count();
+    assert_eq!(rt; answers.len(), 3);
+    assert_eq!(rt; outcome.log.len() + wanting, 3);
+    Ok(())
+}

@@ -1,0 +1,125 @@
+ghost use Rattle.std.specs.Prelude.{◌≡◌, ◌+◌, ◌-◌, ◌<◌, ◌≤◌, IfOk};
+ghost use Rattle.agreement.specs.Telling.{with_share, with_value, IsSpent};
+
+use crate::places::{self, Board, Place};
+use crate::{Change, Value};
+use std::alloc::{AllocError, Global};
+use std::marker::Model;
+use std::sync::Arc;
+
+/// A seat of an agreement. Where it has a share, it tells the value of the agreement; a seat without
+/// one is *spent*, and tells nothing.
+///
+/// All seats of an agreement that have a share tell the same value, and their shares add up to the
+/// number with which it was opened. A seat may be sent to another thread. A share that is dropped
+/// with its seat is gone for good: from then on no one can have all shares, and the agreement never
+/// changes again.
+#[derive(Drop)]
+pub struct Seat<V: Value> {
+    board: Board<V>,
+    place: Place<V>,
+}
+
+impl<V: Value> Model for Seat<V> {
+    ghost use Rattle.std.specs.Arc.{arc_value};
+    ghost use Rattle.agreement.specs.Telling.{Telling};
+    ghost use Rattle.agreement.specs.Place.{IsPlaceAt, told_at};
+
+    ghost Value = { Telling V };
+
+    ghost view = { λ s. told_at s.place };
+
+    ghost invariant = { λ s. IsPlaceAt (arc_value s.board).shared.table_id s.place };
+}
+
+impl<V: Value> Seat<V> {
+    /// A new agreement with this many shares on the value's `initial`, and the seat that has them all.
+    /// Nothing is left after an error.
+    pub fn open(alloc: Global, count: u64) -> Result<Seat<V>, AllocError>
+        requires { 0 < count }
+        ensures count { IfOk result (λ seat. seat.agreement.count ≡ count) }
+        ensures share { IfOk result (λ seat. seat.share ≡ count) }
+        ensures value { IfOk result (λ seat. seat.value ≡ V.initial) }
+    {
+        let (board, place) = places::open(alloc, count)?;
+        Ok(Seat { board, place })
+    }
+
+    /// One more seat of the agreement, which is spent. It takes no memory, and fails only where the
+    /// agreement has more seats than an `Arc` can count; the seat that is called stays as it was.
+    pub fn another(&mut self) -> Result<Seat<V>, AllocError>
+        ensures same { self.new ≡ self.old }
+        ensures spent { IfOk result (IsSpent self.old.agreement) }
+    {
+        let board = Arc::try_clone(&self.board)?;
+        let place = places::cut::<V, 0>(&self.board, &mut self.place);
+        Ok(Seat { board, place })
+    }
+
+    /// Gives N shares to another seat of the agreement, which may be spent, and then tells the same.
+    pub fn give<const N: u64>(&mut self, other: &mut Seat<V>)
+        requires beside { other.old.agreement ≡ self.old.agreement }
+        requires some { 0 < N }
+        requires enough { N ≤ self.old.share }
+        ensures mine { self.new ≡ with_share self.old (self.old.share - N) }
+        ensures theirs { other.new ≡ with_share self.old (other.old.share + N) }
+    {
+        let shares = places::cut::<V, N>(&self.board, &mut self.place);
+        places::refill(&self.board, &mut other.place, shares);
+    }
+
+    /// Takes all shares of another seat of the agreement, which told the same value and is spent then.
+    pub fn gather(&mut self, other: &mut Seat<V>)
+        requires beside { other.old.agreement ≡ self.old.agreement }
+        requires some { (0 < self.old.share) × (0 < other.old.share) }
+        ensures equal { other.old.value ≡ self.old.value }
+        ensures at_most_all { self.old.share + other.old.share ≤ self.old.agreement.count }
+        ensures mine { self.new ≡ with_share self.old (self.old.share + other.old.share) }
+        ensures theirs { IsSpent self.old.agreement other.new }
+    {
+        places::gather(&self.board, &mut self.place, &mut other.place);
+    }
+
+    /// Learns that another seat of the agreement tells the same value, and that the two have no more
+    /// shares than there are. Both stay as they were.
+    pub fn look(&mut self, other: &mut Seat<V>)
+        requires beside { other.old.agreement ≡ self.old.agreement }
+        requires some { (0 < self.old.share) × (0 < other.old.share) }
+        ensures equal { other.old.value ≡ self.old.value }
+        ensures at_most_all { self.old.share + other.old.share ≤ self.old.agreement.count }
+        ensures same { (self.new ≡ self.old) × (other.new ≡ other.old) }
+    {
+        let Seat { board, place } = self;
+        places::gather(board, place, &mut other.place);
+        other.place = places::hand_back(board, place);
+    }
+
+    /// Changes the value. The seat has all shares of the agreement.
+    pub fn change<C: Change<V>>(&mut self, change: &C)
+        requires all { self.old.share ≡ self.old.agreement.count }
+        ensures { self.new ≡ with_value self.old (C.changed change.now self.old.value) }
+    {
+        places::change(&self.board, &mut self.place, change);
+    }
+
+    /// Changes the value, where this seat and another have all shares of the agreement between them. Each
+    /// keeps its own share, and both tell the new value.
+    pub fn change_together<C: Change<V>>(&mut self, other: &mut Seat<V>, change: &C)
+        requires beside { other.old.agreement ≡ self.old.agreement }
+        requires some { (0 < self.old.share) × (0 < other.old.share) }
+        requires all { self.old.share + other.old.share ≡ self.old.agreement.count }
+        ensures equal { other.old.value ≡ self.old.value }
+        ensures mine { self.new ≡ with_value self.old (C.changed change.now self.old.value) }
+        ensures theirs { other.new ≡ with_value other.old (C.changed change.now self.old.value) }
+    {
+        let Seat { board, place } = self;
+        places::gather(board, place, &mut other.place);
+        places::change(board, place, change);
+        other.place = places::hand_back(board, place);
+    }
+}
+
+/// The value becomes what a seat of another agreement on such values tells.
+impl<V: Value> Change<V> for Seat<V> {
+    ghost changed = { λ seat before. seat.value };
+}
