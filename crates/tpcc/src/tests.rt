@@ -1,10 +1,7 @@
-use crate::progress::Progress;
 use crate::run::run_over;
 use crate::settings::{RunSettings, Settings, read_words};
 use crate::status::Status;
 use std::alloc::{AllocError, Global};
-use std::io;
-use std::io::{Read, Write};
 use std::test::Fail;
 
 mod runs;

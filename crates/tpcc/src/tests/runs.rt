@@ -82,6 +82,21 @@ fn answers_and_log_are_written(rt: HostRuntime) -> Result<(), Fail> {
 }
 
 #[test]
+fn refused_requests_are_not_logged(rt: HostRuntime) -> Result<(), Fail> {
+    let data = dataset(rt.alloc())?;
+    let low = "P,1,1,1,1,#1,99,2024-05-01T12:00:00\nEND,1\n";
+    let high = "P,1,1,1,1,#1,500001,2024-05-01T12:00:00\nEND,1\n";
+    let told = run_two(rt.alloc(), data.as_str(), low, high)?;
+    assert_eq!(rt; told.status, Status::Success);
+    assert_eq!(rt;
+        told.answers.as_slice(),
+        "0,0,refused,6\n1,0,refused,6\n".as_bytes()
+    );
+    assert_eq!(rt; told.log.as_slice(), "END,0\n".as_bytes());
+    Ok(())
+}
+
+#[test]
 fn the_first_fault_decides(rt: HostRuntime) -> Result<(), Fail> {
     let data = dataset(rt.alloc())?;
     let good = data.as_str();
