@@ -50,9 +50,9 @@ fn broken(alloc: Global, tables: &Tables) -> Result<Vec<usize>, Fail> {
 fn make(alloc: Global, rows: &mut TableRows, change: Change) -> Result<(), Fail> {
     match change {
         Change::Nothing => {}
-        Change::WarehouseSum => rows.warehouses[0].ytd = Cents::new(50_001),
-        Change::DistrictSum => rows.districts[0].ytd = Cents::new(5_001),
-        Change::NextOrder => rows.districts[0].next_o_id = NextOrderId::new(7),
+        Change::WarehouseSum => first(&mut rows.warehouses)?.ytd = Cents::new(50_001),
+        Change::DistrictSum => first(&mut rows.districts)?.ytd = Cents::new(5_001),
+        Change::NextOrder => first(&mut rows.districts)?.next_o_id = NextOrderId::new(7),
         Change::GapOfNewOrders => make_new(rows, first_order(3))?,
         Change::LineCount => order(rows, 1)?.ol_cnt = LineCount::new(6),
         Change::LineCountsExchanged => {
@@ -67,15 +67,21 @@ fn make(alloc: Global, rows: &mut TableRows, change: Change) -> Result<(), Fail>
         Change::PaymentInAnotherDistrict => move_payment(alloc, rows, 1)?,
         Change::PaymentInAnotherWarehouse => move_payment(alloc, rows, 10)?,
         Change::Balance => {
-            rows.customers[0].balance = Cents::new(-1_001);
-            rows.customers[0].ytd_payment = Cents::new(1_001);
+            let customer = first(&mut rows.customers)?;
+            customer.balance = Cents::new(-1_001);
+            customer.ytd_payment = Cents::new(1_001);
         }
-        Change::YtdPayment => rows.customers[0].ytd_payment = Cents::new(1_001),
+        Change::YtdPayment => first(&mut rows.customers)?.ytd_payment = Cents::new(1_001),
         Change::NoNewOrder => deliver_last(rows)?,
-        Change::NoOrder => remove_orders(rows),
-        Change::NoPayment => remove_payments(alloc, rows),
+        Change::NoOrder => remove_orders(rows)?,
+        Change::NoPayment => remove_payments(alloc, rows)?,
     }
     Ok(())
+}
+
+// The row of warehouse 1, of district (1, 1) or of customer (1, 1, 1), or the payments of that district.
+fn first<T>(rows: &mut Vec<T>) -> Result<&mut T, Fail> {
+    Ok(rows.first_mut().ok_or("a row")?)
 }
 
 fn first_order(number: u32) -> OrderKey {
@@ -130,7 +136,7 @@ fn deliver_last(rows: &mut TableRows) -> Result<(), Fail> {
 }
 
 // District (1, 1) has no orders.
-fn remove_orders(rows: &mut TableRows) {
+fn remove_orders(rows: &mut TableRows) -> Result<(), Fail> {
     for number in 1..=5 {
         let key = first_order(number);
         rows.orders.remove(&key);
@@ -139,28 +145,31 @@ fn remove_orders(rows: &mut TableRows) {
             rows.lines.remove(&line_key(key, line));
         }
     }
-    rows.districts[0].next_o_id = NextOrderId::new(1);
+    first(&mut rows.districts)?.next_o_id = NextOrderId::new(1);
+    Ok(())
 }
 
 // The last payment of district (1, 1) stands in the list at that place.
 fn move_payment(alloc: Global, rows: &mut TableRows, place: usize) -> Result<(), Fail> {
-    let list = std::mem::replace(&mut rows.histories[0], HistoryList::new(alloc));
-    let mut payments = list.into_rows();
+    let home = first(&mut rows.histories)?;
+    let mut payments = std::mem::replace(home, HistoryList::new(alloc)).into_rows();
     let payment = payments.pop().ok_or("a payment")?;
-    rows.histories[0] = HistoryList::from_rows(payments);
-    rows.histories[place].push(payment)?;
+    *home = HistoryList::from_rows(payments);
+    let other = rows.histories.get_mut(place).ok_or("a list")?;
+    other.push(payment)?;
     Ok(())
 }
 
 // Nobody paid at district (1, 1), whose customers paid nothing.
-fn remove_payments(alloc: Global, rows: &mut TableRows) {
-    rows.histories[0] = HistoryList::new(alloc);
-    rows.districts[0].ytd = Cents::new(0);
-    rows.warehouses[0].ytd = Cents::new(45_000);
-    for customer in &mut rows.customers[..5] {
+fn remove_payments(alloc: Global, rows: &mut TableRows) -> Result<(), Fail> {
+    *first(&mut rows.histories)? = HistoryList::new(alloc);
+    first(&mut rows.districts)?.ytd = Cents::new(0);
+    first(&mut rows.warehouses)?.ytd = Cents::new(45_000);
+    for customer in rows.customers.iter_mut().take(5) {
         customer.balance = Cents::new(0);
         customer.ytd_payment = Cents::new(0);
     }
+    Ok(())
 }
 
 // Each district has orders up to that number, all delivered but the fifth, and those past it without

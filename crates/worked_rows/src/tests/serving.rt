@@ -58,7 +58,7 @@ fn want_of_memory_is_answered(rt: HostRuntime) -> Result<(), Fail> {
     let opening = set_k(alloc)?;
     let scripts = [script(alloc, 3, 100)?];
     let outcome = serve(alloc, opening, &scripts)?;
-    let answers = outcome.answers[0].as_slice();
+    let answers = outcome.answers.first().ok_or("answers")?.as_slice();
     let refused = Answer::Refused(Refusal::NoMemory);
     let wanting = answers.iter().filter(|answer| **answer == refused).count();
     assert_eq!(rt; answers.len(), 3);
