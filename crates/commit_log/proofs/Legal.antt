@@ -2,10 +2,9 @@
 use Rattle.std.proofs.Common.{◌≡◌, ℕ, ◌+◌, ◌≤◌, cond, List, [], ◌∷◌, ◌++◌, map, Result, Ok, Err, is_ok, OnErr, refl, sym, ap, subst, ◌∙◌, arith}
 use Rattle.schema.specs.Database.{Database}
 use Rattle.requests.specs.declared.request.Request.{Request}
-use Rattle.requests.specs.declared.request.Request.TheVariants.{Payment}
 use Rattle.requests.specs.declared.reply.Reply.{Reply}
 use Rattle.machine.specs.Machine.{transaction, replies, tables_after}
-use Rattle.machine.proofs.PaymentCases.{payment_local}
+use Rattle.machine.proofs.RequestLaws.{tables_after-scale}
 use Rattle.commit_log.specs.declared.entry.Entry.{Entry}
 use Rattle.commit_log.specs.Log.{IsLegal, requests_of}
 
@@ -42,16 +41,9 @@ legal-append opening entries tables new_tables entry h reply_is tables_is =
           ∙ ap (tables_after opening) (sym asked);
     }
 
--- a request leaves the scale, and so do all requests of a log
-transaction-scale : (t : Database) (request : Request) → (transaction t request).tables.scale ≡ t.scale
-transaction-scale t (Payment p) = (payment_local t p).scale
-
-scale-after : (t : Database) (requests : List Request) → (tables_after t requests).scale ≡ t.scale
-scale-after t [] = refl
-scale-after t (request ∷ requests) = scale-after (transaction t request).tables requests ∙ transaction-scale t request
-
+-- a legal log has the scale of its opening
 pub legal-scale : (opening : Database) (entries : List Entry) (tables : Database) → IsLegal opening entries tables → tables.scale ≡ opening.scale
-legal-scale opening entries tables h = ap (λ (t : Database). t.scale) h.left ∙ scale-after opening (requests_of entries)
+legal-scale opening entries tables h = ap (λ (t : Database). t.scale) h.left ∙ tables_after-scale opening (requests_of entries)
 
 -- with room a push succeeds
 push_fits : {U X Y : Type 0} (r : Result U X) (len capacity : ℕ) (with_it without : Y) → OnErr r (capacity ≤ len) → len + 1 ≤ capacity → cond (is_ok r) with_it without ≡ with_it

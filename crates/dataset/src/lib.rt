@@ -22,7 +22,7 @@ mod reader;
 mod stocks;
 mod warehouses;
 
-pub use files::{FaultKind, FileFault, ReadFault};
+pub use files::{FaultKind, FileError, FileFault};
 pub use reader::read;
 
 #[cfg(test)]

@@ -1,6 +1,6 @@
 use crate::header;
 use crate::loader::{Loader, Taken};
-use files::{FaultKind, FileFault, ReadFault, Records};
+use files::{FaultKind, FileError, FileFault, Records};
 use schema::{Scale, Tables};
 use std::alloc::Global;
 use std::io::Read;
@@ -10,7 +10,7 @@ use std::io::Read;
 /// A fault comes with its record, and nothing else is given then. The first faulty record decides, and
 /// of its faults the least one; a broken rule of the scale is looked for after the whole file was read,
 /// and named at the end record. Memory is taken row by row, never by the numbers of the header.
-pub fn read<R: Read + Drop>(alloc: Global, source: R) -> Result<Tables, ReadFault> {
+pub fn read<R: Read + Drop>(alloc: Global, source: R) -> Result<Tables, FileError> {
     let mut records = Records::new(alloc, source);
     let scale = read_header(&mut records)?;
     let mut loader = Loader::new(alloc, scale);
@@ -19,7 +19,7 @@ pub fn read<R: Read + Drop>(alloc: Global, source: R) -> Result<Tables, ReadFaul
 }
 
 // The scale of the first record, which is the header.
-fn read_header<R: Read + Drop>(records: &mut Records<R>) -> Result<Scale, ReadFault> {
+fn read_header<R: Read + Drop>(records: &mut Records<R>) -> Result<Scale, FileError> {
     if !records.advance()? {
         return Err(records.fault(FaultKind::NoHeader));
     }
@@ -33,7 +33,7 @@ fn read_header<R: Read + Drop>(records: &mut Records<R>) -> Result<Scale, ReadFa
 fn read_rows<R: Read + Drop>(
     records: &mut Records<R>,
     loader: &mut Loader,
-) -> Result<(), ReadFault> {
+) -> Result<(), FileError> {
     for _ in 0..u64::MAX {
         if !records.advance()? {
             break;
@@ -49,7 +49,7 @@ fn read_rows<R: Read + Drop>(
 fn read_record<R: Read + Drop>(
     records: &Records<R>,
     loader: &mut Loader,
-) -> Result<Taken, ReadFault> {
+) -> Result<Taken, FileError> {
     let mut fields = records.fields();
     let taken = loader.take(&mut fields)?;
     match fields.fault() {
@@ -59,14 +59,14 @@ fn read_record<R: Read + Drop>(
 }
 
 // The tables, after the end record, which has to be the last.
-fn finish<R: Read + Drop>(mut records: Records<R>, loader: Loader) -> Result<Tables, ReadFault> {
+fn finish<R: Read + Drop>(mut records: Records<R>, loader: Loader) -> Result<Tables, FileError> {
     let end = records.number();
     if records.advance()? {
         return Err(records.fault(FaultKind::AfterEnd));
     }
     match loader.finish()? {
         Ok(tables) => Ok(tables),
-        Err(_) => Err(ReadFault::File(FileFault {
+        Err(_) => Err(FileError::File(FileFault {
             kind: FaultKind::ScaleBroken,
             record: end,
         })),

@@ -66,8 +66,8 @@ fn read_with(alloc: Global, edits: &[(u64, &str)]) -> Result<Option<(u8, u64)>, 
     let text = dataset_with(alloc, edits)?;
     match read(alloc, text.as_bytes()) {
         Ok(_) => Ok(None),
-        Err(ReadFault::File(fault)) => Ok(Some((fault.kind.number(), fault.record))),
-        Err(ReadFault::NoMemory) => Err(AllocError),
+        Err(FileError::File(fault)) => Ok(Some((fault.kind.number(), fault.record))),
+        Err(FileError::NoMemory) => Err(AllocError),
     }
 }
 
@@ -244,7 +244,7 @@ fn a_failing_reader_is_a_fault(rt: HostRuntime) {
         };
         assert_eq!(rt;
             read(rt.alloc(), source).err(),
-            Some(ReadFault::File(fault))
+            Some(FileError::File(fault))
         );
     }
 }
@@ -256,7 +256,7 @@ fn an_empty_file_has_no_header(rt: HostRuntime) {
         ("\n\n", FaultKind::NoHeader, 1),
         ("TPCC,1,64,100000,3000\n", FaultKind::NoEnd, 2),
     ] {
-        let fault = ReadFault::File(FileFault { kind, record });
+        let fault = FileError::File(FileFault { kind, record });
         assert_eq!(rt; read(rt.alloc(), text.as_bytes()).err(), Some(fault));
     }
 }

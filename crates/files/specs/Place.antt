@@ -5,8 +5,8 @@ use Rattle.csv.specs.Records.{fields_of}
 use Rattle.csv.specs.declared.parser.State.TheVariants as state
 use Rattle.csv.specs.declared.reader.Trim.TheVariants as trim
 use Rattle.files.specs.declared.fault.FaultKind.{FaultKind}
-use Rattle.files.specs.declared.fault.ReadFault.{ReadFault}
-use Rattle.files.specs.declared.fault.ReadFault.TheVariants.{File}
+use Rattle.files.specs.declared.fault.FileError.{FileError}
+use Rattle.files.specs.declared.fault.FileError.TheVariants.{File}
 use Rattle.files.specs.declared.records.Records.{Records}
 
 -- the number of the record under way
@@ -14,7 +14,7 @@ abbrev pub record_number : {R : Type 0} → Records R → ℕ
 record_number r = r.number
 
 -- a fault of the file at that record
-abbrev pub file_fault : FaultKind → ℕ → ReadFault
+abbrev pub file_fault : FaultKind → ℕ → FileError
 file_fault kind number = File (record { kind = kind; «record» = number })
 
 -- the fields of the record under way

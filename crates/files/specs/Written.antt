@@ -2,18 +2,11 @@
 use Rattle.std.specs.Prelude.{◌≡◌, ℕ, false, true, List, [], ◌∷◌, ◌++◌, Option}
 use Rattle.csv.specs.Writing.{default_writer, fields_written, has_written, row_text, text_written, with_flexible, writer_setup}
 use Rattle.csv.specs.declared.writer.WriterBuilder.{WriterBuilder}
-use Rattle.files.specs.declared.fault.FaultKind.TheVariants.{Io}
-use Rattle.files.specs.declared.fault.WriteFault.{WriteFault}
-use Rattle.files.specs.declared.fault.WriteFault.TheVariants.{File}
 use Rattle.files.specs.declared.record_writer.RecordWriter.{RecordWriter}
 
 -- how many records were written, with the one under way
 abbrev pub records_written : {W : Type 0} → RecordWriter W → ℕ
 records_written w = w.number
-
--- writing failed at that record
-abbrev pub write_fault : ℕ → WriteFault
-write_fault number = File (record { kind = Io; «record» = number })
 
 -- commas between fields, quotes where a field needs them, and a line feed after each record, of any number of fields
 abbrev pub format : WriterBuilder

@@ -1,7 +1,6 @@
 ghost use Rattle.std.specs.Prelude.{◌≡◌};
 ghost use Rattle.files.specs.Fault.{fault_number, least_fault};
-ghost use Rattle.files.specs.declared.fault.ReadFault.TheVariants.{NoMemory};
-ghost use Rattle.files.specs.declared.fault.WriteFault.TheVariants as write;
+ghost use Rattle.files.specs.declared.fault.FileError.TheVariants.{NoMemory};
 
 use std::alloc::AllocError;
 use std::fmt;
@@ -78,36 +77,19 @@ impl fmt::Display for FileFault {
     }
 }
 
-/// Why a file gave nothing.
+/// Why a file was not read, or not written to its end.
 #[derive(Clone, Copy, Debug, PartialEq, Eq)]
-pub enum ReadFault {
-    /// There was no memory for what the file holds.
+pub enum FileError {
+    /// There was no memory for what the file holds, or for a record.
     NoMemory,
     /// The file has a fault.
     File(FileFault),
 }
 
-impl From<AllocError> for ReadFault {
+impl From<AllocError> for FileError {
     ghost from_gives = { λ _ fault. fault ≡ NoMemory };
 
-    fn from(_error: AllocError) -> ReadFault {
-        ReadFault::NoMemory
-    }
-}
-
-/// Why a file was not written to its end.
-#[derive(Clone, Copy, Debug, PartialEq, Eq)]
-pub enum WriteFault {
-    /// There was no memory for a record.
-    NoMemory,
-    /// Writing failed: a fault of the kind `Io`.
-    File(FileFault),
-}
-
-impl From<AllocError> for WriteFault {
-    ghost from_gives = { λ _ fault. fault ≡ write.NoMemory };
-
-    fn from(_error: AllocError) -> WriteFault {
-        WriteFault::NoMemory
+    fn from(_error: AllocError) -> FileError {
+        FileError::NoMemory
     }
 }

@@ -11,7 +11,7 @@ mod record_writer;
 mod records;
 mod words;
 
-pub use fault::{FaultKind, FileFault, ReadFault, WriteFault};
+pub use fault::{FaultKind, FileError, FileFault};
 pub use fields::Fields;
 pub use moment::{moment_text, parse_moment};
 pub use new_record::NewRecord;

@@ -1,8 +1,8 @@
 ghost use Rattle.std.specs.Prelude.{◌≡◌, ◌⊎◌, ◌+◌, ◌-◌, ◌^◌, ◌<◌, IfOk, IfErr, OnOk};
 ghost use Rattle.std.specs.Io.KnownBytes.{Appends, Keeps};
-ghost use Rattle.files.specs.Written.{write_fault};
+ghost use Rattle.files.specs.Place.{file_fault};
 
-use crate::{FaultKind, FileFault, NewRecord, WriteFault};
+use crate::{FaultKind, FileError, FileFault, NewRecord};
 use csv::{Error, ErrorKind, Writer, WriterBuilder};
 use std::io::Write;
 
@@ -32,11 +32,11 @@ impl<W: Write + Drop> RecordWriter<W> {
 
     /// Writes the record. A failure of the sink, also one that comes late since records are gathered
     /// before they are written, is the fault `Io` at this record.
-    pub fn write(&mut self, row: &NewRecord) -> Result<(), WriteFault>
+    pub fn write(&mut self, row: &NewRecord) -> Result<(), FileError>
         ensures between { OnOk result (IsBetweenRecords self.old → IsBetweenRecords self.new) }
         ensures text { OnOk result (IsBetweenRecords self.old → Appends (written W.contents self.old) (written W.contents self.new) (record_text row.now)) }
         ensures number { records_written self.old < 2 ^ 64 - 1 → records_written self.new ≡ records_written self.old + 1 }
-        ensures faults { IfErr result (λ fault. (fault ≡ WriteFault.NoMemory) ⊎ (fault ≡ write_fault (records_written self.new))) }
+        ensures faults { IfErr result (λ fault. (fault ≡ FileError.NoMemory) ⊎ (fault ≡ file_fault FaultKind.Io (records_written self.new))) }
     {
         self.number = self.number.saturating_add(1);
         match self.writer.write_byte_record(row.as_byte_record()) {
@@ -46,9 +46,9 @@ impl<W: Write + Drop> RecordWriter<W> {
     }
 
     /// The sink, which has all records then. Its faults are those of `write`, at the last record.
-    pub fn finish(self) -> Result<W, WriteFault>
+    pub fn finish(self) -> Result<W, FileError>
         ensures text { IfOk result (λ sink. Keeps (written W.contents self) (W.contents sink)) }
-        ensures faults { IfErr result (λ fault. (fault ≡ WriteFault.NoMemory) ⊎ (fault ≡ write_fault (records_written self))) }
+        ensures faults { IfErr result (λ fault. (fault ≡ FileError.NoMemory) ⊎ (fault ≡ file_fault FaultKind.Io (records_written self))) }
     {
         let RecordWriter { writer, number } = self;
         match writer.into_inner() {
@@ -59,12 +59,12 @@ impl<W: Write + Drop> RecordWriter<W> {
 }
 
 // Why the record of that number was not written.
-fn failure(number: u64, error: Error) -> WriteFault
-    ensures { (result ≡ WriteFault.NoMemory) ⊎ (result ≡ write_fault number) }
+fn failure(number: u64, error: Error) -> FileError
+    ensures { (result ≡ FileError.NoMemory) ⊎ (result ≡ file_fault FaultKind.Io number) }
 {
     match error.into_kind() {
-        ErrorKind::OutOfMemory => WriteFault::NoMemory,
-        _ => WriteFault::File(FileFault {
+        ErrorKind::OutOfMemory => FileError::NoMemory,
+        _ => FileError::File(FileFault {
             kind: FaultKind::Io,
             record: number,
         }),

@@ -1,7 +1,7 @@
 ghost use Rattle.std.specs.Prelude.{◌≡◌, ◌⊎◌, ◌+◌, ◌-◌, ◌^◌, ◌<◌, ℕ, List, [], Some, None, IfOk, IfErr};
 ghost use Rattle.files.specs.Taken.{fields_left, fault_of};
 
-use crate::{FaultKind, Fields, FileFault, ReadFault};
+use crate::{FaultKind, Fields, FileError, FileFault};
 use csv::{ByteRecord, Error, ErrorKind, Reader, ReaderBuilder};
 use std::alloc::Global;
 use std::io::Read;
@@ -36,10 +36,10 @@ impl<R: Read> Records<R> {
 
     /// Goes on to the next record, and says whether there is one. A failure of the source is the fault
     /// `Io` at the record under way; after it and after want of memory there are no more records.
-    pub fn advance(&mut self) -> Result<bool, ReadFault>
+    pub fn advance(&mut self) -> Result<bool, FileError>
         ensures reads { IfOk result (λ found. (text : List ℕ) (rows : List (List (List ℕ))) → HasRead R.remaining text rows self.old → HasReadOn R.remaining text rows found self.new) }
         ensures number { record_number self.old < 2 ^ 64 - 1 → record_number self.new ≡ record_number self.old + 1 }
-        ensures faults { IfErr result (λ fault. (fault ≡ ReadFault.NoMemory) ⊎ (fault ≡ file_fault FaultKind.Io (record_number self.new))) }
+        ensures faults { IfErr result (λ fault. (fault ≡ FileError.NoMemory) ⊎ (fault ≡ file_fault FaultKind.Io (record_number self.new))) }
     {
         self.number = self.number.saturating_add(1);
         match self.reader.read_byte_record(&mut self.record) {
@@ -64,20 +64,20 @@ impl<R: Read> Records<R> {
     }
 
     /// The fault at the record under way.
-    pub fn fault(&self, kind: FaultKind) -> ReadFault
+    pub fn fault(&self, kind: FaultKind) -> FileError
         ensures { result ≡ file_fault kind (record_number self.now) }
     {
-        ReadFault::File(FileFault {
+        FileError::File(FileFault {
             kind,
             record: self.number,
         })
     }
 
-    fn failure(&self, error: Error) -> ReadFault
-        ensures { (result ≡ ReadFault.NoMemory) ⊎ (result ≡ file_fault FaultKind.Io (record_number self.now)) }
+    fn failure(&self, error: Error) -> FileError
+        ensures { (result ≡ FileError.NoMemory) ⊎ (result ≡ file_fault FaultKind.Io (record_number self.now)) }
     {
         match error.into_kind() {
-            ErrorKind::OutOfMemory => ReadFault::NoMemory,
+            ErrorKind::OutOfMemory => FileError::NoMemory,
             _ => self.fault(FaultKind::Io),
         }
     }

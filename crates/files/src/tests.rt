@@ -88,7 +88,7 @@ fn records_are_numbered(rt: HostRuntime) -> Result<(), Fail> {
         kind: FaultKind::NoEnd,
         record: 4,
     };
-    assert_eq!(rt; records.fault(FaultKind::NoEnd), ReadFault::File(fault));
+    assert_eq!(rt; records.fault(FaultKind::NoEnd), FileError::File(fault));
     let text = format!(in rt.alloc(); "{fault}")?;
     assert_eq!(rt; text.as_str(), "row 4: fault 7");
     Ok(())

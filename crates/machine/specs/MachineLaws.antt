@@ -1,6 +1,6 @@
 -- What every request does, said of the machine.
 use Rattle.std.specs.Prelude.{◌≡◌, List}
-use Rattle.schema.specs.Database.{Database, IsWithinScale}
+use Rattle.schema.specs.Database.{Database}
 use Rattle.schema.specs.Consistency.{Consistent}
 use Rattle.requests.specs.declared.request.Request.{Request}
 use Rattle.requests.specs.declared.group.Group.{Group}
@@ -10,11 +10,11 @@ use Rattle.machine.specs.Machine.{transaction, tables_after}
 
 -- one request leaves consistent tables consistent (clause 3.3)
 abbrev pub TransactionKeepsConsistency : Type 0
-TransactionKeepsConsistency = (t : Database) (request : Request) → IsWithinScale t → Consistent t → Consistent (transaction t request).tables
+TransactionKeepsConsistency = (t : Database) (request : Request) → Consistent t → Consistent (transaction t request).tables
 
 -- and so does every list of requests, one after another
 abbrev pub RequestsKeepConsistency : Type 0
-RequestsKeepConsistency = (t : Database) (requests : List Request) → IsWithinScale t → Consistent t → Consistent (tables_after t requests)
+RequestsKeepConsistency = (t : Database) (requests : List Request) → Consistent t → Consistent (tables_after t requests)
 
 -- The reply, and what the request's groups have after it, follow from the items and from what these groups have before:
 -- where other tables have the same, both are the same there.

@@ -1,3 +1,6 @@
+ghost use Rattle.std.specs.Prelude.{IfOk};
+ghost use Rattle.sets.specs.SetScale.{IsScaleOf};
+
 use crate::SetError;
 use crate::small_set::{add_order, remove_order, set_k_rows, set_scale};
 use amounts::Cents;
@@ -10,7 +13,9 @@ use std::mem;
 /// - The last order of district (1, 1) has the number 9,999,999, and the next would be 10,000,000.
 /// - The first payment of customer (2, 1, 1) is of 999,999,999,951,000 cents, so that W_YTD of
 ///   warehouse 2 is 1,000,000,000,000,000 cents.
-pub fn set_e(alloc: Global) -> Result<Tables, SetError> {
+pub fn set_e(alloc: Global) -> Result<Tables, SetError>
+    ensures { IfOk result (λ tables. IsScaleOf 2 tables.scale) }
+{
     let scale = set_scale(2)?;
     Ok(Tables::checked(scale, set_e_rows(alloc)?)?)
 }

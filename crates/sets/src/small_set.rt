@@ -1,3 +1,6 @@
+ghost use Rattle.std.specs.Prelude.{IfOk};
+ghost use Rattle.sets.specs.SetScale.{IsScaleOf};
+
 use crate::SetError;
 use crate::template_rows::{customer, district, item, line, order, payment, stock, warehouse};
 use schema::{
@@ -10,18 +13,24 @@ const ITEMS: u32 = 70;
 const CUSTOMERS: u32 = 5;
 
 /// Set K of two warehouses.
-pub fn set_k(alloc: Global) -> Result<Tables, SetError> {
+pub fn set_k(alloc: Global) -> Result<Tables, SetError>
+    ensures { IfOk result (λ tables. IsScaleOf 2 tables.scale) }
+{
     set_k_of(alloc, 2)
 }
 
 /// Set K of this many warehouses, all alike but for their numbers.
-pub fn set_k_of(alloc: Global, warehouses: u32) -> Result<Tables, SetError> {
+pub fn set_k_of(alloc: Global, warehouses: u32) -> Result<Tables, SetError>
+    ensures { IfOk result (λ tables. IsScaleOf warehouses tables.scale) }
+{
     let scale = set_scale(warehouses)?;
     Ok(Tables::checked(scale, set_k_rows(alloc, warehouses)?)?)
 }
 
 /// The scale of a set of this many warehouses.
-pub fn set_scale(warehouses: u32) -> Result<Scale, SetError> {
+pub fn set_scale(warehouses: u32) -> Result<Scale, SetError>
+    ensures { IfOk result (IsScaleOf warehouses) }
+{
     Scale::checked_new(warehouses, ITEMS, CUSTOMERS).ok_or(SetError::Warehouses)
 }
 
@@ -75,7 +84,11 @@ fn add_customers(rows: &mut TableRows, home: DistrictKey) -> Result<(), NoMemory
 }
 
 /// Adds an order of the customer, its lines, and its row of NEW-ORDER where it is the last customer.
-pub fn add_order(rows: &mut TableRows, key: OrderKey, customer: u32) -> Result<(), NoMemory> {
+pub(crate) fn add_order(
+    rows: &mut TableRows,
+    key: OrderKey,
+    customer: u32,
+) -> Result<(), NoMemory> {
     let is_new = customer == CUSTOMERS;
     rows.orders.insert(key, order(customer, is_new))?;
     if is_new {
@@ -89,7 +102,7 @@ pub fn add_order(rows: &mut TableRows, key: OrderKey, customer: u32) -> Result<(
 }
 
 /// Removes an order, its lines and its row of NEW-ORDER.
-pub fn remove_order(rows: &mut TableRows, key: OrderKey) {
+pub(crate) fn remove_order(rows: &mut TableRows, key: OrderKey) {
     rows.orders.remove(&key);
     rows.new_orders.remove(&key);
     for number in 1..=5 {

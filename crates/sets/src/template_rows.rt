@@ -9,7 +9,7 @@ use schema::{
 };
 
 /// 2024-01-01T00:00:00, which is every date and time of the sets.
-pub fn new_year() -> Moment {
+pub(crate) fn new_year() -> Moment {
     Moment::new(1_704_067_200)
 }
 
@@ -24,7 +24,7 @@ fn an_address() -> Address {
 }
 
 /// Costs 100 cents times its number; the first two are originals.
-pub fn item(number: u32) -> Item
+pub(crate) fn item(number: u32) -> Item
     requires some { 1 ≤ number }
     requires most { number ≤ 70 }
 {
@@ -36,7 +36,7 @@ pub fn item(number: u32) -> Item
     }
 }
 
-pub fn warehouse(number: u32) -> Warehouse {
+pub(crate) fn warehouse(number: u32) -> Warehouse {
     Warehouse {
         name: numbered("W", number),
         address: an_address(),
@@ -45,7 +45,7 @@ pub fn warehouse(number: u32) -> Warehouse {
     }
 }
 
-pub fn district(number: u32) -> District {
+pub(crate) fn district(number: u32) -> District {
     District {
         name: numbered("D", number),
         address: an_address(),
@@ -56,7 +56,7 @@ pub fn district(number: u32) -> District {
 }
 
 /// Twenty of the item; the first is an original.
-pub fn stock(item: u32) -> Stock {
+pub(crate) fn stock(item: u32) -> Stock {
     Stock {
         quantity: StockQuantity::new(20),
         dist: [
@@ -99,7 +99,7 @@ fn a_customer() -> Customer {
 }
 
 /// The first four share their last name, and 1 and 3 their first name too; 4 is of bad credit.
-pub fn customer(number: u32) -> Customer {
+pub(crate) fn customer(number: u32) -> Customer {
     let mut customer = a_customer();
     match number {
         2 => customer.first = text("A"),
@@ -118,7 +118,7 @@ pub fn customer(number: u32) -> Customer {
 }
 
 /// The payment of 1,000 cents that a customer made at home.
-pub fn payment(home: DistrictKey, number: u32) -> History {
+pub(crate) fn payment(home: DistrictKey, number: u32) -> History {
     History {
         customer: CustomerKey {
             w_id: home.w_id,
@@ -132,7 +132,7 @@ pub fn payment(home: DistrictKey, number: u32) -> History {
 }
 
 /// An order of five lines, which is new or was delivered by carrier 1.
-pub fn order(customer: u32, is_new: bool) -> Order {
+pub(crate) fn order(customer: u32, is_new: bool) -> Order {
     Order {
         c_id: customer,
         entry_d: new_year(),
@@ -148,7 +148,7 @@ pub fn order(customer: u32, is_new: bool) -> Order {
 
 /// Five of the item that has the line's number, from the district's warehouse: for 100 cents where
 /// the order is new, else for nothing and delivered.
-pub fn line(key: OrderLineKey, is_new: bool) -> OrderLine {
+pub(crate) fn line(key: OrderLineKey, is_new: bool) -> OrderLine {
     OrderLine {
         i_id: key.number,
         supply_w_id: key.w_id,

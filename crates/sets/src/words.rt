@@ -5,7 +5,7 @@ ghost use Rattle.rows.specs.Text.{is_printable_byte};
 use schema::Text;
 
 /// The text of these words, cut to the column's width.
-pub fn text<const WIDTH: usize>(words: &str) -> Text<WIDTH>
+pub(crate) fn text<const WIDTH: usize>(words: &str) -> Text<WIDTH>
     requires { IsTrue (list_all is_printable_byte words.now) }
 {
     let mut text = Text::new();
@@ -14,12 +14,12 @@ pub fn text<const WIDTH: usize>(words: &str) -> Text<WIDTH>
 }
 
 /// The text `x`.
-pub fn x<const WIDTH: usize>() -> Text<WIDTH> {
+pub(crate) fn x<const WIDTH: usize>() -> Text<WIDTH> {
     text("x")
 }
 
 /// These words `count` times, cut to the column's width.
-pub fn repeated<const WIDTH: usize>(words: &str, count: u32) -> Text<WIDTH>
+pub(crate) fn repeated<const WIDTH: usize>(words: &str, count: u32) -> Text<WIDTH>
     requires { IsTrue (list_all is_printable_byte words.now) }
 {
     let mut text = Text::new();
@@ -30,7 +30,7 @@ pub fn repeated<const WIDTH: usize>(words: &str, count: u32) -> Text<WIDTH>
 }
 
 /// These words and then the number, of which the last two digits stand.
-pub fn numbered<const WIDTH: usize>(words: &str, number: u32) -> Text<WIDTH>
+pub(crate) fn numbered<const WIDTH: usize>(words: &str, number: u32) -> Text<WIDTH>
     requires { IsTrue (list_all is_printable_byte words.now) }
 {
     let mut text = text(words);

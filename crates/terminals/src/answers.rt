@@ -6,7 +6,7 @@ ghost use Rattle.terminals.specs.Answers.{answer_fields, answer_rows, refusal_fi
 
 use crate::reply;
 use csv::ByteRecord;
-use files::{NewRecord, RecordWriter, WriteFault};
+use files::{FileError, NewRecord, RecordWriter};
 use requests::{Answer, Refusal};
 use schema::NoMemory;
 use std::alloc::Global;
@@ -33,7 +33,7 @@ pub fn write_answers<W: Write + Drop>(
     sink: W,
     session: u32,
     answers: &[Answer],
-) -> Result<W, WriteFault>
+) -> Result<W, FileError>
     ensures { IfOk result (λ full. Appends (W.contents sink) (W.contents full) (csv_text (answer_rows session 0 answers.now))) }
 {
     let mut writer = RecordWriter::new(sink);

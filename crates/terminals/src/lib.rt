@@ -21,7 +21,7 @@ mod request;
 mod scripts;
 
 pub use answers::{answer_record, write_answers};
-pub use files::{FaultKind, FileFault, ReadFault, WriteFault};
+pub use files::{FaultKind, FileError, FileFault};
 pub use log_records::{log_record, write_log};
 pub use scripts::read_script;
 

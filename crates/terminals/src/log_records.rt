@@ -7,7 +7,7 @@ ghost use Rattle.terminals.specs.LogRecord.{IsLog, IsLogRecord};
 use crate::{reply, request};
 use commit_log::Entry;
 use csv::ByteRecord;
-use files::{NewRecord, RecordWriter, WriteFault};
+use files::{FileError, NewRecord, RecordWriter};
 use schema::NoMemory;
 use std::alloc::Global;
 use std::io::Write;
@@ -23,11 +23,7 @@ pub fn log_record(alloc: Global, place: u32, entry: &Entry) -> Result<ByteRecord
 
 /// Writes a log: the record of each entry, whose place is its index, and then the end record. It gives
 /// the sink back. Use a `&mut` to a sink that is needed after a fault too.
-pub fn write_log<W: Write + Drop>(
-    alloc: Global,
-    sink: W,
-    entries: &[Entry],
-) -> Result<W, WriteFault>
+pub fn write_log<W: Write + Drop>(alloc: Global, sink: W, entries: &[Entry]) -> Result<W, FileError>
     ensures { IfOk result (λ full. (rows : List (List (List ℕ))) × IsLog entries.now rows × Appends (W.contents sink) (W.contents full) (csv_text rows)) }
 {
     let mut writer = RecordWriter::new(sink);

@@ -4,7 +4,7 @@ ghost use Rattle.files.specs.Taken.{fields_left, fault_of};
 ghost use Rattle.terminals.specs.Script.{IsScript, IsScriptRecord};
 
 use crate::request;
-use files::{FaultKind, Fields, ReadFault, Records};
+use files::{FaultKind, Fields, FileError, Records};
 use requests::{Request, Script};
 use std::alloc::Global;
 use std::io::Read;
@@ -14,7 +14,7 @@ use std::io::Read;
 /// A fault comes with its record, and nothing else is given then. The first faulty record decides, and
 /// of its faults the least one. Whether the numbers fit a scale is not looked at. Memory is taken
 /// request by request; more requests than a script has are as want of memory.
-pub fn read_script<R: Read + Drop>(alloc: Global, source: R) -> Result<Script, ReadFault>
+pub fn read_script<R: Read + Drop>(alloc: Global, source: R) -> Result<Script, FileError>
     ensures { IfOk result (λ script. (text : List ℕ) → R.remaining source ≡ Some text → (rows : List (List (List ℕ))) × IsCsv text rows × IsScript script rows) }
 {
     let mut records = Records::new(alloc, source);
@@ -24,7 +24,7 @@ pub fn read_script<R: Read + Drop>(alloc: Global, source: R) -> Result<Script, R
     }
     match Script::checked_new(requests) {
         Some(script) => Ok(script),
-        None => Err(ReadFault::NoMemory),
+        None => Err(FileError::NoMemory),
     }
 }
 
@@ -32,7 +32,7 @@ pub fn read_script<R: Read + Drop>(alloc: Global, source: R) -> Result<Script, R
 fn read_requests<R: Read + Drop>(
     alloc: Global,
     records: &mut Records<R>,
-) -> Result<Vec<Request>, ReadFault>
+) -> Result<Vec<Request>, FileError>
     ensures { IfOk result (λ requests. (text : List ℕ) → HasRead R.remaining text [] records.old
         → (rows : List (List (List ℕ))) × HasRead R.remaining text rows records.new × IsScript requests.items rows) }
 {
@@ -44,7 +44,7 @@ fn read_requests<R: Read + Drop>(
         match parse(&mut records.fields(), requests.len() as u64) {
             Ok(Some(request)) => {
                 if requests.push(request).is_err() {
-                    return Err(ReadFault::NoMemory);
+                    return Err(FileError::NoMemory);
                 }
             }
             Ok(None) => return Ok(requests),

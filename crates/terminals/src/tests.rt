@@ -13,8 +13,8 @@ use std::test::Fail;
 fn fault_of(alloc: Global, script: &[u8]) -> Result<Option<(u8, u64)>, AllocError> {
     match read_script(alloc, script) {
         Ok(_) => Ok(None),
-        Err(ReadFault::File(fault)) => Ok(Some((fault.kind.number(), fault.record))),
-        Err(ReadFault::NoMemory) => Err(AllocError),
+        Err(FileError::File(fault)) => Ok(Some((fault.kind.number(), fault.record))),
+        Err(FileError::NoMemory) => Err(AllocError),
     }
 }
 
@@ -195,7 +195,7 @@ fn a_failing_source_is_a_fault(rt: HostRuntime) {
         };
         assert_eq!(rt;
             read_script(rt.alloc(), source).err(),
-            Some(ReadFault::File(fault))
+            Some(FileError::File(fault))
         );
     }
 }
@@ -350,7 +350,7 @@ impl Write for Full {
 fn a_failing_sink_is_a_fault(rt: HostRuntime) -> Result<(), Fail> {
     let entries = entries(rt.alloc())?;
     for room in [0, 1, 100] {
-        let fault = WriteFault::File(FileFault {
+        let fault = FileError::File(FileFault {
             kind: FaultKind::Io,
             record: 3,
         });
@@ -362,7 +362,7 @@ fn a_failing_sink_is_a_fault(rt: HostRuntime) -> Result<(), Fail> {
         assert_eq!(rt; sink.room, 0);
     }
     let answers = [Answer::Refused(Refusal::Busy)];
-    let fault = WriteFault::File(FileFault {
+    let fault = FileError::File(FileFault {
         kind: FaultKind::Io,
         record: 1,
     });

@@ -50,7 +50,7 @@ fn run<'a, D: Read + Drop, S: Read + Drop, A: Write, L: Write + Drop>(
 {
     let opening = match dataset::read(alloc, data) {
         Ok(tables) => tables,
-        Err(fault) => return Err(RunFault::reading(settings.data, fault)),
+        Err(fault) => return Err(RunFault::of_file(settings.data, fault)),
     };
     let scripts = read_scripts(alloc, &settings.scripts, scripts)?;
     let Ok(outcome) = serve(alloc, opening, scripts.as_slice()) else {
@@ -59,7 +59,7 @@ fn run<'a, D: Read + Drop, S: Read + Drop, A: Write, L: Write + Drop>(
     print_answers(alloc, answers, outcome.answers.as_slice())?;
     if let (Some(path), Some(sink)) = (settings.log, log) {
         if let Err(fault) = write_log(alloc, sink, outcome.log.as_slice()) {
-            return Err(RunFault::writing(path, fault));
+            return Err(RunFault::of_file(path, fault));
         }
     }
     Ok(())
@@ -77,7 +77,7 @@ fn read_scripts<'a, S: Read + Drop>(
     for (session, source) in sources.iter_mut().enumerate() {
         match read_script(alloc, source) {
             Ok(script) => scripts.push(script)?,
-            Err(fault) => return Err(RunFault::reading(paths[session], fault)),
+            Err(fault) => return Err(RunFault::of_file(paths[session], fault)),
         }
     }
     Ok(scripts)
@@ -90,7 +90,7 @@ fn print_answers<A: Write>(
 ) -> Result<(), RunFault<'static>> {
     for (session, told) in (0u32..).zip(answers) {
         if let Err(fault) = write_answers(alloc, &mut *sink, session, told.as_slice()) {
-            return Err(RunFault::writing(STANDARD_OUTPUT, fault));
+            return Err(RunFault::of_file(STANDARD_OUTPUT, fault));
         }
     }
     Ok(())

@@ -2,7 +2,7 @@ ghost use Rattle.tpcc.specs.declared.run_fault.RunFault.TheVariants.{NoMemory};
 ghost use Rattle.std.specs.Prelude.{◌≡◌};
 
 use crate::status::Status;
-use files::{FaultKind, FileFault, ReadFault, WriteFault};
+use files::{FaultKind, FileError, FileFault};
 use std::alloc::AllocFailed;
 use std::fmt;
 use std::io::Write;
@@ -25,19 +25,11 @@ impl<'a> RunFault<'a> {
         RunFault::File { path, fault }
     }
 
-    /// A fault of the file that was read.
-    pub fn reading(path: &'a str, fault: ReadFault) -> RunFault<'a> {
-        match fault {
-            ReadFault::NoMemory => RunFault::NoMemory,
-            ReadFault::File(fault) => RunFault::File { path, fault },
-        }
-    }
-
-    /// A fault of the file that was written.
-    pub fn writing(path: &'a str, fault: WriteFault) -> RunFault<'a> {
-        match fault {
-            WriteFault::NoMemory => RunFault::NoMemory,
-            WriteFault::File(fault) => RunFault::File { path, fault },
+    /// What was wrong with the file of that path.
+    pub fn of_file(path: &'a str, error: FileError) -> RunFault<'a> {
+        match error {
+            FileError::NoMemory => RunFault::NoMemory,
+            FileError::File(fault) => RunFault::File { path, fault },
         }
     }
 

@@ -1,0 +1,85 @@
+-- What each event does to a history that fits.
+use Rattle.std.specs.Prelude.{◌≡◌, ℕ, ◌+◌, List, [], ◌∷◌, ◌++◌, length, Some, None, count_by}
+use Rattle.std.specs.List.Sorted.{IsPermutation}
+use Rattle.schema.specs.Database.{Database}
+use Rattle.schema.specs.Consistency.{Consistent}
+use Rattle.requests.specs.declared.request.Request.{Request}
+use Rattle.requests.specs.declared.answer.Answer.{Answer}
+use Rattle.requests.specs.declared.answer.Answer.TheVariants.{Done, Refused}
+use Rattle.machine.specs.Machine.{transaction}
+use Rattle.commit_log.specs.declared.entry.Entry.{Entry}
+use Rattle.history.specs.declared.event.Event.{Event}
+use Rattle.history.specs.declared.event.Event.TheVariants.{Submit, Send}
+use Rattle.history.specs.declared.event.EventAnswer.{EventAnswer}
+use Rattle.history.specs.declared.event.EventAnswer.TheVariants.{Accepted, Took, Sent, Full, Logged, Answered, Nothing}
+use Rattle.history.specs.History.{Step, step, Unanswered, HasReply, is_of}
+use Rattle.history.specs.Fits.{Fits}
+
+abbrev pub EmptyHistoryFits : Type 0
+EmptyHistoryFits = (opening : Database) → Consistent opening → Fits opening [] [] opening 0 []
+
+abbrev pub UnansweredInAnyOrder : Type 0
+UnansweredInAnyOrder =
+    (opening : Database) (history : List Step) (log : List Entry) (tables : Database) (admitted : ℕ) (pending other : List Unanswered)
+    → IsPermutation pending other → Fits opening history log tables admitted pending → Fits opening history log tables admitted other
+
+-- An event tells nothing of a transaction where it is answered so. An answer to a submission is a refusal of it, which is
+-- never admitted.
+abbrev pub IsQuiet : Event → EventAnswer → Type 0
+IsQuiet event Took = Unit {0}
+IsQuiet event Sent = Unit {0}
+IsQuiet event Full = Unit {0}
+IsQuiet event Nothing = Unit {0}
+IsQuiet (Submit session number request) (Answered other n answer) = Unit {0}
+IsQuiet event answer = ⊥
+
+abbrev pub QuietEventFits : Type 0
+QuietEventFits =
+    (opening : Database) (history : List Step) (log : List Entry) (tables : Database) (admitted : ℕ) (pending : List Unanswered)
+    (event : Event) (answer : EventAnswer)
+    → IsQuiet event answer → Fits opening history log tables admitted pending
+    → Fits opening (history ++ step event answer ∷ []) log tables admitted pending
+
+-- a transaction that was just admitted
+abbrev pub new_one : ℕ → ℕ → ℕ → Request → Unanswered
+new_one age session number request = record { age = age; session = session; number = number; request = request; entry = None }
+
+abbrev pub AdmissionFits : Type 0
+AdmissionFits =
+    (opening : Database) (history : List Step) (log : List Entry) (tables : Database) (admitted : ℕ) (pending : List Unanswered)
+    (session number : ℕ) (request : Request)
+    → count_by (is_of session) pending ≡ 0 → Fits opening history log tables admitted pending
+    → Fits opening (history ++ step (Submit session number request) (Accepted admitted) ∷ []) log tables (admitted + 1)
+    (new_one admitted session number request ∷ pending)
+
+-- the transaction once its entry stands at this place
+abbrev pub with_place : ℕ → Unanswered → Unanswered
+with_place place u = record { age = u.age; session = u.session; number = u.number; request = u.request; entry = Some place }
+
+-- the entry is that of the transaction, which has none yet, with the machine's reply from these tables
+pub record IsEntryOf (u : Unanswered) (tables : Database) (entry : Entry) : Type 0 where
+  pub session : entry.session ≡ u.session
+  pub number : entry.number ≡ u.number
+  pub request : entry.request ≡ u.request
+  pub reply : entry.reply ≡ (transaction tables entry.request).reply
+  pub none : u.entry ≡ None
+
+abbrev pub EntryFits : Type 0
+EntryFits =
+    (opening : Database) (history : List Step) (log : List Entry) (tables : Database) (admitted : ℕ) (pending : List Unanswered)
+    (executor : ℕ) (u : Unanswered) (entry : Entry)
+    → IsEntryOf u tables entry → Fits opening history log tables admitted (u ∷ pending)
+    → Fits opening (history ++ step (Send executor) (Logged (length log)) ∷ []) (log ++ entry ∷ []) (transaction tables entry.request).tables admitted
+    (with_place (length log) u ∷ pending)
+
+-- the answer is the transaction's: the place and the reply of its entry, or a refusal where it has none
+abbrev pub IsAnswerTo : List Entry → Unanswered → Answer → Type 0
+IsAnswerTo log u (Done place reply) = (u.entry ≡ Some place) × HasReply log place reply
+IsAnswerTo log u (Refused refusal) = u.entry ≡ None
+
+abbrev pub AnswerFits : Type 0
+AnswerFits =
+    (opening : Database) (history : List Step) (log : List Entry) (tables : Database) (admitted : ℕ) (pending : List Unanswered)
+    (executor : ℕ) (u : Unanswered) (answer : Answer)
+    → IsAnswerTo log u answer → Fits opening history log tables admitted (u ∷ pending)
+    → Fits opening (history ++ step (Send executor) (Answered u.session u.number answer) ∷ []) log tables admitted pending

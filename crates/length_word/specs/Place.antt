@@ -1,0 +1,11 @@
+-- What a length and a mark keep of their place at the table.
+use Rattle.std.specs.Prelude.{◌≡◌, ◌<◌, []}
+use Rattle.atomic_table.specs.Seated.{TableId}
+use Rattle.atomic_table.specs.declared.shared.Seat.{Seat}
+use Rattle.length_word.specs.declared.rule.View.{View}
+
+-- the place is at this table, which has a word, and has taken no slot of it
+pub record IsPlaceAt (table : TableId) (place : Seat (Unit {0}) View) : Type 0 where
+  pub at_table : place.table_id ≡ table
+  pub some_word : 0 < table.words
+  pub no_slot : place.me.1 ≡ []
