@@ -19,7 +19,8 @@ for number in 1 100 308 309 310; do
     with_refused payments::want_of_memory_changes_nothing "$number"
 done
 
-# A set and a script take 155 allocations to make, and the first entry of the log takes the next.
-with_refused serving::want_of_memory_is_answered 156
+# A set, a script, an engine with its 64 sessions, and a thread take 561 allocations to make, and the first entry of the
+# log takes the next.
+with_refused serving::want_of_memory_is_answered 562
 
 exec rt ci

@@ -1,5 +1,5 @@
 -- A transaction more leaves a log legal.
-use Rattle.std.proofs.Common.{◌≡◌, ℕ, ◌+◌, ◌≤◌, cond, List, [], ◌∷◌, ◌++◌, map, Result, Ok, Err, is_ok, OnErr, refl, sym, ap, subst, ◌∙◌, arith}
+use Rattle.std.proofs.Common.{◌≡◌, ℕ, List, [], ◌∷◌, ◌++◌, map, refl, sym, ap, subst, ◌∙◌}
 use Rattle.schema.specs.Database.{Database}
 use Rattle.requests.specs.declared.request.Request.{Request}
 use Rattle.requests.specs.declared.reply.Reply.{Reply}
@@ -7,18 +7,19 @@ use Rattle.machine.specs.Machine.{transaction, replies, tables_after}
 use Rattle.machine.proofs.RequestLaws.{tables_after-scale}
 use Rattle.commit_log.specs.declared.entry.Entry.{Entry}
 use Rattle.commit_log.specs.Log.{IsLegal, requests_of}
+use Rattle.commit_log.specs.Logged.{Booked, booked}
 
-replies-append : (t : Database) (requests : List Request) (request : Request)
+pub replies-append : (t : Database) (requests : List Request) (request : Request)
     → replies t (requests ++ request ∷ []) ≡ replies t requests ++ (transaction (tables_after t requests) request).reply ∷ []
 replies-append t [] request = refl
 replies-append t (first ∷ requests) request = ap (λ l. (transaction t first).reply ∷ l) (replies-append (transaction t first).tables requests request)
 
-tables_after-append : (t : Database) (requests : List Request) (request : Request)
+pub tables_after-append : (t : Database) (requests : List Request) (request : Request)
     → tables_after t (requests ++ request ∷ []) ≡ (transaction (tables_after t requests) request).tables
 tables_after-append t [] request = refl
 tables_after-append t (first ∷ requests) request = tables_after-append (transaction t first).tables requests request
 
-map_push : {X Y : Type 0} (f : X → Y) (xs : List X) (x : X) → map f (xs ++ x ∷ []) ≡ map f xs ++ f x ∷ []
+pub map_push : {X Y : Type 0} (f : X → Y) (xs : List X) (x : X) → map f (xs ++ x ∷ []) ≡ map f xs ++ f x ∷ []
 map_push f [] x = refl
 map_push f (y ∷ ys) x = ap (λ l. f y ∷ l) (map_push f ys x)
 
@@ -45,23 +46,14 @@ legal-append opening entries tables new_tables entry h reply_is tables_is =
 pub legal-scale : (opening : Database) (entries : List Entry) (tables : Database) → IsLegal opening entries tables → tables.scale ≡ opening.scale
 legal-scale opening entries tables h = ap (λ (t : Database). t.scale) h.left ∙ tables_after-scale opening (requests_of entries)
 
--- with room a push succeeds
-push_fits : {U X Y : Type 0} (r : Result U X) (len capacity : ℕ) (with_it without : Y) → OnErr r (capacity ≤ len) → len + 1 ≤ capacity → cond (is_ok r) with_it without ≡ with_it
-push_fits (Ok u) len capacity with_it without full room = refl
-push_fits (Err x) len capacity with_it without full room = absurd (omega arith)
-
--- An entry that was pushed with room, of a request that was carried out, leaves the log legal.
-pub legal-logged : {U X : Type 0} (opening : Database) (before reserved after : List Entry) (tables new_tables : Database) (session number : ℕ) (request copy : Request) (reply told : Reply)
-    (pushed : Result U X) (len capacity : ℕ)
-    → IsLegal opening before tables → copy ≡ request → told ≡ reply → reply ≡ (transaction tables request).reply → new_tables ≡ (transaction tables request).tables
-    → reserved ≡ before → len + 1 ≤ capacity → OnErr pushed (capacity ≤ len)
-    → after ≡ cond (is_ok pushed) (reserved ++ record { session = session; number = number; request = copy; reply = told } ∷ []) reserved
-    → IsLegal opening after new_tables
-legal-logged opening before reserved after tables new_tables session number request copy reply told pushed len capacity legal same_request same_reply reply_is tables_is same_entries room full after_is =
-    let entry : Entry = record { session = session; number = number; request = copy; reply = told } in
-    let entries_are : after ≡ before ++ entry ∷ [] =
-    after_is ∙ push_fits pushed len capacity (reserved ++ entry ∷ []) reserved full room ∙ ap (λ (l : List Entry). l ++ entry ∷ []) same_entries in
+-- A book with one entry more, of a request that was carried out, is that of a legal log.
+pub legal-booked : (opening : Database) (before entries : List Entry) (after : Booked) (spare : ℕ) (tables new_tables : Database) (entry : Entry) (request : Request) → IsLegal opening before tables
+    → after ≡ booked (entries ++ entry ∷ []) spare → entries ≡ before
+    → entry.request ≡ request → entry.reply ≡ (transaction tables request).reply → new_tables ≡ (transaction tables request).tables
+    → IsLegal opening after.entries new_tables
+legal-booked opening before entries after spare tables new_tables entry request legal after_is same_entries same_request reply_is tables_is =
+    let entries_are : after.entries ≡ before ++ entry ∷ [] = ap (λ b. b.entries) after_is ∙ ap (λ (l : List Entry). l ++ entry ∷ []) same_entries in
     subst (λ (l : List Entry). IsLegal opening l new_tables) (sym entries_are)
     (legal-append opening before tables new_tables entry legal
-    (same_reply ∙ reply_is ∙ ap (λ (r : Request). (transaction tables r).reply) (sym same_request))
+    (reply_is ∙ ap (λ (r : Request). (transaction tables r).reply) (sym same_request))
     (tables_is ∙ ap (λ (r : Request). (transaction tables r).tables) (sym same_request)))

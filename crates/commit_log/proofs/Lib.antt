@@ -1,1 +1,5 @@
 pub mod Legal
+pub mod Repeated
+pub mod Claimed
+pub mod Booking
+pub mod Opening

@@ -1,6 +1,8 @@
--- Tables without a row, which name nothing: the opening where none was picked.
+-- Tables without a row, and a table of no log, which name nothing: what a name has where none was picked.
+use Rattle.std.specs.Prelude.{[]}
 use Rattle.std.proofs.Common.{lit≤}
 use Rattle.std.specs.FinMap as map
+use Rattle.atomic_table.specs.Seated.{TableId}
 use Rattle.schema.specs.Database.{Database}
 
 abbrev pub no_tables : Database
@@ -28,3 +30,6 @@ no_tables = record {
   new_orders = map.empty;
   lines = map.empty;
 }
+
+abbrev pub no_table : TableId
+no_table = record { words = 0; slots = 0; views_name = 0; atom = 0; block = 0; offset = 0; slot_names = [] }

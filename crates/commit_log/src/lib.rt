@@ -1,10 +1,30 @@
-//! The commit log: which transactions were carried out, in which order, and what each replied.
+//! The commit log: which transactions were carried out, in which order, and what each replied; and the
+//! passes of its sessions. A pass goes where its session's request goes. It tells what the session has
+//! logged, and how far the log had reached when it was last there, without a look at the log.
 #![tactic(auto)]
 
+mod asking;
 mod entry;
-mod opening;
+mod log;
+mod log_book;
+mod log_seats;
+mod mine;
+mod naming;
+mod pass;
+mod replaying;
+mod session_seat;
 mod step_log;
+mod verdict;
 
+pub use asking::Asking;
 pub use entry::Entry;
-pub use opening::Opening;
-pub use step_log::{AppendFault, MOST_ENTRIES, StepLog};
+pub use log::Log;
+pub use log_book::{AppendFault, LogBook, MOST_ENTRIES};
+pub use log_seats::{LogSeats, SESSIONS};
+pub use mine::{Item, Mine};
+pub use naming::Naming;
+pub use pass::{Pass, meet};
+pub use replaying::replay;
+pub use session_seat::SessionSeat;
+pub use step_log::StepLog;
+pub use verdict::Replay;

@@ -1,1 +1,5 @@
-pub mod OneMore
+pub mod Rest
+pub mod Sessions
+pub mod Together
+pub mod OneMoreRequest
+pub mod FirstBroken

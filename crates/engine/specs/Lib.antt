@@ -1,1 +1,4 @@
 pub mod Outcome
+pub mod Served
+pub mod Sessions
+pub mod Opening

@@ -1,5 +1,5 @@
 -- What serving scripts of requests comes to.
-use Rattle.std.specs.Prelude.{◌≡◌, ◌⊎◌, ℕ, ◌≤◌, ◌<◌, List, [], ◌∷◌, ◌++◌, length, Option, Some, Ok, Err}
+use Rattle.std.specs.Prelude.{◌≡◌, ◌⊎◌, ℕ, ◌≤◌, ◌<◌, List, length, Option, Some, Ok, Err}
 use Rattle.std.specs.List.{slice_get}
 use Rattle.std.specs.Option.{option_map, option_and_then}
 use Rattle.schema.specs.declared.scale.Scale.{Scale}
@@ -12,15 +12,12 @@ use Rattle.requests.specs.declared.answer.Answer.{Answer}
 use Rattle.requests.specs.declared.answer.Answer.TheVariants.{Done, Refused}
 use Rattle.requests.specs.Check.{check_of}
 use Rattle.commit_log.specs.declared.entry.Entry.{Entry}
-use Rattle.commit_log.specs.Logged.{Logged}
+use Rattle.commit_log.specs.Items.{entry_of}
 use Rattle.commit_log.specs.Log.{IsLegal}
 
 -- what stands at place k of list s
 abbrev pub item_at : {X : Type 0} → List (List X) → ℕ → ℕ → Option X
 item_at lists s k = option_and_then (λ list. slice_get list k) (slice_get lists s)
-
-abbrev pub entry_of : ℕ → ℕ → Request → Reply → Entry
-entry_of session number request reply = record { session = session; number = number; request = request; reply = reply }
 
 -- A request that its check refuses is refused so, and another only for want of memory, or where the log, which is so
 -- long, has its most entries.
@@ -44,19 +41,3 @@ pub record IsOutcome (opening : Database) (scripts : List (List Request)) (log :
   pub ascending : (s j k place later : ℕ) (reply next : Reply) → j < k → item_at answers s j ≡ Some (Done place reply) → item_at answers s k ≡ Some (Done later next) → place < later
   pub refused : (s k : ℕ) (request : Request) (refusal : Refusal) → item_at scripts s k ≡ Some request → item_at answers s k ≡ Some (Refused refusal) → IsRefusal opening.scale (length log) request refusal
   pub checked : (s k : ℕ) (request : Request) (refusal : Refusal) → item_at scripts s k ≡ Some request → check_of opening.scale request ≡ Err refusal → item_at answers s k ≡ Some (Refused refusal)
-
--- What serving one request did to the log: what was done stands at its end, and what was refused left it as it was.
-abbrev pub ServesRequest : Database → ℕ → ℕ → Request → Logged → Logged → Answer → Type 0
-ServesRequest opening session number request old new (Done place reply) =
-    IsLegal opening new.entries new.tables
-    × ((new.entries ≡ old.entries ++ entry_of session number request reply ∷ [])
-    × ((place ≡ length old.entries) × (check_of old.tables.scale request ≡ Ok tt)))
-ServesRequest opening session number request old new (Refused refusal) =
-    (new ≡ old) × IsRefusal old.tables.scale (length old.entries) request refusal
-
--- What serving one script more comes to, whatever scripts were served before.
-abbrev pub ServesScript : Database → ℕ → List Request → Logged → Logged → List Answer → Type 0
-ServesScript opening session script old new told =
-    (scripts : List (List Request)) (answers : List (List Answer)) → length scripts ≡ session → length answers ≡ session
-    → IsOutcome opening scripts old.entries old.tables answers
-    → IsOutcome opening (scripts ++ script ∷ []) new.entries new.tables (answers ++ told ∷ [])

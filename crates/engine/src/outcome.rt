@@ -20,8 +20,13 @@ pub struct Outcome {
 /// Why scripts were not served.
 #[derive(Clone, Copy, Debug, PartialEq, Eq)]
 pub enum ServeFault {
-    /// There was no memory for the answers.
+    /// There was no memory to check the opening tables, to open the log, or for the answers.
     NoMemory,
+    /// The opening tables break the consistency condition of this number, and none of a lower one: 1 to
+    /// 10, or 12 (TPC-C 5.11, clause 3.3.2).
+    NotConsistent(u8),
+    /// A thread could not be started.
+    NoThread,
 }
 
 impl From<AllocError> for ServeFault {

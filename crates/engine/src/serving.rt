@@ -1,84 +1,79 @@
-ghost use Rattle.std.specs.Prelude.{◌≡◌, ◌≤◌, ◌<◌, List, length, IfOk};
-ghost use Rattle.engine.specs.Outcome.{IsOutcome, ServesScript, ServesRequest};
+ghost use Rattle.std.specs.Prelude.{◌≡◌, ◌≤◌, ◌<◌, ℕ, length, IfOk, OnOk, IfErr};
+ghost use Rattle.commit_log.specs.LogTables.{table_of};
+ghost use Rattle.engine.specs.Outcome.{IsOutcome};
+ghost use Rattle.engine.specs.Opening.{IsConsistent, IsFaultOf, IsOfServing};
 
-use crate::{Answers, Outcome, ServeFault};
-use commit_log::{AppendFault, Opening, StepLog};
-use requests::{Answer, Refusal, Request, Script, check};
-use schema::{NoMemory, Tables};
+use crate::audits::{audit_idle, audit_served};
+use crate::opening::first_broken;
+use crate::threads::{Ended, serve_all};
+use crate::{Engine, Gate, Outcome, ServeFault};
+use commit_log::{LogSeats, Naming, StepLog};
+use requests::Script;
+use schema::Tables;
 use std::alloc::Global;
 use std::marker::Brand;
+use std::sync::Wait;
+use std::thread::Threads;
 
 /// The most sessions that are served at a time.
 pub const MOST_SESSIONS: usize = 64;
 
-/// Serves the scripts from the opening tables: script s is session s, and its requests are asked one
-/// after the other.
+/// Serves the scripts from the opening tables: script s is session s, which asks its requests one after
+/// the other in a thread of its own. Each request that its check accepts passes the gate, is carried out
+/// and logged in one step, and passes the gate again. Where there is no memory for that it is refused
+/// with `NoMemory`, where the log is full with `LogFull`, and the script goes on.
 ///
-/// Each request is checked, and where the check accepts it carried out and logged in one step. Where
-/// there is no memory for that it is refused with `NoMemory`, where the log is full with `LogFull`, and
-/// the script goes on. `ServeFault::NoMemory` is for the room of the answers alone.
-pub fn serve(alloc: Global, opening: Tables, scripts: &[Script]) -> Result<Outcome, ServeFault>
-    requires some { 1 ≤ length scripts.now }
-    requires most { length scripts.now ≤ MOST_SESSIONS }
-    ensures { IfOk result (λ outcome. IsOutcome opening scripts.now outcome.log.items outcome.tables outcome.answers.items) }
-{
-    Ok(serve_from::<Brand>(alloc, opening, scripts)?)
-}
-
-// Serves the scripts with a log whose opening has the name `J`.
-fn serve_from<J: Opening>(
+/// `NotConsistent` tells the least of the consistency conditions 1 to 10 and 12 that the opening tables
+/// break (TPC-C 5.11, clause 3.3.2): it is asked before a thread starts. `NoThread` is answered where a
+/// thread could not be started, when all that were started have ended; `NoMemory` where there was none to
+/// check the opening tables, to open the log, or for the answers.
+pub fn serve<R: Threads + Wait + Sync, G: Gate + Send + Sync + Drop>(
+    rt: &R,
     alloc: Global,
     opening: Tables,
     scripts: &[Script],
-) -> Result<Outcome, NoMemory>
-    requires opening { J.opening ≡ opening }
+    gate: G,
+) -> Result<Outcome, ServeFault>
+    requires some { 1 ≤ length scripts.now }
     requires most { length scripts.now ≤ MOST_SESSIONS }
-    ensures { IfOk result (λ outcome. IsOutcome opening scripts.now outcome.log.items outcome.tables outcome.answers.items) }
+    ensures outcome { IfOk result (λ outcome. IsOutcome opening scripts.now outcome.log.items outcome.tables outcome.answers.items) }
+    ensures consistent { OnOk result (IsConsistent opening) }
+    ensures fault { IfErr result (λ fault. IsFaultOf opening fault) }
 {
-    let mut log = StepLog::<J>::open(alloc, opening);
-    let mut answers = Vec::new(alloc);
-    for (session, script) in scripts.iter().enumerate() {
-        answers.push(serve_script(alloc, &mut log, session as u32, script)?)?;
+    if let Some(condition) = first_broken(alloc, &opening)? {
+        return Err(ServeFault::NotConsistent(condition));
     }
+    let seats = LogSeats::open(alloc)?;
+    serve_from::<Brand, R, G>(rt, alloc, seats, opening, scripts, gate)
+}
+
+// Serves the scripts with a log that has the name `J`.
+fn serve_from<J: Naming + Send + Sync, R: Threads + Wait + Sync, G: Gate + Send + Sync + Drop>(
+    rt: &R,
+    alloc: Global,
+    seats: LogSeats,
+    opening: Tables,
+    scripts: &[Script],
+    gate: G,
+) -> Result<Outcome, ServeFault>
+    requires opening { J.opening ≡ opening }
+    requires length { J.length ≡ seats.length }
+    requires mine { (session : ℕ) → session < 64 → J.mine session ≡ table_of seats.mine session }
+    requires asks { (session : ℕ) → session < 64 → J.asks session ≡ table_of seats.asks session }
+    requires most { length scripts.now ≤ MOST_SESSIONS }
+    ensures outcome { IfOk result (λ outcome. IsOutcome opening scripts.now outcome.log.items outcome.tables outcome.answers.items) }
+    ensures fault { IfErr result (λ fault. IsOfServing fault) }
+{
+    let (log, lanes) = StepLog::<J>::open(alloc, seats, opening)?;
+    let engine = Engine::new(log, gate);
+    let Ended { served, idle } = serve_all(rt, alloc, &engine, lanes, scripts)?;
+    let mut log = engine.into_log();
+    let answers = audit_served(alloc, &mut log, served, scripts)?;
+    audit_idle(&mut log, idle, scripts.len());
     let (log, tables) = log.into_parts();
     Ok(Outcome {
         log,
         tables,
         answers,
     })
-}
-
-// The answers to the script of the session.
-fn serve_script<J: Opening>(
-    alloc: Global,
-    log: &mut StepLog<J>,
-    session: u32,
-    script: &Script,
-) -> Result<Answers, NoMemory>
-    ensures { IfOk result (λ told. ServesScript J.opening session script.now log.old log.new told) }
-{
-    let mut answers = Answers::new(alloc);
-    for (number, request) in script.requests().iter().enumerate() {
-        answers.push(serve_request(log, session, number as u32, request))?;
-    }
-    Ok(answers)
-}
-
-// The answer to the request of that number.
-fn serve_request<J: Opening>(
-    log: &mut StepLog<J>,
-    session: u32,
-    number: u32,
-    request: &Request,
-) -> Answer
-    ensures { ServesRequest J.opening session number request.now log.old log.new result }
-{
-    if let Err(refusal) = check(&log.tables().scale(), request) {
-        return Answer::Refused(refusal);
-    }
-    match log.append_step(session, number, request) {
-        Ok((place, reply)) => Answer::Done { place, reply },
-        Err(AppendFault::NoMemory) => Answer::Refused(Refusal::NoMemory),
-        Err(AppendFault::LogFull) => Answer::Refused(Refusal::LogFull),
-    }
 }

@@ -17,6 +17,14 @@ pub tables_after-scale : (t : Database) (requests : List Request) → (tables_af
 tables_after-scale t [] = refl
 tables_after-scale t (request ∷ requests) = tables_after-scale (transaction t request).tables requests ∙ transaction-scale t request
 
+-- and so the items
+transaction-items : (t : Database) (request : Request) → (transaction t request).tables.items ≡ t.items
+transaction-items t (Payment p) = (payment_local t p).items
+
+pub tables_after-items : (t : Database) (requests : List Request) → (tables_after t requests).items ≡ t.items
+tables_after-items t [] = refl
+tables_after-items t (request ∷ requests) = tables_after-items (transaction t request).tables requests ∙ transaction-items t request
+
 pub transaction_keeps_consistency : TransactionKeepsConsistency
 transaction_keeps_consistency t (Payment p) consistent = payment_keeps_consistency t p consistent
 

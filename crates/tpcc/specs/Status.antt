@@ -1,10 +1,11 @@
 -- The exit statuses of the program.
 use Rattle.std.specs.Prelude.{ℕ}
 use Rattle.tpcc.specs.declared.status.Status.{Status}
-use Rattle.tpcc.specs.declared.status.Status.TheVariants.{Success, FileFault, Usage, NoMemory}
+use Rattle.tpcc.specs.declared.status.Status.TheVariants.{Success, Failed, Usage, NotConsistent, NoMemory}
 
 abbrev pub exit_status : Status → ℕ
 exit_status Success = 0
-exit_status FileFault = 1
+exit_status Failed = 1
 exit_status Usage = 2
+exit_status NotConsistent = 3
 exit_status NoMemory = 4

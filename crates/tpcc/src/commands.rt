@@ -8,12 +8,14 @@ use crate::settings::{RunSettings, Settings};
 use crate::status::Status;
 use std::io::{ErrorKind, IsTerminal, Stderr, Stdout};
 use std::rt::Files;
+use std::sync::Wait;
+use std::thread::Threads;
 use std::{fs, io};
 
 /// Carries out on files what the settings ask for, and gives the exit status. Files that are read are
 /// opened first, in the order of their reading, and then those that are written are made: what can't be
 /// opened or made is found before anything is read.
-pub fn carry_out<R: Files + AllocGlobal>(
+pub fn carry_out<R: Files + AllocGlobal + Threads + Wait + Sync>(
     rt: &R,
     stdout: Stdout,
     stderr: Stderr,
@@ -26,7 +28,7 @@ pub fn carry_out<R: Files + AllocGlobal>(
     }
 }
 
-fn carry_out_run<R: Files + AllocGlobal>(
+fn carry_out_run<R: Files + AllocGlobal + Threads + Wait + Sync>(
     rt: &R,
     mut stdout: Stdout,
     mut stderr: Stderr,
@@ -42,6 +44,7 @@ fn carry_out_run<R: Files + AllocGlobal>(
                 log,
             },
         ) => run_over(
+            rt,
             rt.alloc(),
             settings,
             data,

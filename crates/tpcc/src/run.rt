@@ -4,22 +4,33 @@ ghost use Rattle.tpcc.specs.Settings.{HasSessions};
 use crate::run_fault::RunFault;
 use crate::settings::RunSettings;
 use crate::status::Status;
-use engine::{Answers, ServeFault, serve};
+use engine::{Answers, OpenGate, serve};
 use requests::Script;
 use schema::NoMemory;
 use std::alloc::Global;
 use std::io::{Read, Write};
+use std::sync::Wait;
+use std::thread::Threads;
 use terminals::{read_script, write_answers, write_log};
 
 // How the standard output is named in a fault.
 const STANDARD_OUTPUT: &str = "standard output";
 
-/// Serves the scripts from the dataset, and gives the exit status.
+/// Serves the scripts from the dataset, one thread for each, and gives the exit status.
 ///
 /// `data` is read first, and then the scripts in turn; the first fault decides, and then nothing was run.
-/// The answers go to `answers`, by session and number, and then the log to `log`. A fault is told on
-/// `errors`, as `tpcc: PATH: row R: fault N` or `tpcc: no memory`.
-pub fn run_over<D: Read + Drop, S: Read + Drop, A: Write, L: Write + Drop, E: Write>(
+/// The answers go to `answers`, by session and number, and then the log to `log`. Why a run ended early is
+/// told on `errors`, as `tpcc: PATH: row R: fault N`, `tpcc: not consistent: N`, `tpcc: no thread` or
+/// `tpcc: no memory`.
+pub fn run_over<
+    R: Threads + Wait + Sync,
+    D: Read + Drop,
+    S: Read + Drop,
+    A: Write,
+    L: Write + Drop,
+    E: Write,
+>(
+    rt: &R,
     alloc: Global,
     settings: &RunSettings,
     data: D,
@@ -31,13 +42,21 @@ pub fn run_over<D: Read + Drop, S: Read + Drop, A: Write, L: Write + Drop, E: Wr
     requires sessions { HasSessions settings.now }
     requires sources { length scripts.old ≡ length settings.now.scripts.items }
 {
-    match run(alloc, settings, data, scripts, answers, log) {
+    match run(rt, alloc, settings, data, scripts, answers, log) {
         Ok(()) => Status::Success,
         Err(fault) => fault.report(errors),
     }
 }
 
-fn run<'a, D: Read + Drop, S: Read + Drop, A: Write, L: Write + Drop>(
+fn run<
+    'a,
+    R: Threads + Wait + Sync,
+    D: Read + Drop,
+    S: Read + Drop,
+    A: Write,
+    L: Write + Drop,
+>(
+    rt: &R,
     alloc: Global,
     settings: &RunSettings<'a>,
     data: D,
@@ -53,8 +72,9 @@ fn run<'a, D: Read + Drop, S: Read + Drop, A: Write, L: Write + Drop>(
         Err(fault) => return Err(RunFault::of_file(settings.data, fault)),
     };
     let scripts = read_scripts(alloc, &settings.scripts, scripts)?;
-    let Ok(outcome) = serve(alloc, opening, scripts.as_slice()) else {
-        return Err(RunFault::NoMemory);
+    let outcome = match serve(rt, alloc, opening, scripts.as_slice(), OpenGate) {
+        Ok(outcome) => outcome,
+        Err(fault) => return Err(RunFault::of_serving(fault)),
     };
     print_answers(alloc, answers, outcome.answers.as_slice())?;
     if let (Some(path), Some(sink)) = (settings.log, log) {

@@ -2,6 +2,7 @@ ghost use Rattle.tpcc.specs.declared.run_fault.RunFault.TheVariants.{NoMemory};
 ghost use Rattle.std.specs.Prelude.{◌≡◌};
 
 use crate::status::Status;
+use engine::ServeFault;
 use files::{FaultKind, FileError, FileFault};
 use std::alloc::AllocFailed;
 use std::fmt;
@@ -13,6 +14,10 @@ pub enum RunFault<'a> {
     NoMemory,
     /// The file of that path has a fault.
     File { path: &'a str, fault: FileFault },
+    /// The tables of the dataset break this condition of consistency, the least of those that they break.
+    NotConsistent(u8),
+    /// A thread could not be started.
+    NoThread,
 }
 
 impl<'a> RunFault<'a> {
@@ -33,12 +38,22 @@ impl<'a> RunFault<'a> {
         }
     }
 
+    /// Why the scripts were not served.
+    pub fn of_serving(fault: ServeFault) -> RunFault<'a> {
+        match fault {
+            ServeFault::NoMemory => RunFault::NoMemory,
+            ServeFault::NotConsistent(number) => RunFault::NotConsistent(number),
+            ServeFault::NoThread => RunFault::NoThread,
+        }
+    }
+
     /// Tells of the fault, and gives the exit status. That it can't be told changes nothing.
     pub fn report<W: Write>(self, errors: &mut W) -> Status {
         let _ = writeln!(errors, "tpcc: {self}");
         match self {
             RunFault::NoMemory => Status::NoMemory,
-            RunFault::File { .. } => Status::FileFault,
+            RunFault::File { .. } | RunFault::NoThread => Status::Failed,
+            RunFault::NotConsistent(_) => Status::NotConsistent,
         }
     }
 }
@@ -48,6 +63,8 @@ impl fmt::Display for RunFault<'_> {
         match self {
             RunFault::NoMemory => f.write_str("no memory"),
             RunFault::File { path, fault } => write!(f, "{path}: {fault}"),
+            RunFault::NotConsistent(number) => write!(f, "not consistent: {number}"),
+            RunFault::NoThread => f.write_str("no thread"),
         }
     }
 }

@@ -5,10 +5,12 @@ ghost use Rattle.tpcc.specs.Status.{exit_status};
 #[derive(Clone, Copy, Debug, PartialEq, Eq)]
 pub enum Status {
     Success,
-    /// A file has a fault, or can't be opened, made, read or written.
-    FileFault,
+    /// A file has a fault, or can't be opened, made, read or written; or a thread could not be started.
+    Failed,
     /// The words of the command line are not understood, or out of their limits.
     Usage,
+    /// The tables of the dataset break a condition of consistency.
+    NotConsistent,
     NoMemory,
 }
 
@@ -19,8 +21,9 @@ impl Status {
     {
         match self {
             Status::Success => 0,
-            Status::FileFault => 1,
+            Status::Failed => 1,
             Status::Usage => 2,
+            Status::NotConsistent => 3,
             Status::NoMemory => 4,
         }
     }

@@ -1,6 +1,8 @@
+use super::serving::script;
 use super::*;
 use amounts::Cents;
 use consistency::check;
+use engine::{OpenGate, ServeFault, serve};
 use schema::{
     CarrierId, LineAmount, LineCount, NewOrder, NextOrderId, Order, OrderKey, OrderLineKey,
 };
@@ -229,5 +231,26 @@ fn fresh_sets_have_2100_delivered_orders(rt: HostRuntime) -> Result<(), Fail> {
     add_orders(&mut rows, 2_101)?;
     let found = broken(rt.alloc(), &Tables::checked(set_scale(1)?, rows)?)?;
     assert_eq!(rt; found.as_slice(), [2, 4, 6].as_slice());
+    Ok(())
+}
+
+// Scripts are not served from tables that break a condition other than 11, and the least is told.
+#[test]
+fn serving_tells_the_least_broken_condition(rt: HostRuntime) -> Result<(), Fail> {
+    let alloc = rt.alloc();
+    for (change, wanted) in [
+        (Change::WarehouseSum, 1),
+        (Change::NextOrder, 2),
+        (Change::YtdPayment, 12),
+    ] {
+        let mut rows = set_k_rows(alloc, 2)?;
+        make(alloc, &mut rows, change)?;
+        let opening = Tables::checked(set_scale(2)?, rows)?;
+        let served = serve(&rt, alloc, opening, &[script(alloc, 1, 100)?], OpenGate);
+        assert!(rt;
+            served.err() == Some(ServeFault::NotConsistent(wanted)),
+            "{change:?}"
+        );
+    }
     Ok(())
 }

@@ -1,9 +1,15 @@
-use Rattle.engine.proofs.OneMore.{outcome_next}
+use Rattle.engine.proofs.Sessions.{all_new}
+use Rattle.engine.proofs.Together.{concluded}
 use Rattle.engine.proofs.serving.serve_from.Goals as goal
 
-pub loop-session-preserved : goal.loop-session-preserved
-loop-session-preserved g c =
-    outcome_next g.J.Opening.opening c.args.scripts.now c.loop-session.session c.loop-session.log c.serve_script.new.log
-    c.loop-session.answers.items c.push.new.self.items c.index-scripts-session.result c.in_ok-serve_script.field-0
-    c.loop-session.invariant.0 c.loop-session.invariant.1 c.loop-session-test.true c.index-scripts-session.is
-    c.in_ok-serve_script.ensures c.in_ok-push.ensures.items
+pub serve_all-requires-clause-new : goal.serve_all-requires-clause-new
+serve_all-requires-clause-new g c κs within = all_new c.in_ok-log.lanes.items c.in_ok-log.ensures.sessions
+
+pub returns-clause-outcome : goal.returns-clause-outcome
+returns-clause-outcome g c =
+    let parts = c.into_parts-log.ensures in
+    let idle = c.audit_idle.ensures in
+    let served = c.in_ok-answers.ensures in
+    concluded g.J.Naming.opening c.args.opening c.args.scripts.now c.in_ok-answers.answers.items c.into_log-log.result c.audit_served.new.log c.audit_idle.new.log
+    c.into_parts-log.result.0.items c.into_parts-log.result.1
+    c.requires.opening served.same idle.same parts.entries parts.tables parts.legal parts.sessions served.count served.each idle.none

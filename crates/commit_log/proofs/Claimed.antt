@@ -1,0 +1,62 @@
+-- A transaction that was carried out under claims leaves a log kept.
+use Rattle.std.proofs.Common.{◌≡◌, ℕ, List, [], ◌∷◌, ◌++◌, map, refl, sym, ap, subst, ◌∙◌}
+use Rattle.std.specs.List.{All}
+use Rattle.std.proofs.lemmas.List.Elements.{All-push, All-weaker}
+use Rattle.schema.specs.Database.{Database}
+use Rattle.requests.specs.declared.group.Group.{Group}
+use Rattle.requests.specs.declared.request.Request.{Request}
+use Rattle.requests.specs.declared.reply.Reply.{Reply}
+use Rattle.requests.specs.declared.reply.Reply.TheVariants.{Payment, RolledBack}
+use Rattle.requests.specs.Check.{IsAccepted}
+use Rattle.groups.specs.Content.{Content, content}
+use Rattle.machine.specs.Machine.{transaction, replies, tables_after}
+use Rattle.machine.proofs.RequestLaws.{tables_after-scale, tables_after-items}
+use Rattle.tickets.specs.Claims.{Claiming}
+use Rattle.tickets.specs.LogSeats.{Committed, SeatsTell, IsToldIn}
+use Rattle.tickets.proofs.Settling.{told_tells, settled_tell}
+use Rattle.commit_log.specs.declared.entry.Entry.{Entry}
+use Rattle.commit_log.specs.Log.{requests_of, replies_of}
+use Rattle.commit_log.specs.Items.{entry_of}
+use Rattle.commit_log.specs.Claimed.{contents_logged, seats_logged, IsCarriedOut, IsKept}
+use Rattle.commit_log.proofs.Legal.{replies-append, tables_after-append, map_push}
+
+-- the seats tell what is committed then
+seats_tell : (reply : Reply) (tables : Group → Content) (claims : List Claiming) (seats : List Committed) → SeatsTell tables seats → SeatsTell (contents_logged reply tables claims) (seats_logged reply claims seats)
+seats_tell (RolledBack fault) tables claims seats tells = tells
+seats_tell (Payment shown) tables claims seats tells = settled_tell tables seats claims tells
+
+pub kept_after : (opening : Database) (entries : List Entry) (seats : List Committed) (claims : List Claiming) (entry : Entry)
+    → IsKept opening entries seats → All (IsToldIn seats) claims → IsAccepted opening.scale entry.request → IsCarriedOut opening entry.request claims entry.reply
+    → IsKept opening (entries ++ entry ∷ []) (seats_logged entry.reply claims seats)
+kept_after opening entries seats claims entry h told accepted carried_out =
+    let asked = map_push (λ (e : Entry). e.request) entries entry in
+    let last = tables_after opening (requests_of entries) in
+    let next_is : tables_after opening (requests_of (entries ++ entry ∷ [])) ≡ (transaction last entry.request).tables =
+    ap (tables_after opening) asked ∙ tables_after-append opening (requests_of entries) entry.request in
+    let said = carried_out last (tables_after-scale opening (requests_of entries)) (tables_after-items opening (requests_of entries)) (told_tells (content last) seats claims h.committed told) in
+    let now = seats_logged entry.reply claims seats in
+    record {
+      accepted = All-push (λ (e : Entry). IsAccepted opening.scale e.request) entries entry h.accepted accepted;
+      replied =
+          map_push (λ (e : Entry). e.reply) entries entry
+          ∙ ap (λ l. l ++ entry.reply ∷ []) h.replied
+          ∙ ap (λ (r : Reply). replies opening (requests_of entries) ++ r ∷ []) (sym said.0)
+          ∙ sym (replies-append opening (requests_of entries) entry.request)
+          ∙ ap (replies opening) (sym asked);
+      committed = subst (λ (t : Database). SeatsTell (content t) now) (sym next_is)
+          (All-weaker (λ (seat : Committed). contents_logged entry.reply (content last) claims seat.group ≡ seat.content) (λ (seat : Committed). content (transaction last entry.request).tables seat.group ≡ seat.content)
+          (λ seat tells. said.1 seat.group ∙ tells) now (seats_tell entry.reply (content last) claims seats h.committed));
+    }
+
+-- the same, where the entry was logged with the pass's session
+pub kept_logged : (opening : Database) (before now after : List Entry) (seats new_seats : List Committed) (claims : List Claiming) (entry : Entry) (session : ℕ)
+    → IsKept opening before seats → All (IsToldIn seats) claims → IsAccepted opening.scale entry.request → IsCarriedOut opening entry.request claims entry.reply
+    → now ≡ before → session ≡ entry.session → after ≡ now ++ entry_of session entry.number entry.request entry.reply ∷ []
+    → new_seats ≡ seats_logged entry.reply claims seats
+    → IsKept opening after new_seats
+kept_logged opening before now after seats new_seats claims entry session h told accepted carried_out same_entries same_session after_is seats_are =
+    let entries_are : after ≡ before ++ entry ∷ [] =
+    after_is ∙ ap (λ (l : List Entry). l ++ entry_of session entry.number entry.request entry.reply ∷ []) same_entries
+    ∙ ap (λ (s : ℕ). before ++ entry_of s entry.number entry.request entry.reply ∷ []) same_session in
+    subst (λ (l : List Entry). IsKept opening l new_seats) (sym entries_are)
+    (subst (IsKept opening (before ++ entry ∷ [])) (sym seats_are) (kept_after opening before seats claims entry h told accepted carried_out))

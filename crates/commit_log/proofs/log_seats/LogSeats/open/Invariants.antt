@@ -1,0 +1,5 @@
+use Rattle.commit_log.specs.Lanes.{AreLanes}
+use Rattle.commit_log.proofs.log_seats.LogSeats.open.Given as goal
+
+abbrev pub invariant-loop-session : goal.invariant-loop-session
+invariant-loop-session l = AreLanes l._session l.length l.mine.items l.lanes.items

@@ -1,0 +1,39 @@
+-- The seats of a new log.
+use Rattle.std.specs.Prelude.{◌≡◌, ℕ, List, [], length, map, All}
+use Rattle.atomic_table.specs.Seated.{TableId}
+use Rattle.agreement.specs.Telling.{Telling}
+use Rattle.length_word.specs.Reaching.{Reaching, reaching}
+use Rattle.commit_log.specs.declared.log_seats.Lane.{Lane}
+use Rattle.commit_log.specs.declared.mine.Mine.{Mine}
+use Rattle.commit_log.specs.Asks.{nothing_asked}
+use Rattle.commit_log.specs.Items.{mine_of}
+use Rattle.commit_log.specs.Kept.{seat_at}
+use Rattle.commit_log.specs.LogTables.{LogTables}
+
+abbrev pub mine_table : Lane → TableId
+mine_table lane = lane.mine.agreement.table
+
+abbrev pub asks_table : Lane → TableId
+asks_table lane = lane.asks.agreement.table
+
+-- the tables of a length and of these sessions
+abbrev pub tables_of : Reaching → List Lane → LogTables
+tables_of word lanes = record { length = word.table; mine = map mine_table lanes; asks = map asks_table lanes }
+
+-- what a session has at these tables that has seen, logged and asked nothing
+pub record IsLaneOf (length_table mine_table asks_table : TableId) (lane : Lane) : Type 0 where
+  pub mark : lane.mark ≡ reaching length_table 0
+  pub mine : lane.mine ≡ seat_at mine_table (mine_of [])
+  pub asks : lane.asks ≡ seat_at asks_table nothing_asked
+  pub asked : lane.asked ≡ seat_at asks_table nothing_asked
+
+-- the same, at the lane's own tables
+abbrev pub IsNewLane : TableId → Lane → Type 0
+IsNewLane length_table lane = IsLaneOf length_table (mine_table lane) (asks_table lane) lane
+
+-- what this many sessions have, with the length of an empty log, and its seats
+pub record AreLanes (sessions : ℕ) (word : Reaching) (seats : List (Telling Mine)) (lanes : List Lane) : Type 0 where
+  pub empty : word.entries ≡ 0
+  pub many : length lanes ≡ sessions
+  pub seats_of_log : seats ≡ map (λ lane. lane.mine) lanes
+  pub new : All (IsNewLane word.table) lanes

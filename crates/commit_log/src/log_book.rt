@@ -1,0 +1,198 @@
+ghost use Rattle.std.specs.Prelude.{◌≡◌, ◌+◌, ◌-◌, ◌^◌, ◌<◌, ◌≤◌, ◌↔◌, ℕ, [], ◌∷◌, ◌++◌, length, All, Some, IfOk, OnOk, IfErr, slice_get, vec_len};
+ghost use Rattle.length_word.specs.Reaching.{reaching};
+ghost use Rattle.commit_log.specs.Items.{entry_of, item, items_of};
+ghost use Rattle.commit_log.specs.Passing.{new_pass, new_seat, after_item, after_refusal};
+ghost use Rattle.commit_log.specs.LogTables.{table_of};
+ghost use Rattle.commit_log.specs.Logged.{booked};
+
+use crate::mine::{Logs, tell};
+use crate::{Entry, LogSeats, Mine, Naming, Pass, SessionSeat};
+use agreement::Seat;
+use length_word::{Length, Mark};
+use requests::{Reply, Request};
+use schema::NoMemory;
+use std::alloc::Global;
+use std::marker::{Model, PhantomData};
+
+/// The most entries that a log has.
+pub const MOST_ENTRIES: usize = 16_777_216;
+
+/// Why a request was not carried out and logged.
+#[derive(Clone, Copy, Debug, PartialEq, Eq)]
+pub enum AppendFault {
+    NoMemory,
+    /// The log has its most entries.
+    LogFull,
+}
+
+/// The entries of a log, which tell each session what it has logged and how far the log has reached.
+/// It knows nothing of the engine that carries out what is logged.
+#[derive(Drop)]
+pub struct LogBook<J: Naming> {
+    entries: Vec<Entry>,
+    length: Length,
+    /// What each session has logged, by its number.
+    mine: Vec<Seat<Mine>>,
+    naming: PhantomData<J>,
+}
+
+impl<J: Naming> Model for LogBook<J> {
+    ghost use Rattle.std.specs.Prelude.{◌-◌, vec_len, vec_capacity, refl};
+    ghost use Rattle.std.specs.Coded.{code_by, coded×, coded_list, coded_ℕ};
+    ghost use Rattle.commit_log.specs.contracts.entry.Entry as entry;
+    ghost use Rattle.commit_log.specs.Logged.{Booked, booked};
+    ghost use Rattle.commit_log.specs.Kept.{IsBookOf};
+
+    ghost Value = { Booked };
+
+    ghost coded = { code_by _ (coded× (coded_list entry.the_row.coded) coded_ℕ) (λ b. (b.entries, b.spare)) (λ p. record { entries = p.0; spare = p.1 }) (λ _. refl) };
+
+    ghost view = { λ b. booked b.entries.items (vec_capacity b.entries - vec_len b.entries) };
+
+    ghost invariant = { λ b. IsBookOf J.length J.mine b.entries.items b.length b.mine.items };
+}
+
+impl<J: Naming> LogBook<J> {
+    /// A book without entries, and each session's pass and seat, in the order of the sessions. Nothing is
+    /// left after an error.
+    pub fn open(
+        alloc: Global,
+        seats: LogSeats,
+    ) -> Result<(LogBook<J>, Vec<(Pass<J>, SessionSeat<J>)>), NoMemory>
+        requires length { J.length ≡ seats.length }
+        requires mine { (session : ℕ) → session < 64 → J.mine session ≡ table_of seats.mine session }
+        requires asks { (session : ℕ) → session < 64 → J.asks session ≡ table_of seats.asks session }
+        ensures entries { IfOk result (λ opened. opened.0.entries ≡ []) }
+        ensures count { IfOk result (λ opened. vec_len opened.1 ≡ 64) }
+        ensures sessions { IfOk result (λ opened.
+            (session : ℕ) → session < 64 → slice_get opened.1.items session ≡ Some (new_pass session, new_seat session)) }
+    {
+        let LogSeats {
+            length,
+            mine,
+            mut lanes,
+        } = seats;
+        let mut sessions = Vec::new(alloc);
+        while let Some(lane) = lanes.pop_front() {
+            let session = sessions.len() as u32;
+            let pass = Pass {
+                session,
+                seen: 0,
+                mark: lane.mark,
+                mine: lane.mine,
+                asks: lane.asks,
+                naming: PhantomData,
+            };
+            let seat = SessionSeat {
+                session,
+                asks: lane.asked,
+                naming: PhantomData,
+            };
+            sessions.push((pass, seat))?;
+        }
+        let book = LogBook {
+            entries: Vec::new(alloc),
+            length,
+            mine,
+            naming: PhantomData,
+        };
+        Ok((book, sessions))
+    }
+
+    /// The entries, in log order.
+    pub fn entries(&self) -> &[Entry]
+        ensures entries { result.now ≡ self.now.entries }
+        ensures most { length self.now.entries ≤ MOST_ENTRIES }
+        ensures sessions { All (λ entry. entry.session < 64) self.now.entries }
+    {
+        self.entries.as_slice()
+    }
+
+    /// The entries, in log order. It takes no memory.
+    pub fn into_entries(self) -> Vec<Entry>
+        ensures entries { result.items ≡ self.entries }
+        ensures most { length self.entries ≤ MOST_ENTRIES }
+        ensures sessions { All (λ entry. entry.session < 64) self.entries }
+    {
+        self.entries
+    }
+
+    /// Makes room for an entry, and tells its place. Where the log is full, the pass's mark knows the
+    /// length from then on, while what the pass has seen stays as it was.
+    pub fn make_room(&mut self, pass: &mut Pass<J>) -> Result<u32, AppendFault>
+        ensures entries { self.new.entries ≡ self.old.entries }
+        ensures place { IfOk result (λ place. place ≡ length self.old.entries) }
+        ensures below { OnOk result (length self.old.entries < MOST_ENTRIES) }
+        ensures spare { OnOk result (0 < self.new.spare) }
+        ensures pass { OnOk result (pass.new ≡ pass.old) }
+        ensures full { IfErr result (λ fault. (fault ≡ AppendFault.LogFull) ↔ (MOST_ENTRIES ≤ length self.old.entries)) }
+        ensures refused { IfErr result (λ fault. pass.new ≡ after_refusal fault (length self.old.entries) pass.old) }
+        ensures further { pass.old.reached ≤ pass.new.reached }
+    {
+        if self.entries.len() >= MOST_ENTRIES {
+            self.length.check(&mut pass.mark);
+            self.length.show(&mut pass.mark);
+            return Err(AppendFault::LogFull);
+        }
+        match self.entries.reserve(1) {
+            Ok(()) => Ok(self.entries.len() as u32),
+            Err(_) => Err(AppendFault::NoMemory),
+        }
+    }
+
+    /// Logs what the pass asks with its reply, in the room that was made: the log has this entry more,
+    /// and the pass has seen it.
+    pub fn log(&mut self, pass: &mut Pass<J>, number: u32, request: Request, reply: Reply)
+        requires below { length self.old.entries < MOST_ENTRIES }
+        requires spare { 0 < self.old.spare }
+        requires number { pass.old.asks.number ≡ number }
+        requires request { pass.old.asks.request ≡ request }
+        ensures book { self.new ≡ booked
+            (self.old.entries ++ entry_of pass.old.session number request reply ∷ []) (self.old.spare - 1) }
+        ensures later { pass.old.seen ≤ length self.old.entries }
+        ensures further { pass.old.reached ≤ length self.old.entries }
+        ensures pass { pass.new ≡ after_item pass.old (item (length self.old.entries) number request reply) }
+    {
+        let place = self.length.entries();
+        reach_one_more(&mut self.length, &mut pass.mark);
+        pass.seen = place + 1;
+        let logs = Logs {
+            place,
+            number,
+            request: &request,
+            reply: &reply,
+        };
+        tell(&mut self.mine[pass.session as usize], &mut pass.mine, &logs);
+        self.entries.push_reserved(Entry {
+            session: pass.session,
+            number,
+            request,
+            reply,
+        });
+    }
+
+    /// Learns that the log has reached what the pass knows, and that the pass tells exactly what its
+    /// session has logged. Both stay as they were.
+    pub fn audit(&mut self, pass: &mut Pass<J>)
+        ensures seen { pass.old.seen ≤ pass.old.reached }
+        ensures reached { pass.old.reached ≤ length self.old.entries }
+        ensures mine { pass.old.mine ≡ items_of pass.old.session self.old.entries }
+        ensures same { (self.new ≡ self.old) × (pass.new ≡ pass.old) }
+    {
+        self.length.check(&mut pass.mark);
+        self.mine[pass.session as usize].look(&mut pass.mine);
+    }
+}
+
+// The log is one entry longer, and the mark knows it. The mark knew no more than the length before.
+fn reach_one_more(length: &mut Length, mark: &mut Mark)
+    requires table { mark.old.table ≡ length.old.table }
+    requires room { length.old.entries + 1 < 2 ^ 32 }
+    ensures below { mark.old.entries ≤ length.old.entries }
+    ensures length { length.new ≡ reaching length.old.table (length.old.entries + 1) }
+    ensures mark { mark.new ≡ length.new }
+{
+    length.check(mark);
+    length.grow();
+    length.show(mark);
+}

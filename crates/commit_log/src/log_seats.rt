@@ -1,0 +1,86 @@
+ghost use Rattle.std.specs.Prelude.{◌≡◌, length, IfOk};
+ghost use Rattle.commit_log.specs.Kept.{IsPair};
+
+use crate::{Asking, Mine};
+use agreement::{Seat, Value};
+use length_word::{Length, Mark};
+use schema::NoMemory;
+use std::alloc::Global;
+use std::collections::VecDeque;
+use std::marker::Model;
+
+/// How many sessions a log has: 0 to 63.
+pub const SESSIONS: u32 = 64;
+
+/// What a session's pass and seat are made of.
+#[derive(Drop)]
+pub(crate) struct Lane {
+    pub(crate) mark: Mark,
+    pub(crate) mine: Seat<Mine>,
+    /// The pass's seat of the agreement on what the session asks, and the session's own.
+    pub(crate) asks: Seat<Asking>,
+    pub(crate) asked: Seat<Asking>,
+}
+
+/// The length and the agreements of a new log, before they have a name. Contracts see the tables of
+/// each: they are what a name is picked from.
+#[derive(Drop)]
+pub struct LogSeats {
+    pub(crate) length: Length,
+    /// The log's seats of the agreements on what each session has logged.
+    pub(crate) mine: Vec<Seat<Mine>>,
+    /// For each session.
+    pub(crate) lanes: VecDeque<Lane>,
+}
+
+impl Model for LogSeats {
+    ghost use Rattle.commit_log.specs.LogTables.{LogTables};
+
+    ghost Value = { LogTables };
+
+    ghost use Rattle.commit_log.specs.Lanes.{tables_of, AreLanes};
+
+    ghost view = { λ s. tables_of s.length s.lanes.items };
+
+    ghost invariant = { λ s. AreLanes 64 s.length s.mine.items s.lanes.items };
+}
+
+impl LogSeats {
+    /// Makes the length and the agreements of 64 sessions that have asked and logged nothing. Nothing is
+    /// left after an error.
+    pub fn open(alloc: Global) -> Result<LogSeats, NoMemory>
+        ensures mine { IfOk result (λ seats. length seats.mine ≡ 64) }
+        ensures asks { IfOk result (λ seats. length seats.asks ≡ 64) }
+    {
+        let mut length = Length::open(alloc)?;
+        let mut mine = Vec::new(alloc);
+        let mut lanes = VecDeque::new(alloc);
+        for _session in 0..SESSIONS {
+            let (logged, log_logged) = two_seats(alloc)?;
+            let (asks, asked) = two_seats(alloc)?;
+            let mark = length.mark()?;
+            mine.push(log_logged)?;
+            lanes.push_back(Lane {
+                mark,
+                mine: logged,
+                asks,
+                asked,
+            })?;
+        }
+        Ok(LogSeats {
+            length,
+            mine,
+            lanes,
+        })
+    }
+}
+
+// The two seats of a new agreement.
+fn two_seats<V: Value>(alloc: Global) -> Result<(Seat<V>, Seat<V>), NoMemory>
+    ensures { IfOk result (λ seats. IsPair V.initial seats.0 seats.1) }
+{
+    let mut one = Seat::open(alloc, 2)?;
+    let mut other = one.another()?;
+    one.give::<1>(&mut other);
+    Ok((one, other))
+}

@@ -1,0 +1,30 @@
+use std::marker::Brand;
+
+/// Names what a log, its passes and its sessions have in common. It is no data of the program: the call
+/// that opens a log picks it, and whatever belongs to that log has it as a type parameter.
+pub trait Naming {
+    ghost use Rattle.std.specs.Prelude.{ℕ};
+    ghost use Rattle.atomic_table.specs.Seated.{TableId};
+    ghost use Rattle.schema.specs.Database.{Database};
+
+    /// The tables with which the log was opened.
+    ghost opening: { Database };
+    /// The table of the log's length.
+    ghost length: { TableId };
+    /// The table of the agreement on what each session has logged.
+    ghost mine: { ℕ → TableId };
+    /// The table of the agreement on what each session asks.
+    ghost asks: { ℕ → TableId };
+}
+
+impl Naming for Brand {
+    ghost use Rattle.commit_log.specs.NoTables.{no_tables, no_table};
+
+    ghost opening = { no_tables };
+
+    ghost length = { no_table };
+
+    ghost mine = { λ session. no_table };
+
+    ghost asks = { λ session. no_table };
+}

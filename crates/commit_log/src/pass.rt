@@ -1,0 +1,68 @@
+ghost use Rattle.std.specs.Prelude.{◌≡◌};
+ghost use Rattle.commit_log.specs.Passing.{having_met};
+
+use crate::{Asking, Mine, Naming};
+use agreement::Seat;
+use length_word::Mark;
+use std::marker::{Model, PhantomData};
+
+/// What a session knows of the log: how far it has reached, and what the session has logged. It goes
+/// with the session's request to the log, and comes back with the answer.
+#[derive(Drop)]
+pub struct Pass<J: Naming> {
+    /// The session, 0 to 63.
+    pub(crate) session: u32,
+    /// How many entries the log had when the session, or one that it met, had an answer from it.
+    pub(crate) seen: u32,
+    /// A number of entries that the log has reached: the number seen, or more where the log was full.
+    pub(crate) mark: Mark,
+    pub(crate) mine: Seat<Mine>,
+    pub(crate) asks: Seat<Asking>,
+    pub(crate) naming: PhantomData<J>,
+}
+
+impl<J: Naming> Model for Pass<J> {
+    ghost use Rattle.commit_log.specs.Passing.{Passing, passing};
+    ghost use Rattle.commit_log.specs.Kept.{IsPassOf};
+
+    ghost Value = { Passing };
+
+    ghost view = { λ p. passing p.session p.seen p.mark.entries p.mine.value.items p.asks.value };
+
+    ghost invariant = { λ p. IsPassOf J.length (J.mine p.session) (J.asks p.session) p.session p.seen p.mark p.mine p.asks };
+}
+
+impl<J: Naming> Pass<J> {
+    /// The session whose pass it is, 0 to 63.
+    pub fn session(&self) -> u32
+        ensures { result ≡ self.now.session }
+    {
+        self.session
+    }
+
+    /// How many entries it has seen.
+    pub fn seen(&self) -> u32
+        ensures { result ≡ self.now.seen }
+    {
+        self.seen
+    }
+
+    /// A number of entries that the log has reached, which is no less than what it has seen.
+    pub fn reached(&self) -> u32
+        ensures { result ≡ self.now.reached }
+    {
+        self.mark.entries()
+    }
+}
+
+/// Two sessions meet: both passes have seen the larger number of entries from then on. It waits for
+/// nobody.
+pub fn meet<J: Naming>(one: &mut Pass<J>, other: &mut Pass<J>)
+    ensures one { one.new ≡ having_met one.old other.old }
+    ensures other { other.new ≡ having_met other.old one.old }
+{
+    let seen = one.seen.max(other.seen);
+    length_word::meet(&mut one.mark, &mut other.mark);
+    one.seen = seen;
+    other.seen = seen;
+}

@@ -1,0 +1,34 @@
+ghost use Rattle.std.specs.Prelude.{◌≡◌, true, false, IfOk};
+ghost use Rattle.machine.specs.Machine.{transaction};
+ghost use Rattle.commit_log.specs.Replay.{IsReplayOf, IsReplied};
+
+use crate::{Entry, Replay};
+use machine::Plain;
+use requests::check;
+use schema::{NoMemory, Tables};
+
+/// Carries out the entries' requests one at a time, in log order, from the opening tables, and compares
+/// the replies. After want of memory nothing is given.
+pub fn replay(opening: Tables, entries: &[Entry]) -> Result<Replay, NoMemory>
+    ensures { IfOk result (IsReplayOf opening entries.now) }
+{
+    let mut plain = Plain::open(opening);
+    for (place, entry) in entries.iter().enumerate() {
+        if !repeats(&mut plain, entry)? {
+            return Ok(Replay::Differs(place));
+        }
+    }
+    Ok(Replay::Equal(plain.into_tables()))
+}
+
+// Whether the entry is what the engine does next, and then it has done it.
+fn repeats(plain: &mut Plain, entry: &Entry) -> Result<bool, NoMemory>
+    ensures does { IfOk result (λ same. same ≡ true → IsReplied plain.old entry.now) }
+    ensures done { IfOk result (λ same. same ≡ true → plain.new ≡ (transaction plain.old entry.now.request).tables) }
+    ensures differs { IfOk result (λ same. same ≡ false → IsReplied plain.old entry.now → ⊥) }
+{
+    if check(&plain.tables().scale(), &entry.request).is_err() {
+        return Ok(false);
+    }
+    Ok(plain.step(&entry.request)? == entry.reply)
+}

@@ -1,0 +1,63 @@
+ghost use Rattle.std.specs.Prelude.{◌≡◌};
+ghost use Rattle.commit_log.specs.Asks.{asking};
+ghost use Rattle.commit_log.specs.Passing.{with_asks, seating};
+
+use crate::asking::Asks;
+use crate::{Asking, Naming, Pass};
+use agreement::Seat;
+use requests::Request;
+use std::marker::{Model, PhantomData};
+
+/// What a session keeps while its pass is away: what it asked, and what its pass was when it asked.
+#[derive(Drop)]
+pub struct SessionSeat<J: Naming> {
+    /// The session, 0 to 63.
+    pub(crate) session: u32,
+    pub(crate) asks: Seat<Asking>,
+    pub(crate) naming: PhantomData<J>,
+}
+
+impl<J: Naming> Model for SessionSeat<J> {
+    ghost use Rattle.commit_log.specs.Passing.{Seating, seating};
+    ghost use Rattle.commit_log.specs.Kept.{IsSeatOf};
+
+    ghost Value = { Seating };
+
+    ghost view = { λ s. seating s.session s.asks.value };
+
+    ghost invariant = { λ s. IsSeatOf (J.asks s.session) s.session s.asks };
+}
+
+impl<J: Naming> SessionSeat<J> {
+    /// The session whose seat it is, 0 to 63.
+    pub fn session(&self) -> u32
+        ensures { result ≡ self.now.session }
+    {
+        self.session
+    }
+
+    /// The session asks a request of this number with its pass: the pass and the seat tell it, and what
+    /// the pass has seen and logged by now.
+    pub fn ask(&mut self, pass: &mut Pass<J>, number: u32, request: &Request)
+        requires { pass.old.session ≡ self.old.session }
+        ensures seat { self.new ≡ seating self.old.session (asking number request.now pass.old.seen pass.old.mine) }
+        ensures pass { pass.new ≡ with_asks pass.old (asking number request.now pass.old.seen pass.old.mine) }
+    {
+        let asks = Asks {
+            number,
+            request,
+            seen: pass.seen,
+            mine: &pass.mine,
+        };
+        self.asks.change_together(&mut pass.asks, &asks);
+    }
+
+    /// Learns that a pass of the session tells what the seat tells. Both stay as they were.
+    pub fn look(&mut self, pass: &mut Pass<J>)
+        requires { pass.old.session ≡ self.old.session }
+        ensures equal { pass.old.asks ≡ self.old.asking }
+        ensures same { (self.new ≡ self.old) × (pass.new ≡ pass.old) }
+    {
+        self.asks.look(&mut pass.asks);
+    }
+}

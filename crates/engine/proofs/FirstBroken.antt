@@ -1,0 +1,72 @@
+-- The first condition that tables break, from what is told of each.
+use Rattle.std.proofs.Common.{◌≡◌, ◌≢◌, ◌⊎◌, inl, inr, ℕ, zero, suc, ◌+◌, ◌-◌, ◌<◌, ◌↔◌, Bool, true, false, IsTrue, List, [], ◌∷◌, length, get_or, refl, sym, ap, subst, ◌∙◌, arith}
+use Rattle.schema.specs.Database.{Database}
+use Rattle.consistency.specs.Conditions.{conditions, Tell, AreExact}
+use Rattle.engine.specs.Opening.{HoldsAmong, Meets, IsAskedFor, IsConsistent, BreaksFirst}
+
+-- what is told of the condition at a place
+told : (all : List (Database → Type 0)) (t : Database) (answers : List Bool) (k : ℕ) (d : Bool) → Tell all t answers → k < length answers → IsTrue (get_or answers k d) ↔ HoldsAmong all k t
+told [] t [] k d h low = absurd (omega arith)
+told [] t (a ∷ answers) k d h low = absurd h
+told (c ∷ all) t [] k d h low = absurd h
+told (c ∷ all) t (a ∷ answers) zero d h low = h.0
+told (c ∷ all) t (a ∷ answers) (suc k) d h low = told all t answers k d h.1 (omega arith)
+
+-- the conditions at these first places hold, but for the one that is not asked for
+abbrev pub HoldBelow : Database → ℕ → Type 0
+HoldBelow t place = (k : ℕ) → k < place → k ≢ 10 → HoldsAmong conditions k t
+
+pub none_below : (t : Database) → HoldBelow t 0
+none_below t k low other = absurd (omega arith)
+
+-- one place more, whose condition holds, or is not asked for
+pub one_place_more : (t : Database) (answers : List Bool) (place : ℕ) → AreExact t answers → place < length answers
+    → ((get_or answers place false ≡ false) × (place ≡ 10)) ⊎ (get_or answers place false ≡ true)
+    → HoldBelow t place → HoldBelow t (place + 1)
+one_place_more t answers place exact low found below k up other =
+    by_last place k (HoldsAmong conditions k t) (omega arith)
+    (λ less. below k less other)
+    (λ is. elim found as (λ _. HoldsAmong conditions k t) [
+      | inl passed ↦ let not : ⊥ = other (is ∙ passed.1) in absurd not
+      | inr holds ↦ subst (λ n. HoldsAmong conditions n t) (sym is) ((told conditions t answers place false exact low).0 holds)
+    ])
+  where
+    by_last : (n m : ℕ) (G : Type 0) → m < n + 1 → (m < n → G) → (m ≡ n → G) → G
+    by_last zero zero G up less last = last refl
+    by_last zero (suc m) G up less last = absurd (omega arith)
+    by_last (suc n) zero G up less last = less (omega arith)
+    by_last (suc n) (suc m) G up less last = by_last n m G (omega arith) (λ l. less (omega arith)) (λ e. last (ap suc e))
+
+-- a condition at a place stands for the condition of the number after it
+meets_at : (t : Database) (n place : ℕ) → n ≡ place + 1 → HoldsAmong conditions place t → Meets t n
+meets_at t n place is holds = let at : place ≡ n - 1 = omega arith in subst (λ k. HoldsAmong conditions k t) at holds
+
+-- the conditions that are asked for hold below this place
+pub met_below : (t : Database) (place : ℕ) → HoldBelow t place → (n : ℕ) → n < place + 1 → IsAskedFor n → Meets t n
+met_below t place below n low asked = below (n - 1) (let some = asked.0 in omega arith) (λ is. let other = asked.1.1 in let some = asked.0 in absurd (other (omega arith)))
+
+pub all_met : (t : Database) → HoldBelow t 12 → IsConsistent t
+all_met t below n asked = met_below t 12 below n (let most = asked.1.0 in omega arith) asked
+
+pub first_broken_at : (t : Database) (answers : List Bool) (place : ℕ) → AreExact t answers → place < length answers → place < 12
+    → get_or answers place false ≡ false → (place ≡ 10 → ⊥) → HoldBelow t place → BreaksFirst t (place + 1)
+first_broken_at t answers place exact low some broken asked below = (
+  (omega arith, (omega arith, λ is. asked (omega arith))),
+  (
+    (λ meets.
+        let at : place + 1 - 1 ≡ place = omega arith in
+        let holds : HoldsAmong conditions place t = subst (λ k. HoldsAmong conditions k t) at meets in
+        let so : get_or answers place false ≡ true = (told conditions t answers place false exact low).1 holds in
+        absurd cc),
+    λ m lower asked. met_below t place below m lower asked,
+  ),
+)
+
+pub twelve : (t : Database) (answers : List Bool) → AreExact t answers → length answers ≡ 12
+twelve t answers exact = as_many conditions t answers exact
+  where
+    as_many : (all : List (Database → Type 0)) (u : Database) (bs : List Bool) → Tell all u bs → length bs ≡ length all
+    as_many [] u [] h = refl
+    as_many [] u (b ∷ bs) h = absurd h
+    as_many (c ∷ all) u [] h = absurd h
+    as_many (c ∷ all) u (b ∷ bs) h = ap suc (as_many all u bs h.1)

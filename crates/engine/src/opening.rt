@@ -1,0 +1,22 @@
+ghost use Rattle.std.specs.Prelude.{IfOk, MatchOption};
+ghost use Rattle.engine.specs.Opening.{IsConsistent, BreaksFirst};
+
+use schema::{NoMemory, Tables};
+use std::alloc::Global;
+
+// The place of condition 11, which is meant for fresh tables alone.
+const FRESH_ORDERS: usize = 10;
+
+/// The least of the consistency conditions 1 to 10 and 12 that the tables break (TPC-C 5.11, clause
+/// 3.3.2); `None` where they meet all of them.
+pub(crate) fn first_broken(alloc: Global, tables: &Tables) -> Result<Option<u8>, NoMemory>
+    ensures { IfOk result (λ broken. MatchOption broken (IsConsistent tables.now) (λ n. BreaksFirst tables.now n)) }
+{
+    let answers = consistency::check(alloc, tables)?;
+    for (place, holds) in answers.iter().enumerate() {
+        if !*holds && place != FRESH_ORDERS {
+            return Ok(Some(place as u8 + 1));
+        }
+    }
+    Ok(None)
+}

@@ -1,0 +1,24 @@
+use Rattle.std.proofs.Common.{◌≡◌, length, set, ap, ◌∙◌, subst, arith}
+use Rattle.std.specs.List.{AllWithin}
+use Rattle.std.proofs.lemmas.List.{set-get_or}
+use Rattle.std.proofs.lemmas.List.Elements.{AllWithin-more, All-from_all_within}
+use Rattle.tickets.specs.LogSeats.{IsToldIn}
+use Rattle.tickets.proofs.Settling.{told_at}
+use Rattle.tickets.proofs.log_seats.LogSeats.look_all.Goals as goal
+
+pub loop-k-preserved : goal.loop-k-preserved
+loop-k-preserved g c =
+    let seats = c.args.self.now in
+    let claims = c.args.claims.now in
+    record {
+      seats = c.look.ensures.same.0 ∙ c.loop-k.invariant.seats;
+      claims = ap (set c.loop-k.claims c.loop-k.k) c.look.ensures.same.1 ∙ set-get_or c.loop-k.claims c.loop-k.k c.index-claims-k.result ∙ c.loop-k.invariant.claims;
+      told = AllWithin-more (IsToldIn seats) claims 0 c.loop-k.k c.loop-k.invariant.told
+          (told_at seats c.loop-k.self claims c.loop-k.claims c.loop-k.k c.index-claims-k.result c.loop-k.invariant.seats c.loop-k.invariant.claims (omega arith) c.look.ensures.told);
+    }
+
+pub returns-clause-told : goal.returns-clause-told
+returns-clause-told g c =
+    let all : c.loop-k.k ≡ length c.args.claims.now = omega arith in
+    All-from_all_within (IsToldIn c.args.self.now) c.args.claims.now
+    (subst (AllWithin (IsToldIn c.args.self.now) c.args.claims.now 0) all c.loop-k.invariant.told)

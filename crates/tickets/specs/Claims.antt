@@ -1,0 +1,53 @@
+-- What a contract sees of a claim, and what it holds.
+use Rattle.std.specs.Prelude.{◌≡◌}
+use Rattle.atomic_table.specs.Seated.{TableId}
+use Rattle.agreement.specs.Telling.{Telling}
+use Rattle.requests.specs.declared.group.Group.{Group}
+use Rattle.groups.specs.Content.{Content}
+use Rattle.groups.specs.declared.wishes.Mode.{Mode}
+use Rattle.groups.specs.declared.wishes.Mode.TheVariants.{Shared, Exclusive}
+use Rattle.tickets.specs.declared.work.Told.{Told}
+use Rattle.tickets.specs.declared.work.Work.{Work}
+use Rattle.tickets.specs.Seats.{committed_seat, work_seat, told_shares, work_shares, untouched}
+
+-- Its group, how it is claimed, what its tickets tell as committed, what it left in the group, and what is in the group
+-- again once that is taken back.
+pub record Claiming : Type 0 where
+  pub group : Group
+  pub mode : Mode
+  pub told : Content
+  pub left : Content
+  pub back : Content
+
+abbrev pub claiming : Group → Mode → Content → Work → Claiming
+claiming group mode told work = record { group = group; mode = mode; told = told; left = work.left; back = work.back }
+
+-- a claim of this mode on a group with this content, under which nothing was done yet
+abbrev pub fresh : Group → Mode → Content → Claiming
+fresh group mode content = record { group = group; mode = mode; told = content; left = content; back = content }
+
+-- What is committed in a group once a claim of this mode is settled: what it left, where it is exclusive. A shared claim
+-- changes nothing.
+abbrev pub committed_by : Mode → Content → Content → Content
+committed_by Shared left before = before
+committed_by Exclusive left before = left
+
+-- the claim once what it left is committed: it tells that
+abbrev pub settled : Claiming → Claiming
+settled c = record { group = c.group; mode = c.mode; told = committed_by c.mode c.left c.told; left = c.left; back = c.back }
+
+-- the claim once it left this in the group
+abbrev pub leaving : Claiming → Content → Claiming
+leaving c content = record { group = c.group; mode = c.mode; told = c.told; left = content; back = c.back }
+
+-- what a shared claim tells is all there is: nothing is done in the group
+abbrev pub IsUntouched : Mode → Content → Work → Type 0
+IsUntouched Shared told work = work ≡ untouched Shared told
+IsUntouched Exclusive told work = work.mode ≡ Exclusive
+
+-- the tickets of a claim, and its seat of the agreement on what is done
+abbrev pub HoldsClaim : TableId → TableId → Mode → Telling Told → Telling Work → Type 0
+HoldsClaim committed done mode tickets work =
+    (tickets ≡ committed_seat committed tickets.value.content (told_shares mode))
+    × (work ≡ work_seat done work.value (work_shares mode))
+    × IsUntouched mode tickets.value.content work.value

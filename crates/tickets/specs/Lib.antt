@@ -1,0 +1,9 @@
+pub mod Unset
+pub mod Seats
+pub mod Claims
+pub mod Committed
+pub mod Laws
+pub mod LogSeats
+pub mod Places
+pub mod Boxes
+pub mod Openings

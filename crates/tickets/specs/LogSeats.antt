@@ -1,0 +1,37 @@
+-- What a contract sees of the log's seats.
+use Rattle.std.specs.Prelude.{◌≡◌, List, All}
+use Rattle.std.specs.List.{Contains}
+use Rattle.requests.specs.declared.group.Group.{Group}
+use Rattle.groups.specs.Content.{Content}
+use Rattle.tickets.specs.Claims.{Claiming}
+use Rattle.tickets.specs.Committed.{content_after, contents_after}
+
+-- the group and its committed content
+pub record Committed : Type 0 where
+  pub group : Group
+  pub content : Content
+
+abbrev pub committed : Group → Content → Committed
+committed group content = record { group = group; content = content }
+
+-- the same group with another content
+abbrev pub with_content : Committed → Content → Committed
+with_content c content = committed c.group content
+
+-- ---- the seats of all groups
+
+-- the claim's group and what it tells stand among the seats
+abbrev pub IsToldIn : List Committed → Claiming → Type 0
+IsToldIn seats claim = Contains seats (committed claim.group claim.told)
+
+-- the seat once a claim is settled: where that is an exclusive one on its group, the content is what the claim left
+abbrev pub after_one : Claiming → Committed → Committed
+after_one claim seat = with_content seat (content_after seat.group seat.content claim)
+
+-- the seat once these claims are, one after another
+abbrev pub after_all : List Claiming → Committed → Committed
+after_all claims seat = with_content seat (contents_after seat.group seat.content claims)
+
+-- each seat tells what the tables have in its group
+abbrev pub SeatsTell : (Group → Content) → List Committed → Type 0
+SeatsTell tables seats = All (λ (seat : Committed). tables seat.group ≡ seat.content) seats

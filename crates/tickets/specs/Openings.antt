@@ -1,0 +1,52 @@
+-- What a contract sees of the seats of a new group, and what they are.
+use Rattle.std.specs.Prelude.{◌≡◌, ℕ, List, map, slice_index_or}
+use Rattle.atomic_table.specs.Seated.{TableId}
+use Rattle.agreement.specs.Telling.{Telling}
+use Rattle.requests.specs.declared.group.Group.{Group}
+use Rattle.groups.specs.Content.{Content}
+use Rattle.groups.specs.declared.wishes.Mode.TheVariants.{Shared}
+use Rattle.tickets.specs.declared.work.Told.{Told}
+use Rattle.tickets.specs.declared.work.Work.{Work}
+use Rattle.tickets.specs.Boxes.{Boxed, sharing}
+use Rattle.tickets.specs.LogSeats.{Committed}
+use Rattle.tickets.specs.Places.{IsGroupOf, place_of}
+use Rattle.tickets.specs.Seats.{committed_seat, work_seat, untouched}
+
+-- the group's two agreements, and its content
+pub record Opened : Type 0 where
+  pub committed : TableId
+  pub work : TableId
+  pub content : Content
+
+abbrev pub opened : TableId → TableId → Content → Opened
+opened committed work content = record { committed = committed; work = work; content = content }
+
+-- the log's seat, the box's seats, and how many pairs of spent seats there are
+abbrev pub AreOpened : TableId → TableId → Content → Telling Told → Telling Told → Telling Work → ℕ → Type 0
+AreOpened committed done content log tickets work spare =
+    (log ≡ committed_seat committed content 1)
+    × (tickets ≡ committed_seat committed content 9)
+    × (work ≡ work_seat done (untouched Shared content) 9)
+    × (spare ≡ 8)
+
+-- ---- the openings of all groups
+
+-- The agreements of each group of so many warehouses are those that were opened for its place.
+abbrev pub AreNamed : ℕ → (Group → TableId) → (Group → TableId) → List Opened → Type 0
+AreNamed warehouses committed work openings =
+    (group : Group) (d : Opened) → IsGroupOf warehouses group
+    → (committed group ≡ (slice_index_or openings (place_of group) d).committed) × (work group ≡ (slice_index_or openings (place_of group) d).work)
+
+-- the contents that were opened, and those of seats
+abbrev pub contents_opened : List Opened → List Content
+contents_opened openings = map (λ (o : Opened). o.content) openings
+
+abbrev pub contents_committed : List Committed → List Content
+contents_committed seats = map (λ (seat : Committed). seat.content) seats
+
+-- the box of a seat's group with the seat's content, while no claim is out
+abbrev pub box_beside : Committed → Boxed
+box_beside seat = sharing seat.group seat.content 0
+
+abbrev pub boxes_beside : List Committed → List Boxed
+boxes_beside seats = map box_beside seats

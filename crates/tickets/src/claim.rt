@@ -1,0 +1,64 @@
+ghost use Rattle.std.specs.Prelude.{◌≡◌};
+ghost use Rattle.groups.specs.declared.wishes.Mode.TheVariants.{Shared};
+
+use crate::Naming;
+use crate::work::{Told, Work};
+use agreement::Seat;
+use groups::Mode;
+use requests::Group;
+use std::marker::{Model, PhantomData};
+
+/// A claim on a group. What it tells as committed can't change while it is held but by itself.
+///
+/// A shared claim holds one of the group's eight tickets, and an exclusive claim all eight with the
+/// slice's seat. It can't be copied, and goes back to the `TicketBox` that gave it. The group of a claim
+/// that is dropped stays held for good.
+#[derive(Drop)]
+pub struct Claim<J: Naming> {
+    pub(crate) group: Group,
+    pub(crate) mode: Mode,
+    pub(crate) tickets: Seat<Told>,
+    pub(crate) work: Seat<Work>,
+    pub(crate) names: PhantomData<J>,
+}
+
+impl<J: Naming> Model for Claim<J> {
+    ghost use Rattle.std.specs.Coded.{codes};
+    ghost use Rattle.groups.specs.contracts.content.Content as content;
+    ghost use Rattle.tickets.specs.Claims.{Claiming};
+
+    ghost Value = { Claiming };
+
+    ghost coded = { Prim.hlevel (codes, content.the_row.coded) };
+
+    ghost use Rattle.tickets.specs.Claims.{claiming, HoldsClaim};
+    ghost use Rattle.tickets.specs.Places.{IsGroupOf};
+
+    ghost view = { λ c. claiming c.group c.mode c.tickets.value.content c.work.value };
+
+    ghost invariant = { λ c. HoldsClaim (J.committed c.group) (J.work c.group) c.mode c.tickets c.work × IsGroupOf J.warehouses c.group };
+}
+
+impl<J: Naming> Claim<J> {
+    /// The group that is claimed.
+    pub fn group(&self) -> Group
+        ensures { result ≡ self.now.group }
+    {
+        self.group
+    }
+
+    /// How it is claimed.
+    pub fn mode(&self) -> Mode
+        ensures { result ≡ self.now.mode }
+    {
+        self.mode
+    }
+
+    /// Learns of a shared claim that it left, and leaves once all is taken back, what it tells.
+    pub fn look_untouched(&self)
+        ensures left { self.now.mode ≡ Shared → self.now.left ≡ self.now.told }
+        ensures back { self.now.mode ≡ Shared → self.now.back ≡ self.now.told }
+    {
+        let _ = &self.work;
+    }
+}

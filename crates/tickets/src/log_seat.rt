@@ -1,0 +1,68 @@
+ghost use Rattle.std.specs.Prelude.{◌≡◌};
+ghost use Rattle.tickets.specs.Claims.{committed_by, settled};
+ghost use Rattle.tickets.specs.LogSeats.{with_content};
+
+use crate::work::Told;
+use crate::{Claim, Naming};
+use agreement::Seat;
+use groups::Mode;
+use requests::Group;
+use std::marker::{Model, PhantomData};
+
+/// The log's seat of a group. It tells the group's committed content, and no one changes that without it.
+#[derive(Drop)]
+pub struct LogSeat<J: Naming> {
+    pub(crate) group: Group,
+    pub(crate) seat: Seat<Told>,
+    pub(crate) names: PhantomData<J>,
+}
+
+impl<J: Naming> Model for LogSeat<J> {
+    ghost use Rattle.std.specs.Coded.{codes};
+    ghost use Rattle.groups.specs.contracts.content.Content as content;
+    ghost use Rattle.tickets.specs.LogSeats.{Committed};
+
+    ghost Value = { Committed };
+
+    ghost coded = { Prim.hlevel (codes, content.the_row.coded) };
+
+    ghost use Rattle.std.specs.Prelude.{◌≡◌};
+    ghost use Rattle.tickets.specs.LogSeats.{committed};
+    ghost use Rattle.tickets.specs.Places.{IsGroupOf};
+    ghost use Rattle.tickets.specs.Seats.{committed_seat};
+
+    ghost view = { λ l. committed l.group l.seat.value.content };
+
+    ghost invariant = { λ l. (l.seat ≡ committed_seat (J.committed l.group) l.seat.value.content 1) × IsGroupOf J.warehouses l.group };
+}
+
+impl<J: Naming> LogSeat<J> {
+    /// The group.
+    pub fn group(&self) -> Group
+        ensures { result ≡ self.now.group }
+    {
+        self.group
+    }
+
+    /// Learns that a claim on the group tells what is committed.
+    pub fn look(&mut self, claim: &mut Claim<J>)
+        requires group { claim.old.group ≡ self.old.group }
+        ensures told { claim.old.told ≡ self.old.content }
+        ensures same { (self.new ≡ self.old) × (claim.new ≡ claim.old) }
+    {
+        self.seat.look(&mut claim.tickets);
+    }
+
+    /// What an exclusive claim left in the group is committed from now on. A shared claim changes nothing.
+    pub fn settle(&mut self, claim: &mut Claim<J>)
+        requires group { claim.old.group ≡ self.old.group }
+        ensures told { claim.old.told ≡ self.old.content }
+        ensures content { self.new ≡ with_content self.old (committed_by claim.old.mode claim.old.left self.old.content) }
+        ensures claim { claim.new ≡ settled claim.old }
+    {
+        match claim.mode {
+            Mode::Shared => self.seat.look(&mut claim.tickets),
+            Mode::Exclusive => self.seat.change_together(&mut claim.tickets, &claim.work),
+        }
+    }
+}

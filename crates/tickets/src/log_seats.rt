@@ -1,0 +1,86 @@
+//! The log's seats of all groups.
+ghost use Rattle.std.specs.Prelude.{◌≡◌, ℕ, ◌+◌, ◌-◌, ◌*◌, ◌<◌, ◌≤◌, All, map};
+ghost use Rattle.tickets.specs.Claims.{settled};
+ghost use Rattle.tickets.specs.Committed.{all_settled};
+ghost use Rattle.tickets.specs.LogSeats.{after_all, after_one, IsToldIn};
+ghost use Rattle.tickets.specs.Places as spec;
+
+use crate::places::place_of;
+use crate::{Claim, LogSeat, Naming};
+use std::marker::Model;
+
+/// The log's seats of all groups there are.
+///
+/// Contracts see each group with its committed content. A claim is always on one of the groups, so that
+/// nothing is asked of a call. A group's seat is found by its place.
+#[derive(Drop)]
+pub struct LogSeats<J: Naming> {
+    seats: Vec<LogSeat<J>>,
+}
+
+impl<J: Naming> Model for LogSeats<J> {
+    ghost use Rattle.std.specs.Coded.{codes};
+    ghost use Rattle.std.specs.Prelude.{List};
+    ghost use Rattle.groups.specs.contracts.content.Content as content;
+    ghost use Rattle.tickets.specs.LogSeats.{Committed};
+
+    ghost Value = { List Committed };
+
+    ghost coded = { Prim.hlevel (codes, content.the_row.coded) };
+
+    ghost use Rattle.tickets.specs.Places.{AreInPlace};
+
+    ghost view = { λ l. l.seats.items };
+
+    ghost invariant = { λ l. AreInPlace J.warehouses l.seats.items };
+}
+
+impl<J: Naming> LogSeats<J> {
+    /// The seats of all groups, each at its group's place.
+    pub fn new(seats: Vec<LogSeat<J>>) -> LogSeats<J>
+        requires { spec.AreInPlace J.warehouses seats.items }
+        ensures { result ≡ seats.items }
+    {
+        LogSeats { seats }
+    }
+
+    /// Learns that a claim tells what is committed in its group.
+    pub fn look(&mut self, claim: &mut Claim<J>)
+        ensures told { IsToldIn self.old claim.old }
+        ensures same { (self.new ≡ self.old) × (claim.new ≡ claim.old) }
+    {
+        let place = place_of::<J>(claim.group);
+        self.seats[place].look(claim);
+    }
+
+    /// What an exclusive claim left in its group is committed from now on. A shared claim changes nothing.
+    pub fn settle(&mut self, claim: &mut Claim<J>)
+        ensures told { IsToldIn self.old claim.old }
+        ensures contents { self.new ≡ map (after_one claim.old) self.old }
+        ensures claim { claim.new ≡ settled claim.old }
+    {
+        let place = place_of::<J>(claim.group);
+        self.seats[place].settle(claim);
+    }
+
+    /// Learns that claims tell what is committed in their groups.
+    pub fn look_all(&mut self, claims: &mut [Claim<J>])
+        ensures told { All (IsToldIn self.old) claims.old }
+        ensures same { (self.new ≡ self.old) × (claims.new ≡ claims.old) }
+    {
+        for k in 0..claims.len() {
+            self.look(&mut claims[k]);
+        }
+    }
+
+    /// What the exclusive ones among the claims left in their groups is committed from now on.
+    pub fn settle_all(&mut self, claims: &mut [Claim<J>])
+        ensures contents { self.new ≡ map (after_all claims.old) self.old }
+        ensures claims { claims.new ≡ all_settled claims.old }
+    {
+        let count = claims.len();
+        for k in 0..count {
+            self.settle(&mut claims[k]);
+        }
+    }
+}

@@ -1,0 +1,208 @@
+ghost use Rattle.std.specs.Prelude.{◌≡◌, ◌<◌, ◌≤◌, ◌+◌, ◌⊎◌, List, [], ◌∷◌, IfSome, IfNone};
+ghost use Rattle.groups.specs.declared.wishes.Mode.TheVariants.{Shared, Exclusive};
+ghost use Rattle.tickets.specs.Claims.{fresh, leaving, HoldsClaim};
+ghost use Rattle.tickets.specs.Boxes.{BoxKeepsCommitted, sharing, lent, taken_back, with_left};
+
+use crate::work::{Leaves, Told, Undone, Work};
+use crate::{Claim, Naming};
+use agreement::{Change, Seat};
+use groups::{Content, Mode};
+use requests::Group;
+use std::marker::{Model, PhantomData};
+
+/// How many shared claims on a group can be out: a ticket each.
+pub const TICKETS: u32 = 8;
+
+/// The slice's side of a group's tickets. It gives claims on the group, and takes them back.
+///
+/// Contracts see the group, whether an exclusive claim is out, how many shared claims are out, what is in
+/// the group now, and what is there again once all that was done under the exclusive claim is taken back.
+#[derive(Drop)]
+pub struct TicketBox<J: Naming> {
+    pub(crate) group: Group,
+    pub(crate) mode: Mode,
+    pub(crate) shared: u32,
+    pub(crate) tickets: Seat<Told>,
+    pub(crate) work: Seat<Work>,
+    pub(crate) spare: Vec<(Seat<Told>, Seat<Work>)>,
+    pub(crate) names: PhantomData<J>,
+}
+
+impl<J: Naming> Model for TicketBox<J> {
+    ghost use Rattle.std.specs.Coded.{codes};
+    ghost use Rattle.groups.specs.contracts.content.Content as content;
+    ghost use Rattle.tickets.specs.Boxes.{Boxed};
+
+    ghost Value = { Boxed };
+
+    ghost coded = { Prim.hlevel (codes, content.the_row.coded) };
+
+    ghost use Rattle.std.specs.Prelude.{◌≤◌, vec_len, vec_capacity};
+    ghost use Rattle.tickets.specs.Boxes.{boxed, HoldsBox, AreSpent};
+    ghost use Rattle.tickets.specs.Places.{IsGroupOf};
+
+    ghost view = { λ b. boxed b.group b.mode b.shared b.work.value };
+
+    ghost invariant = { λ b. HoldsBox (J.committed b.group) (J.work b.group) b.mode b.shared b.tickets b.work (vec_len b.spare)
+        × ((8 ≤ vec_capacity b.spare) × AreSpent (J.committed b.group) (J.work b.group) b.spare.items)
+        × IsGroupOf J.warehouses b.group };
+}
+
+impl<J: Naming> TicketBox<J> {
+    /// The group.
+    pub fn group(&self) -> Group
+        ensures { result ≡ self.now.group }
+    {
+        self.group
+    }
+
+    /// A shared claim, unless an exclusive claim or eight shared ones are out.
+    pub fn share(&mut self) -> Option<Claim<J>>
+        ensures free { IfSome result (λ _. (self.old.mode ≡ Shared) × (self.old.shared < 8)) }
+        ensures claim { IfSome result (λ c. c ≡ fresh self.old.group Shared self.old.left) }
+        ensures out { IfSome result (λ _. self.new ≡ sharing self.old.group self.old.left (self.old.shared + 1)) }
+        ensures none { IfNone result ((self.old.mode ≡ Exclusive) ⊎ (self.old.shared ≡ 8)) }
+        ensures same { IfNone result (self.new ≡ self.old) }
+        ensures kept { IfSome result (λ c. BoxKeepsCommitted [] self.old (c ∷ []) self.new) }
+    {
+        if self.mode == Mode::Exclusive || self.shared >= TICKETS {
+            return None;
+        }
+        let Some((mut tickets, mut work)) = self.spare.pop() else {
+            unreachable!()
+        };
+        self.tickets.give::<1>(&mut tickets);
+        self.work.give::<1>(&mut work);
+        self.shared += 1;
+        Some(Claim {
+            group: self.group,
+            mode: Mode::Shared,
+            tickets,
+            work,
+            names: PhantomData,
+        })
+    }
+
+    /// An exclusive claim, unless any claim is out.
+    pub fn grant(&mut self) -> Option<Claim<J>>
+        ensures free { IfSome result (λ _. (self.old.mode ≡ Shared) × (self.old.shared ≡ 0)) }
+        ensures claim { IfSome result (λ c. c ≡ fresh self.old.group Exclusive self.old.left) }
+        ensures out { IfSome result (λ _. self.new ≡ lent self.old.group self.old.left) }
+        ensures none { IfNone result ((self.old.mode ≡ Exclusive) ⊎ (0 < self.old.shared)) }
+        ensures same { IfNone result (self.new ≡ self.old) }
+        ensures kept { IfSome result (λ c. BoxKeepsCommitted [] self.old (c ∷ []) self.new) }
+    {
+        if self.mode == Mode::Exclusive || self.shared > 0 {
+            return None;
+        }
+        let Some((mut tickets, mut work)) = self.spare.pop() else {
+            unreachable!()
+        };
+        self.work.change(&Mode::Exclusive);
+        self.tickets.give::<9>(&mut tickets);
+        self.work.give::<8>(&mut work);
+        self.mode = Mode::Exclusive;
+        Some(Claim {
+            group: self.group,
+            mode: Mode::Exclusive,
+            tickets,
+            work,
+            names: PhantomData,
+        })
+    }
+
+    /// Learns that a claim on the group is one of those that are out, and that what it tells as left is in
+    /// the group.
+    pub fn look(&mut self, claim: &mut Claim<J>)
+        requires group { claim.old.group ≡ self.old.group }
+        ensures mode { claim.old.mode ≡ self.old.mode }
+        ensures left { claim.old.left ≡ self.old.left }
+        ensures back { claim.old.back ≡ self.old.back }
+        ensures same { (self.new ≡ self.old) × (claim.new ≡ claim.old) }
+    {
+        self.work.look(&mut claim.work);
+    }
+
+    /// Changes what an exclusive claim leaves in the group.
+    pub fn leave<C: Change<Content>>(&mut self, claim: &mut Claim<J>, change: &C)
+        requires group { claim.old.group ≡ self.old.group }
+        requires exclusive { claim.old.mode ≡ Exclusive }
+        ensures left { claim.old.left ≡ self.old.left }
+        ensures out { self.old.mode ≡ Exclusive }
+        ensures claim { claim.new ≡ leaving claim.old (C.changed change.now claim.old.left) }
+        ensures ticket_box { self.new ≡ with_left self.old (C.changed change.now self.old.left) }
+        ensures kept { BoxKeepsCommitted (claim.old ∷ []) self.old (claim.new ∷ []) self.new }
+    {
+        self.work.look(&mut claim.work);
+        self.work
+            .change_together(&mut claim.work, &Leaves { change });
+    }
+
+    /// Takes back all that was done under an exclusive claim.
+    pub fn undo(&mut self, claim: &mut Claim<J>)
+        requires group { claim.old.group ≡ self.old.group }
+        requires exclusive { claim.old.mode ≡ Exclusive }
+        ensures back { claim.old.back ≡ self.old.back }
+        ensures out { self.old.mode ≡ Exclusive }
+        ensures claim { claim.new ≡ leaving claim.old claim.old.back }
+        ensures ticket_box { self.new ≡ with_left self.old self.old.back }
+        ensures kept { BoxKeepsCommitted (claim.old ∷ []) self.old (claim.new ∷ []) self.new }
+    {
+        self.work.look(&mut claim.work);
+        self.work.change_together(&mut claim.work, &Undone);
+    }
+
+    /// Takes a claim on the group back, once what it left is committed. A shared claim left nothing.
+    pub fn take_back(&mut self, claim: Claim<J>)
+        requires group { claim.group ≡ self.old.group }
+        requires committed { claim.mode ≡ Exclusive → claim.told ≡ claim.left }
+        ensures mode { claim.mode ≡ self.old.mode }
+        ensures some { claim.mode ≡ Shared → (0 < self.old.shared) × (self.old.shared ≤ 8) }
+        ensures alone { claim.mode ≡ Exclusive → self.old.shared ≡ 0 }
+        ensures told { claim.told ≡ self.old.left }
+        ensures ticket_box { self.new ≡ taken_back self.old }
+        ensures kept { BoxKeepsCommitted (claim ∷ []) self.old [] self.new }
+    {
+        let Claim {
+            group: _,
+            mode,
+            tickets,
+            work,
+            names: _,
+        } = claim;
+        match mode {
+            Mode::Shared => self.take_shared(tickets, work),
+            Mode::Exclusive => self.take_exclusive(tickets, work),
+        }
+    }
+
+    // Takes back the seats of a shared claim.
+    fn take_shared(&mut self, mut tickets: Seat<Told>, mut work: Seat<Work>)
+        requires { HoldsClaim (J.committed self.old.group) (J.work self.old.group) Shared tickets work }
+        ensures mode { self.old.mode ≡ Shared }
+        ensures some { (0 < self.old.shared) × (self.old.shared ≤ 8) }
+        ensures told { tickets.value.content ≡ self.old.left }
+        ensures ticket_box { self.new ≡ taken_back self.old }
+    {
+        self.work.gather(&mut work);
+        self.tickets.gather(&mut tickets);
+        self.shared -= 1;
+        self.spare.push_reserved((tickets, work));
+    }
+
+    // Takes back the seats of an exclusive claim, which left what is committed.
+    fn take_exclusive(&mut self, mut tickets: Seat<Told>, mut work: Seat<Work>)
+        requires holds { HoldsClaim (J.committed self.old.group) (J.work self.old.group) Exclusive tickets work }
+        requires committed { tickets.value.content ≡ work.value.left }
+        ensures mode { self.old.mode ≡ Exclusive }
+        ensures alone { self.old.shared ≡ 0 }
+        ensures told { tickets.value.content ≡ self.old.left }
+        ensures ticket_box { self.new ≡ taken_back self.old }
+    {
+        self.work.gather(&mut work);
+        tickets.give::<9>(&mut self.tickets);
+        self.work.change(&Mode::Shared);
+        self.mode = Mode::Shared;
+        self.spare.push_reserved((tickets, work));
+    }
+}
