@@ -49,9 +49,10 @@ one_more_so_far opening entries place tables next entry here h replied next_is =
 -- the whole log was replayed
 pub all_stand : (opening : Database) (entries : List Entry) (place : ℕ) (tables last : Database) → length entries ≤ place → SoFar opening entries place tables → last ≡ tables
     → IsReplayOf opening entries (Equal last)
-all_stand opening entries place tables last whole h is =
-    (λ k below. h.stood k (omega (arith, below, whole)),
-    is ∙ h.left ∙ ap (λ (l : List Entry). tables_after opening (requests_of l)) (take_all entries place whole))
+all_stand opening entries place tables last whole h is = (
+  λ k below. h.stood k (omega (arith, below, whole)),
+  is ∙ h.left ∙ ap (λ (l : List Entry). tables_after opening (requests_of l)) (take_all entries place whole),
+)
   where
     take_all : {X : Type 0} (xs : List X) (n : ℕ) → length xs ≤ n → take n xs ≡ xs
     take_all [] zero h = refl

@@ -48,14 +48,7 @@ pub fn run_over<
     }
 }
 
-fn run<
-    'a,
-    R: Threads + Wait + Sync,
-    D: Read + Drop,
-    S: Read + Drop,
-    A: Write,
-    L: Write + Drop,
->(
+fn run<'a, R: Threads + Wait + Sync, D: Read + Drop, S: Read + Drop, A: Write, L: Write + Drop>(
     rt: &R,
     alloc: Global,
     settings: &RunSettings<'a>,

@@ -140,10 +140,15 @@ fn the_first_fault_decides(rt: HostRuntime) -> Result<(), Fail> {
 #[test]
 fn tables_that_break_a_condition_are_not_served(rt: HostRuntime) -> Result<(), Fail> {
     let data = dataset(rt.alloc())?;
-    let broken = data.as_str().replacen(rt.alloc(), "123456789,500,0", "123456789,500,1", 1)?;
+    let broken = data
+        .as_str()
+        .replacen(rt.alloc(), "123456789,500,0", "123456789,500,1", 1)?;
     let told = run_scripts(&rt, broken.as_str(), &["script"], &mut [PAYMENT.as_bytes()])?;
     assert_eq!(rt; told.status, Status::NotConsistent);
-    assert_eq!(rt; told.errors.as_slice(), "tpcc: not consistent: 1\n".as_bytes());
+    assert_eq!(rt;
+        told.errors.as_slice(),
+        "tpcc: not consistent: 1\n".as_bytes()
+    );
     assert!(rt; told.answers.is_empty() && told.log.is_empty());
     Ok(())
 }
