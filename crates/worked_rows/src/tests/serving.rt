@@ -17,10 +17,10 @@ pub(super) fn script(alloc: Global, count: u32, amount: u32) -> Result<Script, F
 
 // Whether each request was done, each at a later place than the one before.
 fn are_done_in_turn(answers: &[Answer]) -> bool {
-    let mut next = 0;
+    let mut last = None;
     for answer in answers {
         match answer {
-            Answer::Done { place, .. } if *place >= next => next = *place + 1,
+            Answer::Done { place, .. } if last < Some(*place) => last = Some(*place),
             _ => return false,
         }
     }
