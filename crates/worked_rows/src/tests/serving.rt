@@ -78,6 +78,7 @@ fn as_many_scripts_as_there_are_sessions(rt: HostRuntime) -> Result<(), Fail> {
     for session in 0..64 {
         scripts.push(script(alloc, session % 3, 100)?)?;
     }
+    assert_eq!(rt; scripts.len(), 64);
     let opening = set_k_of(alloc, 1)?;
     let outcome = serve(&rt, alloc, opening, scripts.as_slice(), OpenGate)?;
     assert_eq!(rt; outcome.log.len(), 63);
@@ -98,6 +99,7 @@ fn sixteen_scripts_a_hundred_times(rt: HostRuntime) -> Result<(), Fail> {
     for _ in 0..16 {
         scripts.push(script(alloc, 5, 100)?)?;
     }
+    assert_eq!(rt; scripts.len(), 16);
     for _ in 0..100 {
         let opening = set_k_of(alloc, 1)?;
         let outcome = serve(&rt, alloc, opening, scripts.as_slice(), OpenGate)?;
