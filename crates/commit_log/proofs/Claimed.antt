@@ -1,10 +1,9 @@
 -- A transaction that was carried out under claims leaves a log kept.
-use Rattle.std.proofs.Common.{◌≡◌, ℕ, List, [], ◌∷◌, ◌++◌, map, refl, sym, ap, subst, ◌∙◌}
+use Rattle.std.proofs.Common.{◌≡◌, ℕ, List, [], ◌∷◌, ◌++◌, sym, ap, subst, ◌∙◌}
 use Rattle.std.specs.List.{All}
 use Rattle.std.proofs.lemmas.List.Elements.{All-push, All-weaker}
 use Rattle.schema.specs.Database.{Database}
 use Rattle.requests.specs.declared.group.Group.{Group}
-use Rattle.requests.specs.declared.request.Request.{Request}
 use Rattle.requests.specs.declared.reply.Reply.{Reply}
 use Rattle.requests.specs.declared.reply.Reply.TheVariants.{Payment, RolledBack}
 use Rattle.requests.specs.Check.{IsAccepted}
@@ -15,7 +14,7 @@ use Rattle.tickets.specs.Claims.{Claiming}
 use Rattle.tickets.specs.LogSeats.{Committed, SeatsTell, IsToldIn}
 use Rattle.tickets.proofs.Settling.{told_tells, settled_tell}
 use Rattle.commit_log.specs.declared.entry.Entry.{Entry}
-use Rattle.commit_log.specs.Log.{requests_of, replies_of}
+use Rattle.commit_log.specs.Log.{requests_of}
 use Rattle.commit_log.specs.Items.{entry_of}
 use Rattle.commit_log.specs.Claimed.{contents_logged, seats_logged, IsCarriedOut, IsKept}
 use Rattle.commit_log.proofs.Legal.{replies-append, tables_after-append, map_push}

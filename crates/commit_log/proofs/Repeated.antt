@@ -1,9 +1,8 @@
 -- Replaying one entry more.
-use Rattle.std.proofs.Common.{◌≡◌, ◌≢◌, ℕ, ◌+◌, ◌<◌, ◌≤◌, List, [], ◌∷◌, ◌++◌, length, take, map, get_or, Some, refl, sym, ap, subst, ◌∙◌, arith, ⊎_elim, zero, suc}
+use Rattle.std.proofs.Common.{◌≡◌, ℕ, ◌+◌, ◌<◌, ◌≤◌, List, [], ◌∷◌, ◌++◌, length, take, Some, refl, sym, ap, subst, ◌∙◌, arith, ⊎_elim, zero, suc}
 use Rattle.std.specs.List.{slice_get}
 use Rattle.std.proofs.Math.Nat.{eq-or-lt_of_le}
 use Rattle.schema.specs.Database.{Database}
-use Rattle.requests.specs.declared.request.Request.{Request}
 use Rattle.machine.specs.Machine.{transaction, tables_after}
 use Rattle.commit_log.specs.declared.entry.Entry.{Entry}
 use Rattle.commit_log.specs.declared.verdict.Replay.TheVariants.{Equal, Differs}

@@ -1,4 +1,4 @@
-use Rattle.std.proofs.Common.{◌+◌, ◌∷◌, [], Some, Ok, length, ap, subst, ◌∙◌, arith, length-append}
+use Rattle.std.proofs.Common.{Some, Ok, ap, subst, ◌∙◌, arith}
 use Rattle.std.specs.Vec.Iter.{into_iter_items}
 use Rattle.engine.proofs.Rest.{IsRestFrom, rest_next}
 use Rattle.engine.proofs.Sessions.{found, audited, each_next, one_longer}
