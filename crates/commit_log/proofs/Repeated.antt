@@ -1,6 +1,8 @@
 -- Replaying one entry more.
 use Rattle.std.proofs.Common.{◌≡◌, ℕ, ◌+◌, ◌<◌, ◌≤◌, List, [], ◌∷◌, ◌++◌, length, take, Some, refl, sym, ap, subst, ◌∙◌, arith, ⊎_elim, zero, suc}
 use Rattle.std.specs.List.{slice_get}
+use Rattle.std.proofs.lemmas.List.{take_more}
+use Rattle.std.proofs.lemmas.Option.{slice_get_within, get_or_from_slice_get}
 use Rattle.std.proofs.Math.Nat.{eq-or-lt_of_le}
 use Rattle.schema.specs.Database.{Database}
 use Rattle.machine.specs.Machine.{transaction, tables_after}
@@ -21,13 +23,8 @@ none_so_far opening entries tables is = record { left = is; stood = λ before be
 some_is : {X : Type 0} (a b : X) → Some a ≡ Some b → a ≡ b
 some_is a b h = cc
 
-take_more : {X : Type 0} (xs : List X) (k : ℕ) (x : X) → slice_get xs k ≡ Some x → take (suc k) xs ≡ take k xs ++ x ∷ []
-take_more [] k x h = absurd (cc)
-take_more (y ∷ xs) zero x h = ap (λ z. z ∷ []) (some_is y x h)
-take_more (y ∷ xs) (suc k) x h = ap (λ l. y ∷ l) (take_more xs k x h)
-
 take_one_more : {X : Type 0} (xs : List X) (k : ℕ) (x : X) → slice_get xs k ≡ Some x → take (k + 1) xs ≡ take k xs ++ x ∷ []
-take_one_more xs k x h = (let later : k + 1 ≡ suc k = omega arith in ap (λ (n : ℕ). take n xs) later) ∙ take_more xs k x h
+take_one_more xs k x h = take_more xs k x (slice_get_within xs k x h) ∙ ap (λ y. take k xs ++ y ∷ []) (get_or_from_slice_get xs k x x h)
 
 pub one_more_so_far : (opening : Database) (entries : List Entry) (place : ℕ) (tables next : Database) (entry : Entry)
     → slice_get entries place ≡ Some entry → SoFar opening entries place tables → IsReplied tables entry → next ≡ (transaction tables entry.request).tables

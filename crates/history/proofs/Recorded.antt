@@ -4,7 +4,8 @@ use Rattle.std.specs.Prelude.{Bool, true, false, if◌then◌else◌, ◌==◌, 
 use Rattle.std.specs.List.{All, slice_get, sum_by, filter}
 use Rattle.std.specs.List.Sorted.{IsPermutation}
 use Rattle.std.proofs.lemmas.List.Sorted.{All-permutation, sum_by-IsPermutation}
-use Rattle.std.proofs.lemmas.List.Elements.{All-cons, All-head, All-tail, All-nil, All-weaker, All-map, All-push}
+use Rattle.std.proofs.lemmas.List.Elements.{All-cons, All-head, All-tail, All-nil, All-weaker, All-map, All-push, filter-append}
+use Rattle.std.proofs.lemmas.List.{length-map}
 use Rattle.std.proofs.lemmas.List.Sums.{sum_by-cons, sum_by_push, get_or-le-sum_by, length-filter}
 use Rattle.std.proofs.lemmas.Bool.{eq-eqb, ne_eqb, eqb-true}
 use Rattle.std.proofs.lemmas.Bool.Decides.{eqb_tells}
@@ -59,12 +60,6 @@ filter_yes q x xs h = ap (λ (b : Bool). if b then x ∷ filter q xs else filter
 filter_no : {X : Type 0} (q : X → Bool) (x : X) (xs : List X) → q x ≡ false → filter q (x ∷ xs) ≡ filter q xs
 filter_no q x xs h = ap (λ (b : Bool). if b then x ∷ filter q xs else filter q xs) h
 
-filter_append : {X : Type 0} (q : X → Bool) (xs ys : List X) → filter q (xs ++ ys) ≡ filter q xs ++ filter q ys
-filter_append q [] ys = refl
-filter_append q (x ∷ xs) ys = by_bool (q x)
-    (λ h. filter_yes q x (xs ++ ys) h ∙ ap (λ l. x ∷ l) (filter_append q xs ys) ∙ sym (ap (λ l. l ++ filter q ys) (filter_yes q x xs h)))
-    (λ h. filter_no q x (xs ++ ys) h ∙ filter_append q xs ys ∙ sym (ap (λ l. l ++ filter q ys) (filter_no q x xs h)))
-
 empty_is : {X : Type 0} (xs : List X) → length xs ≡ 0 → xs ≡ []
 empty_is [] h = refl
 empty_is (x ∷ xs) h = absurd (omega (arith, h))
@@ -82,10 +77,6 @@ All-filter P q (x ∷ xs) h = by_bool (q x)
 All-of_map : {X Y : Type 0} (P : Y → Type 0) (f : X → Y) (xs : List X) → All P (map f xs) → All (λ x. P (f x)) xs
 All-of_map P f [] h = All-nil (λ x. P (f x))
 All-of_map P f (x ∷ xs) h = All-cons (λ x. P (f x)) x xs (All-head P (f x) (map f xs) h) (All-of_map P f xs (All-tail P (f x) (map f xs) h))
-
-length-map' : {X Y : Type 0} (f : X → Y) (xs : List X) → length (map f xs) ≡ length xs
-length-map' f [] = refl
-length-map' f (x ∷ xs) = ap suc (length-map' f xs)
 
 -- ---- open transactions
 
@@ -106,7 +97,7 @@ the_one ts u rest told apart =
       (
         is,
         (
-          sym (length-filter (is_open s) ts) ∙ sym (length-map' unanswered (filter (is_open s) ts)) ∙ ap (λ (l : List Unanswered). length l) is,
+          sym (length-filter (is_open s) ts) ∙ sym (length-map (filter (is_open s) ts) unanswered) ∙ ap (λ (l : List Unanswered). length l) is,
           All-filter (λ t. unanswered t ≡ u) (is_open s) ts (All-of_map (λ x. x ≡ u) unanswered (filter (is_open s) ts) same),
         ),
       ),
@@ -216,13 +207,13 @@ Recorded-admit log n ts admitted pending session number request none h =
           let R : ℕ → Type 0 = λ x. unanswered_of x (ts ++ t ∷ []) ≡ filter (is_of x) (u ∷ pending) in
           let opens : is_open session t ≡ true = and_true (session == session) ∙ here_is in
           let empty : filter (is_of session) pending ≡ [] = filter_none (is_of session) pending none in
-          let no_open : filter (is_open session) ts ≡ [] = empty_is (filter (is_open session) ts) (sym (length-map' unanswered (filter (is_open session) ts)) ∙ ap (λ (l : List Unanswered). length l) (h.unanswered session ∙ empty)) in
+          let no_open : filter (is_open session) ts ≡ [] = empty_is (filter (is_open session) ts) (sym (length-map (filter (is_open session) ts) unanswered) ∙ ap (λ (l : List Unanswered). length l) (h.unanswered session ∙ empty)) in
           subst R same.1
-          (ap (λ l. map unanswered l) (filter_append (is_open session) ts (t ∷ []) ∙ ap (λ l. l ++ filter (is_open session) (t ∷ [])) no_open ∙ filter_yes (is_open session) t [] opens)
+          (ap (λ l. map unanswered l) (filter-append (is_open session) ts (t ∷ []) ∙ ap (λ l. l ++ filter (is_open session) (t ∷ [])) no_open ∙ filter_yes (is_open session) t [] opens)
           ∙ sym (filter_yes (is_of session) u pending here_is ∙ ap (λ l. u ∷ l) empty)))
           (λ (other : ((session == s) ≡ false) × (session ≢ s)).
           let closed : is_open s t ≡ false = and_true (session == s) ∙ other.0 in
-          ap (λ l. map unanswered l) (filter_append (is_open s) ts (t ∷ []) ∙ ap (λ l. filter (is_open s) ts ++ l) (filter_no (is_open s) t [] closed) ∙ append_nil (filter (is_open s) ts))
+          ap (λ l. map unanswered l) (filter-append (is_open s) ts (t ∷ []) ∙ ap (λ l. filter (is_open s) ts ++ l) (filter_no (is_open s) t [] closed) ∙ append_nil (filter (is_open s) ts))
           ∙ h.unanswered s ∙ sym (filter_no (is_of s) u pending other.0))
           (eqb_tells session s);
       apart = λ s. ⊎_elim
@@ -377,7 +368,7 @@ Recorded-entry log n ts admitted u pending entry session_is number_is request_is
           (λ open'. subst (λ told. All (λ b. InOrder told (f a).entries b) (map f ts)) (sym (open_is s a open').1) (λ j e at. tt))
           (λ closed. subst (λ es. All (λ b. InOrder a.told es b) (map f ts)) (sym (kept a closed)) (All-map (λ b. InOrder a.told a.entries b) f ts (λ j e at. before_more s p a.told a.entries (get_or ts j e) (entries_below log a a.entries (h.whole.entries k d in')) (h.order k d in' j e at)))));
       ages = AgesFrom-map 0 f (λ t. refl) ts h.ages;
-      count = h.count ∙ sym (length-map' f ts);
+      count = h.count ∙ sym (length-map ts f);
       unanswered = λ x. ⊎_elim
           (λ (same : ((s == x) ≡ true) × (s ≡ x)).
           let R : ℕ → Type 0 = λ x. unanswered_of x (map f ts) ≡ filter (is_of x) (v ∷ pending) in
@@ -458,7 +449,7 @@ Recorded-answer log n ts admitted u pending answer answers h =
           (λ open'. subst (λ told. All (λ b. InOrder told a.entries b) (map g ts)) (sym (ap (λ (b : Bool). if b then told_now n answer else a.told) open')) (All-map (λ b. InOrder (told_now n answer) a.entries b) g ts (λ j e at later'. absurd (omega (arith, later', h.submitted j e at)))))
           (λ closed. subst (λ told. All (λ b. InOrder told a.entries b) (map g ts)) (sym (ap (λ (b : Bool). if b then told_now n answer else a.told) closed)) (All-map (λ b. InOrder a.told a.entries b) g ts (λ j e at. same_order a.told a.entries (get_or ts j e) (g (get_or ts j e)) refl refl (h.order k d in' j e at)))));
       ages = AgesFrom-map 0 g (λ t. refl) ts h.ages;
-      count = h.count ∙ sym (length-map' g ts);
+      count = h.count ∙ sym (length-map ts g);
       unanswered = λ x. ⊎_elim
           (λ (same : ((s == x) ≡ true) × (s ≡ x)).
           let R : ℕ → Type 0 = λ x. unanswered_of x (map g ts) ≡ filter (is_of x) pending in
