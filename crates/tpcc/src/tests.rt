@@ -4,5 +4,6 @@ use crate::status::Status;
 use std::alloc::{AllocError, Global};
 use std::test::Fail;
 
+mod reading;
 mod runs;
 mod words;

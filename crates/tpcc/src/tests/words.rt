@@ -61,3 +61,20 @@ fn words_out_of_their_limits_are_told(rt: HostRuntime) -> Result<(), Fail> {
     }
     Ok(())
 }
+
+// How the program ends after the fault that the words have.
+fn fault_status(alloc: Global, words: &[&str]) -> Result<Option<Status>, AllocError> {
+    let words = all_words(alloc, words)?;
+    match read_words(alloc, words.as_slice()) {
+        Ok(_) => Ok(None),
+        Err(fault) => Ok(Some(fault.status())),
+    }
+}
+
+#[test]
+fn mistakes_in_the_words_are_usage(rt: HostRuntime) -> Result<(), Fail> {
+    let alloc = rt.alloc();
+    assert_eq!(rt; fault_status(alloc, &["serve"])?, Some(Status::Usage));
+    assert_eq!(rt; fault_status(alloc, &["run", "data"])?, Some(Status::Usage));
+    Ok(())
+}
