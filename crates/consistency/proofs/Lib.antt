@@ -10,3 +10,4 @@ pub mod CarriersRules
 pub mod OrderNumbersRules
 pub mod OrderNumbersGreatest
 pub mod LineCountsRules
+pub mod FirstBroken

@@ -3,3 +3,4 @@ pub mod Balances
 pub mod Carriers
 pub mod OrderNumbers
 pub mod Conditions
+pub mod Broken

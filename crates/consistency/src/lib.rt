@@ -2,6 +2,7 @@
 #![tactic(auto)]
 
 mod balances;
+mod breaks;
 mod carriers;
 mod checks;
 mod line_counts;
@@ -9,4 +10,5 @@ mod order_numbers;
 mod payments;
 mod totals;
 
+pub use breaks::first_broken;
 pub use checks::check;

@@ -2,4 +2,3 @@ pub mod Rest
 pub mod Sessions
 pub mod Together
 pub mod OneMoreRequest
-pub mod FirstBroken

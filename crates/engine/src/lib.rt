@@ -5,7 +5,6 @@ mod answers;
 mod audits;
 mod engine;
 mod gate;
-mod opening;
 mod outcome;
 mod serving;
 mod session;

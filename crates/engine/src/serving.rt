@@ -1,13 +1,14 @@
 ghost use Rattle.std.specs.Prelude.{◌≡◌, ◌≤◌, ◌<◌, ℕ, length, IfOk, OnOk, IfErr};
 ghost use Rattle.commit_log.specs.LogTables.{table_of};
 ghost use Rattle.engine.specs.Outcome.{IsOutcome};
-ghost use Rattle.engine.specs.Opening.{IsConsistent, IsFaultOf, IsOfServing};
+ghost use Rattle.schema.specs.Consistency.{Consistent};
+ghost use Rattle.engine.specs.Opening.{IsFaultOf, IsOfServing};
 
 use crate::audits::{audit_idle, audit_served};
-use crate::opening::first_broken;
 use crate::threads::{Ended, serve_all};
 use crate::{Engine, Gate, Outcome, ServeFault};
 use commit_log::{LogSeats, Naming, StepLog};
+use consistency::first_broken;
 use requests::Script;
 use schema::Tables;
 use std::alloc::Global;
@@ -37,7 +38,7 @@ pub fn serve<R: Threads + Wait + Sync, G: Gate + Send + Sync + Drop>(
     requires some { 1 ≤ length scripts.now }
     requires most { length scripts.now ≤ MOST_SESSIONS }
     ensures outcome { IfOk result (λ outcome. IsOutcome opening scripts.now outcome.log.items outcome.tables outcome.answers.items) }
-    ensures consistent { OnOk result (IsConsistent opening) }
+    ensures consistent { OnOk result (Consistent opening) }
     ensures fault { IfErr result (λ fault. IsFaultOf opening fault) }
 {
     if let Some(condition) = first_broken(alloc, &opening)? {

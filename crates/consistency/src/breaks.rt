@@ -1,6 +1,8 @@
 ghost use Rattle.std.specs.Prelude.{IfOk, MatchOption};
-ghost use Rattle.engine.specs.Opening.{IsConsistent, BreaksFirst};
+ghost use Rattle.schema.specs.Consistency.{Consistent};
+ghost use Rattle.consistency.specs.Broken.{BreaksFirst};
 
+use crate::check;
 use schema::{NoMemory, Tables};
 use std::alloc::Global;
 
@@ -9,10 +11,10 @@ const FRESH_ORDERS: usize = 10;
 
 /// The least of the consistency conditions 1 to 10 and 12 that the tables break (TPC-C 5.11, clause
 /// 3.3.2); `None` where they meet all of them.
-pub(crate) fn first_broken(alloc: Global, tables: &Tables) -> Result<Option<u8>, NoMemory>
-    ensures { IfOk result (λ broken. MatchOption broken (IsConsistent tables.now) (λ n. BreaksFirst tables.now n)) }
+pub fn first_broken(alloc: Global, tables: &Tables) -> Result<Option<u8>, NoMemory>
+    ensures { IfOk result (λ broken. MatchOption broken (Consistent tables.now) (λ n. BreaksFirst tables.now n)) }
 {
-    let answers = consistency::check(alloc, tables)?;
+    let answers = check(alloc, tables)?;
     for (place, holds) in answers.iter().enumerate() {
         if !*holds && place != FRESH_ORDERS {
             return Ok(Some(place as u8 + 1));

@@ -1,6 +1,6 @@
 use Rattle.std.proofs.Common.{◌≡◌, length, subst, arith}
-use Rattle.engine.proofs.FirstBroken.{HoldBelow, none_below, one_place_more, all_met, first_broken_at, twelve}
-use Rattle.engine.proofs.opening.first_broken.Goals as goal
+use Rattle.consistency.proofs.FirstBroken.{HoldBelow, none_below, one_place_more, all_met, first_broken_at, twelve}
+use Rattle.consistency.proofs.breaks.first_broken.Goals as goal
 
 pub loop-place-init : goal.loop-place-init
 loop-place-init c = none_below c.args.tables.now

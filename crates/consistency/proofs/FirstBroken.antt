@@ -2,7 +2,8 @@
 use Rattle.std.proofs.Common.{◌≡◌, ◌≢◌, ◌⊎◌, inl, inr, ℕ, zero, suc, ◌+◌, ◌-◌, ◌<◌, ◌↔◌, Bool, true, false, IsTrue, List, [], ◌∷◌, length, get_or, refl, sym, ap, subst, ◌∙◌, arith}
 use Rattle.schema.specs.Database.{Database}
 use Rattle.consistency.specs.Conditions.{conditions, Tell, AreExact}
-use Rattle.engine.specs.Opening.{HoldsAmong, Meets, IsAskedFor, IsConsistent, BreaksFirst}
+use Rattle.schema.specs.Consistency.{Consistent}
+use Rattle.consistency.specs.Broken.{HoldsAmong, Meets, IsAskedFor, BreaksFirst}
 
 -- what is told of the condition at a place
 told : (all : List (Database → Type 0)) (t : Database) (answers : List Bool) (k : ℕ) (d : Bool) → Tell all t answers → k < length answers → IsTrue (get_or answers k d) ↔ HoldsAmong all k t
@@ -45,8 +46,20 @@ meets_at t n place is holds = let at : place ≡ n - 1 = omega arith in subst (�
 pub met_below : (t : Database) (place : ℕ) → HoldBelow t place → (n : ℕ) → n < place + 1 → IsAskedFor n → Meets t n
 met_below t place below n low asked = below (n - 1) (let some = asked.0 in omega arith) (λ is. let other = asked.1.1 in let some = asked.0 in absurd (other (omega arith)))
 
-pub all_met : (t : Database) → HoldBelow t 12 → IsConsistent t
-all_met t below n asked = met_below t 12 below n (let most = asked.1.0 in omega arith) asked
+pub all_met : (t : Database) → HoldBelow t 12 → Consistent t
+all_met t below = record {
+  warehouses_sum_districts = below 0 (omega arith) (λ e. absurd (omega (arith, e)));
+  next_orders_follow = below 1 (omega arith) (λ e. absurd (omega (arith, e)));
+  new_orders_have_no_gap = below 2 (omega arith) (λ e. absurd (omega (arith, e)));
+  districts_count_lines = below 3 (omega arith) (λ e. absurd (omega (arith, e)));
+  new_orders_have_no_carrier = below 4 (omega arith) (λ e. absurd (omega (arith, e)));
+  orders_count_lines = below 5 (omega arith) (λ e. absurd (omega (arith, e)));
+  lines_come_with_orders = below 6 (omega arith) (λ e. absurd (omega (arith, e)));
+  warehouses_sum_payments = below 7 (omega arith) (λ e. absurd (omega (arith, e)));
+  districts_sum_payments = below 8 (omega arith) (λ e. absurd (omega (arith, e)));
+  balances_are_owed = below 9 (omega arith) (λ e. absurd (omega (arith, e)));
+  balances_are_paid = below 11 (omega arith) (λ e. absurd (omega (arith, e)));
+}
 
 pub first_broken_at : (t : Database) (answers : List Bool) (place : ℕ) → AreExact t answers → place < length answers → place < 12
     → get_or answers place false ≡ false → (place ≡ 10 → ⊥) → HoldBelow t place → BreaksFirst t (place + 1)
