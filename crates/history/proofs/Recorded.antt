@@ -244,7 +244,7 @@ pub slice_get-last : (log : List Entry) (entry : Entry) → slice_get (log ++ en
 slice_get-last [] entry = refl
 slice_get-last (x ∷ log) entry = slice_get-last log entry
 
-slice_get-front : (log more : List Entry) (place : ℕ) (entry : Entry) → slice_get log place ≡ Some entry → slice_get (log ++ more) place ≡ Some entry
+pub slice_get-front : (log more : List Entry) (place : ℕ) (entry : Entry) → slice_get log place ≡ Some entry → slice_get (log ++ more) place ≡ Some entry
 slice_get-front [] more place entry h = absurd (cc)
 slice_get-front (x ∷ log) more zero entry h = h
 slice_get-front (x ∷ log) more (suc place) entry h = slice_get-front log more place entry h

@@ -29,11 +29,11 @@ use Rattle.machine.specs.PaymentLaws.{PaymentReadsItsGroups, PaymentKeepsOtherGr
 use Rattle.machine.proofs.PaymentCases.{payment-cases}
 
 -- the customer that is chosen in a district is of the district's customers
-group_of_chosen : (home : DistrictKey) (choice : Choice) → group_of_customer (chosen home choice) ≡ g.Customers home.w_id home.d_id
+pub group_of_chosen : (home : DistrictKey) (choice : Choice) → group_of_customer (chosen home choice) ≡ g.Customers home.w_id home.d_id
 group_of_chosen home (Number c_id) = refl
 
 module _ (p : Payment) where
-  abbrev payer : CustomerKey
+  abbrev pub payer : CustomerKey
   payer = chosen p.customer_home p.customer
 
   abbrev payer_group : group_of_customer payer ≡ g.Customers p.customer_home.w_id p.customer_home.d_id
@@ -42,28 +42,28 @@ module _ (p : Payment) where
   -- ---- the four rows that are put in, one after the other
 
   module _ (w : Warehouse) (d : District) (c : Customer) (row : History) (t : Database) where
-    abbrev left : Database
+    abbrev pub left : Database
     left = (posted t p payer row (Some w) (Some d) (Some c)).tables
 
-    abbrev with_w : Database
+    abbrev pub with_w : Database
     with_w = record t { warehouses = map.insert t.warehouses p.home.w_id w }
 
-    abbrev with_d : Database
+    abbrev pub with_d : Database
     with_d = record with_w { districts = map.insert t.districts p.home d }
 
-    abbrev with_c : Database
+    abbrev pub with_c : Database
     with_c = record with_d { customers = map.insert t.customers payer c }
 
-    w_put : ChangesOneGroup (group_of_warehouse p.home.w_id) (with_warehouse w) t with_w
+    pub w_put : ChangesOneGroup (group_of_warehouse p.home.w_id) (with_warehouse w) t with_w
     w_put = (each_put_changes_one_group t).warehouses p.home.w_id w
 
-    d_put : ChangesOneGroup (group_of_district p.home) (with_district d) with_w with_d
+    pub d_put : ChangesOneGroup (group_of_district p.home) (with_district d) with_w with_d
     d_put = (each_put_changes_one_group with_w).districts p.home d
 
-    c_put : ChangesOneGroup (group_of_customer payer) (with_customer payer c) with_d with_c
+    pub c_put : ChangesOneGroup (group_of_customer payer) (with_customer payer c) with_d with_c
     c_put = (each_put_changes_one_group with_d).customers payer c
 
-    h_put : ChangesOneGroup (group_of_history p.home) (with_history (list_at t.histories p.home ++ row ∷ [])) with_c left
+    pub h_put : ChangesOneGroup (group_of_history p.home) (with_history (list_at t.histories p.home ++ row ∷ [])) with_c left
     h_put = (each_put_changes_one_group with_c).histories p.home (list_at t.histories p.home ++ row ∷ [])
 
     warehouse_left : content left (group_of_warehouse p.home.w_id) ≡ with_warehouse w (content t (group_of_warehouse p.home.w_id))

@@ -57,10 +57,14 @@ customer_paid row note amount =
     with_sums row (data_after row.credit note row.data)
     (money (row.balance -ℤ amount)) (money (row.ytd_payment +ℤ amount)) (in_range 0 999999999 (row.payment_cnt + 1))
 
--- the row of HISTORY: its text is W_NAME, four spaces and D_NAME (clause 2.5.2.2)
+-- the row of HISTORY of a payment at a district of these names: its text is W_NAME, four spaces and D_NAME (clause 2.5.2.2)
+abbrev pub history_row : Payment → CustomerKey → List ℕ → List ℕ → History
+history_row p key warehouse district =
+    record { customer = key; date = p.moment; amount = pos p.amount; «data» = warehouse ++ codes "    " ++ district }
+
+-- by the rows of the warehouse and of the district
 abbrev pub payment_row : Payment → CustomerKey → Warehouse → District → History
-payment_row p key w d =
-    record { customer = key; date = p.moment; amount = pos p.amount; «data» = w.name ++ codes "    " ++ d.name }
+payment_row p key w d = history_row p key w.name d.name
 
 -- what is shown of the customer (clause 2.5.3.4)
 abbrev pub payment_reply : CustomerKey → Customer → PaymentReply

@@ -84,10 +84,22 @@ pub fn payment_row(
 ) -> History
     ensures { result ≡ spec.payment_row payment.now key warehouse.now district.now }
 {
+    history_row(payment, key, &warehouse.name, &district.name)
+}
+
+/// The row of HISTORY that a payment adds, by the names of its warehouse and district.
+pub fn history_row(
+    payment: &Payment,
+    key: CustomerKey,
+    warehouse: &Text<10>,
+    district: &Text<10>,
+) -> History
+    ensures { result ≡ spec.history_row payment.now key warehouse.now district.now }
+{
     let mut text = Text::new();
-    text.push_fitting(warehouse.name.as_str());
+    text.push_fitting(warehouse.as_str());
     text.push_fitting("    ");
-    text.push_fitting(district.name.as_str());
+    text.push_fitting(district.as_str());
     History {
         customer: key,
         date: payment.moment,

@@ -21,9 +21,9 @@ use Rattle.schema.specs.declared.table_rows.TableRows.{TableRows}
 use Rattle.schema.specs.Dense.{place}
 use Rattle.schema.specs.EachRow.{EachRow}
 use Rattle.schema.specs.Scale.{has_customer, warehouse_ids, district_keys, stock_keys, customer_keys, warehouse_slot, district_slot, stock_slot, customer_slot}
-use Rattle.schema.specs.Database.{Database, with_payment, are_payers_known}
+use Rattle.schema.specs.Database.{Database, with_payment, without_last, without_payment, are_payers_known}
 use Rattle.schema.specs.Rows.{HasCounts, FitsScale, database}
-use Rattle.schema.proofs.ScaleKept.{known-append, EachRow-insert}
+use Rattle.schema.proofs.ScaleKept.{known-append, known-take, EachRow-insert}
 use Rattle.schema.proofs.Places.{place-within, insert-dense, get-dense}
 use Rattle.schema.proofs.KeyOrders.{districts_total, districts_exact, stocks_total, stocks_exact, customers_total, customers_exact}
 use Rattle.schema.proofs.ScalePlaces.{warehouse_place, district_place, stock_place, customer_place, length-warehouse_ids, length-district_keys, length-stock_keys, length-customer_keys}
@@ -271,6 +271,19 @@ module _ (scale : Scale) (rows : TableRows) (h : FitsScale scale rows) where
   payment_put key n list row is read =
       history_put key (list ++ row ∷ []) n is
       ∙ ap (λ (l : List History). record (database scale rows) { histories = map.insert (database scale rows).histories key (l ++ row ∷ []) })
+      (sym (ap (λ r. unwrap_or r []) (list_read key n list is read)))
+
+  -- the list without its last payment
+  pub payment_gone_fits : (key : DistrictKey) (n : ℕ) (list : List History) → district_slot scale key ≡ Some n → list ≡ slice_index_or rows.histories.items n list
+      → FitsScale scale (record rows { histories = with_item rows.histories n (without_last list) })
+  payment_gone_fits key n list is read =
+      history_fits key (without_last list) n is (known-take scale _ list (h.within.payers_known key list (list_read key n list is read)))
+
+  pub payment_gone_put : (key : DistrictKey) (n : ℕ) (list : List History) → district_slot scale key ≡ Some n → list ≡ slice_index_or rows.histories.items n list
+      → database scale (record rows { histories = with_item rows.histories n (without_last list) }) ≡ record (database scale rows) { histories = without_payment (database scale rows).histories key }
+  payment_gone_put key n list is read =
+      history_put key (without_last list) n is
+      ∙ ap (λ (l : List History). record (database scale rows) { histories = map.insert (database scale rows).histories key (without_last l) })
       (sym (ap (λ r. unwrap_or r []) (list_read key n list is read)))
 
   -- a list put in its own place changes nothing

@@ -1,5 +1,5 @@
 -- A row in place of another, and a payment more, leave the tables within the scale.
-use Rattle.std.proofs.Common.{◌≡◌, ℕ, Bool, true, false, cond, ◌&&◌, List, [], ◌∷◌, ◌++◌, Some, None, IsTrue, is_some, unwrap_or, refl, sym, ap, ◌∙◌}
+use Rattle.std.proofs.Common.{◌≡◌, ℕ, Bool, true, false, cond, ◌&&◌, List, [], ◌∷◌, ◌++◌, take, zero, suc, Some, None, IsTrue, is_some, unwrap_or, refl, sym, ap, ◌∙◌}
 use Rattle.std.specs.Ordering.{eq_by_cmp, is_eq}
 use Rattle.std.specs.declared.cmp.Ordering.{Ordering}
 use Rattle.std.specs.declared.cmp.Ordering.TheVariants.{Less, Equal, Greater}
@@ -24,6 +24,15 @@ known-append scale [] row h known = rw known refl
 known-append scale (first ∷ rows) row h known =
     elim (has_customer scale first.customer) as (λ b. IsTrue (b && are_payers_known scale rows) → IsTrue (b && are_payers_known scale (rows ++ row ∷ []))) [
       | true ↦ λ k. known-append scale rows row k known
+      | false ↦ λ k. cc
+    ] h
+
+pub known-take : (scale : Scale) (n : ℕ) (rows : List History) → IsTrue (are_payers_known scale rows) → IsTrue (are_payers_known scale (take n rows))
+known-take scale zero rows h = refl
+known-take scale (suc n) [] h = refl
+known-take scale (suc n) (first ∷ rows) h =
+    elim (has_customer scale first.customer) as (λ b. IsTrue (b && are_payers_known scale rows) → IsTrue (b && are_payers_known scale (take n rows))) [
+      | true ↦ λ k. known-take scale n rows k
       | false ↦ λ k. cc
     ] h
 

@@ -1,5 +1,5 @@
 -- What a contract sees of the nine tables: finite maps from keys to rows (clause 1.3).
-use Rattle.std.specs.Prelude.{◌≡◌, ℕ, Bool, ◌&&◌, ◌==◌, List, [], ◌∷◌, ◌++◌, unwrap_or}
+use Rattle.std.specs.Prelude.{◌≡◌, ℕ, ◌-◌, Bool, ◌&&◌, ◌==◌, List, [], ◌∷◌, ◌++◌, length, take, unwrap_or}
 use Rattle.std.specs.List.{list_all, filter}
 use Rattle.std.specs.declared.cmp.Ordering.{Ordering}
 use Rattle.std.specs.Ordering.{nat_cmp}
@@ -34,6 +34,14 @@ list_at histories key = unwrap_or (map.get histories key) []
 -- the district's list with one payment more, at its end
 abbrev pub with_payment : HistoryTable → DistrictKey → History → HistoryTable
 with_payment histories key row = map.insert histories key (list_at histories key ++ row ∷ [])
+
+-- the list without its last payment
+abbrev pub without_last : List History → List History
+without_last rows = take (length rows - 1) rows
+
+-- the district's list without its last payment
+abbrev pub without_payment : HistoryTable → DistrictKey → HistoryTable
+without_payment histories key = map.insert histories key (without_last (list_at histories key))
 
 pub record Database : Type 0 where
   pub scale : Scale

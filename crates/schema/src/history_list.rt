@@ -1,5 +1,5 @@
 ghost use Rattle.std.specs.Prelude.{◌≡◌, [], ◌∷◌, ◌++◌, OnOk, OnErr, IfOk};
-ghost use Rattle.schema.specs.Database.{are_payers_known};
+ghost use Rattle.schema.specs.Database.{are_payers_known, without_last};
 
 use crate::{NoMemory, Scale};
 use rows::History;
@@ -58,6 +58,13 @@ impl HistoryList {
     {
         self.rows.push(row)?;
         Ok(())
+    }
+
+    /// Takes the last row away, if there is one.
+    pub fn pop(&mut self)
+        ensures { self.new ≡ without_last self.old }
+    {
+        self.rows.pop();
     }
 
     /// An equal list.

@@ -4,7 +4,7 @@ ghost use Rattle.std.specs.FinMap as map;
 ghost use Rattle.std.specs.List.{slice_get};
 ghost use Rattle.rows.specs.Keys.{order_of_line};
 ghost use Rattle.schema.specs.Scale.{has_district, customer_key};
-ghost use Rattle.schema.specs.Database.{IsWithinScale, with_payment, rows_where, is_of_district, is_of_order};
+ghost use Rattle.schema.specs.Database.{IsWithinScale, with_payment, without_payment, rows_where, is_of_district, is_of_order};
 ghost use Rattle.schema.specs.Rows.{database, FitsScale, Breaks};
 
 use crate::{NoMemory, Scale, ScaleFault, TableRows};
@@ -14,6 +14,7 @@ use rows::{
 };
 use std::collections::btree_map::Range;
 use std::marker::Model;
+use std::mem;
 
 /// The nine tables, within their scale: seen as nine finite maps from keys to rows.
 #[derive(Drop)]
@@ -237,41 +238,41 @@ impl Tables {
             .get(slot * customers..(slot + 1) * customers)
     }
 
-    /// Puts a row in place of the warehouse's. So for the next three tables.
-    pub fn replace_warehouse(&mut self, warehouse: u32, row: Warehouse)
+    /// Puts a row in place of the warehouse's, and gives that. So for the next three tables.
+    pub fn replace_warehouse(&mut self, warehouse: u32, row: Warehouse) -> Option<Warehouse>
         requires { IsTrue (map.contains_key self.old.warehouses warehouse) }
-        ensures { self.new ≡ record self.old { warehouses = map.insert self.old.warehouses warehouse row } }
+        ensures tables { self.new ≡ record self.old { warehouses = map.insert self.old.warehouses warehouse row } }
+        ensures was { result ≡ map.get self.old.warehouses warehouse }
     {
-        if let Some(slot) = self.scale.warehouse_slot(warehouse) {
-            self.rows.warehouses[slot] = row;
-        }
+        let slot = self.scale.warehouse_slot(warehouse)?;
+        Some(mem::replace(&mut self.rows.warehouses[slot], row))
     }
 
-    pub fn replace_district(&mut self, key: DistrictKey, row: District)
+    pub fn replace_district(&mut self, key: DistrictKey, row: District) -> Option<District>
         requires { IsTrue (map.contains_key self.old.districts key) }
-        ensures { self.new ≡ record self.old { districts = map.insert self.old.districts key row } }
+        ensures tables { self.new ≡ record self.old { districts = map.insert self.old.districts key row } }
+        ensures was { result ≡ map.get self.old.districts key }
     {
-        if let Some(slot) = self.scale.district_slot(key) {
-            self.rows.districts[slot] = row;
-        }
+        let slot = self.scale.district_slot(key)?;
+        Some(mem::replace(&mut self.rows.districts[slot], row))
     }
 
-    pub fn replace_stock(&mut self, key: StockKey, row: Stock)
+    pub fn replace_stock(&mut self, key: StockKey, row: Stock) -> Option<Stock>
         requires { IsTrue (map.contains_key self.old.stocks key) }
-        ensures { self.new ≡ record self.old { stocks = map.insert self.old.stocks key row } }
+        ensures tables { self.new ≡ record self.old { stocks = map.insert self.old.stocks key row } }
+        ensures was { result ≡ map.get self.old.stocks key }
     {
-        if let Some(slot) = self.scale.stock_slot(key) {
-            self.rows.stocks[slot] = row;
-        }
+        let slot = self.scale.stock_slot(key)?;
+        Some(mem::replace(&mut self.rows.stocks[slot], row))
     }
 
-    pub fn replace_customer(&mut self, key: CustomerKey, row: Customer)
+    pub fn replace_customer(&mut self, key: CustomerKey, row: Customer) -> Option<Customer>
         requires { IsTrue (map.contains_key self.old.customers key) }
-        ensures { self.new ≡ record self.old { customers = map.insert self.old.customers key row } }
+        ensures tables { self.new ≡ record self.old { customers = map.insert self.old.customers key row } }
+        ensures was { result ≡ map.get self.old.customers key }
     {
-        if let Some(slot) = self.scale.customer_slot(key) {
-            self.rows.customers[slot] = row;
-        }
+        let slot = self.scale.customer_slot(key)?;
+        Some(mem::replace(&mut self.rows.customers[slot], row))
     }
 
     /// Adds a payment at the end of the district's list; an error changes nothing.
@@ -284,6 +285,16 @@ impl Tables {
         match self.scale.district_slot(key) {
             Some(slot) => self.rows.histories[slot].push(row),
             None => Ok(()),
+        }
+    }
+
+    /// Takes the last payment of the district's list away, if there is one. It takes no memory.
+    pub fn pop_history(&mut self, key: DistrictKey)
+        requires { IsTrue (map.contains_key self.old.districts key) }
+        ensures { self.new ≡ record self.old { histories = without_payment self.old.histories key } }
+    {
+        if let Some(slot) = self.scale.district_slot(key) {
+            self.rows.histories[slot].pop();
         }
     }
 }

@@ -1,8 +1,9 @@
 ghost use Rattle.std.specs.Prelude.{◌≡◌};
 ghost use Rattle.groups.specs.declared.wishes.Mode.TheVariants.{Shared};
+ghost use Rattle.tickets.specs.Places.{place_of, IsGroupOf};
 
-use crate::Naming;
 use crate::work::{Told, Work};
+use crate::{Naming, places};
 use agreement::Seat;
 use groups::Mode;
 use requests::Group;
@@ -45,6 +46,14 @@ impl<J: Naming> Claim<J> {
         ensures { result ≡ self.now.group }
     {
         self.group
+    }
+
+    /// The place of its group among those of all warehouses.
+    pub fn place(&self) -> usize
+        ensures known { IsGroupOf J.warehouses self.now.group }
+        ensures place { result ≡ place_of self.now.group }
+    {
+        places::place_of::<J>(self.group)
     }
 
     /// How it is claimed.

@@ -30,7 +30,7 @@ pub use log_seat::LogSeat;
 pub use log_seats::LogSeats;
 pub use naming::Naming;
 pub use opening::{GroupSeats, named_all};
-pub use places::{GROUPS_PER_WAREHOUSE, group_at};
+pub use places::{GROUPS_PER_WAREHOUSE, group_at, place_of};
 pub use ticket_box::{TICKETS, TicketBox};
 
 #[cfg(test)]

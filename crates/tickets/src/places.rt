@@ -46,7 +46,7 @@ pub fn group_at(warehouses: u32, place: usize) -> Group
 }
 
 /// The place of a group.
-pub(crate) fn place_of<J: Naming>(group: Group) -> usize
+pub fn place_of<J: Naming>(group: Group) -> usize
     requires { IsGroupOf J.warehouses group }
     ensures { result ≡ spec.place_of group }
 {

@@ -11,6 +11,8 @@ mod conditions;
 mod log;
 mod payments;
 mod serving;
+mod slice;
+mod worlds;
 
 // 2024-05-01T12:00:00
 const NOON: u64 = 1_714_564_800;

@@ -2,7 +2,7 @@ use Rattle.std.proofs.Common.{◌≡◌, ℕ, ◌≤◌, ◌+◌, List, [], ◌+
 use Rattle.std.proofs.lemmas.Int.{ints}
 use Rattle.std.proofs.lemmas.List.{take_all}
 use Rattle.std.specs.Prelude.{pos}
-use Rattle.machine.proofs.payment.payment_row.Goals as goal
+use Rattle.machine.proofs.payment.history_row.Goals as goal
 
 -- a text that fits is appended whole
 whole : (n : ℕ) (old new piece all : List ℕ) → old ≡ all → new ≡ take n (old ++ piece) → length all + length piece ≤ n → new ≡ all ++ piece
@@ -11,8 +11,8 @@ whole n old new piece all e f h =
 
 pub returns : goal.returns
 returns c =
-    let warehouse = c.args.warehouse.now.name in
-    let district = c.args.district.now.name in
+    let warehouse = c.args.warehouse.now in
+    let district = c.args.district.now in
     let short_warehouse : length warehouse ≤ 10 = c.as_str.ensures.is_text.fits in
     let short_district : length district ≤ 10 = c.as_str-2.ensures.is_text.fits in
     let first = whole 24 c.new-text.result c.push_fitting.new.self warehouse [] c.new-text.ensures

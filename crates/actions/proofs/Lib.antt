@@ -1,0 +1,9 @@
+pub mod Settled
+pub mod Told
+pub mod CarriedOut
+pub mod RolledBack
+pub mod Kept
+pub mod Done
+pub mod NextPayers
+pub mod Undone
+pub mod Accepted

@@ -1,0 +1,69 @@
+-- The actions of a payment, together, are the payment.
+use Rattle.std.specs.Prelude.{◌≡◌, List, [], ◌∷◌, All, IsTrue, map}
+use Rattle.rows.specs.declared.records.History.{History}
+use Rattle.schema.specs.declared.scale.Scale.{Scale}
+use Rattle.schema.specs.Scale.{has_customer, has_district}
+use Rattle.schema.specs.Database.{Database}
+use Rattle.requests.specs.declared.request.Payment.{Payment}
+use Rattle.requests.specs.declared.request.Request.{Request}
+use Rattle.requests.specs.declared.request.Request.TheVariants as request
+use Rattle.requests.specs.declared.reply.Fault.{Fault}
+use Rattle.requests.specs.declared.reply.PaymentReply.{PaymentReply}
+use Rattle.requests.specs.declared.reply.Reply.TheVariants as reply
+use Rattle.requests.specs.Check.{IsAccepted}
+use Rattle.groups.specs.Footprint.{footprint, groups_of}
+use Rattle.tickets.specs.Claims.{Claiming, leaving}
+use Rattle.tickets.specs.Places.{IsGroupOf}
+use Rattle.commit_log.specs.Claimed.{IsCarriedOut}
+use Rattle.actions.specs.declared.gathering.HomePaid.{HomePaid}
+use Rattle.actions.specs.declared.gathering.CustomerPaid.{CustomerPaid}
+use Rattle.actions.specs.declared.gathering.Gathered.TheVariants.{Next, RollBack}
+use Rattle.actions.specs.Payments.{IsHomePaid, IsCustomerPaid, IsPayerKnown, IsPaymentAdded}
+use Rattle.actions.specs.Gathering.{gathered}
+
+-- Where its home rows and its customer's row were paid and its row was added to the list of payments, the payment was
+-- carried out under these claims with this reply.
+abbrev pub PaymentsAreCarriedOut : Type 0
+PaymentsAreCarriedOut =
+    (opening : Database) (p : Payment) (home : HomePaid) (customer : CustomerPaid) (row : History) (shown : PaymentReply)
+    (warehouse district customers history : Claiming)
+    → IsHomePaid p home warehouse district → IsCustomerPaid p customer customers
+    → gathered p home customer ≡ Next row shown → IsPaymentAdded p row history
+    → IsCarriedOut opening (request.Payment p) (warehouse ∷ district ∷ customers ∷ history ∷ []) (reply.Payment shown)
+
+-- Where what was found calls for a rollback, the payment was carried out with this fault as its reply.
+abbrev pub RolledBackPaymentsAreCarriedOut : Type 0
+RolledBackPaymentsAreCarriedOut =
+    (opening : Database) (p : Payment) (home : HomePaid) (customer : CustomerPaid) (fault : Fault)
+    (warehouse district customers : Claiming)
+    → IsHomePaid p home warehouse district → IsCustomerPaid p customer customers
+    → gathered p home customer ≡ RollBack fault
+    → IsCarriedOut opening (request.Payment p) (warehouse ∷ district ∷ customers ∷ []) (reply.RolledBack fault)
+
+-- ---- what else those need who do the actions
+
+-- the claim once what was done under it is taken back
+abbrev pub undone : Claiming → Claiming
+undone claim = leaving claim claim.back
+
+-- A request that was rolled back was carried out under its claims also as they are once all is taken back.
+abbrev pub RolledBackClaimsCanBeUndone : Type 0
+RolledBackClaimsCanBeUndone =
+    (opening : Database) (r : Request) (claims : List Claiming) (fault : Fault)
+    → IsCarriedOut opening r claims (reply.RolledBack fault) → IsCarriedOut opening r (map undone claims) (reply.RolledBack fault)
+
+-- The row that is added to the list of payments names the customer whose row was paid.
+abbrev pub GatheredPayersAreKnown : Type 0
+GatheredPayersAreKnown =
+    (scale : Scale) (p : Payment) (home : HomePaid) (customer : CustomerPaid) (row : History) (shown : PaymentReply)
+    → gathered p home customer ≡ Next row shown → IsPayerKnown scale p customer → IsTrue (has_customer scale row.customer)
+
+-- The groups that an accepted request claims are groups of the scale's warehouses.
+abbrev pub AcceptedRequestsHaveTheirGroups : Type 0
+AcceptedRequestsHaveTheirGroups =
+    (scale : Scale) (r : Request) → IsAccepted scale r → All (IsGroupOf scale.warehouses) (groups_of (footprint r))
+
+-- And the scale has the home district of an accepted payment.
+abbrev pub AcceptedPaymentsHaveTheirDistrict : Type 0
+AcceptedPaymentsHaveTheirDistrict =
+    (scale : Scale) (p : Payment) → IsAccepted scale (request.Payment p) → IsTrue (has_district scale p.home)

@@ -1,0 +1,3 @@
+pub mod Payments
+pub mod Gathering
+pub mod Laws

@@ -1,0 +1,29 @@
+//! Laws of the actions of a payment: functions that do nothing, and are proved.
+ghost use Rattle.actions.specs.Laws.{AcceptedPaymentsHaveTheirDistrict, AcceptedRequestsHaveTheirGroups, GatheredPayersAreKnown, PaymentsAreCarriedOut, RolledBackClaimsCanBeUndone, RolledBackPaymentsAreCarriedOut};
+
+/// Where each action did its part, the payment is carried out as the machine does it: the reply is the
+/// machine's, and the claims leave what the machine leaves.
+pub fn payments_are_carried_out()
+    ensures { PaymentsAreCarriedOut }
+{}
+
+/// Where what was found calls for it, the machine rolls the payment back, with the same fault.
+pub fn rolled_back_payments_are_carried_out()
+    ensures { RolledBackPaymentsAreCarriedOut }
+{}
+
+/// What was carried out and rolled back, was so also once all that was done under its claims is taken back.
+pub fn rolled_back_claims_can_be_undone()
+    ensures { RolledBackClaimsCanBeUndone }
+{}
+
+/// The row that is added to the list of payments names a customer of the scale, since the customer was paid.
+pub fn gathered_payers_are_known()
+    ensures { GatheredPayersAreKnown }
+{}
+
+/// What an accepted request claims is there, and so is an accepted payment's home district.
+pub fn accepted_requests_have_their_groups()
+    ensures groups { AcceptedRequestsHaveTheirGroups }
+    ensures district { AcceptedPaymentsHaveTheirDistrict }
+{}

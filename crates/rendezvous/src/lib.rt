@@ -1,0 +1,18 @@
+//! A meeting: each of several places reports once, and who reports last gets what all have reported.
+//!
+//! Nothing here waits, and only `Meeting::open` takes memory.
+#![tactic(auto)]
+
+mod laws;
+mod meeting;
+mod results;
+
+pub use laws::{
+    all_are_awaited_at_first, awaited_are_at_most_the_places, awaited_have_not_reported,
+    none_awaited_where_all_reported, reports_take_one_number,
+};
+pub use meeting::{Meeting, Reported};
+pub use results::Results;
+
+#[cfg(test)]
+mod tests;

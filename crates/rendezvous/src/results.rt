@@ -1,0 +1,45 @@
+ghost use Rattle.std.specs.Prelude.{◌≡◌, ◌<◌, ◌++◌, ◌↔◌, length, IsSome, option_to_list};
+
+use std::marker::Model;
+
+/// What all places of a meeting have reported.
+///
+/// Contracts see the results by place.
+#[derive(Drop)]
+pub struct Results<R> {
+    // Each place has a result.
+    pub(crate) reports: Vec<Option<R>>,
+}
+
+impl<R> Model for Results<R> {
+    ghost use Rattle.std.specs.Prelude.{List};
+    ghost use Rattle.std.specs.Coded.{coded_list};
+
+    ghost Value = { List R };
+
+    ghost coded = { coded_list R.code };
+
+    ghost use Rattle.std.specs.Prelude.{◌≡◌, map, Some};
+    ghost use Rattle.rendezvous.specs.Awaited.{reported};
+
+    ghost view = { λ r. reported r.reports.items };
+
+    ghost invariant = { λ r. map Some (reported r.reports.items) ≡ r.reports.items };
+}
+
+impl<R> Results<R> {
+    /// How many results are left.
+    pub fn len(&self) -> usize
+        ensures { result ≡ length self.now }
+    {
+        self.reports.len()
+    }
+
+    /// The result of the last place of which there is one left. It takes no memory.
+    pub fn pop(&mut self) -> Option<R>
+        ensures results { self.old ≡ self.new ++ option_to_list result }
+        ensures some { IsSome result ↔ (0 < length self.old) }
+    {
+        self.reports.pop().flatten()
+    }
+}

@@ -1,0 +1,249 @@
+-- What each call of a slice keeps.
+use Rattle.std.proofs.Common.{◌≡◌, ◌≢◌, ◌⊎◌, ℕ, ◌+◌, ◌-◌, ◌<◌, ◌≤◌, List, [], ◌∷◌, ◌++◌, length, get_or, set, map, refl, sym, ap, subst, ◌∙◌, arith, inl, inr, Result, Ok, Err, IfOk, IfErr, OnOk, OnErr}
+use Rattle.std.proofs.lemmas.List.{get_or-map, map-set, length-map}
+use Rattle.schema.specs.Database.{Database}
+use Rattle.schema.specs.declared.scale.Scale.{Scale}
+use Rattle.requests.specs.declared.group.Group.{Group}
+use Rattle.groups.specs.Content.{Content, content}
+use Rattle.groups.specs.declared.wishes.Mode.{Mode}
+use Rattle.groups.specs.declared.wishes.Mode.TheVariants.{Shared, Exclusive}
+use Rattle.tickets.specs.Boxes.{tickets_home, lent, with_left, taken_back}
+use Rattle.tickets.specs.Claims.{Claiming, fresh, leaving}
+use Rattle.tickets.specs.Committed.{tickets_held, KeepsCommitted}
+use Rattle.tickets.specs.Laws.{IsGrant, IsWrite, IsGivenBack}
+use Rattle.tickets.specs.Places.{IsGroupOf, place_of}
+use Rattle.tickets.proofs.Committed.{grant_keeps, write_keeps, give_back_keeps}
+use Rattle.slices.specs.declared.ground.Held.{Held}
+use Rattle.slices.specs.declared.kept.Kept.{Kept}
+use Rattle.slices.specs.Grounds.{Grounded, home, sliced, IsGroundOf, AreGroundsOf}
+use Rattle.slices.specs.Sliced.{everywhere, free_of, standing, SliceKeeps}
+use Rattle.slices.specs.Undo.{all_put_back, all_put_back_in}
+use Rattle.slices.proofs.Homes.{free_here, free_set, free_elsewhere}
+use Rattle.slices.proofs.Grounds.{ground_at, one_ground, same_ground, same_homes, stepped, undone, granted, given_back}
+use Rattle.slices.proofs.Steps.{IsStep, all_changes, all_scale, all_items}
+
+-- ---- a write
+
+-- the same tickets are at home, and the claim leaves what the group has now
+wrote : (t new : Database) (grounds : List Grounded) (place : ℕ) (ground next : Grounded) (was now : Claiming) (left : Content) → ground ≡ get_or grounds place ground → home next ≡ home ground
+    → was.mode ≡ Exclusive → now ≡ leaving was left → left ≡ content new was.group → ((group : Group) → group ≢ was.group → content new group ≡ content t group)
+    → new.scale ≡ t.scale → new.items ≡ t.items → SliceKeeps (was ∷ []) (sliced t grounds) (now ∷ []) (sliced new (set grounds place next))
+wrote t new grounds place ground next was now left is homes exclusive leaves own elsewhere scale items =
+    let writes : IsWrite was now (standing (sliced t grounds)) (standing (sliced new (set grounds place next))) = record {
+      exclusive = exclusive;
+      claim = leaves ∙ ap (leaving was) (sym (ap (λ c. c.left) leaves));
+      rows = sym own ∙ sym (ap (λ c. c.left) leaves);
+      others = elsewhere;
+      free = λ group.
+          ap (λ f. free_of new.scale.warehouses f group) (same_homes grounds place ground next is homes)
+          ∙ ap (λ (s : Scale). free_of s.warehouses (map home grounds) group) scale;
+    } in
+    record {
+      committed = write_keeps everywhere was now (standing (sliced t grounds)) (standing (sliced new (set grounds place next))) writes;
+      scale = scale;
+      items = items;
+    }
+
+-- a step under an exclusive claim, with what takes it back
+pub step_keeps : (t new : Database) (grounds : List Grounded) (place : ℕ) (ground next : Grounded) (was now : Claiming) (kept : Kept) (change : Content → Content) → AreGroundsOf t grounds
+    → IsGroupOf t.scale.warehouses was.group → place ≡ place_of was.group → ground ≡ get_or grounds place ground → IsStep was.group kept change t new → was.mode ≡ Exclusive → ground.ticket_box.mode ≡ Exclusive
+    → was.left ≡ ground.ticket_box.left → now ≡ leaving was (content new was.group) → next.ticket_box ≡ with_left ground.ticket_box (content new was.group) → next.undo ≡ ground.undo ++ kept ∷ []
+    → AreGroundsOf new (set grounds place next) × (now ≡ leaving was (change was.left)) × SliceKeeps (was ∷ []) (sliced t grounds) (now ∷ []) (sliced new (set grounds place next))
+step_keeps t new grounds place ground next was now kept change are known at is step exclusive out same leaves box undo =
+    let found = ground_at t grounds was.group place ground are known at is in
+    let group : Group = ground.ticket_box.group in
+    let step_here : IsStep group kept change t new = subst (λ (g : Group). IsStep g kept change t new) found.1 step in
+    let box_here : next.ticket_box ≡ with_left ground.ticket_box (content new group) = box ∙ ap (λ g. with_left ground.ticket_box (content new g)) found.1 in
+    let before : was.left ≡ content t was.group = same ∙ found.2.left ∙ ap (content t) (sym found.1) in
+    let homes : home next ≡ home ground = ap (λ b. tickets_home b.mode b.shared) box in (
+      one_ground t new grounds place ground next are found.0 found.2 step.scale step_here.changes.elsewhere (stepped t new place ground next kept change found.2 step_here out box_here undo),
+      leaves ∙ ap (leaving was) (step.changes.here ∙ ap change (sym before)),
+      wrote t new grounds place ground next was now (content new was.group) is homes exclusive leaves refl step.changes.elsewhere step.scale step.items,
+    )
+
+-- the same, once there was made room for it
+pub leave_keeps : (t new : Database) (grounds : List Grounded) (place : ℕ) (ground roomy next : Grounded) (was now : Claiming) (own : Group) (kept : Kept) (change : Content → Content) → AreGroundsOf t grounds
+    → IsGroupOf t.scale.warehouses was.group → place ≡ place_of was.group → ground ≡ get_or grounds place ground → roomy.ticket_box ≡ ground.ticket_box → roomy.undo ≡ ground.undo
+    → IsStep was.group kept change t new → own ≡ was.group → was.mode ≡ Exclusive → roomy.ticket_box.mode ≡ Exclusive → was.left ≡ roomy.ticket_box.left → now ≡ leaving was (content new own)
+    → next.ticket_box ≡ with_left roomy.ticket_box (content new own) → next.undo ≡ roomy.undo ++ kept ∷ []
+    → AreGroundsOf new (set grounds place next) × (now ≡ leaving was (change was.left)) × SliceKeeps (was ∷ []) (sliced t grounds) (now ∷ []) (sliced new (set grounds place next))
+leave_keeps t new grounds place ground roomy next was now own kept change are known at is same_box same_undo step same_group exclusive out left leaves box undo =
+    step_keeps t new grounds place ground next was now kept change are known at is step exclusive
+    (sym (ap (λ b. b.mode) same_box) ∙ out)
+    (left ∙ ap (λ b. b.left) same_box)
+    (leaves ∙ ap (λ g. leaving was (content new g)) same_group)
+    (box ∙ (λ i. with_left (same_box i) (content new (same_group i))))
+    (undo ∙ ap (λ u. u ++ kept ∷ []) same_undo)
+
+-- what a row that is put in its place makes of the slice and of the claim
+pub record IsPut (warehouses : ℕ) (t new : Database) (grounds later : List Grounded) (was now : Claiming) (change : Content → Content) : Type 0 where
+  pub invariant : (new.scale.warehouses ≡ warehouses) × AreGroundsOf new later
+  pub claim : now ≡ leaving was (change was.left)
+  pub keeps : SliceKeeps (was ∷ []) (sliced t grounds) (now ∷ []) (sliced new later)
+
+pub put_keeps : (warehouses : ℕ) (t new : Database) (grounds : List Grounded) (place : ℕ) (ground roomy next : Grounded) (was now : Claiming) (own group : Group) (kept : Kept) (change : Content → Content)
+    → (t.scale.warehouses ≡ warehouses) × AreGroundsOf t grounds → IsGroupOf warehouses was.group → place ≡ place_of was.group → was.group ≡ group → was.mode ≡ Exclusive
+    → (IsGroupOf t.scale.warehouses group → IsStep group kept change t new) → ground ≡ get_or grounds place ground → roomy.ticket_box ≡ ground.ticket_box → roomy.undo ≡ ground.undo → own ≡ was.group
+    → was.left ≡ roomy.ticket_box.left → roomy.ticket_box.mode ≡ Exclusive → now ≡ leaving was (content new own) → next.ticket_box ≡ with_left roomy.ticket_box (content new own)
+    → next.undo ≡ roomy.undo ++ kept ∷ [] → IsPut warehouses t new grounds (set grounds place next) was now change
+put_keeps warehouses t new grounds place ground roomy next was now own group kept change invariant known at is_group exclusive steps is same_box same_undo same_group left out leaves box undo =
+    let here : IsGroupOf t.scale.warehouses was.group = subst (λ n. IsGroupOf n was.group) (sym invariant.0) known in
+    let step : IsStep was.group kept change t new = subst (λ (g : Group). IsStep g kept change t new) (sym is_group) (steps (subst (IsGroupOf t.scale.warehouses) is_group here)) in
+    let all = leave_keeps t new grounds place ground roomy next was now own kept change invariant.1 here at is same_box same_undo step same_group exclusive out left leaves box undo in
+    record {
+      invariant = (ap (λ s. s.warehouses) step.scale ∙ invariant.0, all.0);
+      claim = all.1;
+      keeps = all.2;
+    }
+
+pub always_err : {T E P : Type 0} (result : Result T E) → P → OnErr result P
+always_err (Ok x) p = tt
+always_err (Err e) p = p
+
+-- only room was made
+pub room_keeps : (t : Database) (grounds : List Grounded) (group : Group) (place : ℕ) (ground roomy : Grounded) → AreGroundsOf t grounds → IsGroupOf t.scale.warehouses group → place ≡ place_of group
+    → ground ≡ get_or grounds place ground → roomy.ticket_box ≡ ground.ticket_box → roomy.undo ≡ ground.undo
+    → AreGroundsOf t (set grounds place roomy) × (sliced t (set grounds place roomy) ≡ sliced t grounds)
+room_keeps t grounds group place ground roomy are known at is same_box same_undo =
+    let found = ground_at t grounds group place ground are known at is in (
+      same_ground t grounds place ground roomy are found.0 found.2 same_box same_undo,
+      ap (λ free. record { tables = t; free = free }) (same_homes grounds place ground roomy is (ap (λ b. tickets_home b.mode b.shared) same_box)),
+    )
+
+-- all that was done under an exclusive claim is taken back
+pub undo_keeps : (t new : Database) (grounds : List Grounded) (place : ℕ) (ground next : Grounded) (was now : Claiming) → AreGroundsOf t grounds → IsGroupOf t.scale.warehouses was.group → place ≡ place_of was.group
+    → ground ≡ get_or grounds place ground → new ≡ all_put_back ground.undo t → was.mode ≡ Exclusive → was.back ≡ ground.ticket_box.back → now ≡ leaving was was.back
+    → next.ticket_box ≡ with_left ground.ticket_box ground.ticket_box.back → next.undo ≡ []
+    → AreGroundsOf new (set grounds place next) × SliceKeeps (was ∷ []) (sliced t grounds) (now ∷ []) (sliced new (set grounds place next))
+undo_keeps t new grounds place ground next was now are known at is made exclusive same leaves box undo =
+    let found = ground_at t grounds was.group place ground are known at is in
+    let b = ground.ticket_box in
+    let changes = all_changes b.group ground.undo t found.2.kept in
+    let scale : new.scale ≡ t.scale = ap (λ d. d.scale) made ∙ all_scale ground.undo t in
+    let items : new.items ≡ t.items = ap (λ d. d.items) made ∙ all_items ground.undo t in
+    let elsewhere : (group : Group) → group ≢ b.group → content new group ≡ content t group = λ group apart. ap (λ d. content d group) made ∙ changes.elsewhere group apart in
+    let now_here : IsGroundOf new place next = subst (λ d. IsGroundOf d place next) (sym made) (undone t place ground next found.2 box undo) in
+    let own : was.back ≡ content new was.group =
+    same ∙ found.2.back ∙ sym (changes.here ∙ ap (all_put_back_in ground.undo) (sym found.2.left)) ∙ ap (λ d. content d b.group) (sym made) ∙ ap (content new) (sym found.1) in (
+      one_ground t new grounds place ground next are found.0 found.2 scale elsewhere now_here,
+      wrote t new grounds place ground next was now was.back is (ap (λ x. tickets_home x.mode x.shared) box) exclusive leaves own
+          (λ group apart. elsewhere group (λ e. apart (e ∙ sym found.1))) scale items,
+    )
+
+-- ---- tickets go out and come home
+
+-- so many tickets of a group are at home
+pub home_of : (t : Database) (grounds : List Grounded) (group : Group) (place : ℕ) (ground : Grounded) → IsGroupOf t.scale.warehouses group → place ≡ place_of group → place < length grounds
+    → ground ≡ get_or grounds place ground → free_of t.scale.warehouses (map home grounds) group ≡ home ground
+home_of t grounds group place ground known at here is =
+    free_here t.scale.warehouses (map home grounds) group known
+    ∙ ap (λ j. get_or (map home grounds) j 8) (sym at)
+    ∙ get_or-map home grounds place ground 8 here
+    ∙ ap home (sym is)
+
+home_now : (t : Database) (grounds : List Grounded) (group : Group) (place : ℕ) (next : Grounded) → IsGroupOf t.scale.warehouses group → place ≡ place_of group → place < length grounds
+    → free_of t.scale.warehouses (map home (set grounds place next)) group ≡ home next
+home_now t grounds group place next known at here =
+    ap (λ f. free_of t.scale.warehouses f group) (map-set home grounds place next)
+    ∙ free_set t.scale.warehouses (map home grounds) group place (home next) known at (let long = length-map grounds home in omega (arith, long))
+
+home_elsewhere : (t : Database) (grounds : List Grounded) (group : Group) (place : ℕ) (next : Grounded) → IsGroupOf t.scale.warehouses group → place ≡ place_of group
+    → (other : Group) → other ≢ group → free_of t.scale.warehouses (map home (set grounds place next)) other ≡ free_of t.scale.warehouses (map home grounds) other
+home_elsewhere t grounds group place next known at other apart =
+    ap (λ f. free_of t.scale.warehouses f other) (map-set home grounds place next)
+    ∙ free_elsewhere t.scale.warehouses (map home grounds) group place (home next) known at other apart
+
+-- while a claim is out, not all tickets are at home
+pub some_out : (mode : Mode) (shared : ℕ) → (mode ≡ Exclusive) ⊎ (0 < shared) → tickets_home mode shared < 8
+some_out Shared shared (inl exclusive) = cc
+some_out Shared shared (inr some) = omega arith
+some_out Exclusive shared either = omega arith
+
+-- a claim is granted
+pub grant_keeps_slice : (t : Database) (grounds : List Grounded) (group : Group) (place : ℕ) (ground next : Grounded) (claim : Claiming) → AreGroundsOf t grounds → IsGroupOf t.scale.warehouses group
+    → place ≡ place_of group → ground ≡ get_or grounds place ground → ground.ticket_box.mode ≡ Shared → ground.ticket_box.shared ≡ 0 → claim ≡ fresh ground.ticket_box.group Exclusive ground.ticket_box.left
+    → next.ticket_box ≡ lent ground.ticket_box.group ground.ticket_box.left → next.undo ≡ ground.undo
+    → AreGroundsOf t (set grounds place next) × (claim ≡ fresh group Exclusive (content t group)) × SliceKeeps [] (sliced t grounds) (claim ∷ []) (sliced t (set grounds place next))
+grant_keeps_slice t grounds group place ground next claim are known at is shared none granting box undo =
+    let found = ground_at t grounds group place ground are known at is in
+    let b = ground.ticket_box in
+    let left : b.left ≡ content t group = found.2.left ∙ ap (content t) (sym found.1) in
+    let given : Claiming = fresh group Exclusive (content t group) in
+    let same : claim ≡ given = granting ∙ (λ i. fresh (sym found.1 i) Exclusive (left i)) in
+    let out : home next ≡ 0 = ap (λ x. tickets_home x.mode x.shared) box in
+    let all : home ground ≡ 8 = λ i. tickets_home (shared i) (none i) in
+    let grants : IsGrant given (standing (sliced t grounds)) (standing (sliced t (set grounds place next))) = record {
+      tickets =
+          ap (λ n. n + 8) (home_now t grounds group place next known at found.0 ∙ out)
+          ∙ sym (home_of t grounds group place ground known at found.0 is ∙ all);
+      told = refl;
+      left = refl;
+      rows = λ _. refl;
+      others = home_elsewhere t grounds group place next known at;
+    } in (
+      one_ground t t grounds place ground next are found.0 found.2 refl (λ _ _. refl) (granted t place ground next found.2 shared box undo),
+      same,
+      record {
+        committed = subst (λ (c : Claiming). KeepsCommitted everywhere [] (standing (sliced t grounds)) (c ∷ []) (standing (sliced t (set grounds place next)))) (sym same) (grant_keeps everywhere given (standing (sliced t grounds)) (standing (sliced t (set grounds place next))) grants);
+        scale = refl;
+        items = refl;
+      },
+    )
+
+-- a claim is granted, or nothing changes
+pub grant_outcome : {E : Type 0} (t : Database) (grounds : List Grounded) (group : Group) (place : ℕ) (ground next : Grounded) (result : Result Claiming E) → AreGroundsOf t grounds
+    → IsGroupOf t.scale.warehouses group → place ≡ place_of group → ground ≡ get_or grounds place ground → OnOk result ((ground.ticket_box.mode ≡ Shared) × (ground.ticket_box.shared ≡ 0))
+    → IfOk result (λ claim. claim ≡ fresh ground.ticket_box.group Exclusive ground.ticket_box.left) → OnOk result (next.ticket_box ≡ lent ground.ticket_box.group ground.ticket_box.left)
+    → OnOk result (next.undo ≡ ground.undo) → OnErr result (next ≡ ground)
+    → AreGroundsOf t (set grounds place next) × IfOk result (λ claim. claim ≡ fresh group Exclusive (content t group)) × IfOk result (λ claim. SliceKeeps [] (sliced t grounds) (claim ∷ []) (sliced t (set grounds place next)))
+grant_outcome t grounds group place ground next (Ok claim) are known at is free granting box undo same =
+    grant_keeps_slice t grounds group place ground next claim are known at is free.0 free.1 granting box undo
+grant_outcome t grounds group place ground next (Err e) are known at is free granting box undo same =
+    let found = ground_at t grounds group place ground are known at is in
+    (same_ground t grounds place ground next are found.0 found.2 (ap (λ g. g.ticket_box) same) (ap (λ g. g.undo) same), tt, tt)
+
+-- the group is held, and nothing changes
+pub busy_outcome : {C : Type 0} (t : Database) (grounds : List Grounded) (group : Group) (place : ℕ) (ground next : Grounded) (result : Result C Held) → AreGroundsOf t grounds
+    → IsGroupOf t.scale.warehouses group → place ≡ place_of group → ground ≡ get_or grounds place ground → IfErr result (λ held. (held.group ≡ ground.ticket_box.group) × (held.holder ≡ ground.holder))
+    → OnErr result ((ground.ticket_box.mode ≡ Exclusive) ⊎ (0 < ground.ticket_box.shared)) → OnErr result (next ≡ ground)
+    → IfErr result (λ held. (held.group ≡ group) × (sliced t (set grounds place next) ≡ sliced t grounds) × (free_of t.scale.warehouses (map home grounds) group < 8))
+busy_outcome t grounds group place ground next (Ok claim) are known at is group_held busy same = tt
+busy_outcome t grounds group place ground next (Err held) are known at is group_held busy same =
+    let found = ground_at t grounds group place ground are known at is in (
+      group_held.0 ∙ sym found.1,
+      ap (λ free. record { tables = t; free = free }) (same_homes grounds place ground next is (ap home same)),
+      subst (λ n. n < 8) (sym (home_of t grounds group place ground known at found.0 is)) (some_out ground.ticket_box.mode ground.ticket_box.shared busy),
+    )
+
+returned : (claim_mode mode : Mode) (shared : ℕ) → claim_mode ≡ mode → (claim_mode ≡ Shared → (0 < shared) × (shared ≤ 8)) → (claim_mode ≡ Exclusive → shared ≡ 0)
+    → tickets_home Shared (shared - 1) ≡ tickets_home mode shared + tickets_held claim_mode
+returned Shared Shared shared same some alone = let few = some refl in omega (arith, few.0, few.1)
+returned Shared Exclusive shared same some alone = cc
+returned Exclusive Shared shared same some alone = cc
+returned Exclusive Exclusive shared same some alone = let none = alone refl in omega (arith, none)
+
+-- a claim is given back
+pub back_keeps_slice : (t : Database) (grounds : List Grounded) (place : ℕ) (ground next : Grounded) (claim : Claiming) → AreGroundsOf t grounds → IsGroupOf t.scale.warehouses claim.group
+    → place ≡ place_of claim.group → ground ≡ get_or grounds place ground → (claim.mode ≡ Exclusive → claim.told ≡ claim.left) → claim.mode ≡ ground.ticket_box.mode
+    → (claim.mode ≡ Shared → (0 < ground.ticket_box.shared) × (ground.ticket_box.shared ≤ 8)) → (claim.mode ≡ Exclusive → ground.ticket_box.shared ≡ 0)
+    → next.ticket_box ≡ taken_back ground.ticket_box → next.undo ≡ []
+    → AreGroundsOf t (set grounds place next) × SliceKeeps (claim ∷ []) (sliced t grounds) [] (sliced t (set grounds place next))
+back_keeps_slice t grounds place ground next claim are known at is settled mode some alone box undo =
+    let found = ground_at t grounds claim.group place ground are known at is in
+    let b = ground.ticket_box in
+    let gives : IsGivenBack claim (standing (sliced t grounds)) (standing (sliced t (set grounds place next))) = record {
+      settled = settled;
+      tickets =
+          home_now t grounds claim.group place next known at found.0 ∙ ap (λ x. tickets_home x.mode x.shared) box
+          ∙ returned claim.mode b.mode b.shared mode some alone
+          ∙ ap (λ n. n + tickets_held claim.mode) (sym (home_of t grounds claim.group place ground known at found.0 is));
+      rows = λ _. refl;
+      others = home_elsewhere t grounds claim.group place next known at;
+    } in (
+      one_ground t t grounds place ground next are found.0 found.2 refl (λ _ _. refl) (given_back t place ground next found.2 box undo),
+      record {
+        committed = give_back_keeps everywhere claim (standing (sliced t grounds)) (standing (sliced t (set grounds place next))) gives;
+        scale = refl;
+        items = refl;
+      },
+    )

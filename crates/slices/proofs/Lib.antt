@@ -1,0 +1,5 @@
+pub mod Steps
+pub mod Homes
+pub mod Grounds
+pub mod Keeps
+pub mod Opened

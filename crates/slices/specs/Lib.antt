@@ -1,0 +1,4 @@
+pub mod Sliced
+pub mod Undo
+pub mod Grounds
+pub mod Openings

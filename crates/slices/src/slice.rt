@@ -1,0 +1,230 @@
+ghost use Rattle.std.specs.Prelude.{◌≡◌, ◌<◌, [], ◌∷◌, IsTrue, IfOk, IfErr, OnOk, OnErr};
+ghost use Rattle.std.specs.FinMap as map;
+ghost use Rattle.schema.specs.Database.{with_payment};
+ghost use Rattle.requests.specs.declared.group.Group.TheVariants as group;
+ghost use Rattle.groups.specs.declared.wishes.Mode.TheVariants.{Exclusive};
+ghost use Rattle.groups.specs.Content.{content};
+ghost use Rattle.groups.specs.Laws.{with_warehouse, with_district, with_customer};
+ghost use Rattle.tickets.specs.Claims.{fresh, leaving};
+ghost use Rattle.tickets.specs.Places.{IsGroupOf};
+ghost use Rattle.slices.specs.Openings.{AreBoxesOf};
+ghost use Rattle.slices.specs.Sliced.{at_rest, standing, SliceKeeps};
+ghost use Rattle.slices.specs.Undo.{with_payment_more};
+
+use crate::changes::ContentOf;
+use crate::ground::{Ground, Held};
+use crate::kept::Kept;
+use requests::Group;
+use schema::{Customer, CustomerKey, District, DistrictKey, History, NoMemory, Tables, Warehouse};
+use std::alloc::Global;
+use std::marker::Model;
+use tickets::{Claim, Naming, TicketBox, place_of};
+
+/// The rows of all groups and their ticket boxes.
+///
+/// Contracts see the rows as they stand, with what open transactions have done to them, and how many of
+/// each group's tickets are at home. A claim is always on one of the groups, so that no call asks that.
+#[derive(Drop)]
+pub struct Slice<J: Naming> {
+    tables: Tables,
+    grounds: Vec<Ground<J>>,
+}
+
+impl<J: Naming> Model for Slice<J> {
+    ghost use Rattle.std.specs.Coded.{codes};
+    ghost use Rattle.schema.specs.contracts.tables.Tables as tables_kind;
+    ghost use Rattle.slices.specs.Sliced.{Sliced};
+
+    ghost Value = { Sliced };
+
+    ghost coded = { Prim.hlevel (codes, tables_kind.the_row.coded) };
+
+    ghost use Rattle.std.specs.Prelude.{◌≡◌};
+    ghost use Rattle.slices.specs.Grounds.{sliced, AreGroundsOf};
+
+    ghost view = { λ s. sliced s.tables s.grounds.items };
+
+    ghost invariant = { λ s. (s.tables.scale.warehouses ≡ J.warehouses) × AreGroundsOf s.tables s.grounds.items };
+}
+
+impl<J: Naming> Slice<J> {
+    /// The slice of these tables, with the boxes of their groups. Nothing is left after an error.
+    pub fn open(
+        alloc: Global,
+        tables: Tables,
+        boxes: Vec<TicketBox<J>>,
+    ) -> Result<Slice<J>, NoMemory>
+        requires warehouses { J.warehouses ≡ tables.scale.warehouses }
+        requires boxes { AreBoxesOf tables boxes.items }
+        ensures { IfOk result (λ slice. slice ≡ at_rest tables) }
+    {
+        let mut grounds = Vec::with_capacity(alloc, boxes.len())?;
+        for ticket_box in boxes {
+            grounds.push(Ground::new(alloc, ticket_box))?;
+        }
+        Ok(Slice { tables, grounds })
+    }
+
+    /// The rows as they stand.
+    pub fn tables(&self) -> &Tables
+        ensures tables { result.now ≡ self.now.tables }
+        ensures warehouses { self.now.tables.scale.warehouses ≡ J.warehouses }
+    {
+        &self.tables
+    }
+
+    /// An exclusive claim on a group, for a transaction of this age, unless a claim on it is out.
+    pub fn grant(&mut self, age: u64, group: Group) -> Result<Claim<J>, Held>
+        requires known { IsGroupOf J.warehouses group }
+        ensures claim { IfOk result (λ claim. claim ≡ fresh group Exclusive (content self.old.tables group)) }
+        ensures kept { IfOk result (λ claim. SliceKeeps [] self.old (claim ∷ []) self.new) }
+        ensures rows { OnOk result (self.new.tables ≡ self.old.tables) }
+        ensures busy { IfErr result (λ held. (held.group ≡ group) × (self.new ≡ self.old) × ((standing self.old).free group < 8)) }
+    {
+        let ground = &mut self.grounds[place_of::<J>(group)];
+        ground.grant(age)
+    }
+
+    /// Learns that what a claim left stands in its group.
+    pub fn look(&mut self, claim: &mut Claim<J>)
+        ensures left { claim.old.left ≡ content self.old.tables claim.old.group }
+        ensures same { (self.new ≡ self.old) × (claim.new ≡ claim.old) }
+    {
+        let ground = &mut self.grounds[claim.place()];
+        ground.look(claim);
+    }
+
+    /// Puts a row in place of the warehouse's, under an exclusive claim on it. Want of memory changes
+    /// nothing. So for the next three.
+    pub fn put_warehouse(
+        &mut self,
+        claim: &mut Claim<J>,
+        w_id: u32,
+        row: Warehouse,
+    ) -> Result<(), NoMemory>
+        requires group { claim.old.group ≡ group.Warehouse w_id }
+        requires exclusive { claim.old.mode ≡ Exclusive }
+        requires there { IsTrue (map.contains_key self.old.tables.warehouses w_id) }
+        ensures claim { OnOk result (claim.new ≡ leaving claim.old (with_warehouse row claim.old.left)) }
+        ensures kept { OnOk result (SliceKeeps (claim.old ∷ []) self.old (claim.new ∷ []) self.new) }
+        ensures tables { OnOk result (self.new.tables ≡ record self.old.tables { warehouses = map.insert self.old.tables.warehouses w_id row }) }
+        ensures err { OnErr result ((self.new ≡ self.old) × (claim.new ≡ claim.old)) }
+    {
+        let ground = &mut self.grounds[claim.place()];
+        ground.make_room()?;
+        let Some(old) = self.tables.replace_warehouse(w_id, row) else {
+            unreachable!()
+        };
+        let now = ContentOf {
+            tables: &self.tables,
+            group: claim.group(),
+        };
+        ground.leave(claim, Kept::Warehouse(w_id, old), &now);
+        Ok(())
+    }
+
+    pub fn put_district(
+        &mut self,
+        claim: &mut Claim<J>,
+        key: DistrictKey,
+        row: District,
+    ) -> Result<(), NoMemory>
+        requires group { claim.old.group ≡ group.District key.w_id key.d_id }
+        requires exclusive { claim.old.mode ≡ Exclusive }
+        requires there { IsTrue (map.contains_key self.old.tables.districts key) }
+        ensures claim { OnOk result (claim.new ≡ leaving claim.old (with_district row claim.old.left)) }
+        ensures kept { OnOk result (SliceKeeps (claim.old ∷ []) self.old (claim.new ∷ []) self.new) }
+        ensures tables { OnOk result (self.new.tables ≡ record self.old.tables { districts = map.insert self.old.tables.districts key row }) }
+        ensures err { OnErr result ((self.new ≡ self.old) × (claim.new ≡ claim.old)) }
+    {
+        let ground = &mut self.grounds[claim.place()];
+        ground.make_room()?;
+        let Some(old) = self.tables.replace_district(key, row) else {
+            unreachable!()
+        };
+        let now = ContentOf {
+            tables: &self.tables,
+            group: claim.group(),
+        };
+        ground.leave(claim, Kept::District(key, old), &now);
+        Ok(())
+    }
+
+    pub fn put_customer(
+        &mut self,
+        claim: &mut Claim<J>,
+        key: CustomerKey,
+        row: Customer,
+    ) -> Result<(), NoMemory>
+        requires group { claim.old.group ≡ group.Customers key.w_id key.d_id }
+        requires exclusive { claim.old.mode ≡ Exclusive }
+        requires there { IsTrue (map.contains_key self.old.tables.customers key) }
+        ensures claim { OnOk result (claim.new ≡ leaving claim.old (with_customer key row claim.old.left)) }
+        ensures kept { OnOk result (SliceKeeps (claim.old ∷ []) self.old (claim.new ∷ []) self.new) }
+        ensures tables { OnOk result (self.new.tables ≡ record self.old.tables { customers = map.insert self.old.tables.customers key row }) }
+        ensures err { OnErr result ((self.new ≡ self.old) × (claim.new ≡ claim.old)) }
+    {
+        // The tables have a customer's row only where the scale does.
+        let _ = self.tables.scale();
+        let ground = &mut self.grounds[claim.place()];
+        ground.make_room()?;
+        let Some(old) = self.tables.replace_customer(key, row) else {
+            unreachable!()
+        };
+        let now = ContentOf {
+            tables: &self.tables,
+            group: claim.group(),
+        };
+        ground.leave(claim, Kept::Customer(key, old), &now);
+        Ok(())
+    }
+
+    /// Adds a payment at the end of the district's list, under an exclusive claim on it.
+    pub fn add_payment(
+        &mut self,
+        claim: &mut Claim<J>,
+        key: DistrictKey,
+        row: History,
+    ) -> Result<(), NoMemory>
+        requires group { claim.old.group ≡ group.History key.w_id key.d_id }
+        requires exclusive { claim.old.mode ≡ Exclusive }
+        requires district { IsTrue (map.contains_key self.old.tables.districts key) }
+        requires payer { IsTrue (map.contains_key self.old.tables.customers row.customer) }
+        ensures claim { OnOk result (claim.new ≡ leaving claim.old (with_payment_more row claim.old.left)) }
+        ensures kept { OnOk result (SliceKeeps (claim.old ∷ []) self.old (claim.new ∷ []) self.new) }
+        ensures tables { OnOk result (self.new.tables ≡ record self.old.tables { histories = with_payment self.old.tables.histories key row }) }
+        ensures err { OnErr result ((self.new ≡ self.old) × (claim.new ≡ claim.old)) }
+    {
+        // The tables have a list of payments for each district.
+        let _ = self.tables.scale();
+        let ground = &mut self.grounds[claim.place()];
+        ground.make_room()?;
+        self.tables.push_history(key, row)?;
+        let now = ContentOf {
+            tables: &self.tables,
+            group: claim.group(),
+        };
+        ground.leave(claim, Kept::NoPayment(key), &now);
+        Ok(())
+    }
+
+    /// Takes back all that was done under an exclusive claim. It takes no memory.
+    pub fn undo(&mut self, claim: &mut Claim<J>)
+        requires exclusive { claim.old.mode ≡ Exclusive }
+        ensures claim { claim.new ≡ leaving claim.old claim.old.back }
+        ensures kept { SliceKeeps (claim.old ∷ []) self.old (claim.new ∷ []) self.new }
+    {
+        let ground = &mut self.grounds[claim.place()];
+        ground.undo(claim, &mut self.tables);
+    }
+
+    /// Takes a claim back, once what it left is committed. It takes no memory.
+    pub fn take_back(&mut self, claim: Claim<J>)
+        requires committed { claim.mode ≡ Exclusive → claim.told ≡ claim.left }
+        ensures kept { SliceKeeps (claim ∷ []) self.old [] self.new }
+        ensures rows { self.new.tables ≡ self.old.tables }
+    {
+        let ground = &mut self.grounds[claim.place()];
+        ground.take_back(claim);
+    }
+}

@@ -1,0 +1,127 @@
+-- What each kind of event does to a history that fits.
+use Rattle.std.proofs.Common.{◌≡◌, ℕ, ◌+◌, List, [], ◌∷◌, ◌++◌, length, None, refl, sym, ◌∙◌, ap, subst}
+use Rattle.std.specs.Prelude.{All, count_by}
+use Rattle.std.specs.List.Sorted.{IsPermutation}
+use Rattle.std.proofs.lemmas.List.Elements.{All-weaker}
+use Rattle.schema.specs.Database.{Database}
+use Rattle.requests.specs.declared.group.Group.{Group}
+use Rattle.requests.specs.declared.request.Request.{Request}
+use Rattle.requests.specs.declared.reply.Reply.{Reply}
+use Rattle.requests.specs.declared.reply.Reply.TheVariants as reply
+use Rattle.requests.specs.declared.answer.Answer.{Answer}
+use Rattle.groups.specs.Content.{Content, content}
+use Rattle.tickets.specs.Claims.{Claiming}
+use Rattle.tickets.specs.Committed.{AreCommitted, Standing, TellsContent, TellsHere, Tells}
+use Rattle.tickets.proofs.Committed as kept
+use Rattle.machine.specs.Machine.{transaction, tables_after}
+use Rattle.machine.proofs.RequestLaws.{tables_after-scale, tables_after-items}
+use Rattle.commit_log.specs.declared.entry.Entry.{Entry}
+use Rattle.commit_log.specs.Log.{requests_of}
+use Rattle.commit_log.specs.Claimed.{IsCarriedOut, contents_logged, claims_logged}
+use Rattle.commit_log.proofs.Legal.{tables_after-append, map_push}
+use Rattle.history.specs.declared.event.Event.{Event}
+use Rattle.history.specs.declared.event.Event.TheVariants.{Submit, Send}
+use Rattle.history.specs.declared.event.EventAnswer.{EventAnswer}
+use Rattle.history.specs.declared.event.EventAnswer.TheVariants.{Accepted, Logged, Answered}
+use Rattle.history.specs.History.{Step, step, Unanswered, is_of}
+use Rattle.history.specs.Fits.{Fits as HistoryFits}
+use Rattle.history.specs.Laws.{IsQuiet, IsEntryOf, IsAnswerTo, new_one, with_place}
+use Rattle.history.proofs.Fitting.{unanswered_in_any_order, quiet_event_fits, admission_fits, answer_fits, entry_fits}
+use Rattle.slices.specs.Sliced.{Sliced, SliceKeeps, everywhere, standing}
+use Rattle.world.specs.Flights.{Part, part, join}
+use Rattle.world.specs.Worlds.{FitsPart, tables_now}
+use Rattle.world.proofs.Joins.{IsSame}
+
+module _ (opening : Database) (history : List Step) (log : List Entry) where
+  -- whatever the order
+  pub fits_same : (slice : Sliced) (admitted : ℕ) (a b : Part) → IsSame a b → FitsPart opening history log slice admitted a → FitsPart opening history log slice admitted b
+  fits_same slice admitted a b same h = record {
+    told = unanswered_in_any_order opening history log (tables_now opening log) admitted a.pending b.pending same.pending h.told;
+    committed = kept.AreCommitted-permutation everywhere (content (tables_now opening log)) (standing slice) a.claims b.claims same.claims h.committed;
+    scale = h.scale;
+    items = h.items;
+  }
+
+  -- whatever the tokens are
+  pub fits_like : (slice : Sliced) (admitted : ℕ) (a b : Part) → IsPermutation a.claims b.claims → IsPermutation a.pending b.pending
+      → FitsPart opening history log slice admitted a → FitsPart opening history log slice admitted b
+  fits_like slice admitted a b claims pending h = record {
+    told = unanswered_in_any_order opening history log (tables_now opening log) admitted a.pending b.pending pending h.told;
+    committed = kept.AreCommitted-permutation everywhere (content (tables_now opening log)) (standing slice) a.claims b.claims claims h.committed;
+    scale = h.scale;
+    items = h.items;
+  }
+
+  -- work on the rows
+  pub fits_work : (old new : Sliced) (admitted : ℕ) (a b rest : Part) → SliceKeeps a.claims old b.claims new → b.pending ≡ a.pending
+      → FitsPart opening history log old admitted (join a rest) → FitsPart opening history log new admitted (join b rest)
+  fits_work old new admitted a b rest keeps pending h = record {
+    told = subst (λ us. HistoryFits opening history log (tables_now opening log) admitted (us ++ rest.pending)) (sym pending) h.told;
+    committed = keeps.committed (content (tables_now opening log)) rest.claims h.committed;
+    scale = keeps.scale ∙ h.scale;
+    items = keeps.items ∙ h.items;
+  }
+
+  -- an event that tells nothing of a transaction
+  pub fits_quiet : (slice : Sliced) (admitted : ℕ) (a : Part) (event : Event) (answer : EventAnswer) → IsQuiet event answer
+      → FitsPart opening history log slice admitted a → FitsPart opening (history ++ step event answer ∷ []) log slice admitted a
+  fits_quiet slice admitted a event answer quiet h = record {
+    told = quiet_event_fits opening history log (tables_now opening log) admitted a.pending event answer quiet h.told;
+    committed = h.committed;
+    scale = h.scale;
+    items = h.items;
+  }
+
+  -- a transaction is admitted
+  pub fits_admission : (slice : Sliced) (admitted : ℕ) (a : Part) (session number : ℕ) (request : Request) → count_by (is_of session) a.pending ≡ 0
+      → FitsPart opening history log slice admitted a
+      → FitsPart opening (history ++ step (Submit session number request) (Accepted admitted) ∷ []) log slice (admitted + 1) (part a.claims (new_one admitted session number request ∷ a.pending) a.tokens)
+  fits_admission slice admitted a session number request none h = record {
+    told = admission_fits opening history log (tables_now opening log) admitted a.pending session number request none h.told;
+    committed = h.committed;
+    scale = h.scale;
+    items = h.items;
+  }
+
+  -- a session is answered
+  pub fits_answer : (slice : Sliced) (admitted : ℕ) (claims : List Claiming) (u : Unanswered) (rest : Part) (executor : ℕ) (answer : Answer) → IsAnswerTo log u answer
+      → FitsPart opening history log slice admitted (part claims (u ∷ rest.pending) rest.tokens)
+      → FitsPart opening (history ++ step (Send executor) (Answered u.session u.number answer) ∷ []) log slice admitted (part claims rest.pending rest.tokens)
+  fits_answer slice admitted claims u rest executor answer is h = record {
+    told = answer_fits opening history log (tables_now opening log) admitted rest.pending executor u answer is h.told;
+    committed = h.committed;
+    scale = h.scale;
+    items = h.items;
+  }
+
+  -- what is committed once a transaction is
+  logged_committed : (shown : Reply) (tables : Group → Content) (next : Group → Content) (slice : Standing) (own others : List Claiming)
+      → ((group : Group) → next group ≡ contents_logged shown tables own group)
+      → AreCommitted everywhere tables slice (own ++ others) → AreCommitted everywhere next slice (claims_logged shown own ++ others)
+  logged_committed (reply.RolledBack fault) tables next slice own others same h =
+      kept.AreCommitted-same everywhere tables next slice slice (own ++ others) (λ group here. same group) (λ group here. refl) (λ group here. refl) h
+  logged_committed (reply.Payment shown) tables next slice own others same h =
+      kept.AreCommitted-same everywhere _ next slice slice _ (λ group here. same group) (λ group here. refl) (λ group here. refl)
+      (kept.AreCommitted-commit everywhere tables slice own others h)
+
+  -- a transaction is logged
+  pub fits_entry : (slice : Sliced) (admitted : ℕ) (own others : List Claiming) (u : Unanswered) (pending : List Unanswered) (executor : ℕ) (entry : Entry)
+      → entry.session ≡ u.session → entry.number ≡ u.number → entry.request ≡ u.request → u.entry ≡ None
+      → IsCarriedOut opening entry.request own entry.reply
+      → HistoryFits opening history log (tables_now opening log) admitted (u ∷ pending)
+      → AreCommitted everywhere (content (tables_now opening log)) (standing slice) (own ++ others)
+      → HistoryFits opening (history ++ step (Send executor) (Logged (length log)) ∷ []) (log ++ entry ∷ []) (tables_now opening (log ++ entry ∷ [])) admitted (with_place (length log) u ∷ pending)
+      × AreCommitted everywhere (content (tables_now opening (log ++ entry ∷ []))) (standing slice) (claims_logged entry.reply own ++ others)
+  fits_entry slice admitted own others u pending executor entry session number request none carried told committed =
+      let tables = tables_now opening log in
+      let front : All (TellsHere everywhere (content tables)) own = kept.All-front (TellsHere everywhere (content tables)) own others committed.told in
+      let tells : Tells (content tables) own = All-weaker (TellsHere everywhere (content tables)) (TellsContent (content tables)) (λ claim here. here refl) own front in
+      let said = carried tables (tables_after-scale opening (requests_of log)) (tables_after-items opening (requests_of log)) tells in
+      let next : tables_now opening (log ++ entry ∷ []) ≡ (transaction tables entry.request).tables =
+      ap (tables_after opening) (map_push (λ (e : Entry). e.request) log entry) ∙ tables_after-append opening (requests_of log) entry.request in
+      let is : IsEntryOf u tables entry = record { session = session; number = number; request = request; reply = sym said.0; none = none } in
+      let after = entry_fits opening history log tables admitted pending executor u entry is told in (
+        subst (λ t. HistoryFits opening (history ++ step (Send executor) (Logged (length log)) ∷ []) (log ++ entry ∷ []) t admitted (with_place (length log) u ∷ pending)) (sym next) after,
+        subst (λ t. AreCommitted everywhere (content t) (standing slice) (claims_logged entry.reply own ++ others)) (sym next)
+            (logged_committed entry.reply (content tables) (content (transaction tables entry.request).tables) (standing slice) own others said.1 committed),
+      )

@@ -1,0 +1,99 @@
+-- An item is sent.
+use Rattle.std.proofs.Common.{◌≡◌, ℕ, Bool, true, false, List, [], ◌∷◌, ◌++◌, length, Some, refl, sym, subst, nat_lt}
+use Rattle.schema.specs.declared.scale.Scale.{Scale}
+use Rattle.schema.specs.Database.{Database}
+use Rattle.history.specs.declared.event.Event.TheVariants.{Send}
+use Rattle.history.specs.declared.event.EventAnswer.{EventAnswer}
+use Rattle.history.specs.declared.event.EventAnswer.TheVariants.{Accepted, Took, Sent, Full, Logged, Answered, Nothing}
+use Rattle.history.specs.History.{Step, step}
+use Rattle.world.specs.declared.desk.Active.{Active}
+use Rattle.world.specs.declared.flight.CommitItem.{CommitItem}
+use Rattle.world.specs.declared.flight.Message.{Message}
+use Rattle.world.specs.declared.flight.Item.{Item}
+use Rattle.world.specs.declared.flight.Item.TheVariants as item
+use Rattle.world.specs.declared.world.Parts.{Parts}
+use Rattle.world.specs.Flights.{Part, nothing, join, part_message, part_item}
+use Rattle.world.specs.Sound.{IsSoundWith, IsSoundMessage, IsSoundCommit, IsSoundItem, flight}
+use Rattle.world.specs.Events.{Pushes, Commits, SendsItem, logging}
+use Rattle.world.specs.Worlds.{FitsPart, Fits, Advances}
+use Rattle.world.proofs.Fitting.{fits_quiet}
+use Rattle.world.proofs.Puts.{item_in_hand, fits_in_hand}
+use Rattle.world.proofs.Following.{TheLaws}
+use Rattle.world.proofs.Reporting.{pushes_sound, pushes_fits, put_back_sound, put_back_fits}
+use Rattle.world.proofs.Meetings.{GoesOn, reports_go_on}
+use Rattle.world.proofs.Endings.{part_ended, ended_goes_on}
+use Rattle.world.proofs.Logging.{refusing_goes_on, logging_goes_on}
+use Rattle.world.proofs.Replying.{replies_sound, replies_fits}
+
+module _ {J : Type 0} where
+  -- the next world is sound, and what fitted fits with the Send and its answer at its end
+  pub record SendsOn (scale : Scale) (hand : Part) (old : Parts J) (answer : EventAnswer) (new : Parts J) : Type 0 where
+    pub sound : IsSoundWith scale nothing new
+    pub fits : (opening : Database) (history : List Step) (executor : ℕ) → FitsPart opening history old.log old.slice old.desk.admitted (join hand (flight old))
+        → Fits opening (history ++ step (Send executor) answer ∷ []) new
+
+  -- an event that tells nothing of a transaction
+  quietly : (scale : Scale) (hand : Part) (old next new : Parts J) (answer : EventAnswer) → GoesOn scale hand old next → answer ≡ Sent → new ≡ next → SendsOn scale hand old answer new
+  quietly scale hand old next new answer goes said is = record {
+    sound = subst (λ w. IsSoundWith scale nothing w) (sym is) goes.sound;
+    fits = λ opening history executor f.
+        subst (λ w. Fits opening (history ++ step (Send executor) answer ∷ []) w) (sym is)
+        (subst (λ a. Fits opening (history ++ step (Send executor) a ∷ []) next) (sym said)
+        (fits_quiet opening history next.log next.slice next.desk.admitted (flight next) (Send executor) Sent tt (goes.fits opening history f)));
+  }
+
+  sends_push : (scale : Scale) (w new : Parts J) (message : Message J) (answer : EventAnswer) (room : Bool) → (h : IsSoundWith scale (part_message message) w) → IsSoundMessage scale h.payment message
+      → Pushes room message w answer new → SendsOn scale (part_message message) w answer new
+  sends_push scale w new message answer true h s said =
+      quietly scale (part_message message) w (record w { inbox = w.inbox ++ message ∷ [] }) new answer
+      (record { sound = pushes_sound scale w message h s; fits = λ opening history f. pushes_fits opening history w message f }) said.0 said.1
+  sends_push scale w new message answer false h s said =
+      let next : Parts J = record w { outbox = w.outbox ++ item.Push message ∷ [] } in
+      record {
+        sound = subst (λ v. IsSoundWith scale nothing v) (sym said.1) (put_back_sound scale w (item.Push message) h s);
+        fits = λ opening history executor f.
+            subst (λ v. Fits opening (history ++ step (Send executor) answer ∷ []) v) (sym said.1)
+            (subst (λ a. Fits opening (history ++ step (Send executor) a ∷ []) next) (sym said.0)
+            (fits_quiet opening history next.log next.slice next.desk.admitted (flight next) (Send executor) Full tt (put_back_fits opening history w (item.Push message) f)));
+      }
+
+  sends_commit : (scale : Scale) (w new : Parts J) (commit : CommitItem J) (answer : EventAnswer) (h : IsSoundWith scale (part_item (item.Commit commit)) w) (s : IsSoundCommit scale h.payment commit)
+      (a : Active J) → w.desk.active ≡ Some a → Commits commit a w answer new → SendsOn scale (part_item (item.Commit commit)) w answer new
+  sends_commit scale w new commit (Logged place) h s a active said =
+      let both = logging_goes_on scale w commit h s a active in
+      record {
+        sound = subst (λ v. IsSoundWith scale nothing v) (sym said.1.1) both.0;
+        fits = λ opening history executor f.
+            subst (λ v. Fits opening (history ++ step (Send executor) (Logged place) ∷ []) v) (sym said.1.1)
+            (subst (λ n. Fits opening (history ++ step (Send executor) (Logged n) ∷ []) (logging commit a w)) (sym said.0) (both.1 opening history executor f));
+      }
+  sends_commit scale w new commit Sent h s a active said = quietly scale (part_item (item.Commit commit)) w _ new Sent (refusing_goes_on scale w commit h s a active said.0) refl said.1
+  sends_commit scale w new commit (Accepted age) h s a active said = absurd said
+  sends_commit scale w new commit Took h s a active said = absurd said
+  sends_commit scale w new commit Full h s a active said = absurd said
+  sends_commit scale w new commit (Answered session number told) h s a active said = absurd said
+  sends_commit scale w new commit Nothing h s a active said = absurd said
+
+  pub sends_on : (laws : TheLaws) (scale : Scale) (w new : Parts J) (i : Item J) (answer : EventAnswer) (h : IsSoundWith scale (part_item i) w) → IsSoundItem scale w.log h.payment i
+      → SendsItem i w answer new → SendsOn scale (part_item i) w answer new
+  sends_on laws scale w new (item.Push message) answer h s said = sends_push scale w new message answer (nat_lt (length w.inbox) 1024) h s said
+  sends_on laws scale w new (item.Report r) answer h s said =
+      quietly scale (part_item (item.Report r)) w _ new answer (reports_go_on laws scale w r h s said.1.0 said.1.1.0) said.0 said.1.1.1
+  sends_on laws scale w new (item.Ended place) answer h s said =
+      quietly scale (part_ended place) w _ new answer (ended_goes_on scale w place h said.1.0 said.1.1.0) said.0 said.1.1.1
+  sends_on laws scale w new (item.Commit commit) answer h s said = sends_commit scale w new commit answer h s said.0 said.1.0 said.1.1
+  sends_on laws scale w new (item.Reply told) answer h s said = record {
+    sound = replies_sound scale w told h s said.1.0 said.1.1.0 new said.1.1.1;
+    fits = λ opening history executor f.
+        subst (λ a. Fits opening (history ++ step (Send executor) a ∷ []) new) (sym said.0)
+        (replies_fits scale w told h s said.1.0 said.1.1.0 new said.1.1.1 opening history executor f);
+  }
+
+  -- ---- the first item of the outbox
+
+  pub first_sent : (laws : TheLaws) (scale : Scale) (old new : Parts J) (i : Item J) (rest : List (Item J)) (answer : EventAnswer) → old.outbox ≡ i ∷ rest → IsSoundWith scale nothing old
+      → SendsItem i (record old { outbox = rest }) answer new → (executor : ℕ) → IsSoundWith scale nothing new × Advances old (step (Send executor) answer ∷ []) new
+  first_sent laws scale old new i rest answer is h said executor =
+      let hand = item_in_hand scale old i rest is h in
+      let sends = sends_on laws scale (record old { outbox = rest }) new i answer hand.0 hand.1 said in
+      (sends.sound, λ opening history f. sends.fits opening history executor (fits_in_hand opening history old i rest is f))

@@ -1,0 +1,126 @@
+-- A world that was just opened.
+use Rattle.std.proofs.Common.{◌≡◌, ℕ, ◌+◌, ◌<◌, ◌*◌, zero, suc, true, false, Bool, List, [], ◌∷◌, Option, Some, None, map, length, get_or, replicate, refl, sym, ap, subst, ◌∙◌, cond, arith, option_map}
+use Rattle.std.specs.Prelude.{count_by, slice_get, sum_by, All}
+use Rattle.std.proofs.lemmas.List.{get_or-map, length-map}
+use Rattle.std.proofs.lemmas.List.Elements.{All-nil}
+use Rattle.std.proofs.lemmas.List.Sums.{sum_by-cons}
+use Rattle.std.proofs.lemmas.Option.{slice_get-map, slice_get_within}
+use Rattle.schema.specs.Database.{Database}
+use Rattle.schema.specs.Consistency.{Consistent}
+use Rattle.schema.specs.declared.scale.Scale.{Scale}
+use Rattle.requests.specs.declared.request.Choice.TheVariants.{Number}
+use Rattle.requests.specs.declared.request.Payment.{Payment}
+use Rattle.groups.specs.Content.{content}
+use Rattle.tickets.specs.Boxes.{Boxed}
+use Rattle.tickets.specs.LogSeats.{Committed}
+use Rattle.tickets.specs.Openings.{Opened, box_beside, contents_committed, contents_opened}
+use Rattle.tickets.specs.Places.{AreInPlace, place_of}
+use Rattle.tickets.proofs.Committed as kept
+use Rattle.commit_log.specs.declared.entry.Entry.{Entry}
+use Rattle.commit_log.specs.Passing.{Passing, Seating, new_pass, new_seat}
+use Rattle.history.proofs.Fitting.{empty_history_fits}
+use Rattle.slices.specs.Openings.{AreOpenedFor, IsBoxOf}
+use Rattle.slices.specs.Sliced.{Sliced, at_rest, everywhere, is_group_of, standing}
+use Rattle.slices.proofs.Opened.{opened_groups_have_boxes}
+use Rattle.world.specs.declared.desk.SessionDesk.{SessionDesk}
+use Rattle.world.specs.declared.world.Parts.{Parts}
+use Rattle.world.specs.Flights.{nothing, join, parts, part_message, part_item, part_met}
+use Rattle.world.specs.Openings.{AreNewLanes, session_with}
+use Rattle.world.specs.Sound.{IsSoundWith, IsSoundMessage, IsSoundItem, IsSoundActive, IsPassOf, IsBalanced, awaited, is_here, reported_to, flight}
+use Rattle.world.specs.Worlds.{FitsPart}
+
+-- ---- the log's seats
+
+-- they tell what the tables have
+pub seats_tell : (t : Database) (openings : List Opened) (seats : List Committed) → AreOpenedFor t openings → AreInPlace t.scale.warehouses seats → contents_committed seats ≡ contents_opened openings
+    → (place : ℕ) (d : Committed) → place < length seats → content t (get_or seats place d).group ≡ (get_or seats place d).content
+seats_tell t openings seats opened in_place same place d small =
+    let boxes = opened_groups_have_boxes t openings seats opened in_place same in
+    let long : length (map box_beside seats) ≡ length seats = length-map seats box_beside in
+    let is : IsBoxOf t place (get_or (map box_beside seats) place (box_beside d)) = boxes.each place (box_beside d) (omega (arith, small, long)) in
+    let here : IsBoxOf t place (box_beside (get_or seats place d)) = subst (IsBoxOf t place) (get_or-map box_beside seats place d (box_beside d) small) is in
+    sym (ap (λ (b : Boxed). b.left) here.has)
+
+-- ---- the sessions
+
+-- a payment, where there is none
+no_payment : Payment
+no_payment = record { home = record { w_id = 1; d_id = 1 }; customer_home = record { w_id = 1; d_id = 1 }; customer = Number 1; amount = 100; moment = 0 }
+
+found_in : {X Y : Type 0} (f : X → Y) (o : Option X) (y : Y) (x : X) → option_map f o ≡ Some y → o ≡ Some x → y ≡ f x
+found_in f o y x found is = cc
+
+all_here : (J : Type 0) (lanes : List (Passing × Seating)) → count_by (is_here {J = J}) (map session_with lanes) ≡ length lanes
+all_here J [] = refl
+all_here J (lane ∷ lanes) =
+    sum_by-cons (λ (s : SessionDesk J). cond (is_here s) 1 0) (session_with lane) (map session_with lanes) ∙ ap {B = ℕ} (λ n. 1 + n) (all_here J lanes) ∙ one_more (length lanes)
+  where
+    one_more : (n : ℕ) → 1 + n ≡ suc n
+    one_more n = omega arith
+
+module _ {J : Type 0} where
+  session_is : (lanes : List (Passing × Seating)) (number : ℕ) (session : SessionDesk J) → AreNewLanes lanes → slice_get (map session_with lanes) number ≡ Some session
+      → session ≡ session_with (new_pass number, new_seat number)
+  session_is lanes number session new found =
+      let inside : number < length (map (session_with {J = J}) lanes) = slice_get_within (map session_with lanes) number session found in
+      let below : number < 64 = omega (arith, inside, length-map lanes (session_with {J = J}), new.many) in
+      found_in session_with (slice_get lanes number) session (new_pass number, new_seat number) (sym (slice_get-map session_with lanes number) ∙ found) (new.each number below)
+
+  -- ---- the world
+
+  nothing_flies : (w : Parts J) → w.inbox ≡ [] → w.outbox ≡ [] → w.desk.active ≡ None → flight w ≡ nothing
+  nothing_flies w inbox outbox active =
+      ap (λ ms. join (parts part_message ms) (join (parts part_item w.outbox) (parts part_met (reported_to w.desk.active)))) inbox
+      ∙ ap (λ is. join nothing (join (parts part_item is) (parts part_met (reported_to w.desk.active)))) outbox
+      ∙ ap (λ a. join nothing (join nothing (parts part_met (reported_to a)))) active
+
+  pub opened_sound : (scale : Scale) (lanes : List (Passing × Seating)) (w : Parts J) → AreNewLanes lanes → w.slice.tables.scale ≡ scale → w.inbox ≡ [] → w.outbox ≡ [] → w.desk.active ≡ None
+      → w.desk.sessions.items ≡ map session_with lanes → IsSoundWith scale nothing w
+  opened_sound scale lanes w new scale_is inbox outbox active sessions =
+      let found_at : (number : ℕ) (session : SessionDesk J) → slice_get w.desk.sessions.items number ≡ Some session → session ≡ session_with (new_pass number, new_seat number) =
+      λ number session found. session_is lanes number session new (sym (ap (λ l. slice_get l number) sessions) ∙ found) in
+      let here : count_by is_here w.desk.sessions.items ≡ length lanes = ap (λ l. count_by is_here l) sessions ∙ all_here J lanes in
+      record {
+        scale_is = scale_is;
+        payment = no_payment;
+        inbox = subst (All (IsSoundMessage scale no_payment)) (sym inbox) (All-nil (IsSoundMessage scale no_payment));
+        outbox = subst (All (IsSoundItem scale w.log no_payment)) (sym outbox) (All-nil (IsSoundItem scale w.log no_payment));
+        active = subst (IsSoundActive scale no_payment) (sym active) tt;
+        seats = ap length sessions ∙ length-map lanes session_with ∙ new.many;
+        sessions = λ number session found.
+            let is = found_at number session found in
+            (ap (λ (s : SessionDesk J). s.seat.session) is, subst (IsPassOf number) (sym (ap (λ (s : SessionDesk J). s.pass) is)) refl);
+        balance = subst (λ p. IsBalanced w.desk (join nothing p)) (sym (nothing_flies w inbox outbox active)) (record {
+          tokens = λ weight. ap (λ a. sum_by weight (awaited a)) (sym active);
+          alone = λ number session found. ap {B = ℕ} (λ (s : SessionDesk J). 0 + cond (is_here s) 1 0) (found_at number session found);
+          many = omega (arith, here, new.many);
+        });
+      }
+
+-- ---- its history
+
+replicated : (n k : ℕ) → get_or {A = ℕ} (replicate n 8) k 8 ≡ 8
+replicated zero k = refl
+replicated (suc n) zero = refl
+replicated (suc n) (suc k) = replicated n k
+
+either_way : (b : Bool) (x : ℕ) → x ≡ 8 → cond {A = ℕ} b x 8 ≡ 8
+either_way true x is = is
+either_way false x is = refl
+
+module _ (t : Database) (consistent : Consistent t) where
+  rest_fits : FitsPart t [] [] (at_rest t) 0 nothing
+  rest_fits = record {
+    told = empty_history_fits t consistent;
+    committed = (kept.rest_is_committed everywhere (content t) (standing (at_rest t))).0 (record {
+      free = λ group near. either_way (is_group_of t.scale.warehouses group) (get_or (replicate (105 * t.scale.warehouses) 8) (place_of group) 8) (replicated (105 * t.scale.warehouses) (place_of group));
+      rows = λ group near. refl;
+    });
+    scale = refl;
+    items = refl;
+  }
+
+  pub opened_fits : {J : Type 0} (w : Parts J) (slice : Sliced) (log : List Entry) → slice ≡ at_rest t → log ≡ [] → w.inbox ≡ [] → w.outbox ≡ [] → w.desk.active ≡ None → FitsPart t [] log slice 0 (flight w)
+  opened_fits w slice log rest empty inbox outbox active =
+      subst (λ p. FitsPart t [] log slice 0 p) (sym (nothing_flies w inbox outbox active))
+      (subst (λ l. FitsPart t [] l slice 0 nothing) (sym empty) (subst (λ s. FitsPart t [] [] s 0 nothing) (sym rest) rest_fits))

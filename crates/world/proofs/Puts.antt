@@ -1,0 +1,110 @@
+-- Items are put for what is in hand.
+use Rattle.std.proofs.Common.{◌≡◌, ℕ, ◌+◌, List, [], ◌∷◌, ◌++◌, length, Option, Some, None, sym, subst, cond}
+use Rattle.std.specs.Prelude.{All, count_by}
+use Rattle.std.specs.List.{slice_get}
+use Rattle.std.specs.List.Sorted.{IsPermutation}
+use Rattle.std.proofs.lemmas.List.Elements.{All-head, All-tail, All-append}
+use Rattle.std.proofs.lemmas.List.Sorted.{IsPermutation-refl, IsPermutation-append}
+use Rattle.schema.specs.declared.scale.Scale.{Scale}
+use Rattle.schema.specs.Database.{Database}
+use Rattle.requests.specs.declared.request.Payment.{Payment}
+use Rattle.history.specs.History.{Step, Unanswered, is_of}
+use Rattle.world.specs.declared.desk.Active.{Active}
+use Rattle.world.specs.declared.desk.Desk.{Desk}
+use Rattle.world.specs.declared.desk.SessionDesk.{SessionDesk}
+use Rattle.world.specs.declared.flight.Item.{Item}
+use Rattle.world.specs.declared.world.Parts.{Parts}
+use Rattle.world.specs.Flights.{Part, part, nothing, join, parts, part_item, part_met}
+use Rattle.world.specs.Sound.{IsSoundWith, IsSoundMessage, IsSoundItem, IsSoundActive, IsSessionOf, IsBalanced, WeighAlike, flight, reported_to, awaited, is_here}
+use Rattle.world.specs.Events.{putting}
+use Rattle.world.specs.Worlds.{FitsPart, Fits}
+use Rattle.world.proofs.Joins.{IsSame, same-refl, same-sym, same-join}
+use Rattle.world.proofs.Balances.{fly, in_inbox, in_outbox, item_taken, items_put, balanced_same}
+use Rattle.world.proofs.Fitting.{fits_same, fits_like}
+
+module _ {J : Type 0} where
+  -- what is known of the first item of the outbox, once it is in hand
+  pub item_in_hand : (scale : Scale) (old : Parts J) (item : Item J) (rest : List (Item J)) → old.outbox ≡ item ∷ rest
+      → IsSoundWith scale nothing old
+      → (h : IsSoundWith scale (part_item item) (record old { outbox = rest })) × IsSoundItem scale old.log h.payment item
+  item_in_hand scale old item rest is h =
+      let all = subst (λ is. All (IsSoundItem scale old.log h.payment) is) is h.outbox in (
+        record {
+          scale_is = h.scale_is;
+          payment = h.payment;
+          inbox = h.inbox;
+          outbox = All-tail (IsSoundItem scale old.log h.payment) item rest all;
+          active = h.active;
+          seats = h.seats;
+          sessions = h.sessions;
+          balance = balanced_same old.desk (flight old) (join (part_item item) (flight (record old { outbox = rest }))) (item_taken old item rest is) h.balance;
+        },
+        All-head (IsSoundItem scale old.log h.payment) item rest all,
+      )
+
+  pub fits_in_hand : (opening : Database) (history : List Step) (old : Parts J) (item : Item J) (rest : List (Item J)) → old.outbox ≡ item ∷ rest
+      → Fits opening history old → FitsPart opening history old.log old.slice old.desk.admitted (join (part_item item) (flight (record old { outbox = rest })))
+  fits_in_hand opening history old item rest is f =
+      fits_same opening history old.log old.slice old.desk.admitted (flight old) (join (part_item item) (flight (record old { outbox = rest }))) (item_taken old item rest is) f
+
+  -- ---- where nothing has met
+
+  -- the inbox and the outbox
+  abbrev pub lots : Parts J → Part
+  lots w = fly (in_inbox w) (in_outbox w) nothing
+
+  -- what is under way once items are put and this is active, where nothing has met
+  lots_put : (w : Parts J) (items : List (Item J)) (active : Option (Active J)) → reported_to active ≡ []
+      → IsSame (flight (putting items active w)) (join (parts part_item items) (lots w))
+  lots_put w items active none =
+      let bare : Parts J = record w { desk = record w.desk { active = None } } in
+      subst (λ rs. IsSame (fly (in_inbox w) (parts part_item (w.outbox ++ items)) (parts part_met rs)) (join (parts part_item items) (lots w))) (sym none)
+      (items_put bare items)
+
+  pub puts_fits : (opening : Database) (history : List Step) (w : Parts J) (hand : Part) (items : List (Item J)) (active : Option (Active J)) → reported_to active ≡ []
+      → IsPermutation hand.claims (parts part_item items).claims → IsPermutation hand.pending (parts part_item items).pending
+      → FitsPart opening history w.log w.slice w.desk.admitted (join hand (lots w)) → Fits opening history (putting items active w)
+  puts_fits opening history w hand items active none claims pending f =
+      let put = parts part_item items in
+      let rest = lots w in
+      fits_same opening history w.log w.slice w.desk.admitted (join put rest) (flight (putting items active w)) (same-sym _ _ (lots_put w items active none))
+      (fits_like opening history w.log w.slice w.desk.admitted (join hand rest) (join put rest)
+      (IsPermutation-append hand.claims put.claims rest.claims rest.claims claims (IsPermutation-refl rest.claims))
+      (IsPermutation-append hand.pending put.pending rest.pending rest.pending pending (IsPermutation-refl rest.pending)) f)
+
+  -- each session has its one pass or its one transaction, and there are 64
+  pub record AreServed (desk : Desk J) (pending : List Unanswered) : Type 0 where
+    pub alone : (number : ℕ) (session : SessionDesk J) → slice_get desk.sessions.items number ≡ Some session
+        → count_by (is_of number) pending + cond (is_here session) 1 0 ≡ 1
+    pub many : length pending + count_by is_here desk.sessions.items ≡ 64
+
+  pub served_by : (desk : Desk J) (under_way : Part) → IsBalanced desk under_way → AreServed desk under_way.pending
+  served_by desk under_way h = record { alone = h.alone; many = h.many }
+
+  pub puts_sound : (scale : Scale) (p : Payment) (w : Parts J) (hand : Part) (items : List (Item J)) (active : Option (Active J)) → reported_to active ≡ []
+      → w.slice.tables.scale ≡ scale
+      → All (IsSoundMessage scale p) w.inbox → All (IsSoundItem scale w.log p) w.outbox → All (IsSoundItem scale w.log p) items
+      → IsSoundActive scale p active → length w.desk.sessions.items ≡ 64
+      → ((number : ℕ) (session : SessionDesk J) → slice_get w.desk.sessions.items number ≡ Some session → IsSessionOf number session)
+      → IsPermutation hand.pending (parts part_item items).pending
+      → AreServed w.desk (hand.pending ++ (lots w).pending)
+      → WeighAlike ((parts part_item items).tokens ++ (lots w).tokens) (awaited active)
+      → IsSoundWith scale nothing (putting items active w)
+  puts_sound scale p w hand items active none scale_is inbox outbox fine sound seats sessions pending served tokens =
+      let put = parts part_item items in
+      let rest = lots w in
+      let desk : Desk J = record w.desk { active = active } in
+      let first : Part = part put.claims hand.pending put.tokens in
+      let same : IsSame first put = record { claims = IsPermutation-refl put.claims; pending = pending; tokens = IsPermutation-refl put.tokens } in
+      let balance : IsBalanced desk (join first rest) = record { tokens = tokens; alone = served.alone; many = served.many } in
+      record {
+        scale_is = scale_is;
+        payment = p;
+        inbox = inbox;
+        outbox = All-append (IsSoundItem scale w.log p) w.outbox items outbox fine;
+        active = sound;
+        seats = seats;
+        sessions = sessions;
+        balance = balanced_same desk (join put rest) (flight (putting items active w)) (same-sym _ _ (lots_put w items active none))
+            (balanced_same desk (join first rest) (join put rest) (same-join first put rest rest same (same-refl rest)) balance);
+      }

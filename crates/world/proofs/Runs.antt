@@ -1,0 +1,46 @@
+-- Events with their answers, one after another.
+use Rattle.std.specs.Prelude.{is_some}
+use Rattle.std.proofs.Common.{◌≡◌, false, Option, Some, None, List, [], ◌∷◌, ◌++◌, length, refl, sym, ap, subst, arith, append_assoc, append-nil}
+use Rattle.history.specs.declared.event.Event.{Event}
+use Rattle.history.specs.declared.event.EventAnswer.{EventAnswer}
+use Rattle.history.specs.History.{Step, step}
+use Rattle.world.specs.declared.world.Parts.{Parts}
+use Rattle.world.specs.Worlds.{Advances, Fits, HappenInTurn, Happens, steps_of}
+
+-- one event and one answer more
+pub steps_of-push : (events : List Event) (answers : List EventAnswer) (event : Event) (answer : EventAnswer) → length events ≡ length answers
+    → steps_of (events ++ event ∷ []) (answers ++ answer ∷ []) ≡ steps_of events answers ++ step event answer ∷ []
+steps_of-push [] [] event answer same = refl
+steps_of-push [] (a ∷ answers) event answer same = absurd (omega (arith, same))
+steps_of-push (e ∷ events) [] event answer same = absurd (omega (arith, same))
+steps_of-push (e ∷ events) (a ∷ answers) event answer same = ap (λ (steps : List Step). step e a ∷ steps) (steps_of-push events answers event answer (omega (arith, same)))
+
+module _ {J : Type 0} where
+  -- some events, and then more
+  pub one_after_another : (first mid last : Parts J) (some more : List Step) → Advances first some mid → Advances mid more last → Advances first (some ++ more) last
+  one_after_another first mid last some more a b opening history f =
+      subst (λ (steps : List Step). Fits opening steps last) (append_assoc history some more) (b opening (history ++ some) (a opening history f))
+
+  -- no events
+  pub no_events : (w : Parts J) → Advances w [] w
+  no_events w opening history f = subst (λ (steps : List Step). Fits opening steps w) (sym (append-nil history)) f
+
+-- a list of no length
+pub of_no_length : {X : Type 0} (xs : List X) → length xs ≡ 0 → xs ≡ []
+of_no_length [] is = refl
+of_no_length (x ∷ xs) is = absurd (omega (arith, is))
+
+-- an option that is none
+pub of_none : {X : Type 0} (o : Option X) → is_some o ≡ false → o ≡ None
+of_none None is = refl
+of_none (Some x) is = absurd (cc)
+
+module _ {J : Type 0} where
+  -- one event more happens
+  pub happen_more : (events : List Event) (answers : List EventAnswer) (event : Event) (answer : EventAnswer) (old mid new : Parts J) → HappenInTurn events old answers mid → Happens event mid answer new
+      → HappenInTurn (events ++ event ∷ []) old (answers ++ answer ∷ []) new
+  happen_more [] [] event answer old mid new before last = (new, (subst (λ w. Happens event w answer new) before last, refl))
+  happen_more [] (a ∷ answers) event answer old mid new before last = absurd before
+  happen_more (e ∷ events) [] event answer old mid new before last = absurd before
+  happen_more (e ∷ events) (a ∷ answers) event answer old mid new before last =
+      (before.0, (before.1.0, happen_more events answers event answer before.0 mid new before.1.1 last))

@@ -1,0 +1,65 @@
+-- What a submission is answered.
+use Rattle.std.proofs.Common.{◌≡◌, ◌≤◌, ◌<◌, ℕ, List, length, get_or, refl, sym, ap, ◌∙◌, subst, Ok, Some, None}
+use Rattle.std.specs.Prelude.{Bool, true, false, ◌&&◌, not, nat_lt, Option, Result, is_some, slice_get}
+use Rattle.std.proofs.lemmas.Bool.{le-ltb, lt-ltb}
+use Rattle.std.proofs.lemmas.Option.{slice_get_read}
+use Rattle.std.proofs.Math.Bool.{and-false}
+use Rattle.commit_log.specs.Passing.{Passing}
+use Rattle.history.specs.declared.event.EventAnswer.{EventAnswer}
+use Rattle.requests.specs.Check.{check_of}
+use Rattle.requests.specs.declared.refusal.Refusal.{Refusal}
+use Rattle.requests.specs.declared.request.Request.{Request}
+use Rattle.schema.specs.declared.scale.Scale.{Scale}
+use Rattle.world.specs.declared.desk.SessionDesk.{SessionDesk}
+use Rattle.world.specs.declared.world.Parts.{Parts}
+use Rattle.world.specs.Worlds.{CanAsk, SubmitsAt, SubmitsInto, SubmitsUnless, can_admit, refusal_at, refuses}
+
+-- a list has the element that was read of it
+pub found : {X : Type 0} (xs shown : List X) (place : ℕ) (x : X) → shown ≡ xs → place < length shown → x ≡ get_or shown place x → slice_get xs place ≡ Some x
+found {X} xs shown place x is inside read = subst (λ (ys : List X). slice_get ys place ≡ Some x) is (slice_get_read shown (length shown) place x refl inside read)
+
+-- a pass that isn't away is there
+pub is_there : (pass : Option Passing) (away : Bool) → is_some pass ≡ not away → away ≡ false → is_some pass ≡ true
+is_there pass away told here = told ∙ ap not here
+
+-- nothing speaks against a request whose session's pass is there, that its check accepts, while no transaction is active
+not_refused : (pass : Option Passing) (checked : Result (Unit {0}) Refusal) (accepted : Unit {0}) (active : Bool)
+    → is_some pass ≡ true → checked ≡ Ok accepted → active ≡ false → refuses pass checked active ≡ None
+not_refused None checked accepted active there ok idle = absurd (cc)
+not_refused (Some pass) checked accepted active there ok idle =
+    subst (λ (r : Result (Unit {0}) Refusal). refuses (Some pass) r active ≡ None) (sym ok)
+    (subst (λ (b : Bool). refuses (Some pass) (Ok accepted) b ≡ None) (sym idle) refl)
+
+-- there is no room
+pub full : (used room number last : ℕ) → room ≤ used → (nat_lt used room && nat_lt number last) ≡ false
+full used room number last h = ap (λ b. b && nat_lt number last) (le-ltb used room h)
+
+-- there is no number left
+pub spent : (used room number last : ℕ) → last ≤ number → (nat_lt used room && nat_lt number last) ≡ false
+spent used room number last h = ap (λ b. nat_lt used room && b) (le-ltb number last h) ∙ and-false (nat_lt used room)
+
+-- there are both
+pub has_both : (used room number last : ℕ) → used < room → number < last → (nat_lt used room && nat_lt number last) ≡ true
+has_both used room number last h k = ap (λ b. b && nat_lt number last) (lt-ltb used room h) ∙ lt-ltb number last k
+
+module _ {J : Type 0} where
+  -- a session whose pass is there can ask
+  pub can_ask : (at : Option (SessionDesk J)) (desk : SessionDesk J) → at ≡ Some desk → is_some desk.pass ≡ true → CanAsk at
+  can_ask at desk is there = subst (λ (o : Option (SessionDesk J)). CanAsk o) (sym is) there
+
+  -- so the desk does not refuse it
+  pub unrefused : (desk : SessionDesk J) (asked : Request) (old : Parts J) (scale : Scale) (accepted : Unit {0}) (busy : Bool)
+      → is_some desk.pass ≡ true → scale ≡ old.slice.tables.scale → Ok accepted ≡ check_of scale asked → busy ≡ is_some old.desk.active → busy ≡ false
+      → refusal_at desk asked old ≡ None
+  unrefused desk asked old scale accepted busy there same checked told idle =
+      not_refused desk.pass (check_of old.slice.tables.scale asked) accepted (is_some old.desk.active) there
+      (ap (λ (s : Scale). check_of s asked) (sym same) ∙ sym checked) (sym told ∙ idle)
+
+  -- what is done with a request that is not refused
+  pub submits : (at : Option (SessionDesk J)) (desk : SessionDesk J) (session number : ℕ) (asked : Request) (old : Parts J) (answer : EventAnswer) (new : Parts J) (room : Bool)
+      → at ≡ Some desk → refusal_at desk asked old ≡ None → can_admit old ≡ room
+      → SubmitsInto room session number asked desk old answer new → SubmitsAt at session number asked old answer new
+  submits at desk session number asked old answer new room is none has into =
+      subst (λ (o : Option (SessionDesk J)). SubmitsAt o session number asked old answer new) (sym is)
+      (subst (λ (r : Option Refusal). SubmitsUnless r session number asked desk old answer new) (sym none)
+      (subst (λ (b : Bool). SubmitsInto b session number asked desk old answer new) (sym has) into))

@@ -1,0 +1,43 @@
+use Rattle.std.proofs.Common.{◌≡◌, length, refl, ap, ◌∙◌, arith, inl, true, false}
+use Rattle.std.specs.Prelude.{slice_get}
+use Rattle.world.specs.Worlds.{can_admit}
+use Rattle.world.proofs.Submitting.{can_ask, found, full, has_both, is_there, spent, submits, unrefused}
+use Rattle.world.proofs.world.Parts.submit.Goals as goal
+use Rattle.world.proofs.world.Parts.submit.Goals.{then-len-ge-INBOX-via-then-len-ge-INBOX, then-len-ge-INBOX-via-else-len-ge-INBOX+then-self}
+
+pub returns-then-len-ge-INBOX : goal.returns-then-len-ge-INBOX
+returns-then-len-ge-INBOX g c =
+    let old = c.args.self.now in
+    let desk = c.in-Some.desk.now in
+    let looked = c.in-Some.ensures.lookup in
+    let at = found old.desk.sessions.items c.deref.result.now c.args.session desk c.deref.ensures.value looked.3.0 looked.1 in
+    let there = is_there desk.pass c.is_none.result c.is_none.ensures c.if-is_none.false in
+    let scale = c.scale.ensures.value ∙ ap (λ t. t.scale) c.tables.ensures.tables in
+    let none = unrefused desk c.args.request.now old c.scale.result c.in_default-check.field-0 c.is_some.result there scale c.in_default-check.ensures c.is_some.ensures c.if-is_some.false in
+    let no_room : can_admit old ≡ false = elim c.then-len-ge-INBOX.branch [
+      | then-len-ge-INBOX-via-then-len-ge-INBOX w ↦ full (length old.inbox) 1024 old.desk.admitted 18446744073709551615 (omega arith)
+      | then-len-ge-INBOX-via-else-len-ge-INBOX+then-self w ↦ spent (length old.inbox) 1024 old.desk.admitted 18446744073709551615 (omega arith)
+    ] in
+    submits (slice_get old.desk.sessions.items c.args.session) desk c.args.session c.args.number c.args.request.now old _ old false at none no_room (refl, refl)
+
+pub admit-requires-clause-here : goal.admit-requires-clause-here
+admit-requires-clause-here g c =
+    let desks = c.args.self.now.desk.sessions.items in
+    let desk = c.in-Some.desk.now in
+    let looked = c.in-Some.ensures.lookup in
+    can_ask (slice_get desks c.args.session) desk
+    (found desks c.deref.result.now c.args.session desk c.deref.ensures.value looked.3.0 looked.1)
+    (is_there desk.pass c.is_none.result c.is_none.ensures c.if-is_none.false)
+
+pub returns-in-Err-admit : goal.returns-in-Err-admit
+returns-in-Err-admit g c =
+    let old = c.args.self.now in
+    let desk = c.in-Some.desk.now in
+    let looked = c.in-Some.ensures.lookup in
+    let at = found old.desk.sessions.items c.deref.result.now c.args.session desk c.deref.ensures.value looked.3.0 looked.1 in
+    let there = is_there desk.pass c.is_none.result c.is_none.ensures c.if-is_none.false in
+    let scale = c.scale.ensures.value ∙ ap (λ t. t.scale) c.tables.ensures.tables in
+    let none = unrefused desk c.args.request.now old c.scale.result c.in_default-check.field-0 c.is_some.result there scale c.in_default-check.ensures c.is_some.ensures c.if-is_some.false in
+    let room : can_admit old ≡ true = has_both (length old.inbox) 1024 old.desk.admitted 18446744073709551615 (omega arith) (omega arith) in
+    submits (slice_get old.desk.sessions.items c.args.session) desk c.args.session c.args.number c.args.request.now old c.refused-in-Err-admit.result c.admit.new.self true at none room
+    (inl (c.refused-in-Err-admit.ensures, c.in-Err-admit.ensures.err))

@@ -1,0 +1,14 @@
+use Rattle.std.proofs.Common.{sym, ◌∙◌, ap, subst}
+use Rattle.world.specs.declared.world.Parts.{Parts}
+use Rattle.world.specs.Worlds.{Fits, tables_now}
+use Rattle.world.proofs.Quiet.{idle_tables}
+use Rattle.world.proofs.Runs.{of_none}
+use Rattle.world.proofs.world.World.gather.Goals as goal
+
+pub returns-in-Ok-clause-tables : goal.returns-in-Ok-clause-tables
+returns-in-Ok-clause-tables g c opening history f =
+    let w = c.self.inside.parts in
+    let none = of_none w.desk.active (sym c.is_some.ensures ∙ c.if-is_some.false) in
+    c.in-Ok.ensures ∙ c.tables.ensures.tables
+    ∙ idle_tables g.J.Naming-1.opening.scale w c.self.invariant.0 none opening history (subst (λ (v : Parts g.row.J.Denot). Fits opening history v) (sym c.self.view_is) f)
+    ∙ ap (λ (v : Parts g.row.J.Denot). tables_now opening v.log) c.self.view_is

@@ -1,0 +1,42 @@
+use Rattle.std.proofs.Common.{refl, sym, ap, subst, ◌∙◌, arith, None}
+use Rattle.schema.specs.Database.{Database}
+use Rattle.groups.specs.Content.{content}
+use Rattle.tickets.specs.LogSeats.{SeatsTell}
+use Rattle.tickets.specs.Places.{AreInPlace}
+use Rattle.slices.specs.Openings.{AreBoxesOf}
+use Rattle.slices.proofs.Opened.{opened_groups_have_boxes}
+use Rattle.world.specs.declared.world.Parts.{Parts}
+use Rattle.world.proofs.Opened.{opened_fits, opened_sound, seats_tell}
+use Rattle.world.proofs.world.World.over.Goals as goal
+
+pub open-requires-3-clause-boxes : goal.open-requires-3-clause-boxes
+open-requires-3-clause-boxes g c =
+    let boxed = c.in_ok-boxes.ensures in
+    let in_place : AreInPlace c.args.tables.scale.warehouses c.in_ok-boxes.seats = subst (λ s. AreInPlace s.warehouses c.in_ok-boxes.seats) c.scale.ensures.value boxed.places in
+    subst (AreBoxesOf c.args.tables) (sym boxed.boxes) (opened_groups_have_boxes c.args.tables c.args.opening.groups.items c.in_ok-boxes.seats c.requires.opened in_place boxed.contents)
+
+pub new-requires-clause-opening : goal.new-requires-clause-opening
+new-requires-clause-opening g c =
+    let boxed = c.in_ok-boxes.ensures in
+    let in_place : AreInPlace c.args.tables.scale.warehouses c.in_ok-boxes.seats = subst (λ s. AreInPlace s.warehouses c.in_ok-boxes.seats) c.scale.ensures.value boxed.places in
+    subst (λ (t : Database). SeatsTell (content t) c.in_ok-boxes.seats) (sym c.requires.opening)
+    (seats_tell c.args.tables c.args.opening.groups.items c.in_ok-boxes.seats c.requires.opened in_place boxed.contents)
+
+pub invariant_of-result : goal.invariant_of-result
+invariant_of-result g c =
+    let scale = ap (λ (t : Database). t.scale) c.requires.opening in (
+      opened_sound g.J.Naming-1.opening.scale c.in_ok-book.lanes.items _ (record { many = omega (arith, c.in_ok-book.lanes.ok.0, c.in_ok-book.ensures.count); each = c.in_ok-book.ensures.sessions })
+          (ap (λ s. s.tables.scale) c.in_ok-slice.ensures ∙ sym scale) c.in_ok-inbox.ensures c.in_ok-outbox.ensures refl c.in_ok-sessions.ensures,
+      c.requires.warehouses ∙ sym (ap (λ s. s.warehouses) scale),
+    )
+
+pub returns : goal.returns
+returns g c =
+    let parts : Parts g.row.J.Denot = record {
+      slice = c.in_ok-slice.slice;
+      inbox = c.in_ok-inbox.inbox;
+      outbox = c.in_ok-outbox.outbox;
+      desk = record { admitted = 0; sessions = c.in_ok-sessions.sessions; active = None };
+      log = c.new.result;
+    } in
+    opened_fits c.args.tables c.requires.consistent parts c.in_ok-slice.slice c.new.result c.in_ok-slice.ensures c.new.ensures c.in_ok-inbox.ensures c.in_ok-outbox.ensures refl

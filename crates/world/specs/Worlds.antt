@@ -1,0 +1,174 @@
+-- What holds of a world and its history.
+use Rattle.std.specs.Prelude.{◌≡◌, ◌≢◌, ◌⊎◌, ℕ, ◌+◌, Bool, true, false, List, [], ◌∷◌, ◌++◌, Option, Some, None, Result, Ok, Err, zero, suc, nat_lt, ◌&&◌, length, IsTrue, is_some, slice_set}
+use Rattle.std.specs.List.{slice_get}
+use Rattle.schema.specs.Database.{Database}
+use Rattle.requests.specs.declared.request.Request.{Request}
+use Rattle.requests.specs.declared.request.Request.TheVariants as request
+use Rattle.requests.specs.declared.request.Payment.{Payment}
+use Rattle.requests.specs.declared.answer.Answer.TheVariants.{Refused}
+use Rattle.requests.specs.declared.refusal.Refusal.{Refusal}
+use Rattle.requests.specs.declared.refusal.Refusal.TheVariants as refusal
+use Rattle.requests.specs.Check.{check_of}
+use Rattle.groups.specs.Content.{content}
+use Rattle.tickets.specs.Committed.{AreCommitted}
+use Rattle.machine.specs.Machine.{tables_after}
+use Rattle.commit_log.specs.declared.entry.Entry.{Entry}
+use Rattle.commit_log.specs.Log.{requests_of}
+use Rattle.commit_log.specs.Asks.{asking}
+use Rattle.commit_log.specs.Passing.{Passing, with_asks, seating}
+use Rattle.history.specs.declared.event.Event.{Event}
+use Rattle.history.specs.declared.event.Event.TheVariants.{Submit, Take, Send}
+use Rattle.history.specs.declared.event.EventAnswer.{EventAnswer}
+use Rattle.history.specs.declared.event.EventAnswer.TheVariants.{Accepted, Took, Answered, Nothing}
+use Rattle.history.specs.History.{Step, step}
+use Rattle.history.specs.Fits.{Fits as HistoryFits}
+use Rattle.slices.specs.Sliced.{Sliced, everywhere, standing}
+use Rattle.world.specs.declared.desk.Active.{Active}
+use Rattle.world.specs.declared.desk.SessionDesk.{SessionDesk}
+use Rattle.world.specs.declared.desk.Stage.TheVariants as stage
+use Rattle.world.specs.declared.flight.Flow.{Flow}
+use Rattle.world.specs.declared.flight.Message.{Message}
+use Rattle.world.specs.declared.flight.Message.TheVariants.{Start}
+use Rattle.world.specs.declared.flight.Item.{Item}
+use Rattle.world.specs.declared.world.Parts.{Parts}
+use Rattle.world.specs.Flights.{Part}
+use Rattle.world.specs.Sound.{IsSessionOf, flight, none_ended}
+use Rattle.world.specs.Events.{TakesMessage, SendsItem}
+
+-- ---- the history
+
+-- the tables that the machine leaves which carries out the log's requests one at a time, in log order
+abbrev pub tables_now : Database → List Entry → Database
+tables_now opening log = tables_after opening (requests_of log)
+
+-- A history fits an opening, a log and what is under way: so it does by the log alone, and the tables that the machine
+-- leaves are the committed ones while these claims are out.
+pub record FitsPart (opening : Database) (history : List Step) (log : List Entry) (slice : Sliced) (admitted : ℕ) (under_way : Part) : Type 0 where
+  pub told : HistoryFits opening history log (tables_now opening log) admitted under_way.pending
+  pub committed : AreCommitted everywhere (content (tables_now opening log)) (standing slice) under_way.claims
+  pub scale : slice.tables.scale ≡ opening.scale
+  pub items : slice.tables.items ≡ opening.items
+
+-- events with their answers
+abbrev pub steps_of : List Event → List EventAnswer → List Step
+steps_of [] answers = []
+steps_of (event ∷ events) [] = []
+steps_of (event ∷ events) (answer ∷ answers) = step event answer ∷ steps_of events answers
+
+-- ---- submissions
+
+-- Why the desk refuses a request at once: its session has a transaction without an answer, its check refuses it, or a
+-- transaction is active.
+abbrev pub refuses : Option Passing → Result (Unit {0}) Refusal → Bool → Option Refusal
+refuses None checked active = Some refusal.SessionBusy
+refuses (Some pass) (Err why) active = Some why
+refuses (Some pass) (Ok accepted) true = Some refusal.Busy
+refuses (Some pass) (Ok accepted) false = None
+
+module _ {J : Type 0} where
+  abbrev pub Fits : Database → List Step → Parts J → Type 0
+  Fits opening history w = FitsPart opening history w.log w.slice w.desk.admitted (flight w)
+
+  -- a history that fits before these events fits after them, with the events and their answers at its end
+  abbrev pub Advances : Parts J → List Step → Parts J → Type 0
+  Advances old steps new = (opening : Database) (history : List Step) → Fits opening history old → Fits opening (history ++ steps) new
+
+  -- ---- submissions
+
+  abbrev pub refusal_at : SessionDesk J → Request → Parts J → Option Refusal
+  refusal_at desk request w = refuses desk.pass (check_of w.slice.tables.scale request) (is_some w.desk.active)
+
+  -- the inbox has room, and there is an age left
+  abbrev pub can_admit : Parts J → Bool
+  can_admit w = nat_lt (length w.inbox) 1024 && nat_lt w.desk.admitted 18446744073709551615
+
+  abbrev pub admitted_now : Active J
+  admitted_now = record { stage = stage.First; first = None ∷ None ∷ []; second = None ∷ []; ending = none_ended }
+
+  -- A transaction more is admitted, and active: its first actions stand at the inbox's end, and the session's pass goes with
+  -- them.
+  pub record Admits (session number : ℕ) (asked : Request) (desk : SessionDesk J) (old new : Parts J) : Type 0 where
+    pub flow : Flow J
+    pub payment : Payment
+    pub pass : Passing
+    pub age : flow.age ≡ old.desk.admitted
+    pub number_is : flow.number ≡ number
+    pub asks : asked ≡ request.Payment flow.payment
+    pub same : payment ≡ flow.payment
+    pub here : desk.pass ≡ Some pass
+    pub pass_is : flow.pass ≡ with_asks pass (asking number asked pass.seen pass.mine)
+    pub slice : new.slice ≡ old.slice
+    pub inbox : new.inbox ≡ old.inbox ++ Start flow payment ∷ []
+    pub outbox : new.outbox ≡ old.outbox
+    pub log : new.log ≡ old.log
+    pub admitted : new.desk.admitted ≡ old.desk.admitted + 1
+    pub active : new.desk.active ≡ Some admitted_now
+    pub sessions : new.desk.sessions.items
+        ≡ slice_set old.desk.sessions.items session (record { seat = seating desk.seat.session flow.pass.asks; pass = None })
+
+  -- what is asked of a world to which a request is submitted: each session stands at its place
+  abbrev pub CanSubmit : Parts J → Type 0
+  CanSubmit w = (number : ℕ) (desk : SessionDesk J) → slice_get w.desk.sessions.items number ≡ Some desk → IsSessionOf number desk
+
+  -- there is such a session, and its pass is at the desk
+  abbrev pub CanAsk : Option (SessionDesk J) → Type 0
+  CanAsk None = ⊥
+  CanAsk (Some desk) = IsTrue (is_some desk.pass)
+
+  abbrev pub StaysAt : EventAnswer → Parts J → EventAnswer → Parts J → Type 0
+  StaysAt told old answer new = (answer ≡ told) × (new ≡ old)
+
+  abbrev pub SubmitsInto : Bool → ℕ → ℕ → Request → SessionDesk J → Parts J → EventAnswer → Parts J → Type 0
+  SubmitsInto false session number asked desk old answer new = StaysAt Nothing old answer new
+  SubmitsInto true session number asked desk old answer new =
+      StaysAt (Answered session number (Refused refusal.NoMemory)) old answer new
+      ⊎ ((answer ≡ Accepted old.desk.admitted) × Admits session number asked desk old new)
+
+  abbrev pub SubmitsUnless : Option Refusal → ℕ → ℕ → Request → SessionDesk J → Parts J → EventAnswer → Parts J → Type 0
+  SubmitsUnless (Some why) session number asked desk old answer new = StaysAt (Answered session number (Refused why)) old answer new
+  SubmitsUnless None session number asked desk old answer new = SubmitsInto (can_admit old) session number asked desk old answer new
+
+  abbrev pub SubmitsAt : Option (SessionDesk J) → ℕ → ℕ → Request → Parts J → EventAnswer → Parts J → Type 0
+  SubmitsAt None session number asked old answer new = StaysAt Nothing old answer new
+  SubmitsAt (Some desk) session number asked old answer new = SubmitsUnless (refusal_at desk asked old) session number asked desk old answer new
+
+  -- ---- one event
+
+  abbrev pub TakesFirst : List (Message J) → Parts J → EventAnswer → Parts J → Type 0
+  TakesFirst [] old answer new = StaysAt Nothing old answer new
+  TakesFirst (message ∷ rest) old answer new = (answer ≡ Took) × TakesMessage message (record old { inbox = rest }) new
+
+  abbrev pub SendsFirst : List (Item J) → Parts J → EventAnswer → Parts J → Type 0
+  SendsFirst [] old answer new = StaysAt Nothing old answer new
+  SendsFirst (item ∷ rest) old answer new = SendsItem item (record old { outbox = rest }) answer new
+
+  -- there is one executor, of number 0
+  abbrev pub AtExecutor : ℕ → (Parts J → EventAnswer → Parts J → Type 0) → Parts J → EventAnswer → Parts J → Type 0
+  AtExecutor zero happens old answer new = happens old answer new
+  AtExecutor (suc executor) happens old answer new = StaysAt Nothing old answer new
+
+  -- What an event is answered, and all that it changes.
+  abbrev pub Happens : Event → Parts J → EventAnswer → Parts J → Type 0
+  Happens (Submit session number asked) old answer new = SubmitsAt (slice_get old.desk.sessions.items session) session number asked old answer new
+  Happens (Take executor) old answer new = AtExecutor executor (TakesFirst old.inbox) old answer new
+  Happens (Send executor) old answer new = AtExecutor executor (SendsFirst old.outbox) old answer new
+
+  -- What events are answered, one after another, and all that they change.
+  abbrev pub HappenInTurn : List Event → Parts J → List EventAnswer → Parts J → Type 0
+  HappenInTurn [] old [] new = new ≡ old
+  HappenInTurn (event ∷ events) old (answer ∷ answers) new =
+      (mid : Parts J) × (Happens event old answer mid × HappenInTurn events mid answers new)
+  HappenInTurn events old answers new = ⊥
+
+  -- ---- what can't happen
+
+  abbrev pub CannotSubmit : Option (SessionDesk J) → Request → Parts J → Type 0
+  CannotSubmit None asked w = Unit {0}
+  CannotSubmit (Some desk) asked w = (refusal_at desk asked w ≡ None) × (can_admit w ≡ false)
+
+  -- A submission by a session of 64 or above, or one that isn't refused while the inbox is full or no age is left; and a
+  -- Take or a Send where there is nothing to take or to send, or no such executor.
+  abbrev pub CannotHappen : Event → Parts J → Type 0
+  CannotHappen (Submit session number asked) w = CannotSubmit (slice_get w.desk.sessions.items session) asked w
+  CannotHappen (Take executor) w = (executor ≢ 0) ⊎ (w.inbox ≡ [])
+  CannotHappen (Send executor) w = (executor ≢ 0) ⊎ (w.outbox ≡ [])

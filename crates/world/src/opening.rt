@@ -1,0 +1,155 @@
+//! A world is opened over tables that meet the consistency conditions.
+ghost use Rattle.std.specs.Prelude.{◌≡◌, ◌≢◌, ◌<◌, ◌↔◌, ℕ, [], map, IfOk, IfErr, OnOk, IsErrAnd};
+ghost use Rattle.schema.specs.Consistency.{Consistent};
+ghost use Rattle.tickets.specs.Openings.{AreNamed};
+ghost use Rattle.slices.specs.Openings.{AreOpenedFor};
+ghost use Rattle.commit_log.specs.LogTables.{table_of};
+ghost use Rattle.world.specs.Openings.{IsFaultOf, number_of, session_with};
+ghost use Rattle.world.specs.Worlds.{Fits};
+
+use crate::desk::{Desk, SessionDesk};
+use crate::queue::Queue;
+use crate::world::{Parts, World};
+use commit_log::{Log, LogBook, LogSeats, Pass, SessionSeat};
+use consistency::first_broken;
+use schema::{NoMemory, Tables};
+use slices::{Slice, open_groups};
+use std::alloc::{AllocError, Global};
+use tickets::{GroupSeats, named_all};
+
+/// The agreements of a world's groups and of its log, before they have a name: what a name is picked from.
+#[derive(Drop)]
+pub struct Opening {
+    /// The seats of all groups, by their places.
+    pub groups: Vec<GroupSeats>,
+    pub log: LogSeats,
+}
+
+impl Opening {
+    /// The agreements of the tables' groups and of a log without entries. Nothing is left after an error.
+    pub fn open(alloc: Global, tables: &Tables) -> Result<Opening, NoMemory>
+        ensures { IfOk result (λ opening. AreOpenedFor tables.now opening.groups.items) }
+    {
+        let groups = open_groups(alloc, tables)?;
+        let log = LogSeats::open(alloc)?;
+        Ok(Opening { groups, log })
+    }
+}
+
+/// Why no world was opened.
+#[derive(Clone, Copy, Debug, PartialEq, Eq)]
+pub enum OpenFault {
+    /// There was no memory to check the tables, or for the world.
+    NoMemory,
+    /// A world has one executor, and another number was asked for.
+    BadExecutors,
+    /// The tables break the consistency condition of this number, and none of a lower one: 1 to 10, or 12
+    /// (TPC-C 5.11, clause 3.3.2).
+    NotConsistent(u8),
+}
+
+impl OpenFault {
+    /// The number of the fault, 1 to 3.
+    pub fn number(&self) -> u8
+        ensures { result ≡ number_of self.now }
+    {
+        match self {
+            OpenFault::NoMemory => 1,
+            OpenFault::BadExecutors => 2,
+            OpenFault::NotConsistent(_) => 3,
+        }
+    }
+}
+
+impl From<AllocError> for OpenFault {
+    ghost use Rattle.std.specs.Prelude.{◌≡◌};
+    ghost use Rattle.world.specs.declared.opening.OpenFault.TheVariants.{NoMemory};
+
+    ghost from_gives = { λ _ fault. fault ≡ NoMemory };
+
+    fn from(_error: AllocError) -> OpenFault {
+        OpenFault::NoMemory
+    }
+}
+
+impl<J: commit_log::Naming + tickets::Naming> World<J> {
+    /// A world of one executor over these tables, with an empty log, in which nothing is under way. The
+    /// number of executors is looked at before the conditions. Nothing is left after an error.
+    pub fn open(
+        alloc: Global,
+        tables: Tables,
+        executors: u32,
+        opening: Opening,
+    ) -> Result<World<J>, OpenFault>
+        requires opened { AreOpenedFor tables opening.groups.items }
+        requires opening { J.opening ≡ tables }
+        requires warehouses { J.warehouses ≡ tables.scale.warehouses }
+        requires groups { AreNamed tables.scale.warehouses J.committed J.work opening.groups.items }
+        requires length { J.length ≡ opening.log.length }
+        requires mine { (session : ℕ) → session < 64 → J.mine session ≡ table_of opening.log.mine session }
+        requires asks { (session : ℕ) → session < 64 → J.asks session ≡ table_of opening.log.asks session }
+        ensures fits { IfOk result (λ world. Fits tables [] world) }
+        ensures consistent { OnOk result (Consistent tables) }
+        ensures bad_executors { IsErrAnd result (λ fault. fault ≡ OpenFault.BadExecutors) ↔ (executors ≢ 1) }
+        ensures fault { IfErr result (λ fault. IsFaultOf tables fault) }
+    {
+        if executors != 1 {
+            return Err(OpenFault::BadExecutors);
+        }
+        if let Some(condition) = first_broken(alloc, &tables)? {
+            return Err(OpenFault::NotConsistent(condition));
+        }
+        let world = World::over(alloc, tables, opening)?;
+        Ok(world)
+    }
+
+    // A world over tables that are consistent.
+    fn over(alloc: Global, tables: Tables, opening: Opening) -> Result<World<J>, NoMemory>
+        requires consistent { Consistent tables }
+        requires opened { AreOpenedFor tables opening.groups.items }
+        requires opening { J.opening ≡ tables }
+        requires warehouses { J.warehouses ≡ tables.scale.warehouses }
+        requires groups { AreNamed tables.scale.warehouses J.committed J.work opening.groups.items }
+        requires length { J.length ≡ opening.log.length }
+        requires mine { (session : ℕ) → session < 64 → J.mine session ≡ table_of opening.log.mine session }
+        requires asks { (session : ℕ) → session < 64 → J.asks session ≡ table_of opening.log.asks session }
+        ensures { IfOk result (λ world. Fits tables [] world) }
+    {
+        let Opening { groups, log } = opening;
+        let inbox = Queue::open(alloc)?;
+        let outbox = Queue::open(alloc)?;
+        let (boxes, seats) = named_all::<J>(alloc, tables.scale().warehouses, groups)?;
+        let slice = Slice::open(alloc, tables, boxes)?;
+        let (book, lanes) = LogBook::<J>::open(alloc, log)?;
+        let sessions = open_sessions(alloc, lanes)?;
+        let parts = Parts {
+            slice,
+            inbox,
+            outbox,
+            desk: Desk {
+                admitted: 0,
+                sessions,
+                active: None,
+            },
+            log: Log::new(book, seats),
+        };
+        Ok(World { parts })
+    }
+}
+
+// The sessions of these passes and seats, whose passes are at the desk.
+fn open_sessions<J: commit_log::Naming + tickets::Naming>(
+    alloc: Global,
+    lanes: Vec<(Pass<J>, SessionSeat<J>)>,
+) -> Result<Vec<SessionDesk<J>>, NoMemory>
+    ensures { IfOk result (λ sessions. sessions.items ≡ map session_with lanes.items) }
+{
+    let mut sessions = Vec::with_capacity(alloc, lanes.len())?;
+    for (pass, seat) in lanes {
+        sessions.push(SessionDesk {
+            seat,
+            pass: Some(pass),
+        })?;
+    }
+    Ok(sessions)
+}

@@ -1,0 +1,129 @@
+ghost use Rattle.std.specs.Prelude.{◌≡◌, ◌↔◌, [], ◌∷◌, length, IfOk, IsErrAnd, IsTrue, OnErr, None, is_some};
+ghost use Rattle.schema.specs.Database.{Database};
+ghost use Rattle.std.specs.Prelude.{List};
+ghost use Rattle.history.specs.History.{Step, step as one_step};
+ghost use Rattle.world.specs.Sound.{flight};
+ghost use Rattle.world.specs.Worlds.{Advances, CannotHappen, Fits, HappenInTurn, Happens, steps_of, tables_now};
+
+use crate::desk::Desk;
+use crate::flight::{Item, Message};
+use crate::queue::Queue;
+use commit_log::{Entry, Log};
+use history::{Event, EventAnswer};
+use schema::{NoMemory, Tables};
+use slices::Slice;
+use std::alloc::Global;
+use std::marker::Model;
+
+/// How many messages an inbox takes.
+pub const INBOX: usize = 1024;
+
+/// What a world consists of.
+#[derive(Drop)]
+pub struct Parts<J: commit_log::Naming + tickets::Naming> {
+    pub slice: Slice<J>,
+    pub inbox: Queue<Message<J>, 1024>,
+    pub outbox: Queue<Item<J>, 4096>,
+    pub desk: Desk<J>,
+    pub log: Log<J>,
+}
+
+/// An engine of one executor, in which one event happens at a time.
+///
+/// Contracts see what it consists of. A world is always sound: whoever has one has nothing to show for a
+/// call.
+#[derive(Drop)]
+pub struct World<J: commit_log::Naming + tickets::Naming> {
+    pub(crate) parts: Parts<J>,
+}
+
+impl<J: commit_log::Naming + tickets::Naming> Model for World<J> {
+    ghost use Rattle.std.specs.Prelude.{◌≡◌};
+    ghost use Rattle.world.specs.declared.world.Parts.{Parts};
+    ghost use Rattle.world.specs.Flights.{nothing};
+    ghost use Rattle.world.specs.Sound.{IsSoundWith};
+    ghost use Rattle.std.specs.Coded.{codes};
+    ghost use Rattle.groups.specs.contracts.content.Content as content;
+    ghost use Rattle.schema.specs.contracts.tables.Tables as tables_kind;
+    ghost use Rattle.world.specs.contracts.world.Parts as parts_kind;
+
+    ghost Value = { Parts J };
+
+    ghost coded = { Prim.hlevel (codes, content.the_row.coded, tables_kind.the_row.coded) };
+
+    ghost view = { λ w. w.parts };
+
+    ghost invariant = { λ w. IsSoundWith J.opening.scale nothing w.parts × (J.warehouses ≡ J.opening.scale.warehouses) };
+}
+
+/// Why no tables can be gathered.
+#[derive(Clone, Copy, Debug, PartialEq, Eq)]
+pub enum GatherFault {
+    /// A transaction is active.
+    NotIdle,
+    /// There was no memory for a copy.
+    NoMemory,
+}
+
+impl<J: commit_log::Naming + tickets::Naming> World<J> {
+    /// One event happens. It has no error: want of memory is an answer.
+    ///
+    /// A history that fitted before fits with the event and its answer at its end: the log's replies are
+    /// those of a machine that carries out its requests one at a time, in log order, and the tables that
+    /// it leaves are the committed ones; each transaction is whole, and stands behind those that were
+    /// answered before it was submitted. What the event changes is told exactly, and what can't happen
+    /// is answered `Nothing` and changes nothing.
+    pub fn step(&mut self, alloc: Global, event: &Event) -> EventAnswer
+        ensures advances { Advances self.old (one_step event.now result ∷ []) self.new }
+        ensures happens { Happens event.now self.old result self.new }
+        ensures nothing { (result ≡ EventAnswer.Nothing) ↔ CannotHappen event.now self.old }
+    {
+        self.parts.happen(alloc, event)
+    }
+
+    /// Events happen in order. The room for their answers is made first: an error changes nothing.
+    pub fn run(&mut self, alloc: Global, events: &[Event]) -> Result<Vec<EventAnswer>, NoMemory>
+        ensures advances { IfOk result (λ answers. Advances self.old (steps_of events.now answers.items) self.new) }
+        ensures happen { IfOk result (λ answers. HappenInTurn events.now self.old answers.items self.new) }
+        ensures count { IfOk result (λ answers. length answers.items ≡ length events.now) }
+        ensures err { OnErr result (self.new ≡ self.old) }
+    {
+        let mut answers = Vec::with_capacity(alloc, events.len())?;
+        for event in events {
+            let answer = self.step(alloc, event);
+            answers.push_reserved(answer);
+        }
+        Ok(answers)
+    }
+
+    /// The tables as the transactions of the log left them. They can be gathered exactly while no
+    /// transaction is active, unless there is no memory.
+    pub fn gather(&self) -> Result<Tables, GatherFault>
+        ensures tables { IfOk result (λ tables. (opening : Database) (history : List Step) → Fits opening history self.now → tables ≡ tables_now opening self.now.log) }
+        ensures idle { IsErrAnd result (λ fault. fault ≡ GatherFault.NotIdle) ↔ IsTrue (is_some self.now.desk.active) }
+    {
+        if self.parts.desk.active.is_some() {
+            return Err(GatherFault::NotIdle);
+        }
+        match self.parts.slice.tables().try_clone() {
+            Ok(tables) => Ok(tables),
+            Err(NoMemory) => Err(GatherFault::NoMemory),
+        }
+    }
+
+    /// Whether no message can be taken and no item be sent. Then no transaction is active and no claim is
+    /// out.
+    pub fn is_quiet(&self) -> bool
+        ensures quiet { IsTrue result ↔ ((self.now.inbox ≡ []) × (self.now.outbox ≡ [])) }
+        ensures rest { IsTrue result → (self.now.desk.active ≡ None) × ((flight self.now).claims ≡ []) }
+    {
+        self.parts.inbox.len() == 0 && self.parts.outbox.len() == 0
+    }
+
+    /// The entries of the log, in log order.
+    pub fn log(&self) -> &[Entry]
+        ensures { result.now ≡ self.now.log }
+    {
+        self.parts.log.entries()
+    }
+}
