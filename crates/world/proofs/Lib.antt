@@ -20,6 +20,7 @@ pub mod Happened
 pub mod Quiet
 pub mod Answered
 pub mod Runs
+pub mod Busy
 pub mod Keeping
 pub mod GivingBack
 pub mod Acting

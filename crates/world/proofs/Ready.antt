@@ -23,7 +23,7 @@ use Rattle.world.specs.Events.{CanWork, CanSend, OfActive, AwaitsIn}
 use Rattle.world.proofs.Tokens.{is_awaited, weigh_acting, weigh_committing, weigh_ending, one_weighs, home_under_way, customer_under_way, history_under_way, commit_under_way, ending_under_way}
 
 -- what stands at a place below the length
-stands_at : {X : Type 0} (xs : List X) (n : ℕ) → n < length xs → (x : X) × (slice_get xs n ≡ Some x)
+pub stands_at : {X : Type 0} (xs : List X) (n : ℕ) → n < length xs → (x : X) × (slice_get xs n ≡ Some x)
 stands_at [] n below = absurd (omega (arith, below))
 stands_at (x ∷ xs) zero below = (x, refl)
 stands_at (x ∷ xs) (suc n) below = stands_at xs n (omega (arith, below))

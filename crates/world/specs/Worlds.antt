@@ -1,5 +1,5 @@
 -- What holds of a world and its history.
-use Rattle.std.specs.Prelude.{◌≡◌, ◌≢◌, ◌⊎◌, ℕ, ◌+◌, Bool, true, false, List, [], ◌∷◌, ◌++◌, Option, Some, None, Result, Ok, Err, zero, suc, nat_lt, ◌&&◌, length, IsTrue, is_some, slice_set}
+use Rattle.std.specs.Prelude.{◌≡◌, ◌≢◌, ◌⊎◌, ℕ, ◌+◌, Bool, true, false, List, [], ◌∷◌, ◌++◌, Option, Some, None, Result, Ok, Err, zero, suc, nat_lt, ◌&&◌, length, IsTrue, is_some, slice_set, ◌<◌, ◌≤◌, ◌↔◌, count_by}
 use Rattle.std.specs.List.{slice_get}
 use Rattle.schema.specs.Database.{Database}
 use Rattle.requests.specs.declared.request.Request.{Request}
@@ -20,7 +20,7 @@ use Rattle.history.specs.declared.event.Event.{Event}
 use Rattle.history.specs.declared.event.Event.TheVariants.{Submit, Take, Send}
 use Rattle.history.specs.declared.event.EventAnswer.{EventAnswer}
 use Rattle.history.specs.declared.event.EventAnswer.TheVariants.{Accepted, Took, Answered, Nothing}
-use Rattle.history.specs.History.{Step, step}
+use Rattle.history.specs.History.{Step, step, is_of}
 use Rattle.history.specs.Fits.{Fits as HistoryFits}
 use Rattle.slices.specs.Sliced.{Sliced, everywhere, standing}
 use Rattle.world.specs.declared.desk.Active.{Active}
@@ -172,3 +172,10 @@ module _ {J : Type 0} where
   CannotHappen (Submit session number asked) w = CannotSubmit (slice_get w.desk.sessions.items session) asked w
   CannotHappen (Take executor) w = (executor ≢ 0) ⊎ (w.inbox ≡ [])
   CannotHappen (Send executor) w = (executor ≢ 0) ⊎ (w.outbox ≡ [])
+
+  -- A submission by one of the 64 sessions is refused with SessionBusy exactly where the session has a transaction without an
+  -- answer.
+  abbrev pub IsBusyExactly : Event → Parts J → EventAnswer → Type 0
+  IsBusyExactly (Submit session number asked) w answer =
+      session < 64 → (answer ≡ Answered session number (Refused refusal.SessionBusy)) ↔ (1 ≤ count_by (is_of session) (flight w).pending)
+  IsBusyExactly event w answer = Unit {0}

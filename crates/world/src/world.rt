@@ -3,7 +3,7 @@ ghost use Rattle.schema.specs.Database.{Database};
 ghost use Rattle.std.specs.Prelude.{List};
 ghost use Rattle.history.specs.History.{Step, step as one_step};
 ghost use Rattle.world.specs.Sound.{flight};
-ghost use Rattle.world.specs.Worlds.{Advances, CannotHappen, Fits, HappenInTurn, Happens, steps_of, tables_now};
+ghost use Rattle.world.specs.Worlds.{Advances, CannotHappen, Fits, HappenInTurn, Happens, IsBusyExactly, steps_of, tables_now};
 
 use crate::desk::Desk;
 use crate::flight::{Item, Message};
@@ -77,6 +77,7 @@ impl<J: commit_log::Naming + tickets::Naming> World<J> {
         ensures advances { Advances self.old (one_step event.now result ∷ []) self.new }
         ensures happens { Happens event.now self.old result self.new }
         ensures nothing { (result ≡ EventAnswer.Nothing) ↔ CannotHappen event.now self.old }
+        ensures busy { IsBusyExactly event.now self.old result }
     {
         self.parts.happen(alloc, event)
     }

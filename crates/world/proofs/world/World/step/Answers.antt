@@ -1,7 +1,8 @@
 use Rattle.std.proofs.Common.{subst, ◌∷◌, []}
 use Rattle.history.specs.History.{step}
 use Rattle.world.specs.declared.world.Parts.{Parts}
-use Rattle.world.specs.Worlds.{Advances, Happens}
+use Rattle.world.specs.Worlds.{Advances, Happens, IsBusyExactly}
+use Rattle.world.proofs.Busy.{busy_exactly}
 use Rattle.world.proofs.Answered.{nothing_exactly}
 use Rattle.world.proofs.world.World.step.Goals as goal
 
@@ -13,3 +14,8 @@ pub returns-clause-nothing : goal.returns-clause-nothing
 returns-clause-nothing g c =
     nothing_exactly c.args.event.now c.args.self.now c.happen.new.self c.happen.result
     (subst (λ (old : Parts g.row.J.Denot). Happens c.args.event.now old c.happen.result c.happen.new.self) c.self.view_is c.happen.ensures.happens)
+
+pub returns-clause-busy : goal.returns-clause-busy
+returns-clause-busy g c =
+    subst (λ (old : Parts g.row.J.Denot). IsBusyExactly c.args.event.now old c.happen.result) c.self.view_is
+    (busy_exactly g.J.Naming-1.opening.scale c.args.event.now c.self.inside.parts c.happen.new.self c.happen.result c.self.invariant.0 c.happen.ensures.happens)
