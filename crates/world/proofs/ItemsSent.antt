@@ -67,7 +67,7 @@ module _ {J : Type 0} where
             subst (λ v. Fits opening (history ++ step (Send executor) (Logged place) ∷ []) v) (sym said.1.1)
             (subst (λ n. Fits opening (history ++ step (Send executor) (Logged n) ∷ []) (logging commit a w)) (sym said.0) (both.1 opening history executor f));
       }
-  sends_commit scale w new commit Sent h s a active said = quietly scale (part_item (item.Commit commit)) w _ new Sent (refusing_goes_on scale w commit h s a active said.0) refl said.1
+  sends_commit scale w new commit Sent h s a active said = quietly scale (part_item (item.Commit commit)) w _ new Sent (refusing_goes_on scale w commit h s a active said.0) refl said.1.1
   sends_commit scale w new commit (Accepted age) h s a active said = absurd said
   sends_commit scale w new commit Took h s a active said = absurd said
   sends_commit scale w new commit Full h s a active said = absurd said

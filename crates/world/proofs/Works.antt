@@ -19,7 +19,7 @@ use Rattle.world.specs.declared.world.Parts.{Parts}
 use Rattle.world.specs.Flights.{claims_held, part_action, part_report, place_held}
 use Rattle.slices.specs.Sliced.{Sliced, SliceKeeps}
 use Rattle.world.specs.Sound.{IsSoundAction, IsSoundItem, IsSoundReport}
-use Rattle.world.specs.Events.{TakesMessage, Works}
+use Rattle.world.specs.Events.{ReportsOf, TakesMessage, Works}
 use Rattle.world.proofs.Keeping.{stays}
 
 module _ {J : Type 0} where
@@ -30,6 +30,7 @@ module _ {J : Type 0} where
   pub starts : (flow : Flow J) (payment : Payment) (slice : Sliced)
       → Works (Start flow payment) slice (item.Push (Act (action.Home flow)) ∷ item.Push (Act (action.Customer flow.age payment)) ∷ []) slice
   starts flow payment slice = record {
+    put = refl;
     kept = stays [] slice;
     pending = refl;
     tokens = refl;
@@ -40,12 +41,13 @@ module _ {J : Type 0} where
   }
 
   -- an action that runs puts its report
-  pub acts : (act : Action J) (report : Report J) (old new : Sliced)
+  pub acts : (act : Action J) (report : Report J) (old new : Sliced) → ReportsOf act report
       → SliceKeeps (part_action act).claims old (part_report report).claims new
       → (part_report report).pending ≡ (part_action act).pending → (part_report report).tokens ≡ (part_action act).tokens
       → ((p : Payment) → IsSoundAction old.tables.scale p act → IsSoundReport old.tables.scale p report)
       → Works (Act act) old (item.Report report ∷ []) new
-  acts act report old new kept pending tokens sound = record {
+  acts act report old new of kept pending tokens sound = record {
+    put = (report, (refl, of));
     kept = subst (λ (claims : List Claiming). SliceKeeps (part_action act).claims old claims new) (sym (append-nil (part_report report).claims)) kept;
     pending = append-nil (part_report report).pending ∙ pending;
     tokens = tokens;
@@ -56,6 +58,7 @@ module _ {J : Type 0} where
   -- claims whose work is committed are given back
   pub settles : (own : Claims J) (old new : Sliced) → SliceKeeps (claims_held own) old [] new → Works (Settle own) old (item.Ended (place_held own) ∷ []) new
   settles own old new kept = record {
+    put = refl;
     kept = kept;
     pending = refl;
     tokens = refl;
@@ -66,6 +69,7 @@ module _ {J : Type 0} where
   -- claims whose work is taken back are given back
   pub undoes : (own : Claims J) (old new : Sliced) → SliceKeeps (claims_held own) old [] new → Works (Undo own) old (item.Ended (place_held own) ∷ []) new
   undoes own old new kept = record {
+    put = refl;
     kept = kept;
     pending = refl;
     tokens = refl;

@@ -1,5 +1,5 @@
 -- What one event does.
-use Rattle.std.specs.Prelude.{◌≡◌, ◌<◌, ◌≤◌, Bool, true, false, List, [], ◌∷◌, ◌++◌, Option, Some, None, All, nat_lt, length, slice_set, is_some}
+use Rattle.std.specs.Prelude.{◌≡◌, ◌<◌, ◌≤◌, Bool, true, false, List, [], ◌∷◌, ◌++◌, Option, Some, None, All, nat_lt, length, slice_set, is_some, ◌↔◌}
 use Rattle.std.specs.List.{slice_get, list_all}
 use Rattle.requests.specs.declared.refusal.Refusal.TheVariants as refusal
 use Rattle.commit_log.specs.declared.log_book.AppendFault.{AppendFault}
@@ -20,6 +20,8 @@ use Rattle.slices.specs.Sliced.{Sliced, SliceKeeps}
 use Rattle.world.specs.declared.desk.Active.{Active}
 use Rattle.world.specs.declared.desk.SessionDesk.{SessionDesk}
 use Rattle.world.specs.declared.desk.Stage.TheVariants as stage
+use Rattle.world.specs.declared.flight.Action.{Action}
+use Rattle.world.specs.declared.flight.Action.TheVariants as action
 use Rattle.world.specs.declared.flight.Message.{Message}
 use Rattle.world.specs.declared.flight.Message.TheVariants.{Start, Act, Settle, Undo}
 use Rattle.world.specs.declared.flight.Report.{Report}
@@ -32,7 +34,7 @@ use Rattle.world.specs.declared.phases.Release.{Release}
 use Rattle.world.specs.declared.phases.Gathered.{Gathered}
 use Rattle.world.specs.declared.phases.Gathered.TheVariants.{Act as Acts, Commit, Refuse}
 use Rattle.world.specs.declared.world.Parts.{Parts}
-use Rattle.world.specs.Flights.{parts, part_message, part_item, claims_held, claims_commit}
+use Rattle.world.specs.Flights.{parts, part_message, part_item, claims_held, claims_commit, place_held}
 use Rattle.world.specs.Phases.{gathered_first, gathered_second, items_gathered, items_released, release_logged, release_refused, is_settled, entry_of}
 use Rattle.world.specs.Sound.{IsSoundMessage, IsSoundItem, CanRun, IsSettled, IsUndoable, none_ended}
 
@@ -51,9 +53,26 @@ why_refused fault.LogFull = refusal.LogFull
 module _ {J : Type 0} where
   -- ---- a message is worked on
 
+  -- the report is that of the action that ran, with all that came with it
+  abbrev pub ReportsOf : Action J → Report J → Type 0
+  ReportsOf (action.Home flow) (report.Home same ran) = same ≡ flow
+  ReportsOf (action.Customer age payment) (report.Customer same ran) = same ≡ payment
+  ReportsOf (action.History paid row) (report.History same ran) = same ≡ paid
+  ReportsOf ran other = ⊥
+
+  -- Which items a message's work puts: the two actions of the first phase, in the order of their places, the report of an
+  -- action, or that a place has given its claims back.
+  abbrev pub PutsItems : Message J → List (Item J) → Type 0
+  PutsItems (Start flow payment) items =
+      items ≡ item.Push (Act (action.Home flow)) ∷ item.Push (Act (action.Customer flow.age payment)) ∷ []
+  PutsItems (Act ran) items = (r : Report J) × ((items ≡ item.Report r ∷ []) × ReportsOf ran r)
+  PutsItems (Settle claims) items = items ≡ item.Ended (place_held claims) ∷ []
+  PutsItems (Undo claims) items = items ≡ item.Ended (place_held claims) ∷ []
+
   -- What a message does to the rows, and the items that it puts: what is committed is kept; the items have with them the
   -- transactions and the tokens that came with the message; and they are as sound as it is.
   pub record Works (message : Message J) (old : Sliced) (items : List (Item J)) (new : Sliced) : Type 0 where
+    pub put : PutsItems message items
     pub kept : SliceKeeps (part_message message).claims old (parts part_item items).claims new
     pub pending : (parts part_item items).pending ≡ (part_message message).pending
     pub tokens : (parts part_item items).tokens ≡ (part_message message).tokens
@@ -135,7 +154,8 @@ module _ {J : Type 0} where
 
   abbrev pub Commits : CommitItem J → Active J → Parts J → EventAnswer → Parts J → Type 0
   Commits commit active old (Logged place) new = (place ≡ length old.log) × ((length old.log < 16777216) × (new ≡ logging commit active old))
-  Commits commit active old Sent new = (why : AppendFault) × (new ≡ refusing commit why active old)
+  Commits commit active old Sent new =
+      (why : AppendFault) × (((why ≡ fault.LogFull) ↔ (16777216 ≤ length old.log)) × (new ≡ refusing commit why active old))
   Commits commit active old answer new = ⊥
 
   -- ---- the sessions

@@ -1,5 +1,5 @@
 //! A transaction is logged.
-ghost use Rattle.std.specs.Prelude.{◌≡◌, ◌≤◌, ◌<◌, ◌+◌, IfErr, IfOk, [], ◌∷◌, ◌++◌, length, Some};
+ghost use Rattle.std.specs.Prelude.{◌≡◌, ◌↔◌, ◌≤◌, ◌<◌, ◌+◌, IfErr, IfOk, [], ◌∷◌, ◌++◌, length, Some};
 ghost use Rattle.requests.specs.Check.{IsAccepted};
 ghost use Rattle.commit_log.specs.Claimed.{IsCarriedOut};
 ghost use Rattle.commit_log.specs.Items.{item};
@@ -133,6 +133,7 @@ fn append<J: commit_log::Naming + tickets::Naming>(
     ensures pass { IfOk result.1 (λ done. done.1 ≡ after_item pass (item done.0 entry.number entry.request entry.reply)) }
     ensures claims { IfOk result.1 (λ _. result.0 ≡ logged_in entry.reply claims) }
     ensures err { IfErr result.1 (λ refused. (log.new ≡ log.old) × (result.0 ≡ claims)) }
+    ensures full { IfErr result.1 (λ refused. (refused.0 ≡ AppendFault.LogFull) ↔ (16777216 ≤ length log.old)) }
     ensures refused { IfErr result.1 (λ refused. refused.1 ≡ after_refusal refused.0 (length log.old) pass) }
 {
     let AllClaims {

@@ -6,6 +6,7 @@ ghost use Rattle.requests.specs.declared.request.Request.TheVariants as request;
 ghost use Rattle.schema.specs.Scale.{has_customer};
 ghost use Rattle.slices.specs.Sliced.{SliceKeeps};
 ghost use Rattle.world.specs.Flights.{claims_held, claims_home_ran, claims_customer_ran, claims_history_ran, part_action, part_report};
+ghost use Rattle.world.specs.Events.{ReportsOf};
 ghost use Rattle.world.specs.Sound.{CanRun, IsSettled, IsUndoable, IsSoundAction, IsSoundReport, IsSoundHome, IsSoundCustomer, IsSoundHistory};
 
 use crate::flight::{Action, Claims, CustomerRan, HistoryRan, HomeClaims, HomeRan, Report};
@@ -23,6 +24,7 @@ pub fn act<J: commit_log::Naming + tickets::Naming>(
 ) -> Report<J>
     requires warehouses { J.warehouses ≡ slice.old.tables.scale.warehouses }
     requires can { CanRun slice.old.tables.scale action }
+    ensures of { ReportsOf action result }
     ensures kept { SliceKeeps (part_action action).claims slice.old (part_report result).claims slice.new }
     ensures pending { (part_report result).pending ≡ (part_action action).pending }
     ensures tokens { (part_report result).tokens ≡ (part_action action).tokens }

@@ -23,7 +23,7 @@ returns-in-Act g c =
     let did = c.act-report.ensures in
     takes c.args.message (Act c.in-Act.action) old (item.Report c.act-report.result ∷ []) c.put-in-Act.new.self c.act-report.new.slice c.in-Act.is
     c.put-in-Act.ensures
-    (acts c.in-Act.action c.act-report.result old.slice c.act-report.new.slice did.kept did.pending did.tokens did.sound)
+    (acts c.in-Act.action c.act-report.result old.slice c.act-report.new.slice did.of did.kept did.pending did.tokens did.sound)
 
 pub returns-in-Settle : goal.returns-in-Settle
 returns-in-Settle g c =
