@@ -5,6 +5,9 @@ use requests::{Answer, Refusal};
 use std::alloc::Global;
 use world::{OpenFault, Simulation, simulate};
 
+// As many takes as sends, in turn: enough for any one payment, and then nothing happens any more.
+const TURNS: &[u8] = b"tstststststststststststststststststststststststs";
+
 fn submit(session: u32, number: u32, request: Request) -> Event {
     Event::Submit {
         session,
@@ -13,13 +16,23 @@ fn submit(session: u32, number: u32, request: Request) -> Event {
     }
 }
 
-// As many takes as sends, in turn: enough for any one payment, and then nothing happens any more.
-fn turns(events: &mut Vec<Event>) -> Result<(), NoMemory> {
-    for _ in 0..24_usize {
-        events.push(Event::Take { executor: 0 })?;
-        events.push(Event::Send { executor: 0 })?;
+// These events, then a submission, and then a take for each t and a send for each s.
+fn submitting(
+    mut events: Vec<Event>,
+    session: u32,
+    number: u32,
+    request: Request,
+    steps: &[u8],
+) -> Result<Vec<Event>, NoMemory> {
+    events.push(submit(session, number, request))?;
+    for step in steps {
+        if *step == b't' {
+            events.push(Event::Take { executor: 0 })?;
+        } else {
+            events.push(Event::Send { executor: 0 })?;
+        }
     }
-    Ok(())
+    Ok(events)
 }
 
 // A letter for each kind of answer.
@@ -41,18 +54,6 @@ fn spell(answers: &[EventAnswer], letters: &[u8]) -> bool {
             .iter()
             .zip(letters)
             .all(|(answer, &wanted)| letter(answer) == wanted)
-}
-
-// A take for each t and a send for each s.
-fn steps(events: &mut Vec<Event>, letters: &[u8]) -> Result<(), NoMemory> {
-    for letter in letters {
-        if *letter == b't' {
-            events.push(Event::Take { executor: 0 })?;
-        } else {
-            events.push(Event::Send { executor: 0 })?;
-        }
-    }
-    Ok(())
 }
 
 fn by_first_customer(amount: u32) -> Request {
@@ -87,9 +88,8 @@ fn ran(rt: &impl Abort, alloc: Global, events: &[Event]) -> Result<Simulation, F
 #[test]
 fn one_payment_event_by_event(rt: HostRuntime) -> Result<(), Fail> {
     let alloc = rt.alloc();
-    let mut events = Vec::new(alloc);
-    events.push(submit(0, 0, by_first_customer(100)))?;
-    steps(&mut events, b"tssttssstsssssstttsss")?;
+    let steps = b"tssttssstsssssstttsss";
+    let events = submitting(Vec::new(alloc), 0, 0, by_first_customer(100), steps)?;
     let simulation = ran(&rt, alloc, &events)?;
     assert!(rt; spell(&simulation.answers, b"ATSSTTSSSTSLRSSSTTTSSS"));
     let tables = simulation.tables.expect(&rt, "nothing is active");
@@ -104,10 +104,8 @@ fn one_payment_event_by_event(rt: HostRuntime) -> Result<(), Fail> {
 #[test]
 fn a_payment_is_rolled_back(rt: HostRuntime) -> Result<(), Fail> {
     let alloc = rt.alloc();
-    let mut events = Vec::new(alloc);
     let nobody = payment(district_key(1, 1), customer_key(1, 1, 6), 100);
-    events.push(submit(0, 0, nobody))?;
-    turns(&mut events)?;
+    let events = submitting(Vec::new(alloc), 0, 0, nobody, TURNS)?;
     let simulation = ran(&rt, alloc, &events)?;
     let entry = simulation.log.first().expect(&rt, "an entry");
     assert_eq!(rt; entry.reply, Reply::RolledBack(Fault::NoCustomer));
@@ -135,9 +133,8 @@ fn submissions_are_refused(rt: HostRuntime) -> Result<(), Fail> {
     events.push(submit(0, 1, by_first_customer(100)))?;
     events.push(submit(0, 2, by_first_customer(99)))?;
     events.push(submit(1, 0, by_first_customer(500_001)))?;
-    events.push(submit(1, 1, by_first_customer(100)))?;
     events.push(Event::Take { executor: 1 })?;
-    turns(&mut events)?;
+    let mut events = submitting(events, 1, 1, by_first_customer(100), TURNS)?;
     events.push(submit(1, 2, by_first_customer(100)))?;
     let simulation = ran(&rt, alloc, &events)?;
     let answers = simulation.answers.as_slice();
@@ -147,8 +144,8 @@ fn submissions_are_refused(rt: HostRuntime) -> Result<(), Fail> {
         EventAnswer::Accepted { age: 0 },
         refused(0, 2, Refusal::SessionBusy),
         refused(1, 0, Refusal::BadAmount),
-        refused(1, 1, Refusal::Busy),
         EventAnswer::Nothing,
+        refused(1, 1, Refusal::Busy),
     ];
     assert!(rt;
         answers
@@ -186,9 +183,8 @@ fn worlds_are_not_opened(rt: HostRuntime) -> Result<(), Fail> {
 #[test]
 fn want_of_memory_is_taken_back(rt: HostRuntime) -> Result<(), Fail> {
     let alloc = rt.alloc();
-    let mut events = Vec::with_capacity(alloc, 64)?;
-    events.push(submit(0, 0, by_first_customer(100)))?;
-    turns(&mut events)?;
+    let events = Vec::with_capacity(alloc, 64)?;
+    let events = submitting(events, 0, 0, by_first_customer(100), TURNS)?;
     let opening = set_k(alloc)?;
     let again = set_k(alloc)?;
     let simulation = match simulate(alloc, opening, 1, &events) {
