@@ -23,4 +23,10 @@ done
 # log takes the next.
 with_refused serving::want_of_memory_is_answered 562
 
+# Two sets, a list of events and a world with its 64 sessions take 2,197 allocations to make. Then the submission of a
+# payment takes three, the actions of its first phase three, that of its second one, and its entry in the log one.
+for number in 2198 2201 2204 2205; do
+    with_refused worlds::want_of_memory_is_taken_back "$number"
+done
+
 exec rt ci
