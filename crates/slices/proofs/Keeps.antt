@@ -147,7 +147,7 @@ home_now t grounds group place next known at here =
     ap (λ f. free_of t.scale.warehouses f group) (map-set home grounds place next)
     ∙ free_set t.scale.warehouses (map home grounds) group place (home next) known at (let long = length-map grounds home in omega (arith, long))
 
-home_elsewhere : (t : Database) (grounds : List Grounded) (group : Group) (place : ℕ) (next : Grounded) → IsGroupOf t.scale.warehouses group → place ≡ place_of group
+pub home_elsewhere : (t : Database) (grounds : List Grounded) (group : Group) (place : ℕ) (next : Grounded) → IsGroupOf t.scale.warehouses group → place ≡ place_of group
     → (other : Group) → other ≢ group → free_of t.scale.warehouses (map home (set grounds place next)) other ≡ free_of t.scale.warehouses (map home grounds) other
 home_elsewhere t grounds group place next known at other apart =
     ap (λ f. free_of t.scale.warehouses f other) (map-set home grounds place next)

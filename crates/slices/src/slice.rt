@@ -1,6 +1,7 @@
-ghost use Rattle.std.specs.Prelude.{◌≡◌, ◌<◌, [], ◌∷◌, IsTrue, IfOk, IfErr, OnOk, OnErr};
+ghost use Rattle.std.specs.Prelude.{◌≡◌, ◌≢◌, ◌<◌, [], ◌∷◌, IsTrue, IfOk, IfErr, OnOk, OnErr};
 ghost use Rattle.std.specs.FinMap as map;
 ghost use Rattle.schema.specs.Database.{with_payment};
+ghost use Rattle.requests.specs.declared.group.Group.{Group as AnyGroup};
 ghost use Rattle.requests.specs.declared.group.Group.TheVariants as group;
 ghost use Rattle.groups.specs.declared.wishes.Mode.TheVariants.{Exclusive};
 ghost use Rattle.groups.specs.Content.{content};
@@ -79,6 +80,7 @@ impl<J: Naming> Slice<J> {
         ensures claim { IfOk result (λ claim. claim ≡ fresh group Exclusive (content self.old.tables group)) }
         ensures kept { IfOk result (λ claim. SliceKeeps [] self.old (claim ∷ []) self.new) }
         ensures rows { OnOk result (self.new.tables ≡ self.old.tables) }
+        ensures others { (other : AnyGroup) → other ≢ group → (standing self.new).free other ≡ (standing self.old).free other }
         ensures busy { IfErr result (λ held. (held.group ≡ group) × (self.new ≡ self.old) × ((standing self.old).free group < 8)) }
     {
         let ground = &mut self.grounds[place_of::<J>(group)];

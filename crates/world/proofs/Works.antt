@@ -41,7 +41,7 @@ module _ {J : Type 0} where
   }
 
   -- an action that runs puts its report
-  pub acts : (act : Action J) (report : Report J) (old new : Sliced) → ReportsOf act report
+  pub acts : (act : Action J) (report : Report J) (old new : Sliced) → ReportsOf old act report
       → SliceKeeps (part_action act).claims old (part_report report).claims new
       → (part_report report).pending ≡ (part_action act).pending → (part_report report).tokens ≡ (part_action act).tokens
       → ((p : Payment) → IsSoundAction old.tables.scale p act → IsSoundReport old.tables.scale p report)

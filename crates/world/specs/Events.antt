@@ -1,5 +1,5 @@
 -- What one event does.
-use Rattle.std.specs.Prelude.{◌≡◌, ◌<◌, ◌≤◌, Bool, true, false, List, [], ◌∷◌, ◌++◌, Option, Some, None, All, nat_lt, length, slice_set, is_some, ◌↔◌}
+use Rattle.std.specs.Prelude.{◌≡◌, ◌<◌, ◌≤◌, Bool, true, false, List, [], ◌∷◌, ◌++◌, Option, Some, None, All, nat_lt, length, slice_set, is_some, ◌↔◌, ◌⊎◌}
 use Rattle.std.specs.List.{slice_get, list_all}
 use Rattle.requests.specs.declared.refusal.Refusal.TheVariants as refusal
 use Rattle.commit_log.specs.declared.log_book.AppendFault.{AppendFault}
@@ -16,12 +16,20 @@ use Rattle.schema.specs.Database.{Database}
 use Rattle.commit_log.specs.Claimed.{IsCarriedOut}
 use Rattle.schema.specs.declared.scale.Scale.{Scale}
 use Rattle.commit_log.specs.declared.entry.Entry.{Entry}
-use Rattle.slices.specs.Sliced.{Sliced, SliceKeeps}
+use Rattle.requests.specs.declared.group.Group.{Group}
+use Rattle.requests.specs.declared.group.Group.TheVariants.{Warehouse, District, Customers, History}
+use Rattle.slices.specs.Sliced.{Sliced, SliceKeeps, standing}
 use Rattle.world.specs.declared.desk.Active.{Active}
 use Rattle.world.specs.declared.desk.SessionDesk.{SessionDesk}
 use Rattle.world.specs.declared.desk.Stage.TheVariants as stage
 use Rattle.world.specs.declared.flight.Action.{Action}
 use Rattle.world.specs.declared.flight.Action.TheVariants as action
+use Rattle.world.specs.declared.flight.HomeRan.{HomeRan}
+use Rattle.world.specs.declared.flight.HomeRan.TheVariants as home_ran
+use Rattle.world.specs.declared.flight.CustomerRan.{CustomerRan}
+use Rattle.world.specs.declared.flight.CustomerRan.TheVariants as customer_ran
+use Rattle.world.specs.declared.flight.HistoryRan.{HistoryRan}
+use Rattle.world.specs.declared.flight.HistoryRan.TheVariants as history_ran
 use Rattle.world.specs.declared.flight.Message.{Message}
 use Rattle.world.specs.declared.flight.Message.TheVariants.{Start, Act, Settle, Undo}
 use Rattle.world.specs.declared.flight.Report.{Report}
@@ -50,29 +58,48 @@ abbrev pub why_refused : AppendFault → Refusal
 why_refused fault.NoMemory = refusal.NoMemory
 why_refused fault.LogFull = refusal.LogFull
 
+-- some ticket of the group is out
+abbrev pub IsHeld : Sliced → Group → Type 0
+IsHeld slice group = (standing slice).free group < 8
+
 module _ {J : Type 0} where
   -- ---- a message is worked on
 
-  -- the report is that of the action that ran, with all that came with it
-  abbrev pub ReportsOf : Action J → Report J → Type 0
-  ReportsOf (action.Home flow) (report.Home same ran) = same ≡ flow
-  ReportsOf (action.Customer age payment) (report.Customer same ran) = same ≡ payment
-  ReportsOf (action.History paid row) (report.History same ran) = same ≡ paid
-  ReportsOf ran other = ⊥
+  -- Each action dies only on a group of its own, and only where it is held.
+  abbrev pub HomeDiesOnHeld : Sliced → Payment → HomeRan J → Type 0
+  HomeDiesOnHeld slice p (home_ran.Died group holder) =
+      ((group ≡ Warehouse p.home.w_id) ⊎ (group ≡ District p.home.w_id p.home.d_id)) × IsHeld slice group
+  HomeDiesOnHeld slice p ran = Unit {0}
+
+  abbrev pub CustomerDiesOnHeld : Sliced → Payment → CustomerRan J → Type 0
+  CustomerDiesOnHeld slice p (customer_ran.Died group holder) =
+      (group ≡ Customers p.customer_home.w_id p.customer_home.d_id) × IsHeld slice group
+  CustomerDiesOnHeld slice p ran = Unit {0}
+
+  abbrev pub HistoryDiesOnHeld : Sliced → Payment → HistoryRan J → Type 0
+  HistoryDiesOnHeld slice p (history_ran.Died group holder) = (group ≡ History p.home.w_id p.home.d_id) × IsHeld slice group
+  HistoryDiesOnHeld slice p ran = Unit {0}
+
+  -- the report is that of the action that ran, with all that came with it; and who died did so on a group that is held
+  abbrev pub ReportsOf : Sliced → Action J → Report J → Type 0
+  ReportsOf slice (action.Home flow) (report.Home same ran) = (same ≡ flow) × HomeDiesOnHeld slice flow.payment ran
+  ReportsOf slice (action.Customer age payment) (report.Customer same ran) = (same ≡ payment) × CustomerDiesOnHeld slice payment ran
+  ReportsOf slice (action.History paid row) (report.History same ran) = (same ≡ paid) × HistoryDiesOnHeld slice paid.flow.payment ran
+  ReportsOf slice ran other = ⊥
 
   -- Which items a message's work puts: the two actions of the first phase, in the order of their places, the report of an
   -- action, or that a place has given its claims back.
-  abbrev pub PutsItems : Message J → List (Item J) → Type 0
-  PutsItems (Start flow payment) items =
+  abbrev pub PutsItems : Sliced → Message J → List (Item J) → Type 0
+  PutsItems slice (Start flow payment) items =
       items ≡ item.Push (Act (action.Home flow)) ∷ item.Push (Act (action.Customer flow.age payment)) ∷ []
-  PutsItems (Act ran) items = (r : Report J) × ((items ≡ item.Report r ∷ []) × ReportsOf ran r)
-  PutsItems (Settle claims) items = items ≡ item.Ended (place_held claims) ∷ []
-  PutsItems (Undo claims) items = items ≡ item.Ended (place_held claims) ∷ []
+  PutsItems slice (Act ran) items = (r : Report J) × ((items ≡ item.Report r ∷ []) × ReportsOf slice ran r)
+  PutsItems slice (Settle claims) items = items ≡ item.Ended (place_held claims) ∷ []
+  PutsItems slice (Undo claims) items = items ≡ item.Ended (place_held claims) ∷ []
 
   -- What a message does to the rows, and the items that it puts: what is committed is kept; the items have with them the
   -- transactions and the tokens that came with the message; and they are as sound as it is.
   pub record Works (message : Message J) (old : Sliced) (items : List (Item J)) (new : Sliced) : Type 0 where
-    pub put : PutsItems message items
+    pub put : PutsItems old message items
     pub kept : SliceKeeps (part_message message).claims old (parts part_item items).claims new
     pub pending : (parts part_item items).pending ≡ (part_message message).pending
     pub tokens : (parts part_item items).tokens ≡ (part_message message).tokens

@@ -6,7 +6,7 @@ ghost use Rattle.requests.specs.declared.request.Request.TheVariants as request;
 ghost use Rattle.schema.specs.Scale.{has_customer};
 ghost use Rattle.slices.specs.Sliced.{SliceKeeps};
 ghost use Rattle.world.specs.Flights.{claims_held, claims_home_ran, claims_customer_ran, claims_history_ran, part_action, part_report};
-ghost use Rattle.world.specs.Events.{ReportsOf};
+ghost use Rattle.world.specs.Events.{CustomerDiesOnHeld, HistoryDiesOnHeld, HomeDiesOnHeld, ReportsOf};
 ghost use Rattle.world.specs.Sound.{CanRun, IsSettled, IsUndoable, IsSoundAction, IsSoundReport, IsSoundHome, IsSoundCustomer, IsSoundHistory};
 
 use crate::flight::{Action, Claims, CustomerRan, HistoryRan, HomeClaims, HomeRan, Report};
@@ -24,7 +24,7 @@ pub fn act<J: commit_log::Naming + tickets::Naming>(
 ) -> Report<J>
     requires warehouses { J.warehouses ≡ slice.old.tables.scale.warehouses }
     requires can { CanRun slice.old.tables.scale action }
-    ensures of { ReportsOf action result }
+    ensures of { ReportsOf slice.old action result }
     ensures kept { SliceKeeps (part_action action).claims slice.old (part_report result).claims slice.new }
     ensures pending { (part_report result).pending ≡ (part_action action).pending }
     ensures tokens { (part_report result).tokens ≡ (part_action action).tokens }
@@ -58,6 +58,7 @@ fn act_home<J: commit_log::Naming + tickets::Naming>(
     requires accepted { IsAccepted slice.old.tables.scale (request.Payment payment.now) }
     ensures kept { SliceKeeps [] slice.old (claims_home_ran result) slice.new }
     ensures sound { IsSoundHome slice.old.tables.scale payment.now result }
+    ensures dies { HomeDiesOnHeld slice.old payment.now result }
 {
     // The district's claim is granted after the warehouse's, and stands after it.
     tickets::order_does_not_matter();
@@ -111,6 +112,7 @@ fn act_customer<J: commit_log::Naming + tickets::Naming>(
     requires accepted { IsAccepted slice.old.tables.scale (request.Payment payment.now) }
     ensures kept { SliceKeeps [] slice.old (claims_customer_ran result) slice.new }
     ensures sound { IsSoundCustomer slice.old.tables.scale payment.now result }
+    ensures dies { CustomerDiesOnHeld slice.old payment.now result }
 {
     let home = payment.customer_home;
     let group = Group::Customers {
@@ -147,6 +149,7 @@ fn act_history<J: commit_log::Naming + tickets::Naming>(
     requires payer { IsTrue (has_customer slice.old.tables.scale row.customer) }
     ensures kept { SliceKeeps [] slice.old (claims_history_ran result) slice.new }
     ensures sound { IsSoundHistory payment.now row result }
+    ensures dies { HistoryDiesOnHeld slice.old payment.now result }
 {
     let home = payment.home;
     let group = Group::History {

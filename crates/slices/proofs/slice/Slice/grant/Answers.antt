@@ -1,11 +1,12 @@
-use Rattle.std.proofs.Common.{IfOk, IfErr, [], ◌∷◌, ◌≡◌, ◌<◌, set, subst, sym}
+use Rattle.std.proofs.Common.{IfOk, IfErr, [], ◌∷◌, ◌≡◌, ◌≢◌, ◌<◌, set, subst, sym}
+use Rattle.requests.specs.declared.group.Group.{Group}
 use Rattle.groups.specs.Content.{content}
 use Rattle.groups.specs.declared.wishes.Mode.TheVariants.{Exclusive}
 use Rattle.tickets.specs.Claims.{fresh}
 use Rattle.tickets.specs.Places.{IsGroupOf}
 use Rattle.slices.specs.Grounds.{sliced}
 use Rattle.slices.specs.Sliced.{Sliced, SliceKeeps, standing}
-use Rattle.slices.proofs.Keeps.{grant_outcome, busy_outcome}
+use Rattle.slices.proofs.Keeps.{grant_outcome, busy_outcome, home_elsewhere}
 use Rattle.slices.proofs.slice.Slice.grant.Goals as goal
 
 pub invariant_of-self : goal.invariant_of-self
@@ -39,3 +40,10 @@ returns-clause-busy g c =
     subst (λ (s : Sliced). IfErr c.grant.result (λ held. (held.group ≡ c.args.group) × (sliced c.self.inside.tables (set c.self.inside.grounds.items c.place_of.result c.grant.new.self) ≡ s) × ((standing s).free c.args.group < 8))) c.self.view_is
     (busy_outcome c.self.inside.tables c.self.inside.grounds.items c.args.group c.place_of.result c.index_mut-ground.result.now c.grant.new.self c.grant.result c.self.invariant.1 known c.place_of.ensures
     c.index_mut-ground.ensures.value e.held e.busy e.same)
+
+pub returns-clause-others : goal.returns-clause-others
+returns-clause-others g c =
+    let known = subst (λ n. IsGroupOf n c.args.group) (sym c.self.invariant.0) c.requires.known in
+    let next = set c.self.inside.grounds.items c.place_of.result c.grant.new.self in
+    subst (λ (s : Sliced). (other : Group) → other ≢ c.args.group → (standing (sliced c.self.inside.tables next)).free other ≡ (standing s).free other) c.self.view_is
+    (home_elsewhere c.self.inside.tables c.self.inside.grounds.items c.args.group c.place_of.result c.grant.new.self known c.place_of.ensures)
