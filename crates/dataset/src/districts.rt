@@ -1,8 +1,11 @@
-ghost use Rattle.std.specs.Prelude.{IsTrue};
-ghost use Rattle.schema.specs.Scale.{has_district};
+ghost use Rattle.std.specs.Prelude.{[], ◌∷◌, IsTrue, OnOk};
+ghost use Rattle.schema.specs.Scale.{has_district, district_keys};
+ghost use Rattle.dataset.specs.Records.{Number, district_fields};
+ghost use Rattle.dataset.specs.Writing.{Adds};
 
-use crate::warehouses::address;
-use files::Fields;
+use crate::recorded::{Dense, Recorded};
+use crate::warehouses::{address, put_address};
+use files::{Fields, NewRecord};
 use rows::{District, DistrictKey};
 use schema::{NoMemory, Scale};
 
@@ -29,4 +32,37 @@ pub fn add(fields: &mut Fields, districts: &mut Vec<District>) -> Result<(), NoM
         districts.push(row)?;
     }
     Ok(())
+}
+
+/// Adds the key of a district, two fields.
+pub fn put_key(record: &mut NewRecord, key: DistrictKey) -> Result<(), NoMemory>
+    ensures { OnOk result (Adds (Number key.w_id ∷ Number key.d_id ∷ []) record.old record.new) }
+{
+    record.push_number(u64::from(key.w_id))?;
+    record.push_number(u64::from(key.d_id))
+}
+
+impl Recorded<DistrictKey> for District {
+    ghost fields = { district_fields };
+
+    fn put(&self, key: DistrictKey, record: &mut NewRecord) -> Result<(), NoMemory> {
+        record.push("D")?;
+        put_key(record, key)?;
+        record.push(self.name.as_str())?;
+        put_address(record, &self.address)?;
+        record.push_number(u64::from(self.tax.get()))?;
+        record.push_signed(self.ytd.get())?;
+        record.push_number(u64::from(self.next_o_id.get()))
+    }
+}
+
+impl Dense<DistrictKey> for District {
+    ghost keys = { district_keys };
+
+    fn key_at(_scale: Scale, place: usize) -> DistrictKey {
+        DistrictKey {
+            w_id: (place / 10) as u32 + 1,
+            d_id: (place % 10) as u32 + 1,
+        }
+    }
 }

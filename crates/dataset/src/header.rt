@@ -1,5 +1,9 @@
-use files::{FaultKind, Fields};
-use schema::Scale;
+ghost use Rattle.std.specs.Prelude.{OnOk};
+ghost use Rattle.dataset.specs.Records.{header_fields};
+ghost use Rattle.dataset.specs.Writing.{Adds};
+
+use files::{FaultKind, Fields, NewRecord};
+use schema::{NoMemory, Scale};
 
 /// The scale of a header record: `NoHeader` where the record is none of this format.
 pub fn parse(fields: &mut Fields) -> Result<Scale, FaultKind> {
@@ -13,4 +17,15 @@ pub fn parse(fields: &mut Fields) -> Result<Scale, FaultKind> {
         Some(kind) => Err(kind),
         None => Scale::checked_new(warehouses, items, customers).ok_or(FaultKind::OutOfRange),
     }
+}
+
+/// Adds the fields of the header record.
+pub fn put(record: &mut NewRecord, scale: Scale) -> Result<(), NoMemory>
+    ensures { OnOk result (Adds (header_fields scale) record.old record.new) }
+{
+    record.push("TPCC")?;
+    record.push_number(1)?;
+    record.push_number(u64::from(scale.warehouses))?;
+    record.push_number(u64::from(scale.items))?;
+    record.push_number(u64::from(scale.customers))
 }

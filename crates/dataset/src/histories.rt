@@ -1,7 +1,17 @@
-use crate::customers;
-use files::Fields;
-use rows::History;
-use schema::Scale;
+ghost use Rattle.std.specs.Prelude.{◌≡◌, ◌≤◌, length, map, sum, OnOk};
+ghost use Rattle.std.specs.List.{zip};
+ghost use Rattle.schema.specs.Scale.{district_keys};
+ghost use Rattle.files.specs.Written.{IsBetweenRecords};
+ghost use Rattle.dataset.specs.Records.{history_fields, payment_records};
+ghost use Rattle.dataset.specs.Writing.{Writes};
+
+use crate::moments::put_moment;
+use crate::recorded::{Dense, Recorded};
+use crate::{customers, districts};
+use files::{Fields, FileError, NewRecord, RecordWriter};
+use rows::{District, DistrictKey, History};
+use schema::{HistoryList, NoMemory, Scale};
+use std::io::Write;
 
 /// Takes the fields of a record of HISTORY that come after its district.
 pub fn parse(fields: &mut Fields, scale: Scale) -> History {
@@ -11,4 +21,63 @@ pub fn parse(fields: &mut Fields, scale: Scale) -> History {
         amount: fields.cents(),
         data: fields.text(),
     }
+}
+
+impl Recorded<DistrictKey> for History {
+    ghost fields = { history_fields };
+
+    fn put(&self, home: DistrictKey, record: &mut NewRecord) -> Result<(), NoMemory> {
+        record.push("H")?;
+        districts::put_key(record, home)?;
+        customers::put_key(record, self.customer)?;
+        put_moment(record, self.date)?;
+        record.push_signed(self.amount.get())?;
+        record.push(self.data.as_str())
+    }
+}
+
+/// Writes the payments of all districts, each district's in the order of its list.
+pub fn write<W: Write + Drop>(
+    writer: &mut RecordWriter<W>,
+    record: &mut NewRecord,
+    scale: Scale,
+    lists: &[HistoryList],
+) -> Result<(), FileError>
+    requires count { length lists.now ≤ length (district_keys scale) }
+    requires between { IsBetweenRecords writer.old }
+    ensures { OnOk result (Writes W.contents writer.old writer.new (payment_records (zip (district_keys scale) lists.now))) }
+{
+    for (place, list) in lists.iter().enumerate() {
+        write_list(writer, record, District::key_at(scale, place), list.rows())?;
+    }
+    Ok(())
+}
+
+// Writes the payments of a district.
+fn write_list<W: Write + Drop>(
+    writer: &mut RecordWriter<W>,
+    record: &mut NewRecord,
+    home: DistrictKey,
+    payments: &[History],
+) -> Result<(), FileError>
+    requires { IsBetweenRecords writer.old }
+    ensures { OnOk result (Writes W.contents writer.old writer.new (map (history_fields home) payments.now)) }
+{
+    for payment in payments {
+        record.clear();
+        payment.put(home, record)?;
+        writer.write(record)?;
+    }
+    Ok(())
+}
+
+/// How many payments there are, in a number that any lists fit.
+pub fn count(lists: &[HistoryList]) -> u128
+    ensures { result ≡ sum (map length lists.now) }
+{
+    let mut count = 0;
+    for list in lists {
+        count += list.rows().len() as u128;
+    }
+    count
 }

@@ -1,7 +1,9 @@
 ghost use Rattle.std.specs.Prelude.{IsTrue};
-ghost use Rattle.schema.specs.Scale.{has_item};
+ghost use Rattle.schema.specs.Scale.{has_item, item_ids};
+ghost use Rattle.dataset.specs.Records.{item_fields};
 
-use files::Fields;
+use crate::recorded::{Dense, Recorded};
+use files::{Fields, NewRecord};
 use rows::Item;
 use schema::{NoMemory, Scale};
 
@@ -24,4 +26,25 @@ pub fn add(fields: &mut Fields, items: &mut Vec<Item>) -> Result<(), NoMemory> {
         items.push(row)?;
     }
     Ok(())
+}
+
+impl Recorded<u32> for Item {
+    ghost fields = { item_fields };
+
+    fn put(&self, i_id: u32, record: &mut NewRecord) -> Result<(), NoMemory> {
+        record.push("I")?;
+        record.push_number(u64::from(i_id))?;
+        record.push_number(u64::from(self.im_id.get()))?;
+        record.push(self.name.as_str())?;
+        record.push_number(u64::from(self.price.get()))?;
+        record.push(self.data.as_str())
+    }
+}
+
+impl Dense<u32> for Item {
+    ghost keys = { item_ids };
+
+    fn key_at(_scale: Scale, place: usize) -> u32 {
+        place as u32 + 1
+    }
 }

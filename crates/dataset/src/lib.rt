@@ -5,6 +5,10 @@
 //! ORDER-LINE, one record each, which begins with the table's letter `I`, `W`, `D`, `S`, `C`, `H`, `O`,
 //! `N` or `L`. Keys ascend; the rows of HISTORY, which have no key, ascend by district. The last record
 //! is `END` and the nine counts of rows in that order.
+//!
+//! A record of a row has its letter, its key and its other columns in the order of the standard; money is
+//! in cents, a rate in ten-thousandths, a moment is `YYYY-MM-DDTHH:MM:SS`, and an empty field is null. A
+//! record of HISTORY has the district in whose list it stands, and then the customer who paid.
 #![tactic(auto)]
 
 mod customers;
@@ -15,15 +19,21 @@ mod histories;
 mod items;
 mod lines;
 mod loader;
+mod moments;
 mod new_orders;
 mod orders;
 mod place;
 mod reader;
+mod recorded;
 mod stocks;
 mod warehouses;
+mod writer;
 
 pub use files::{FaultKind, FileError, FileFault};
 pub use reader::read;
+pub use writer::write;
 
 #[cfg(test)]
 mod tests;
+#[cfg(test)]
+mod writing_tests;

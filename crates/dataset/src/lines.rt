@@ -1,9 +1,14 @@
-ghost use Rattle.std.specs.Prelude.{IsTrue};
+ghost use Rattle.std.specs.Prelude.{[], ◌∷◌, IsTrue, OnOk};
 ghost use Rattle.schema.specs.Scale.{has_district};
 ghost use Rattle.schema.specs.Database.{is_order_id, is_line_number};
+ghost use Rattle.dataset.specs.Records.{delivery_field, line_fields};
+ghost use Rattle.dataset.specs.Writing.{Adds};
 
-use files::Fields;
-use rows::{OrderLine, OrderLineKey};
+use crate::moments::put_moment;
+use crate::orders;
+use crate::recorded::Recorded;
+use files::{Fields, NewRecord};
+use rows::{Moment, OrderLine, OrderLineKey};
 use schema::{NoMemory, Scale};
 use std::collections::BTreeMap;
 
@@ -40,4 +45,30 @@ pub fn add(
         lines.insert(key, row)?;
     }
     Ok(())
+}
+
+impl Recorded<OrderLineKey> for OrderLine {
+    ghost fields = { line_fields };
+
+    fn put(&self, key: OrderLineKey, record: &mut NewRecord) -> Result<(), NoMemory> {
+        record.push("L")?;
+        orders::put_key(record, key.order())?;
+        record.push_number(u64::from(key.number))?;
+        record.push_number(u64::from(self.i_id))?;
+        record.push_number(u64::from(self.supply_w_id))?;
+        put_delivery(record, self.delivery_d)?;
+        record.push_number(u64::from(self.quantity.get()))?;
+        record.push_number(u64::from(self.amount.get()))?;
+        record.push(self.dist_info.as_str())
+    }
+}
+
+// Adds OL_DELIVERY_D, an empty field where it is null.
+fn put_delivery(record: &mut NewRecord, delivery: Option<Moment>) -> Result<(), NoMemory>
+    ensures { OnOk result (Adds (delivery_field delivery ∷ []) record.old record.new) }
+{
+    match delivery {
+        Some(moment) => put_moment(record, moment),
+        None => record.push(""),
+    }
 }

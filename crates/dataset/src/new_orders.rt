@@ -1,4 +1,8 @@
-use files::Fields;
+ghost use Rattle.dataset.specs.Records.{new_order_fields};
+
+use crate::orders;
+use crate::recorded::Recorded;
+use files::{Fields, NewRecord};
 use rows::{NewOrder, OrderKey};
 use schema::NoMemory;
 use std::collections::BTreeMap;
@@ -13,4 +17,13 @@ pub fn add(
         new_orders.insert(key, NewOrder)?;
     }
     Ok(())
+}
+
+impl Recorded<OrderKey> for NewOrder {
+    ghost fields = { new_order_fields };
+
+    fn put(&self, key: OrderKey, record: &mut NewRecord) -> Result<(), NoMemory> {
+        record.push("N")?;
+        orders::put_key(record, key)
+    }
 }

@@ -1,9 +1,13 @@
-ghost use Rattle.std.specs.Prelude.{IsTrue};
+ghost use Rattle.std.specs.Prelude.{[], ◌∷◌, IsTrue, OnOk};
 ghost use Rattle.schema.specs.Scale.{has_district};
 ghost use Rattle.schema.specs.Database.{is_order_id};
+ghost use Rattle.dataset.specs.Records.{Number, carrier_field, order_fields};
+ghost use Rattle.dataset.specs.Writing.{Adds};
 
-use files::Fields;
-use rows::{Order, OrderKey};
+use crate::moments::put_moment;
+use crate::recorded::Recorded;
+use files::{Fields, NewRecord};
+use rows::{CarrierId, Order, OrderKey};
 use schema::{NoMemory, Scale};
 use std::collections::BTreeMap;
 
@@ -37,4 +41,37 @@ pub fn add(
         orders.insert(key, row)?;
     }
     Ok(())
+}
+
+/// Adds the key of an order, three fields.
+pub fn put_key(record: &mut NewRecord, key: OrderKey) -> Result<(), NoMemory>
+    ensures { OnOk result (Adds (Number key.w_id ∷ Number key.d_id ∷ Number key.o_id ∷ []) record.old record.new) }
+{
+    record.push_number(u64::from(key.w_id))?;
+    record.push_number(u64::from(key.d_id))?;
+    record.push_number(u64::from(key.o_id))
+}
+
+impl Recorded<OrderKey> for Order {
+    ghost fields = { order_fields };
+
+    fn put(&self, key: OrderKey, record: &mut NewRecord) -> Result<(), NoMemory> {
+        record.push("O")?;
+        put_key(record, key)?;
+        record.push_number(u64::from(self.c_id))?;
+        put_moment(record, self.entry_d)?;
+        put_carrier(record, self.carrier_id)?;
+        record.push_number(u64::from(self.ol_cnt.get()))?;
+        record.push_number(u64::from(self.all_local))
+    }
+}
+
+// Adds O_CARRIER_ID, an empty field where it is null.
+fn put_carrier(record: &mut NewRecord, carrier: Option<CarrierId>) -> Result<(), NoMemory>
+    ensures { OnOk result (Adds (carrier_field carrier ∷ []) record.old record.new) }
+{
+    match carrier {
+        Some(carrier) => record.push_number(u64::from(carrier.get())),
+        None => record.push(""),
+    }
 }

@@ -1,7 +1,10 @@
-ghost use Rattle.std.specs.Prelude.{IsTrue};
-ghost use Rattle.schema.specs.Scale.{has_stock};
+ghost use Rattle.std.specs.Prelude.{map, IsTrue, OnOk};
+ghost use Rattle.schema.specs.Scale.{has_stock, stock_keys};
+ghost use Rattle.dataset.specs.Records.{Words, stock_fields};
+ghost use Rattle.dataset.specs.Writing.{Adds};
 
-use files::Fields;
+use crate::recorded::{Dense, Recorded};
+use files::{Fields, NewRecord};
 use rows::{Stock, StockKey, Text};
 use schema::{NoMemory, Scale};
 
@@ -45,4 +48,42 @@ fn district_infos(fields: &mut Fields) -> [Text<24>; 10] {
         fields.text(),
         fields.text(),
     ]
+}
+
+impl Recorded<StockKey> for Stock {
+    ghost fields = { stock_fields };
+
+    fn put(&self, key: StockKey, record: &mut NewRecord) -> Result<(), NoMemory> {
+        record.push("S")?;
+        record.push_number(u64::from(key.w_id))?;
+        record.push_number(u64::from(key.i_id))?;
+        record.push_number(u64::from(self.quantity.get()))?;
+        put_district_infos(record, &self.dist)?;
+        record.push_number(u64::from(self.ytd.get()))?;
+        record.push_number(u64::from(self.order_cnt.get()))?;
+        record.push_number(u64::from(self.remote_cnt.get()))?;
+        record.push(self.data.as_str())
+    }
+}
+
+impl Dense<StockKey> for Stock {
+    ghost keys = { stock_keys };
+
+    fn key_at(scale: Scale, place: usize) -> StockKey {
+        let items = scale.items as usize;
+        StockKey {
+            w_id: (place / items) as u32 + 1,
+            i_id: (place % items) as u32 + 1,
+        }
+    }
+}
+
+// Adds S_DIST_01 to S_DIST_10.
+fn put_district_infos(record: &mut NewRecord, infos: &[Text<24>]) -> Result<(), NoMemory>
+    ensures { OnOk result (Adds (map (λ text. Words text) infos.now) record.old record.new) }
+{
+    for info in infos {
+        record.push(info.as_str())?;
+    }
+    Ok(())
 }

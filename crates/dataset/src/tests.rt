@@ -50,7 +50,7 @@ fn record(alloc: Global, number: u64) -> Result<String, AllocError> {
 }
 
 // The dataset, with some of its records replaced.
-fn dataset_with(alloc: Global, edits: &[(u64, &str)]) -> Result<String, AllocError> {
+pub fn dataset_with(alloc: Global, edits: &[(u64, &str)]) -> Result<String, AllocError> {
     let mut text = String::new(alloc);
     for number in 1..=RECORDS {
         match edits.iter().find(|edit| edit.0 == number) {

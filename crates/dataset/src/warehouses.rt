@@ -1,7 +1,10 @@
-ghost use Rattle.std.specs.Prelude.{IsTrue};
-ghost use Rattle.schema.specs.Scale.{has_warehouse};
+ghost use Rattle.std.specs.Prelude.{IsTrue, OnOk};
+ghost use Rattle.schema.specs.Scale.{has_warehouse, warehouse_ids};
+ghost use Rattle.dataset.specs.Records.{address_fields, warehouse_fields};
+ghost use Rattle.dataset.specs.Writing.{Adds};
 
-use files::Fields;
+use crate::recorded::{Dense, Recorded};
+use files::{Fields, NewRecord};
 use rows::{Address, Warehouse};
 use schema::{NoMemory, Scale};
 
@@ -35,4 +38,36 @@ pub fn address(fields: &mut Fields) -> Address {
         state: fields.text(),
         zip: fields.text(),
     }
+}
+
+impl Recorded<u32> for Warehouse {
+    ghost fields = { warehouse_fields };
+
+    fn put(&self, w_id: u32, record: &mut NewRecord) -> Result<(), NoMemory> {
+        record.push("W")?;
+        record.push_number(u64::from(w_id))?;
+        record.push(self.name.as_str())?;
+        put_address(record, &self.address)?;
+        record.push_number(u64::from(self.tax.get()))?;
+        record.push_signed(self.ytd.get())
+    }
+}
+
+impl Dense<u32> for Warehouse {
+    ghost keys = { warehouse_ids };
+
+    fn key_at(_scale: Scale, place: usize) -> u32 {
+        place as u32 + 1
+    }
+}
+
+/// Adds the five fields of an address.
+pub fn put_address(record: &mut NewRecord, address: &Address) -> Result<(), NoMemory>
+    ensures { OnOk result (Adds (address_fields address.now) record.old record.new) }
+{
+    record.push(address.street_1.as_str())?;
+    record.push(address.street_2.as_str())?;
+    record.push(address.city.as_str())?;
+    record.push(address.state.as_str())?;
+    record.push(address.zip.as_str())
 }

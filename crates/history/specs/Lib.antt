@@ -1,3 +1,4 @@
 pub mod History
 pub mod Fits
 pub mod Laws
+pub mod Schedules

@@ -1,2 +1,2 @@
-pub mod ScriptRecords
+pub mod Listings
 pub mod Rows

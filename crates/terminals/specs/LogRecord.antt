@@ -4,7 +4,7 @@ use Rattle.std.specs.Fmt.{decimal}
 use Rattle.commit_log.specs.declared.entry.Entry.{Entry}
 use Rattle.terminals.specs.RequestFields.{IsRequest}
 use Rattle.terminals.specs.Answers.{reply_fields}
-use Rattle.terminals.specs.Script.{end_fields}
+use Rattle.terminals.specs.Listing.{end_fields}
 
 -- the entry's place, its session and number, how many fields the request has, those fields, and the reply's
 abbrev pub log_fields : ℕ → Entry → List (List ℕ) → List (List ℕ)

@@ -46,8 +46,8 @@ pub fn write_answers<W: Write + Drop>(
     writer.finish()
 }
 
-// Adds the fields of an answer.
-fn put_answer(
+/// Adds the fields of an answer.
+pub fn put_answer(
     row: &mut NewRecord,
     session: u32,
     number: u64,

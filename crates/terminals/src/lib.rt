@@ -1,5 +1,5 @@
-//! The files of terminals: scripts, which say what a session asks for, records of answers, and the log
-//! of what was carried out.
+//! The files of terminals: scripts, which say what a session asks for, records of answers, the log of
+//! what was carried out, schedules of events, and what is told of them.
 //!
 //! All of them are CSV without a header row, each record ended by one line feed. Numbers are decimal
 //! digits without leading zeros, with `-` before a negative one.
@@ -11,19 +11,30 @@
 //! An answer is `session,number,done,place` and the reply's fields, or `session,number,refused,code`,
 //! and after code 11 the group and the holder's age. A log has the record `place,session,number,k` for
 //! each entry, followed by the `k` fields of the request and those of the reply, and then `END,n`.
+//!
+//! A schedule has the records `S,session,number` and the fields of a request, which is submitted,
+//! `T,executor` where an executor takes a message, `X,executor` where it sends an item, and `R` for
+//! rounds, and then `END,n`, with the number of records before it. What is told of it has a record for
+//! each telling: `accepted,age`, `took`, `sent`, `full`, `logged,place`, `answered` and the fields of
+//! the answer, and `nothing`, of an event; and `quiet` or `limit`, of rounds that ended.
 #![tactic(auto)]
 
 mod answers;
 mod choice;
+mod listing;
 mod log_records;
 mod reply;
 mod request;
+mod schedules;
 mod scripts;
+mod tellings;
 
 pub use answers::{answer_record, write_answers};
 pub use files::{FaultKind, FileError, FileFault};
 pub use log_records::{log_record, write_log};
+pub use schedules::read_schedule;
 pub use scripts::read_script;
+pub use tellings::write_told;
 
 #[cfg(test)]
 mod tests;

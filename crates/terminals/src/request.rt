@@ -1,26 +1,25 @@
-ghost use Rattle.std.specs.Prelude.{◌≡◌, ◌≢◌, ℕ, List, [], ◌∷◌, ◌++◌, length, None, OnOk, IfSome, IfNone, codes};
+ghost use Rattle.std.specs.Prelude.{◌≡◌, ℕ, List, [], ◌∷◌, ◌++◌, length, None, OnOk, codes};
 ghost use Rattle.std.specs.Fmt.{decimal};
 ghost use Rattle.files.specs.MomentText.{IsMomentText};
 ghost use Rattle.files.specs.Taken.{fields_left, fault_of, TakesAll};
 ghost use Rattle.terminals.specs.RequestFields.{IsRequest, request_fields};
 
 use crate::choice;
+use crate::listing::Listed;
 use files::{FaultKind, Fields, NewRecord, moment_text};
 use requests::{Payment, Request};
 use schema::{DistrictKey, NoMemory};
 
-/// Takes the fields of a request that come after its letter. `None` where the letter is unknown, which
-/// is noted as `WrongShape`.
-pub fn take(letter: &str, fields: &mut Fields) -> Option<Request>
-    ensures taken { IfSome result (λ request. fault_of fields.new ≡ None → (fault_of fields.old ≡ None)
-        × ((asked : List (List ℕ)) × IsRequest request (letter.now ∷ asked) × (fields_left fields.old ≡ asked ++ fields_left fields.new))) }
-    ensures unknown { IfNone result (fault_of fields.new ≢ None) }
-{
-    match letter {
-        "P" => Some(Request::Payment(take_payment(fields))),
-        _ => {
-            fields.note(FaultKind::WrongShape);
-            None
+impl Listed for Request {
+    ghost is_record = { IsRequest };
+
+    fn take(letter: &str, fields: &mut Fields) -> Option<Request> {
+        match letter {
+            "P" => Some(Request::Payment(take_payment(fields))),
+            _ => {
+                fields.note(FaultKind::WrongShape);
+                None
+            }
         }
     }
 }

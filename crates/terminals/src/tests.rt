@@ -9,6 +9,9 @@ use std::io;
 use std::io::{Read, Write};
 use std::test::Fail;
 
+mod schedules;
+mod tellings;
+
 // The number of the script's fault and its record, or `None` where it is read.
 fn fault_of(alloc: Global, script: &[u8]) -> Result<Option<(u8, u64)>, AllocError> {
     match read_script(alloc, script) {

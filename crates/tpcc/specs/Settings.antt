@@ -1,12 +1,18 @@
 -- Settings within their limits.
-use Rattle.std.specs.Prelude.{◌≤◌, length}
+use Rattle.std.specs.Prelude.{◌≡◌, ◌≤◌, length}
 use Rattle.tpcc.specs.declared.settings.Settings.{Settings}
-use Rattle.tpcc.specs.declared.settings.Settings.TheVariants.{Run}
+use Rattle.tpcc.specs.declared.settings.Settings.TheVariants.{Run, Sim}
 use Rattle.tpcc.specs.declared.settings.RunSettings.{RunSettings}
+use Rattle.tpcc.specs.declared.settings.SimSettings.{SimSettings}
 
 -- a run has 1 to 64 scripts, one for each session
 abbrev pub HasSessions : RunSettings → Type 0
 HasSessions run = (1 ≤ length run.scripts.items) × (length run.scripts.items ≤ 64)
 
+-- a simulation has one executor
+abbrev pub HasOneExecutor : SimSettings → Type 0
+HasOneExecutor sim = sim.executors ≡ 1
+
 abbrev pub IsWithinLimits : Settings → Type 0
 IsWithinLimits (Run run) = HasSessions run
+IsWithinLimits (Sim sim) = HasOneExecutor sim

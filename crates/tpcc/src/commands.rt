@@ -1,10 +1,11 @@
 ghost use Rattle.std.specs.Prelude.{◌≡◌, length, IfOk};
-ghost use Rattle.tpcc.specs.Settings.{IsWithinLimits, HasSessions};
+ghost use Rattle.tpcc.specs.Settings.{IsWithinLimits, HasOneExecutor, HasSessions};
 
+use crate::command_fault::CommandFault;
 use crate::progress::Progress;
 use crate::run::run_over;
-use crate::run_fault::RunFault;
-use crate::settings::{RunSettings, Settings};
+use crate::settings::{RunSettings, Settings, SimSettings};
+use crate::sim::sim_over;
 use crate::status::Status;
 use std::io::{ErrorKind, IsTerminal, Stderr, Stdout};
 use std::rt::Files;
@@ -25,6 +26,7 @@ pub fn carry_out<R: Files + AllocGlobal + Threads + Wait + Sync>(
 {
     match settings {
         Settings::Run(run) => carry_out_run(rt, stdout, stderr, run),
+        Settings::Sim(sim) => carry_out_sim(rt, stdout, stderr, sim),
     }
 }
 
@@ -57,6 +59,36 @@ fn carry_out_run<R: Files + AllocGlobal + Threads + Wait + Sync>(
     }
 }
 
+fn carry_out_sim<R: Files + AllocGlobal>(
+    rt: &R,
+    mut stdout: Stdout,
+    mut stderr: Stderr,
+    settings: &SimSettings,
+) -> Status
+    requires { HasOneExecutor settings.now }
+{
+    match SimFiles::open(rt, settings, stderr) {
+        Ok(
+            SimFiles {
+                data,
+                schedule,
+                log,
+                tables,
+            },
+        ) => sim_over(
+            rt.alloc(),
+            settings,
+            data,
+            schedule,
+            &mut stdout,
+            log,
+            tables,
+            &mut stderr,
+        ),
+        Err(fault) => fault.report(&mut stderr),
+    }
+}
+
 // The files of a run: those that are read, told of on a terminal, and the one that is written.
 #[derive(Drop)]
 struct RunFiles<'a, F> {
@@ -70,7 +102,7 @@ impl<'a, F: Drop> RunFiles<'a, F> {
         rt: &R,
         settings: &RunSettings<'a>,
         stderr: Stderr,
-    ) -> Result<RunFiles<'a, F>, RunFault<'a>>
+    ) -> Result<RunFiles<'a, F>, CommandFault<'a>>
         ensures { IfOk result (λ files. length files.scripts.items ≡ length settings.now.scripts.items) }
     {
         let data = open_watched(rt, settings.data, stderr)?;
@@ -78,11 +110,36 @@ impl<'a, F: Drop> RunFiles<'a, F> {
         for path in &settings.scripts {
             scripts.push(open_watched(rt, path, stderr)?)?;
         }
-        let log = match settings.log {
-            Some(path) => Some(opened(path, fs::create(rt, path))?),
-            None => None,
-        };
+        let log = made(rt, settings.log)?;
         Ok(RunFiles { data, scripts, log })
+    }
+}
+
+// The files of a simulation: those that are read, told of on a terminal, and those that are written.
+#[derive(Drop)]
+struct SimFiles<'a, F> {
+    data: Progress<'a, F, Stderr>,
+    schedule: Progress<'a, F, Stderr>,
+    log: Option<F>,
+    tables: Option<F>,
+}
+
+impl<'a, F: Drop> SimFiles<'a, F> {
+    fn open<R: Files<File = F> + AllocGlobal>(
+        rt: &R,
+        settings: &SimSettings<'a>,
+        stderr: Stderr,
+    ) -> Result<SimFiles<'a, F>, CommandFault<'a>> {
+        let data = open_watched(rt, settings.data, stderr)?;
+        let schedule = open_watched(rt, settings.schedule, stderr)?;
+        let log = made(rt, settings.log)?;
+        let tables = made(rt, settings.tables)?;
+        Ok(SimFiles {
+            data,
+            schedule,
+            log,
+            tables,
+        })
     }
 }
 
@@ -91,7 +148,7 @@ fn open_watched<'a, R: Files>(
     rt: &R,
     path: &'a str,
     stderr: Stderr,
-) -> Result<Progress<'a, R::File, Stderr>, RunFault<'a>> {
+) -> Result<Progress<'a, R::File, Stderr>, CommandFault<'a>> {
     let file = opened(path, fs::open(rt, path))?;
     let terminal = if stderr.is_terminal() {
         Some(stderr)
@@ -101,11 +158,19 @@ fn open_watched<'a, R: Files>(
     Ok(Progress::new(path, file, terminal))
 }
 
+// Makes the file that is to be written, if there is to be one.
+fn made<'a, R: Files>(rt: &R, path: Option<&'a str>) -> Result<Option<R::File>, CommandFault<'a>> {
+    match path {
+        Some(path) => Ok(Some(opened(path, fs::create(rt, path))?)),
+        None => Ok(None),
+    }
+}
+
 // The file, or the fault of a file that can't be opened or made.
-fn opened<'a, F>(path: &'a str, file: io::Result<F>) -> Result<F, RunFault<'a>> {
+fn opened<'a, F>(path: &'a str, file: io::Result<F>) -> Result<F, CommandFault<'a>> {
     match file {
         Ok(file) => Ok(file),
-        Err(error) if error.kind() == ErrorKind::OutOfMemory => Err(RunFault::NoMemory),
-        Err(_) => Err(RunFault::not_opened(path)),
+        Err(error) if error.kind() == ErrorKind::OutOfMemory => Err(CommandFault::NoMemory),
+        Err(_) => Err(CommandFault::not_opened(path)),
     }
 }

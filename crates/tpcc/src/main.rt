@@ -1,12 +1,14 @@
 //! `tpcc`: the order-entry engine on the command line.
 #![tactic(auto)]
 
+mod command_fault;
 mod commands;
 mod progress;
 mod run;
-mod run_fault;
 mod settings;
+mod sim;
 mod status;
+mod streams;
 mod usage;
 
 use crate::settings::read_words;

@@ -1,9 +1,10 @@
 ghost use Rattle.std.specs.Prelude.{◌≡◌, length, IfOk};
 ghost use Rattle.tpcc.specs.Settings.{HasSessions};
 
-use crate::run_fault::RunFault;
+use crate::command_fault::CommandFault;
 use crate::settings::RunSettings;
 use crate::status::Status;
+use crate::streams::{STANDARD_OUTPUT, read_tables, write_entries};
 use engine::{Answers, OpenGate, serve};
 use requests::Script;
 use schema::NoMemory;
@@ -11,10 +12,7 @@ use std::alloc::Global;
 use std::io::{Read, Write};
 use std::sync::Wait;
 use std::thread::Threads;
-use terminals::{read_script, write_answers, write_log};
-
-// How the standard output is named in a fault.
-const STANDARD_OUTPUT: &str = "standard output";
+use terminals::{read_script, write_answers};
 
 /// Serves the scripts from the dataset, one thread for each, and gives the exit status.
 ///
@@ -56,33 +54,25 @@ fn run<'a, R: Threads + Wait + Sync, D: Read + Drop, S: Read + Drop, A: Write, L
     scripts: &mut [S],
     answers: &mut A,
     log: Option<L>,
-) -> Result<(), RunFault<'a>>
+) -> Result<(), CommandFault<'a>>
     requires sessions { HasSessions settings.now }
     requires sources { length scripts.old ≡ length settings.now.scripts.items }
 {
-    let opening = match dataset::read(alloc, data) {
-        Ok(tables) => tables,
-        Err(fault) => return Err(RunFault::of_file(settings.data, fault)),
-    };
+    let opening = read_tables(alloc, settings.data, data)?;
     let scripts = read_scripts(alloc, &settings.scripts, scripts)?;
     let outcome = match serve(rt, alloc, opening, scripts.as_slice(), OpenGate) {
         Ok(outcome) => outcome,
-        Err(fault) => return Err(RunFault::of_serving(fault)),
+        Err(fault) => return Err(CommandFault::of_serving(fault)),
     };
     print_answers(alloc, answers, outcome.answers.as_slice())?;
-    if let (Some(path), Some(sink)) = (settings.log, log) {
-        if let Err(fault) = write_log(alloc, sink, outcome.log.as_slice()) {
-            return Err(RunFault::of_file(path, fault));
-        }
-    }
-    Ok(())
+    write_entries(alloc, settings.log, log, outcome.log.as_slice())
 }
 
 fn read_scripts<'a, S: Read + Drop>(
     alloc: Global,
     paths: &[&'a str],
     sources: &mut [S],
-) -> Result<Vec<Script>, RunFault<'a>>
+) -> Result<Vec<Script>, CommandFault<'a>>
     requires { length sources.old ≡ length paths.now }
     ensures { IfOk result (λ scripts. length scripts.items ≡ length paths.now) }
 {
@@ -90,7 +80,7 @@ fn read_scripts<'a, S: Read + Drop>(
     for (session, source) in sources.iter_mut().enumerate() {
         match read_script(alloc, source) {
             Ok(script) => scripts.push(script)?,
-            Err(fault) => return Err(RunFault::of_file(paths[session], fault)),
+            Err(fault) => return Err(CommandFault::of_file(paths[session], fault)),
         }
     }
     Ok(scripts)
@@ -100,10 +90,10 @@ fn print_answers<A: Write>(
     alloc: Global,
     sink: &mut A,
     answers: &[Answers],
-) -> Result<(), RunFault<'static>> {
+) -> Result<(), CommandFault<'static>> {
     for (session, told) in (0u32..).zip(answers) {
         if let Err(fault) = write_answers(alloc, &mut *sink, session, told.as_slice()) {
-            return Err(RunFault::of_file(STANDARD_OUTPUT, fault));
+            return Err(CommandFault::of_file(STANDARD_OUTPUT, fault));
         }
     }
     Ok(())

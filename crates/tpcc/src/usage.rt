@@ -14,6 +14,8 @@ pub enum UsageFault {
     NoCommand,
     /// There are not 1 to 64 scripts.
     ScriptCount,
+    /// There is not one executor.
+    ExecutorCount,
 }
 
 impl UsageFault {
@@ -35,6 +37,7 @@ impl fmt::Display for UsageFault {
             },
             UsageFault::NoCommand => f.write_str("error: no command: try `tpcc --help`\n"),
             UsageFault::ScriptCount => f.write_str("error: `tpcc run` takes 1 to 64 scripts\n"),
+            UsageFault::ExecutorCount => f.write_str("error: `tpcc sim` takes 1 executor\n"),
         }
     }
 }

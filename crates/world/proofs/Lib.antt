@@ -31,3 +31,4 @@ pub mod SendingBoth
 pub mod SendingEnds
 pub mod SendingGiven
 pub mod Opened
+pub mod Schedules

@@ -25,7 +25,7 @@ use Rattle.slices.proofs.Opened.{opened_groups_have_boxes}
 use Rattle.world.specs.declared.desk.SessionDesk.{SessionDesk}
 use Rattle.world.specs.declared.world.Parts.{Parts}
 use Rattle.world.specs.Flights.{nothing, join, parts, part_message, part_item, part_met}
-use Rattle.world.specs.Openings.{AreNewLanes, session_with}
+use Rattle.world.specs.Openings.{AreNewLanes, IsNew, session_with}
 use Rattle.world.specs.Sound.{IsSoundWith, IsSoundMessage, IsSoundItem, IsSoundActive, IsPassOf, IsBalanced, awaited, is_here, reported_to, flight}
 use Rattle.world.specs.Worlds.{FitsPart}
 
@@ -96,6 +96,20 @@ module _ {J : Type 0} where
           many = omega (arith, here, new.many);
         });
       }
+
+  pub opened_new : (t : Database) (lanes : List (Passing × Seating)) (w : Parts J) → AreNewLanes lanes → w.slice ≡ at_rest t → w.inbox ≡ [] → w.outbox ≡ [] → w.log ≡ [] → w.desk.admitted ≡ 0 → w.desk.active ≡ None
+      → w.desk.sessions.items ≡ map session_with lanes → IsNew t w
+  opened_new t lanes w new slice inbox outbox log admitted active sessions = record {
+    slice = slice;
+    inbox = inbox;
+    outbox = outbox;
+    log = log;
+    admitted = admitted;
+    active = active;
+    many = ap length sessions ∙ length-map lanes session_with ∙ new.many;
+    each = λ number below.
+        ap (λ l. slice_get l number) sessions ∙ slice_get-map session_with lanes number ∙ ap (λ lane. option_map session_with lane) (new.each number below);
+  }
 
 -- ---- its history
 

@@ -5,7 +5,7 @@ use Rattle.history.specs.declared.event.Event.{Event}
 use Rattle.history.specs.declared.event.EventAnswer.{EventAnswer}
 use Rattle.history.specs.History.{Step, step}
 use Rattle.world.specs.declared.world.Parts.{Parts}
-use Rattle.world.specs.Worlds.{Advances, Fits, HappenInTurn, Happens, steps_of}
+use Rattle.world.specs.Worlds.{Advances, ComeAbout, Fits, HappenInTurn, Happens, steps_of}
 
 -- one event and one answer more
 pub steps_of-push : (events : List Event) (answers : List EventAnswer) (event : Event) (answer : EventAnswer) → length events ≡ length answers
@@ -36,11 +36,20 @@ of_none None is = refl
 of_none (Some x) is = absurd (cc)
 
 module _ {J : Type 0} where
-  -- one event more happens
-  pub happen_more : (events : List Event) (answers : List EventAnswer) (event : Event) (answer : EventAnswer) (old mid new : Parts J) → HappenInTurn events old answers mid → Happens event mid answer new
-      → HappenInTurn (events ++ event ∷ []) old (answers ++ answer ∷ []) new
-  happen_more [] [] event answer old mid new before last = (new, (subst (λ w. Happens event w answer new) before last, refl))
-  happen_more [] (a ∷ answers) event answer old mid new before last = absurd before
-  happen_more (e ∷ events) [] event answer old mid new before last = absurd before
-  happen_more (e ∷ events) (a ∷ answers) event answer old mid new before last =
-      (before.0, (before.1.0, happen_more events answers event answer before.0 mid new before.1.1 last))
+  -- more happens
+  pub happen_after : (some more : List Step) (old mid new : Parts J) → HappenInTurn some old mid → HappenInTurn more mid new → HappenInTurn (some ++ more) old new
+  happen_after [] more old mid new before after = subst (λ w. HappenInTurn more w new) before after
+  happen_after (s ∷ some) more old mid new before after = (before.0, (before.1.0, happen_after some more before.0 mid new before.1.1 after))
+
+  -- one event happens
+  pub happens_once : (event : Event) (answer : EventAnswer) (old new : Parts J) → Happens event old answer new → HappenInTurn (step event answer ∷ []) old new
+  happens_once event answer old new happens = (new, (happens, refl))
+
+  -- nothing comes about
+  pub nothing_comes : (w : Parts J) → ComeAbout [] w w
+  nothing_comes w = (refl, no_events w)
+
+  -- more comes about
+  pub comes_after : (some more : List Step) (old mid new : Parts J) → ComeAbout some old mid → ComeAbout more mid new → ComeAbout (some ++ more) old new
+  comes_after some more old mid new before after =
+      (happen_after some more old mid new before.0 after.0, one_after_another old mid new some more before.1 after.1)

@@ -1,15 +1,20 @@
 -- Why no world was opened, what its sessions are then, and what a simulation tells.
-use Rattle.std.specs.Prelude.{◌≡◌, ◌<◌, ℕ, List, Some, slice_get, length}
+use Rattle.std.specs.Prelude.{◌≡◌, ◌<◌, ℕ, Bool, true, false, List, [], Option, Some, None, is_some, slice_get, length}
 use Rattle.schema.specs.Database.{Database}
 use Rattle.consistency.specs.Broken.{BreaksFirst}
 use Rattle.commit_log.specs.declared.entry.Entry.{Entry}
 use Rattle.commit_log.specs.Passing.{Passing, Seating, new_pass, new_seat}
 use Rattle.history.specs.History.{Step, Unanswered}
 use Rattle.history.specs.Fits.{Fits as HistoryFits}
+use Rattle.history.specs.declared.schedule.Scheduled.{Scheduled}
+use Rattle.history.specs.Schedules.{Plays}
 use Rattle.world.specs.declared.desk.SessionDesk.{SessionDesk}
 use Rattle.world.specs.declared.opening.OpenFault.{OpenFault}
 use Rattle.world.specs.declared.opening.OpenFault.TheVariants.{NoMemory, BadExecutors, NotConsistent}
-use Rattle.world.specs.Worlds.{tables_now}
+use Rattle.slices.specs.Sliced.{at_rest}
+use Rattle.world.specs.declared.simulating.Simulation.{Simulation}
+use Rattle.world.specs.declared.world.Parts.{Parts}
+use Rattle.world.specs.Worlds.{HappenInTurn, tables_now}
 
 -- NotConsistent names the least condition that these tables break
 abbrev pub IsFaultOf : Database → OpenFault → Type 0
@@ -30,6 +35,11 @@ pub record IsHonest (opening : Database) (history : List Step) (log : List Entry
   pub pending : List Unanswered
   pub fits : HistoryFits opening history log (tables_now opening log) admitted pending
 
+-- the tables that are gathered of a world: none while a transaction is active
+abbrev pub gathered : Bool → Database → Option Database
+gathered true tables = None
+gathered false tables = Some tables
+
 -- the passes and the seats of 64 sessions that have asked, seen and logged nothing, by the sessions' numbers
 pub record AreNewLanes (lanes : List (Passing × Seating)) : Type 0 where
   pub many : length lanes ≡ 64
@@ -39,3 +49,29 @@ module _ {J : Type 0} where
   -- the session as the desk knows it, whose pass is here
   abbrev pub session_with : Passing × Seating → SessionDesk J
   session_with lane = record { seat = lane.1; pass = Some lane.0 }
+
+  -- A world on these tables in which nothing has happened: all tickets are at home, queues and log are empty, no transaction
+  -- was admitted, and each of 64 sessions has its pass at the desk and has asked nothing.
+  pub record IsNew (tables : Database) (w : Parts J) : Type 0 where
+    pub slice : w.slice ≡ at_rest tables
+    pub inbox : w.inbox ≡ []
+    pub outbox : w.outbox ≡ []
+    pub log : w.log ≡ []
+    pub admitted : w.desk.admitted ≡ 0
+    pub active : w.desk.active ≡ None
+    pub many : length w.desk.sessions.items ≡ 64
+    pub each : (session : ℕ) → session < 64 → slice_get w.desk.sessions.items session ≡ Some (session_with (new_pass session, new_seat session))
+
+-- A schedule was simulated on tables: in a new world on them its events happened in turn, and they are an honest history;
+-- this is what is told of them; the log is the world's; and so are the tables, the machine's last, unless a transaction is
+-- active.
+pub record Simulates (J : Type 0) (opening : Database) (schedule : List Scheduled) (s : Simulation) : Type 0 where
+  pub first : Parts J
+  pub last : Parts J
+  pub steps : List Step
+  pub new : IsNew opening first
+  pub plays : Plays schedule s.told.items steps
+  pub happen : HappenInTurn steps first last
+  pub honest : IsHonest opening steps s.log.items
+  pub log : s.log.items ≡ last.log
+  pub tables : s.tables ≡ gathered (is_some last.desk.active) (tables_now opening s.log.items)

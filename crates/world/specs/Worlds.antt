@@ -153,12 +153,18 @@ module _ {J : Type 0} where
   Happens (Take executor) old answer new = AtExecutor executor (TakesFirst old.inbox) old answer new
   Happens (Send executor) old answer new = AtExecutor executor (SendsFirst old.outbox) old answer new
 
-  -- What events are answered, one after another, and all that they change.
-  abbrev pub HappenInTurn : List Event → Parts J → List EventAnswer → Parts J → Type 0
-  HappenInTurn [] old [] new = new ≡ old
-  HappenInTurn (event ∷ events) old (answer ∷ answers) new =
-      (mid : Parts J) × (Happens event old answer mid × HappenInTurn events mid answers new)
-  HappenInTurn events old answers new = ⊥
+  -- Events happen one after another, each with its answer.
+  abbrev pub HappenInTurn : List Step → Parts J → Parts J → Type 0
+  HappenInTurn [] old new = new ≡ old
+  HappenInTurn (s ∷ steps) old new = (mid : Parts J) × (Happens s.event old s.answer mid × HappenInTurn steps mid new)
+
+  -- these events came about: they happened in turn, and a history that fits goes on with them
+  abbrev pub ComeAbout : List Step → Parts J → Parts J → Type 0
+  ComeAbout steps old new = HappenInTurn steps old new × Advances old steps new
+
+  -- nothing can be taken, and nothing be sent
+  abbrev pub IsAtRest : Parts J → Type 0
+  IsAtRest w = (w.inbox ≡ []) × (w.outbox ≡ [])
 
   -- ---- what can't happen
 

@@ -16,6 +16,7 @@ mod flight;
 mod happening;
 mod opening;
 mod phases;
+mod playing;
 mod queue;
 mod sending;
 mod simulating;

@@ -4,7 +4,7 @@ ghost use Rattle.schema.specs.Consistency.{Consistent};
 ghost use Rattle.tickets.specs.Openings.{AreNamed};
 ghost use Rattle.slices.specs.Openings.{AreOpenedFor};
 ghost use Rattle.commit_log.specs.LogTables.{table_of};
-ghost use Rattle.world.specs.Openings.{IsFaultOf, number_of, session_with};
+ghost use Rattle.world.specs.Openings.{IsFaultOf, IsNew, number_of, session_with};
 ghost use Rattle.world.specs.Worlds.{Fits};
 
 use crate::desk::{Desk, SessionDesk};
@@ -89,6 +89,7 @@ impl<J: commit_log::Naming + tickets::Naming> World<J> {
         requires mine { (session : ℕ) → session < 64 → J.mine session ≡ table_of opening.log.mine session }
         requires asks { (session : ℕ) → session < 64 → J.asks session ≡ table_of opening.log.asks session }
         ensures fits { IfOk result (λ world. Fits tables [] world) }
+        ensures new { IfOk result (λ world. IsNew tables world) }
         ensures consistent { OnOk result (Consistent tables) }
         ensures bad_executors { IsErrAnd result (λ fault. fault ≡ OpenFault.BadExecutors) ↔ (executors ≢ 1) }
         ensures fault { IfErr result (λ fault. IsFaultOf tables fault) }
@@ -113,7 +114,8 @@ impl<J: commit_log::Naming + tickets::Naming> World<J> {
         requires length { J.length ≡ opening.log.length }
         requires mine { (session : ℕ) → session < 64 → J.mine session ≡ table_of opening.log.mine session }
         requires asks { (session : ℕ) → session < 64 → J.asks session ≡ table_of opening.log.asks session }
-        ensures { IfOk result (λ world. Fits tables [] world) }
+        ensures fits { IfOk result (λ world. Fits tables [] world) }
+        ensures new { IfOk result (λ world. IsNew tables world) }
     {
         let Opening { groups, log } = opening;
         let inbox = Queue::open(alloc)?;

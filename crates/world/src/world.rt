@@ -3,7 +3,7 @@ ghost use Rattle.schema.specs.Database.{Database};
 ghost use Rattle.std.specs.Prelude.{List};
 ghost use Rattle.history.specs.History.{Step, step as one_step};
 ghost use Rattle.world.specs.Sound.{flight};
-ghost use Rattle.world.specs.Worlds.{Advances, CannotHappen, Fits, HappenInTurn, Happens, IsBusyExactly, steps_of, tables_now};
+ghost use Rattle.world.specs.Worlds.{Advances, CannotHappen, Fits, HappenInTurn, Happens, IsAtRest, IsBusyExactly, steps_of, tables_now};
 
 use crate::desk::Desk;
 use crate::flight::{Item, Message};
@@ -85,7 +85,7 @@ impl<J: commit_log::Naming + tickets::Naming> World<J> {
     /// Events happen in order. The room for their answers is made first: an error changes nothing.
     pub fn run(&mut self, alloc: Global, events: &[Event]) -> Result<Vec<EventAnswer>, NoMemory>
         ensures advances { IfOk result (λ answers. Advances self.old (steps_of events.now answers.items) self.new) }
-        ensures happen { IfOk result (λ answers. HappenInTurn events.now self.old answers.items self.new) }
+        ensures happen { IfOk result (λ answers. HappenInTurn (steps_of events.now answers.items) self.old self.new) }
         ensures count { IfOk result (λ answers. length answers.items ≡ length events.now) }
         ensures err { OnErr result (self.new ≡ self.old) }
     {
@@ -98,10 +98,12 @@ impl<J: commit_log::Naming + tickets::Naming> World<J> {
     }
 
     /// The tables as the transactions of the log left them. They can be gathered exactly while no
-    /// transaction is active, unless there is no memory.
+    /// transaction is active, unless there is no memory; where no message can be taken and no item be sent, none
+    /// is active.
     pub fn gather(&self) -> Result<Tables, GatherFault>
         ensures tables { IfOk result (λ tables. (opening : Database) (history : List Step) → Fits opening history self.now → tables ≡ tables_now opening self.now.log) }
         ensures idle { IsErrAnd result (λ fault. fault ≡ GatherFault.NotIdle) ↔ IsTrue (is_some self.now.desk.active) }
+        ensures at_rest { IsAtRest self.now → self.now.desk.active ≡ None }
     {
         if self.parts.desk.active.is_some() {
             return Err(GatherFault::NotIdle);
@@ -115,7 +117,7 @@ impl<J: commit_log::Naming + tickets::Naming> World<J> {
     /// Whether no message can be taken and no item be sent. Then no transaction is active and no claim is
     /// out.
     pub fn is_quiet(&self) -> bool
-        ensures quiet { IsTrue result ↔ ((self.now.inbox ≡ []) × (self.now.outbox ≡ [])) }
+        ensures quiet { IsTrue result ↔ IsAtRest self.now }
         ensures rest { IsTrue result → (self.now.desk.active ≡ None) × ((flight self.now).claims ≡ []) }
     {
         self.parts.inbox.len() == 0 && self.parts.outbox.len() == 0

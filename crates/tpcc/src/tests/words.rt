@@ -21,13 +21,58 @@ fn all_words(alloc: Global, words: &[&str]) -> Result<Vec<String>, AllocError> {
 #[test]
 fn a_run_has_its_files(rt: HostRuntime) -> Result<(), Fail> {
     let words = all_words(rt.alloc(), &["run", "data", "--log", "log", "one", "two"])?;
-    let Settings::Run(run) = read_words(rt.alloc(), words.as_slice())?;
+    let Settings::Run(run) = read_words(rt.alloc(), words.as_slice())? else {
+        panic!(rt; "a run");
+    };
     assert_eq!(rt; run.data, "data");
     assert_eq!(rt; run.scripts.as_slice(), ["one", "two"].as_slice());
     assert_eq!(rt; run.log, Some("log"));
     let words = all_words(rt.alloc(), &["run", "data", "one"])?;
-    let Settings::Run(run) = read_words(rt.alloc(), words.as_slice())?;
+    let Settings::Run(run) = read_words(rt.alloc(), words.as_slice())? else {
+        panic!(rt; "a run");
+    };
     assert_eq!(rt; run.log, None);
+    Ok(())
+}
+
+#[test]
+fn a_simulation_has_its_files(rt: HostRuntime) -> Result<(), Fail> {
+    let words = [
+        "sim",
+        "data",
+        "--tables",
+        "tables",
+        "--executors=1",
+        "schedule",
+        "--log",
+        "log",
+    ];
+    let words = all_words(rt.alloc(), &words)?;
+    let Settings::Sim(sim) = read_words(rt.alloc(), words.as_slice())? else {
+        panic!(rt; "a simulation");
+    };
+    assert_eq!(rt; (sim.data, sim.schedule), ("data", "schedule"));
+    assert_eq!(rt; (sim.log, sim.tables), (Some("log"), Some("tables")));
+    let words = all_words(rt.alloc(), &["sim", "data", "schedule"])?;
+    let Settings::Sim(sim) = read_words(rt.alloc(), words.as_slice())? else {
+        panic!(rt; "a simulation");
+    };
+    assert_eq!(rt; (sim.log, sim.tables), (None, None));
+    assert_eq!(rt; sim.executors, 1);
+    Ok(())
+}
+
+// There is one executor, and its number is spelt as numbers are.
+#[test]
+fn other_numbers_of_executors_are_usage(rt: HostRuntime) -> Result<(), Fail> {
+    for count in ["0", "2", "+1", "01", "", "one", "18446744073709551617"] {
+        let text = fault_text(
+            rt.alloc(),
+            &["sim", "data", "schedule", "--executors", count],
+        )?
+        .ok_or("a fault")?;
+        assert_eq!(rt; text.as_str(), "error: `tpcc sim` takes 1 executor\n");
+    }
     Ok(())
 }
 
@@ -54,6 +99,11 @@ fn words_out_of_their_limits_are_told(rt: HostRuntime) -> Result<(), Fail> {
         (
             ["run", "--help"].as_slice(),
             "Usage: tpcc run [OPTIONS] <DATA> <SCRIPT>...",
+        ),
+        (["sim", "data"].as_slice(), "<SCHEDULE>"),
+        (
+            ["sim", "--help"].as_slice(),
+            "Usage: tpcc sim [OPTIONS] <DATA> <SCHEDULE>",
         ),
     ] {
         let text = fault_text(rt.alloc(), words)?.ok_or("a fault")?;

@@ -1,59 +1,53 @@
 use super::*;
 use amounts::Cents;
-use history::{Event, EventAnswer};
+use history::{Event, EventAnswer, Scheduled, Told};
 use requests::{Answer, Refusal};
 use std::alloc::Global;
 use world::{OpenFault, Simulation, simulate};
 
-// As many takes as sends, in turn: enough for any one payment, and then nothing happens any more.
-const TURNS: &[u8] = b"tstststststststststststststststststststststststs";
-
-fn submit(session: u32, number: u32, request: Request) -> Event {
-    Event::Submit {
+fn submit(session: u32, number: u32, request: Request) -> Scheduled {
+    Scheduled::Event(Event::Submit {
         session,
         number,
         request,
-    }
+    })
 }
 
-// These events, then a submission, and then a take for each t and a send for each s.
-fn submitting(
-    mut events: Vec<Event>,
-    session: u32,
-    number: u32,
-    request: Request,
-    steps: &[u8],
-) -> Result<Vec<Event>, NoMemory> {
-    events.push(submit(session, number, request))?;
+// A submission, and then a take for each t, a send for each s, and rounds for each r.
+fn submitting(alloc: Global, request: Request, steps: &[u8]) -> Result<Vec<Scheduled>, NoMemory> {
+    let mut schedule = Vec::with_capacity(alloc, 64)?;
+    schedule.push(submit(0, 0, request))?;
     for step in steps {
-        if *step == b't' {
-            events.push(Event::Take { executor: 0 })?;
-        } else {
-            events.push(Event::Send { executor: 0 })?;
-        }
+        schedule.push(match *step {
+            b't' => Scheduled::Event(Event::Take { executor: 0 }),
+            b's' => Scheduled::Event(Event::Send { executor: 0 }),
+            _ => Scheduled::Rounds,
+        })?;
     }
-    Ok(events)
+    Ok(schedule)
 }
 
-// A letter for each kind of answer.
-fn letter(answer: &EventAnswer) -> u8 {
-    match answer {
-        EventAnswer::Accepted { .. } => b'A',
-        EventAnswer::Took => b'T',
-        EventAnswer::Sent => b'S',
-        EventAnswer::Full => b'F',
-        EventAnswer::Logged { .. } => b'L',
-        EventAnswer::Answered { .. } => b'R',
-        EventAnswer::Nothing => b'N',
+// A letter for each kind of telling.
+fn letter(told: &Told) -> u8 {
+    match told {
+        Told::Event(EventAnswer::Accepted { .. }) => b'A',
+        Told::Event(EventAnswer::Took) => b'T',
+        Told::Event(EventAnswer::Sent) => b'S',
+        Told::Event(EventAnswer::Full) => b'F',
+        Told::Event(EventAnswer::Logged { .. }) => b'L',
+        Told::Event(EventAnswer::Answered { .. }) => b'R',
+        Told::Event(EventAnswer::Nothing) => b'N',
+        Told::Quiet => b'Q',
+        Told::Limit => b'!',
     }
 }
 
-fn spell(answers: &[EventAnswer], letters: &[u8]) -> bool {
-    answers.len() == letters.len()
-        && answers
+fn spell(told: &[Told], letters: &[u8]) -> bool {
+    told.len() == letters.len()
+        && told
             .iter()
             .zip(letters)
-            .all(|(answer, &wanted)| letter(answer) == wanted)
+            .all(|(told, &wanted)| letter(told) == wanted)
 }
 
 fn by_first_customer(amount: u32) -> Request {
@@ -76,8 +70,8 @@ fn sums(tables: &Tables) -> Option<(i64, i64, i64, u32, usize)> {
     ))
 }
 
-fn ran(rt: &impl Abort, alloc: Global, events: &[Event]) -> Result<Simulation, Fail> {
-    match simulate(alloc, set_k(alloc)?, 1, events) {
+fn ran(rt: &impl Abort, alloc: Global, schedule: &[Scheduled]) -> Result<Simulation, Fail> {
+    match simulate(alloc, set_k(alloc)?, 1, schedule) {
         Ok(simulation) => Ok(simulation),
         Err(fault) => panic!(rt; "{fault:?}"),
     }
@@ -89,9 +83,9 @@ fn ran(rt: &impl Abort, alloc: Global, events: &[Event]) -> Result<Simulation, F
 fn one_payment_event_by_event(rt: HostRuntime) -> Result<(), Fail> {
     let alloc = rt.alloc();
     let steps = b"tssttssstsssssstttsss";
-    let events = submitting(Vec::new(alloc), 0, 0, by_first_customer(100), steps)?;
-    let simulation = ran(&rt, alloc, &events)?;
-    assert!(rt; spell(&simulation.answers, b"ATSSTTSSSTSLRSSSTTTSSS"));
+    let schedule = submitting(alloc, by_first_customer(100), steps)?;
+    let simulation = ran(&rt, alloc, &schedule)?;
+    assert!(rt; spell(&simulation.told, b"ATSSTTSSSTSLRSSSTTTSSS"));
     let tables = simulation.tables.expect(&rt, "nothing is active");
     assert_eq!(rt; sums(&tables), Some((50_100, 5_100, 1_100, 2, 6)));
     let payments = tables.history(district_key(1, 1)).expect(&rt, "a list");
@@ -105,8 +99,9 @@ fn one_payment_event_by_event(rt: HostRuntime) -> Result<(), Fail> {
 fn a_payment_is_rolled_back(rt: HostRuntime) -> Result<(), Fail> {
     let alloc = rt.alloc();
     let nobody = payment(district_key(1, 1), customer_key(1, 1, 6), 100);
-    let events = submitting(Vec::new(alloc), 0, 0, nobody, TURNS)?;
-    let simulation = ran(&rt, alloc, &events)?;
+    let schedule = submitting(alloc, nobody, b"r")?;
+    let simulation = ran(&rt, alloc, &schedule)?;
+    assert!(rt; spell(&simulation.told, b"ALRQ"));
     let entry = simulation.log.first().expect(&rt, "an entry");
     assert_eq!(rt; entry.reply, Reply::RolledBack(Fault::NoCustomer));
     let tables = simulation.tables.expect(&rt, "nothing is active");
@@ -114,12 +109,12 @@ fn a_payment_is_rolled_back(rt: HostRuntime) -> Result<(), Fail> {
     Ok(())
 }
 
-fn refused(session: u32, number: u32, refusal: Refusal) -> EventAnswer {
-    EventAnswer::Answered {
+fn refused(session: u32, number: u32, refusal: Refusal) -> Told {
+    Told::Event(EventAnswer::Answered {
         session,
         number,
         answer: Answer::Refused(refusal),
-    }
+    })
 }
 
 // Submissions are refused, in the order of the refusals, while a transaction is active; and events that
@@ -127,34 +122,36 @@ fn refused(session: u32, number: u32, refusal: Refusal) -> EventAnswer {
 #[test]
 fn submissions_are_refused(rt: HostRuntime) -> Result<(), Fail> {
     let alloc = rt.alloc();
-    let mut events = Vec::new(alloc);
-    events.push(submit(64, 0, by_first_customer(100)))?;
-    events.push(submit(0, 0, by_first_customer(99)))?;
-    events.push(submit(0, 1, by_first_customer(100)))?;
-    events.push(submit(0, 2, by_first_customer(99)))?;
-    events.push(submit(1, 0, by_first_customer(500_001)))?;
-    events.push(Event::Take { executor: 1 })?;
-    let mut events = submitting(events, 1, 1, by_first_customer(100), TURNS)?;
-    events.push(submit(1, 2, by_first_customer(100)))?;
-    let simulation = ran(&rt, alloc, &events)?;
-    let answers = simulation.answers.as_slice();
+    let schedule = [
+        submit(64, 0, by_first_customer(100)),
+        submit(0, 0, by_first_customer(99)),
+        submit(0, 1, by_first_customer(100)),
+        submit(0, 2, by_first_customer(99)),
+        submit(1, 0, by_first_customer(500_001)),
+        Scheduled::Event(Event::Take { executor: 1 }),
+        submit(1, 1, by_first_customer(100)),
+        Scheduled::Rounds,
+        Scheduled::Rounds,
+        submit(1, 2, by_first_customer(100)),
+    ];
+    let simulation = ran(&rt, alloc, &schedule)?;
+    let told = simulation.told.as_slice();
     let wanted = [
-        EventAnswer::Nothing,
+        Told::Event(EventAnswer::Nothing),
         refused(0, 0, Refusal::BadAmount),
-        EventAnswer::Accepted { age: 0 },
+        Told::Event(EventAnswer::Accepted { age: 0 }),
         refused(0, 2, Refusal::SessionBusy),
         refused(1, 0, Refusal::BadAmount),
-        EventAnswer::Nothing,
+        Told::Event(EventAnswer::Nothing),
         refused(1, 1, Refusal::Busy),
+        Told::Event(EventAnswer::Logged { place: 0 }),
     ];
+    assert!(rt; spell(told, b"NRARRNRLRQQA"));
     assert!(rt;
-        answers
-            .iter()
+        told.iter()
             .zip(&wanted)
-            .all(|(answer, wanted)| answer == wanted)
+            .all(|(told, wanted)| told == wanted)
     );
-    let last = answers.last().expect(&rt, "an answer");
-    assert_eq!(rt; *last, EventAnswer::Accepted { age: 1 });
     assert!(rt; simulation.tables.is_none());
     Ok(())
 }
@@ -163,7 +160,7 @@ fn submissions_are_refused(rt: HostRuntime) -> Result<(), Fail> {
 #[test]
 fn worlds_are_not_opened(rt: HostRuntime) -> Result<(), Fail> {
     let alloc = rt.alloc();
-    let events = Vec::<Event>::new(alloc);
+    let schedule = Vec::<Scheduled>::new(alloc);
     let (scale, mut rows) = set_k(alloc)?.into_rows();
     if let Some(warehouse) = rows.warehouses.first_mut() {
         warehouse.ytd = Cents::new(50_001);
@@ -171,9 +168,9 @@ fn worlds_are_not_opened(rt: HostRuntime) -> Result<(), Fail> {
     let Ok(tables) = Tables::checked(scale, rows) else {
         panic!(rt; "within the scale");
     };
-    let two = simulate(alloc, tables.try_clone()?, 2, &events);
+    let two = simulate(alloc, tables.try_clone()?, 2, &schedule);
     assert_eq!(rt; two.err(), Some(OpenFault::BadExecutors));
-    let broken = simulate(alloc, tables, 1, &events);
+    let broken = simulate(alloc, tables, 1, &schedule);
     assert_eq!(rt; broken.err(), Some(OpenFault::NotConsistent(1)));
     Ok(())
 }
@@ -183,17 +180,16 @@ fn worlds_are_not_opened(rt: HostRuntime) -> Result<(), Fail> {
 #[test]
 fn want_of_memory_is_taken_back(rt: HostRuntime) -> Result<(), Fail> {
     let alloc = rt.alloc();
-    let events = Vec::with_capacity(alloc, 64)?;
-    let events = submitting(events, 0, 0, by_first_customer(100), TURNS)?;
+    let schedule = submitting(alloc, by_first_customer(100), b"r")?;
     let opening = set_k(alloc)?;
     let again = set_k(alloc)?;
-    let simulation = match simulate(alloc, opening, 1, &events) {
+    let simulation = match simulate(alloc, opening, 1, &schedule) {
         Ok(simulation) => simulation,
         Err(fault) => panic!(rt; "{fault:?}"),
     };
     let wanted = refused(0, 0, Refusal::NoMemory);
     let tables = simulation.tables.expect(&rt, "nothing is active");
-    if simulation.answers.iter().any(|answer| *answer == wanted) {
+    if simulation.told.iter().any(|told| *told == wanted) {
         assert_eq!(rt; simulation.log.len(), 0);
         assert!(rt; same_tables(tables, again));
     } else {

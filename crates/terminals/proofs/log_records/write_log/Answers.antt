@@ -7,7 +7,7 @@ use Rattle.files.specs.Written.{record_text, csv_text, written}
 use Rattle.files.proofs.Texts.{appends-start, appends-push, appends-end}
 use Rattle.commit_log.specs.declared.entry.Entry.{Entry}
 use Rattle.terminals.specs.LogRecord.{AreEntries}
-use Rattle.terminals.specs.Script.{end_fields}
+use Rattle.terminals.specs.Listing.{end_fields}
 use Rattle.terminals.proofs.Rows.{are_entries-none, are_entries-more}
 use Rattle.terminals.proofs.log_records.write_log.Goals as goal
 

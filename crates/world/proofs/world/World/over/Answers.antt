@@ -6,7 +6,7 @@ use Rattle.tickets.specs.Places.{AreInPlace}
 use Rattle.slices.specs.Openings.{AreBoxesOf}
 use Rattle.slices.proofs.Opened.{opened_groups_have_boxes}
 use Rattle.world.specs.declared.world.Parts.{Parts}
-use Rattle.world.proofs.Opened.{opened_fits, opened_sound, seats_tell}
+use Rattle.world.proofs.Opened.{opened_fits, opened_new, opened_sound, seats_tell}
 use Rattle.world.proofs.world.World.over.Goals as goal
 
 pub open-requires-3-clause-boxes : goal.open-requires-3-clause-boxes
@@ -30,8 +30,8 @@ invariant_of-result g c =
       c.requires.warehouses ∙ sym (ap (λ s. s.warehouses) scale),
     )
 
-pub returns : goal.returns
-returns g c =
+pub returns-clause-fits : goal.returns-clause-fits
+returns-clause-fits g c =
     let parts : Parts g.row.J.Denot = record {
       slice = c.in_ok-slice.slice;
       inbox = c.in_ok-inbox.inbox;
@@ -40,3 +40,16 @@ returns g c =
       log = c.new.result;
     } in
     opened_fits c.args.tables c.requires.consistent parts c.in_ok-slice.slice c.new.result c.in_ok-slice.ensures c.new.ensures c.in_ok-inbox.ensures c.in_ok-outbox.ensures refl
+
+pub returns-clause-new : goal.returns-clause-new
+returns-clause-new g c =
+    let parts : Parts g.row.J.Denot = record {
+      slice = c.in_ok-slice.slice;
+      inbox = c.in_ok-inbox.inbox;
+      outbox = c.in_ok-outbox.outbox;
+      desk = record { admitted = 0; sessions = c.in_ok-sessions.sessions; active = None };
+      log = c.new.result;
+    } in
+    opened_new c.args.tables c.in_ok-book.lanes.items parts
+    (record { many = omega (arith, c.in_ok-book.lanes.ok.0, c.in_ok-book.ensures.count); each = c.in_ok-book.ensures.sessions })
+    c.in_ok-slice.ensures c.in_ok-inbox.ensures c.in_ok-outbox.ensures c.new.ensures refl refl c.in_ok-sessions.ensures

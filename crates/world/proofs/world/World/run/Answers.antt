@@ -5,7 +5,7 @@ use Rattle.history.specs.declared.event.Event.{Event}
 use Rattle.history.specs.declared.event.EventAnswer.{EventAnswer}
 use Rattle.history.specs.History.{Step, step}
 use Rattle.world.specs.Worlds.{Advances, HappenInTurn, steps_of}
-use Rattle.world.proofs.Runs.{steps_of-push, happen_more, one_after_another, no_events}
+use Rattle.world.proofs.Runs.{steps_of-push, happen_after, happens_once, one_after_another, no_events}
 use Rattle.world.proofs.world.World.run.Goals as goal
 
 pub loop-event-init : goal.loop-event-init
@@ -13,7 +13,7 @@ loop-event-init g c = record {
   count = ap (λ (l : List EventAnswer). length l) c.in_ok-answers.ensures.items;
   filled = c.in_ok-answers.ensures.len;
   room = c.in_ok-answers.ensures.capacity;
-  happen = subst (λ (ans : List EventAnswer). HappenInTurn [] c.args.self.now ans c.args.self.now) (sym c.in_ok-answers.ensures.items) refl;
+  happen = refl;
   advances = no_events c.args.self.now;
 }
 
@@ -38,9 +38,9 @@ loop-event-preserved g c =
       count = ap (λ (ans : List EventAnswer). length ans) c.push_reserved.ensures.items ∙ omega (arith, length-append answers (answer ∷ []), c.loop-event.invariant.count);
       filled = omega (arith, c.push_reserved.ensures.len, c.loop-event.invariant.filled);
       room = omega (arith, c.push_reserved.ensures.capacity, c.loop-event.invariant.room);
-      happen = subst (λ (es : List Event). HappenInTurn es c.args.self.now c.push_reserved.new.self.items c.step-answer.new.self) (sym more)
-          (subst (λ (ans : List EventAnswer). HappenInTurn (take i events ++ event ∷ []) c.args.self.now ans c.step-answer.new.self) (sym c.push_reserved.ensures.items)
-          (happen_more (take i events) answers event answer c.args.self.now c.loop-event.self c.step-answer.new.self c.loop-event.invariant.happen c.step-answer.ensures.happens));
+      happen = subst (λ (ss : List Step). HappenInTurn ss c.args.self.now c.step-answer.new.self) (sym steps)
+          (happen_after (steps_of (take i events) answers) (step event answer ∷ []) c.args.self.now c.loop-event.self c.step-answer.new.self c.loop-event.invariant.happen
+          (happens_once event answer c.loop-event.self c.step-answer.new.self c.step-answer.ensures.happens));
       advances = subst (λ (ss : List Step). Advances c.args.self.now ss c.step-answer.new.self) (sym steps)
           (one_after_another c.args.self.now c.loop-event.self c.step-answer.new.self (steps_of (take i events) answers) (step event answer ∷ []) c.loop-event.invariant.advances c.step-answer.ensures.advances);
     }
@@ -56,4 +56,4 @@ returns-clause-count g c = omega (arith, c.loop-event.invariant.count, c.loop-ev
 pub returns-clause-happen : goal.returns-clause-happen
 returns-clause-happen g c =
     let all : take c.loop-event.event-index c.args.events.now ≡ c.args.events.now = take_all c.loop-event.event-index c.args.events.now c.loop-event-test.false in
-    subst (λ (es : List Event). HappenInTurn es c.args.self.now c.loop-event.answers.items c.loop-event.self) all c.loop-event.invariant.happen
+    subst (λ (es : List Event). HappenInTurn (steps_of es c.loop-event.answers.items) c.args.self.now c.loop-event.self) all c.loop-event.invariant.happen

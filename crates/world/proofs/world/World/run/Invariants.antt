@@ -9,6 +9,6 @@ invariant-loop-event g l = record {
   count : length l.answers.items ≡ l.event-index;
   filled : vec_len l.answers ≡ l.event-index;
   room : length l.events ≤ vec_capacity l.answers;
-  happen : HappenInTurn (take l.event-index l.events) l.fn.self l.answers.items l.self;
+  happen : HappenInTurn (steps_of (take l.event-index l.events) l.answers.items) l.fn.self l.self;
   advances : Advances l.fn.self (steps_of (take l.event-index l.events) l.answers.items) l.self;
 }

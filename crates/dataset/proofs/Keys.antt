@@ -1,0 +1,149 @@
+-- The scale's keys: which one stands at a place, and that they ascend.
+use Rattle.std.proofs.Common.{◌≡◌, ℕ, zero, suc, ◌+◌, ◌*◌, ◌/◌, ◌<◌, ◌≤◌, List, [], ◌∷◌, ◌++◌, map, length, Some, refl, sym, ap, subst, ◌∙◌, arith}
+use Rattle.std.specs.List.{range_with_len, slice_get, AllByRecursion, zip}
+use Rattle.std.specs.List.Sorted.{IsStrictlySortedBy}
+use Rattle.std.specs.Map.{keys_of}
+use Rattle.std.specs.declared.cmp.Ordering.{Ordering}
+use Rattle.std.specs.declared.cmp.Ordering.TheVariants.{Less, Equal, Greater}
+use Rattle.std.specs.Ordering.{nat_cmp, ordering_then}
+use Rattle.std.proofs.lemmas.Bool.Decides.{nat_tests}
+use Rattle.std.proofs.Math.Nat.{div-lt_iff_lt-mul}
+use Rattle.std.proofs.lemmas.List.FromFn.{length-map-range_with_len}
+use Rattle.rows.specs.Keys.{district_cmp, stock_cmp, customer_cmp}
+use Rattle.schema.specs.declared.scale.Scale.{Scale}
+use Rattle.schema.specs.Dense.{grid}
+use Rattle.schema.specs.Scale.{item_ids, warehouse_ids, district_key, district_keys, stock_key, stock_keys, customer_key, customer_keys}
+
+-- ---- the key at a place
+
+get-numbers : {X : Type 0} (f : ℕ → X) (first count n : ℕ) → n < count → slice_get (map f (range_with_len first count)) n ≡ Some (f (first + n))
+get-numbers f first zero n below = absurd (omega arith)
+get-numbers f first (suc count) zero below = ap (λ i. Some (f i)) (let e : first ≡ first + 0 = omega arith in e)
+get-numbers f first (suc count) (suc n) below =
+    get-numbers f (first + 1) count n (omega arith) ∙ ap (λ i. Some (f i)) (let e : first + 1 + n ≡ first + suc n = omega arith in e)
+
+get-front : {X : Type 0} (xs ys : List X) (n : ℕ) (x : X) → slice_get xs n ≡ Some x → slice_get (xs ++ ys) n ≡ Some x
+get-front [] ys n x e = absurd cc
+get-front (y ∷ xs) ys zero x e = e
+get-front (y ∷ xs) ys (suc n) x e = get-front xs ys n x e
+
+get-back : {X : Type 0} (xs ys : List X) (n m : ℕ) → m ≡ length xs + n → slice_get (xs ++ ys) m ≡ slice_get ys n
+get-back [] ys n m e = ap (slice_get ys) (let is : m ≡ n = omega arith in is)
+get-back (x ∷ xs) ys n zero e = absurd (omega arith)
+get-back (x ∷ xs) ys n (suc m) e = get-back xs ys n m (omega arith)
+
+-- in a grid: the outer key's block, and in it the number
+pub get-grid : {O K : Type 0} (key : O → ℕ → K) (count : ℕ) (os : List O) (p j : ℕ) (o : O) → slice_get os p ≡ Some o → j < count → slice_get (grid key count os) (p * count + j) ≡ Some (key o (1 + j))
+get-grid key count [] p j o e below = absurd cc
+get-grid key count (first ∷ os) zero j o e below =
+    let same : first ≡ o = cc in
+    let at : 0 * count + j ≡ j = grind arith in
+    ap (slice_get (grid key count (first ∷ os))) at
+    ∙ get-front (map (key first) (range_with_len 1 count)) (grid key count os) j (key first (1 + j)) (get-numbers (key first) 1 count j below)
+    ∙ ap (λ k. Some (key k (1 + j))) same
+get-grid key count (first ∷ os) (suc p) j o e below =
+    let many = length-map-range_with_len (key first) 1 count in
+    let at : suc p * count + j ≡ count + (p * count + j) = grind arith in
+    get-back (map (key first) (range_with_len 1 count)) (grid key count os) (p * count + j) (suc p * count + j) (omega arith)
+    ∙ get-grid key count os p j o e below
+
+-- a place lies in one of the blocks
+pub block_below : (n blocks count : ℕ) → 0 < count → n < blocks * count → n / count < blocks
+block_below n blocks count some below = (div-lt_iff_lt-mul some).1 below
+
+same_numbers : (xs : List ℕ) → map (λ n. n) xs ≡ xs
+same_numbers [] = refl
+same_numbers (x ∷ xs) = ap (λ l. x ∷ l) (same_numbers xs)
+
+pub get-range : (first count n : ℕ) → n < count → slice_get (range_with_len first count) n ≡ Some (first + n)
+get-range first count n below = ap (λ l. slice_get l n) (sym (same_numbers (range_with_len first count))) ∙ get-numbers (λ i. i) first count n below
+
+-- ---- their order
+
+all-append : {X : Type 0} (P : X → Type 0) (xs ys : List X) → AllByRecursion P xs → AllByRecursion P ys → AllByRecursion P (xs ++ ys)
+all-append P [] ys h g = g
+all-append P (x ∷ xs) ys h g = (h.0, all-append P xs ys h.1 g)
+
+all-weaker : {X : Type 0} (P Q : X → Type 0) → ((x : X) → P x → Q x) → (xs : List X) → AllByRecursion P xs → AllByRecursion Q xs
+all-weaker P Q f [] h = tt
+all-weaker P Q f (x ∷ xs) h = (f x h.0, all-weaker P Q f xs h.1)
+
+all-numbers : {X : Type 0} (P : X → Type 0) (f : ℕ → X) (first count : ℕ) → ((n : ℕ) → first ≤ n → P (f n)) → AllByRecursion P (map f (range_with_len first count))
+all-numbers P f first zero h = tt
+all-numbers P f first (suc count) h = (h first (omega arith), all-numbers P f (first + 1) count (λ n above. h n (omega arith)))
+
+module _ {K : Type 0} (c : K → K → Ordering) where
+  sorted-append : (xs ys : List K) → IsStrictlySortedBy c xs → IsStrictlySortedBy c ys → AllByRecursion (λ x. AllByRecursion (λ y. c x y ≡ Less) ys) xs → IsStrictlySortedBy c (xs ++ ys)
+  unfolding IsStrictlySortedBy
+  sorted-append [] ys h g below = g
+  sorted-append (x ∷ xs) ys h g below = (all-append (λ y. c x y ≡ Less) xs ys h.0 below.0, sorted-append xs ys h.1 g below.1)
+
+  sorted-numbers : (f : ℕ → K) (first count : ℕ) → ((i j : ℕ) → i < j → c (f i) (f j) ≡ Less) → IsStrictlySortedBy c (map f (range_with_len first count))
+  unfolding IsStrictlySortedBy
+  sorted-numbers f first zero rises = tt
+  sorted-numbers f first (suc count) rises =
+      (all-numbers (λ y. c (f first) y ≡ Less) f (first + 1) count (λ n above. rises first n (omega arith)), sorted-numbers f (first + 1) count rises)
+
+  module _ {O : Type 0} (outer : O → O → Ordering) (key : O → ℕ → K) where
+    all-grid : (P : K → Type 0) (count : ℕ) (os : List O) → AllByRecursion (λ o. (j : ℕ) → P (key o j)) os → AllByRecursion P (grid key count os)
+    all-grid P count [] h = tt
+    all-grid P count (o ∷ os) h = all-append P (map (key o) (range_with_len 1 count)) (grid key count os) (all-numbers P (key o) 1 count (λ n _. h.0 n)) (all-grid P count os h.1)
+
+    sorted-grid : (count : ℕ) (os : List O) → ((o : O) (i j : ℕ) → i < j → c (key o i) (key o j) ≡ Less) → ((o p : O) (i j : ℕ) → outer o p ≡ Less → c (key o i) (key p j) ≡ Less)
+        → IsStrictlySortedBy outer os → IsStrictlySortedBy c (grid key count os)
+    unfolding IsStrictlySortedBy
+    sorted-grid count [] rises later sorted = tt
+    sorted-grid count (o ∷ os) rises later sorted =
+        sorted-append (map (key o) (range_with_len 1 count)) (grid key count os) (sorted-numbers (key o) 1 count (rises o)) (sorted-grid count os rises later sorted.1)
+        (all-numbers (λ x. AllByRecursion (λ y. c x y ≡ Less) (grid key count os)) (key o) 1 count
+        (λ i _. all-grid (λ y. c (key o i) y ≡ Less) count os (all-weaker (λ p. outer o p ≡ Less) (λ p. (j : ℕ) → c (key o i) (key p j) ≡ Less) (λ p e j. later o p i j e) os sorted.0)))
+
+less : (i j : ℕ) → i < j → nat_cmp i j ≡ Less
+less i j h = grind (arith, nat_tests)
+
+alike : (i : ℕ) → nat_cmp i i ≡ Equal
+alike i = grind (arith, nat_tests)
+
+then_less : (x y z : Ordering) → ordering_then x y ≡ Less → ordering_then x (ordering_then y z) ≡ Less
+then_less Less y z e = refl
+then_less Equal Less z e = refl
+then_less Equal Equal z e = absurd cc
+then_less Equal Greater z e = absurd cc
+then_less Greater y z e = absurd cc
+
+sorted-range : (first count : ℕ) → IsStrictlySortedBy nat_cmp (range_with_len first count)
+sorted-range first count = subst (IsStrictlySortedBy nat_cmp) (same_numbers (range_with_len first count)) (sorted-numbers nat_cmp (λ i. i) first count less)
+
+pub sorted-item_ids : (scale : Scale) → IsStrictlySortedBy nat_cmp (item_ids scale)
+sorted-item_ids scale = sorted-range 1 scale.items
+
+pub sorted-warehouse_ids : (scale : Scale) → IsStrictlySortedBy nat_cmp (warehouse_ids scale)
+sorted-warehouse_ids scale = sorted-range 1 scale.warehouses
+
+pub sorted-district_keys : (scale : Scale) → IsStrictlySortedBy district_cmp (district_keys scale)
+sorted-district_keys scale =
+    sorted-grid district_cmp nat_cmp district_key 10 (warehouse_ids scale)
+    (λ w i j h. ap (λ r. ordering_then r (nat_cmp i j)) (alike w) ∙ less i j h)
+    (λ v w i j e. ap (λ r. ordering_then r (nat_cmp i j)) e)
+    (sorted-warehouse_ids scale)
+
+pub sorted-stock_keys : (scale : Scale) → IsStrictlySortedBy stock_cmp (stock_keys scale)
+sorted-stock_keys scale =
+    sorted-grid stock_cmp nat_cmp stock_key scale.items (warehouse_ids scale)
+    (λ w i j h. ap (λ r. ordering_then r (nat_cmp i j)) (alike w) ∙ less i j h)
+    (λ v w i j e. ap (λ r. ordering_then r (nat_cmp i j)) e)
+    (sorted-warehouse_ids scale)
+
+pub sorted-customer_keys : (scale : Scale) → IsStrictlySortedBy customer_cmp (customer_keys scale)
+sorted-customer_keys scale =
+    sorted-grid customer_cmp district_cmp customer_key scale.customers (district_keys scale)
+    (λ home i j h. ap (λ r. ordering_then r (ordering_then (nat_cmp home.d_id home.d_id) (nat_cmp i j))) (alike home.w_id)
+    ∙ ap (λ r. ordering_then r (nat_cmp i j)) (alike home.d_id) ∙ less i j h)
+    (λ a b i j e. then_less (nat_cmp a.w_id b.w_id) (nat_cmp a.d_id b.d_id) (nat_cmp i j) e)
+    (sorted-district_keys scale)
+
+-- with a row for each key
+pub keys_of-zip : {K X : Type 0} (ks : List K) (xs : List X) → length xs ≡ length ks → keys_of (zip ks xs) ≡ ks
+keys_of-zip [] xs e = refl
+keys_of-zip (k ∷ ks) [] e = absurd (omega arith)
+keys_of-zip (k ∷ ks) (x ∷ xs) e = ap (λ l. k ∷ l) (keys_of-zip ks xs (omega arith))

@@ -1,0 +1,129 @@
+-- The rows that a loop goes over are those of the tables.
+use Rattle.std.proofs.Common.{◌≡◌, ℕ, ◌+◌, ◌≤◌, List, [], ◌∷◌, ◌++◌, map, length, sum, codes, refl, sym, ap, subst, ◌∙◌, arith}
+use Rattle.std.specs.List.{zip, flat_map, AllZip}
+use Rattle.std.specs.List.Sorted.{IsStrictlySortedBy}
+use Rattle.std.specs.BTreeMap.{IsOrdered}
+use Rattle.std.specs.declared.cmp.Ordering.{Ordering}
+use Rattle.std.specs.Cmp.{IsTotalOrder, nat_cmp_total}
+use Rattle.std.specs.FinMap.{entries, from_entries}
+use Rattle.std.proofs.lemmas.List.{length-append, length-map}
+use Rattle.std.proofs.lemmas.List.Sums.{sum-map, sum_by-cons}
+use Rattle.rows.specs.declared.keys.DistrictKey.{DistrictKey}
+use Rattle.rows.specs.declared.records.History.{History}
+use Rattle.rows.specs.Keys.{order_cmp, line_cmp}
+use Rattle.schema.specs.declared.scale.Scale.{Scale}
+use Rattle.schema.specs.declared.table_rows.TableRows.{TableRows}
+use Rattle.schema.specs.Scale.{item_ids, warehouse_ids, district_keys, stock_keys, customer_keys}
+use Rattle.schema.specs.Rows.{database, HasCounts}
+use Rattle.schema.proofs.KeyOrders.{districts_total, stocks_total, customers_total, orders_total, lines_total}
+use Rattle.schema.proofs.OrderedParts.{entries-ordered}
+use Rattle.schema.proofs.ScalePlaces.{length-item_ids, length-warehouse_ids, length-district_keys, length-stock_keys, length-customer_keys}
+use Rattle.dataset.specs.Records.{Field, Words, Number, AreSpelt, AreRecords, row_records, payment_records, records, records_by_table, end_fields, header_fields, item_fields, warehouse_fields, district_fields, stock_fields, customer_fields, history_fields, order_fields, new_order_fields, line_fields}
+use Rattle.dataset.specs.Writing.{count_fields}
+use Rattle.dataset.proofs.Keys.{sorted-item_ids, sorted-warehouse_ids, sorted-district_keys, sorted-stock_keys, sorted-customer_keys, keys_of-zip}
+
+-- the entries of a table whose rows stand in the order of its keys
+dense : {K X : Type 0} {R : K → K → Ordering} → IsTotalOrder R → (ks : List K) (xs : List X) → IsStrictlySortedBy R ks → length xs ≡ length ks → entries (from_entries {R = R} (zip ks xs)) ≡ zip ks xs
+dense {R = R} o ks xs sorted even = entries-ordered o (zip ks xs) (subst (IsStrictlySortedBy R) (sym (keys_of-zip ks xs even)) sorted)
+
+length-zip : {K X : Type 0} (ks : List K) (xs : List X) → length xs ≡ length ks → length (zip ks xs) ≡ length xs
+length-zip [] xs even = let none : length xs ≡ 0 = even in sym none
+length-zip (k ∷ ks) [] even = absurd (omega arith)
+length-zip (k ∷ ks) (x ∷ xs) even = let rest = length-zip ks xs (omega arith) in omega arith
+
+length-payments : (ks : List DistrictKey) (lists : List (List History)) → length lists ≡ length ks → length (payment_records (zip ks lists)) ≡ sum (map length lists)
+length-payments [] [] even = refl
+length-payments [] (list ∷ lists) even = absurd (omega arith)
+length-payments (k ∷ ks) [] even = absurd (omega arith)
+length-payments (k ∷ ks) (list ∷ lists) even =
+    length-append (map (history_fields k) list) (payment_records (zip ks lists))
+    ∙ ap (λ n. n + length (payment_records (zip ks lists))) (length-map list (history_fields k))
+    ∙ ap (λ n. length list + n) (length-payments ks lists (omega arith) ∙ sum-map length lists)
+    ∙ sym (sum-map length (list ∷ lists) ∙ sum_by-cons length list lists)
+
+module _ (scale : Scale) (rows : TableRows) where
+  -- the records of these rows, table by table
+  abbrev pub rows_by_table : List (List (List Field))
+  rows_by_table =
+      row_records item_fields (zip (item_ids scale) rows.items.items) ∷ row_records warehouse_fields (zip (warehouse_ids scale) rows.warehouses.items)
+      ∷ row_records district_fields (zip (district_keys scale) rows.districts.items) ∷ row_records stock_fields (zip (stock_keys scale) rows.stocks.items)
+      ∷ row_records customer_fields (zip (customer_keys scale) rows.customers.items) ∷ payment_records (zip (district_keys scale) rows.histories.items)
+      ∷ row_records order_fields rows.orders.entries ∷ row_records new_order_fields rows.new_orders.entries
+      ∷ row_records line_fields rows.lines.entries ∷ []
+
+  module _ (counts : HasCounts scale rows) where
+    item_count : length rows.items.items ≡ length (item_ids scale)
+    item_count = counts.items ∙ sym (length-item_ids scale)
+
+    warehouse_count : length rows.warehouses.items ≡ length (warehouse_ids scale)
+    warehouse_count = counts.warehouses ∙ sym (length-warehouse_ids scale)
+
+    district_count : length rows.districts.items ≡ length (district_keys scale)
+    district_count = counts.districts ∙ sym (length-district_keys scale)
+
+    stock_count : length rows.stocks.items ≡ length (stock_keys scale)
+    stock_count = counts.stocks ∙ sym (length-stock_keys scale)
+
+    customer_count : length rows.customers.items ≡ length (customer_keys scale)
+    customer_count = counts.customers ∙ sym (length-customer_keys scale)
+
+    history_count : length rows.histories.items ≡ length (district_keys scale)
+    history_count = counts.histories ∙ sym (length-district_keys scale)
+
+    -- there is no row more than keys
+    pub few_items : (items : List _) → items ≡ rows.items.items → length items ≤ length (item_ids scale)
+    few_items items same = omega (arith, item_count, ap length same)
+
+    pub few_warehouses : (items : List _) → items ≡ rows.warehouses.items → length items ≤ length (warehouse_ids scale)
+    few_warehouses items same = omega (arith, warehouse_count, ap length same)
+
+    pub few_districts : (items : List _) → items ≡ rows.districts.items → length items ≤ length (district_keys scale)
+    few_districts items same = omega (arith, district_count, ap length same)
+
+    pub few_stocks : (items : List _) → items ≡ rows.stocks.items → length items ≤ length (stock_keys scale)
+    few_stocks items same = omega (arith, stock_count, ap length same)
+
+    pub few_customers : (items : List _) → items ≡ rows.customers.items → length items ≤ length (customer_keys scale)
+    few_customers items same = omega (arith, customer_count, ap length same)
+
+    pub few_histories : (items : List _) → items ≡ rows.histories.items → length items ≤ length (district_keys scale)
+    few_histories items same = omega (arith, history_count, ap length same)
+
+    zip_count : {K X : Type 0} (fields : K → X → List Field) (ks : List K) (xs : List X) → length xs ≡ length ks → length (row_records fields (zip ks xs)) ≡ length xs
+    zip_count fields ks xs even = length-map (zip ks xs) (λ e. fields e.0 e.1) ∙ length-zip ks xs even
+
+    counted : end_fields rows_by_table ≡ count_fields rows
+    counted i =
+        Words (codes "END") ∷ Number (zip_count item_fields (item_ids scale) rows.items.items item_count i)
+        ∷ Number (zip_count warehouse_fields (warehouse_ids scale) rows.warehouses.items warehouse_count i)
+        ∷ Number (zip_count district_fields (district_keys scale) rows.districts.items district_count i)
+        ∷ Number (zip_count stock_fields (stock_keys scale) rows.stocks.items stock_count i)
+        ∷ Number (zip_count customer_fields (customer_keys scale) rows.customers.items customer_count i)
+        ∷ Number (length-payments (district_keys scale) rows.histories.items history_count i)
+        ∷ Number (length-map rows.orders.entries (λ e. order_fields e.0 e.1) i)
+        ∷ Number (length-map rows.new_orders.entries (λ e. new_order_fields e.0 e.1) i)
+        ∷ Number (length-map rows.lines.entries (λ e. line_fields e.0 e.1) i) ∷ []
+
+    module _ (orders : IsOrdered order_cmp rows.orders) (new_orders : IsOrdered order_cmp rows.new_orders) (lines : IsOrdered line_cmp rows.lines) where
+      by_table : records_by_table (database scale rows) ≡ rows_by_table
+      unfolding records_by_table
+      by_table i =
+          row_records item_fields (dense nat_cmp_total (item_ids scale) rows.items.items (sorted-item_ids scale) item_count i)
+          ∷ row_records warehouse_fields (dense nat_cmp_total (warehouse_ids scale) rows.warehouses.items (sorted-warehouse_ids scale) warehouse_count i)
+          ∷ row_records district_fields (dense districts_total (district_keys scale) rows.districts.items (sorted-district_keys scale) district_count i)
+          ∷ row_records stock_fields (dense stocks_total (stock_keys scale) rows.stocks.items (sorted-stock_keys scale) stock_count i)
+          ∷ row_records customer_fields (dense customers_total (customer_keys scale) rows.customers.items (sorted-customer_keys scale) customer_count i)
+          ∷ payment_records (dense districts_total (district_keys scale) rows.histories.items (sorted-district_keys scale) history_count i)
+          ∷ row_records order_fields (entries-ordered orders_total rows.orders.entries orders i)
+          ∷ row_records new_order_fields (entries-ordered orders_total rows.new_orders.entries new_orders i)
+          ∷ row_records line_fields (entries-ordered lines_total rows.lines.entries lines i) ∷ []
+
+      -- so what was written for the rows is the tables' records
+      pub are-records : (written : List (List (List ℕ)))
+          → AllZip AreSpelt ((header_fields scale ∷ flat_map (λ part. part) rows_by_table) ++ (count_fields rows ∷ [])) written → AreRecords (database scale rows) written
+      unfolding records AreRecords
+      are-records written spelt =
+          let all : records (database scale rows) ≡ (header_fields scale ∷ flat_map (λ part. part) rows_by_table) ++ (count_fields rows ∷ []) =
+          ap (λ parts. (header_fields scale ∷ flat_map (λ part. part) parts) ++ (end_fields parts ∷ [])) by_table
+          ∙ ap (λ end. (header_fields scale ∷ flat_map (λ part. part) rows_by_table) ++ (end ∷ [])) counted in
+          subst (λ fields. AllZip AreSpelt fields written) (sym all) spelt

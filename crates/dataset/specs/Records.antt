@@ -1,0 +1,163 @@
+-- The records of a dataset: its header, the rows of the nine tables, and its end.
+use Rattle.std.specs.Prelude.{◌≡◌, ℕ, ℤ, List, [], ◌∷◌, ◌++◌, length, map, Option, Some, None, codes, if◌then◌else◌}
+use Rattle.std.specs.Fmt.{decimal, signed_decimal}
+use Rattle.std.specs.List.{flat_map, AllZip}
+use Rattle.std.specs.declared.cmp.Ordering.{Ordering}
+use Rattle.std.specs.FinMap as table
+use Rattle.rows.specs.declared.keys.DistrictKey.{DistrictKey}
+use Rattle.rows.specs.declared.keys.StockKey.{StockKey}
+use Rattle.rows.specs.declared.keys.CustomerKey.{CustomerKey}
+use Rattle.rows.specs.declared.keys.OrderKey.{OrderKey}
+use Rattle.rows.specs.declared.keys.OrderLineKey.{OrderLineKey}
+use Rattle.rows.specs.declared.records.Address.{Address}
+use Rattle.rows.specs.declared.records.Item.{Item}
+use Rattle.rows.specs.declared.records.Warehouse.{Warehouse}
+use Rattle.rows.specs.declared.records.District.{District}
+use Rattle.rows.specs.declared.records.Stock.{Stock}
+use Rattle.rows.specs.declared.records.Customer.{Customer}
+use Rattle.rows.specs.declared.records.History.{History}
+use Rattle.rows.specs.declared.records.Order.{Order}
+use Rattle.rows.specs.declared.records.NewOrder.{NewOrder}
+use Rattle.rows.specs.declared.records.OrderLine.{OrderLine}
+use Rattle.schema.specs.declared.scale.Scale.{Scale}
+use Rattle.schema.specs.Database.{Database}
+use Rattle.files.specs.MomentText.{IsMomentText}
+use Rattle.files.specs.Word.{credit_text}
+
+-- a field: words, a number, an amount in cents, a date and time in seconds after 1970 began, or null
+pub data Field : Type 0 where
+  Words : List ℕ → Field
+  Number : ℕ → Field
+  Money : ℤ → Field
+  Date : ℕ → Field
+  Null : Field
+
+-- the text spells the field; null is the empty text
+abbrev pub IsSpelt : Field → List ℕ → Type 0
+IsSpelt (Words words) text = text ≡ words
+IsSpelt (Number number) text = text ≡ decimal number
+IsSpelt (Money cents) text = text ≡ signed_decimal cents
+IsSpelt (Date seconds) text = IsMomentText text seconds
+IsSpelt Null text = text ≡ []
+
+-- ---- a record of each table: its letter, the key, and the other columns
+
+-- the five columns of an address (clause 1.3.1, as all columns)
+abbrev pub address_fields : Address → List Field
+address_fields a = Words a.street_1 ∷ Words a.street_2 ∷ Words a.city ∷ Words a.state ∷ Words a.zip ∷ []
+
+-- the last seven columns of CUSTOMER
+abbrev pub account_fields : Customer → List Field
+account_fields row =
+    Money row.credit_lim ∷ Number row.discount ∷ Money row.balance ∷ Money row.ytd_payment
+    ∷ Number row.payment_cnt ∷ Number row.delivery_cnt ∷ Words row.data ∷ []
+
+-- ITEM, by I_ID
+abbrev pub item_fields : ℕ → Item → List Field
+item_fields i_id row =
+    Words (codes "I") ∷ Number i_id ∷ Number row.im_id ∷ Words row.name ∷ Number row.price ∷ Words row.data ∷ []
+
+-- WAREHOUSE, by W_ID
+abbrev pub warehouse_fields : ℕ → Warehouse → List Field
+warehouse_fields w_id row =
+    Words (codes "W") ∷ Number w_id ∷ Words row.name ∷ address_fields row.address
+    ++ Number row.tax ∷ Money row.ytd ∷ []
+
+-- DISTRICT, by D_W_ID and D_ID
+abbrev pub district_fields : DistrictKey → District → List Field
+district_fields key row =
+    Words (codes "D") ∷ Number key.w_id ∷ Number key.d_id ∷ Words row.name ∷ address_fields row.address
+    ++ Number row.tax ∷ Money row.ytd ∷ Number row.next_o_id ∷ []
+
+-- STOCK, by S_W_ID and S_I_ID; after S_QUANTITY come S_DIST_01 to S_DIST_10
+abbrev pub stock_fields : StockKey → Stock → List Field
+stock_fields key row =
+    Words (codes "S") ∷ Number key.w_id ∷ Number key.i_id ∷ Number row.quantity ∷ map (λ text. Words text) row.dist
+    ++ Number row.ytd ∷ Number row.order_cnt ∷ Number row.remote_cnt ∷ Words row.data ∷ []
+
+-- CUSTOMER, by C_W_ID, C_D_ID and C_ID
+abbrev pub customer_fields : CustomerKey → Customer → List Field
+customer_fields key row =
+    Words (codes "C") ∷ Number key.w_id ∷ Number key.d_id ∷ Number key.c_id
+    ∷ Words row.first ∷ Words row.middle ∷ Words row.last ∷ address_fields row.address
+    ++ Words row.phone ∷ Date row.since ∷ Words (credit_text row.credit) ∷ account_fields row
+
+-- HISTORY, by the district in whose list the payment stands; then comes the customer who paid
+abbrev pub history_fields : DistrictKey → History → List Field
+history_fields home row =
+    Words (codes "H") ∷ Number home.w_id ∷ Number home.d_id
+    ∷ Number row.customer.w_id ∷ Number row.customer.d_id ∷ Number row.customer.c_id
+    ∷ Date row.date ∷ Money row.amount ∷ Words row.data ∷ []
+
+-- O_CARRIER_ID, null until the order is delivered
+abbrev pub carrier_field : Option ℕ → Field
+carrier_field None = Null
+carrier_field (Some carrier) = Number carrier
+
+-- ORDER, by O_W_ID, O_D_ID and O_ID; O_ALL_LOCAL is 1 or 0
+abbrev pub order_fields : OrderKey → Order → List Field
+order_fields key row =
+    Words (codes "O") ∷ Number key.w_id ∷ Number key.d_id ∷ Number key.o_id ∷ Number row.c_id ∷ Date row.entry_d
+    ∷ carrier_field row.carrier_id ∷ Number row.ol_cnt ∷ Number (if row.all_local then 1 else 0) ∷ []
+
+-- NEW-ORDER, by NO_W_ID, NO_D_ID and NO_O_ID
+abbrev pub new_order_fields : OrderKey → NewOrder → List Field
+new_order_fields key row = Words (codes "N") ∷ Number key.w_id ∷ Number key.d_id ∷ Number key.o_id ∷ []
+
+-- OL_DELIVERY_D, null until the order is delivered
+abbrev pub delivery_field : Option ℕ → Field
+delivery_field None = Null
+delivery_field (Some seconds) = Date seconds
+
+-- ORDER-LINE, by OL_W_ID, OL_D_ID, OL_O_ID and OL_NUMBER
+abbrev pub line_fields : OrderLineKey → OrderLine → List Field
+line_fields key row =
+    Words (codes "L") ∷ Number key.w_id ∷ Number key.d_id ∷ Number key.o_id ∷ Number key.number
+    ∷ Number row.i_id ∷ Number row.supply_w_id ∷ delivery_field row.delivery_d ∷ Number row.quantity
+    ∷ Number row.amount ∷ Words row.dist_info ∷ []
+
+-- ---- all records
+
+-- the name and number of the format, and the scale
+abbrev pub header_fields : Scale → List Field
+header_fields scale =
+    Words (codes "TPCC") ∷ Number 1 ∷ Number scale.warehouses ∷ Number scale.items ∷ Number scale.customers ∷ []
+
+-- one record for each row
+abbrev pub row_records : {K X : Type 0} → (K → X → List Field) → List (K × X) → List (List Field)
+row_records fields rows = map (λ e. fields e.0 e.1) rows
+
+-- the rows of a table, by ascending keys
+abbrev pub table_records : {K X : Type 0} {R : K → K → Ordering} → (K → X → List Field) → table.FinMap R X → List (List Field)
+table_records fields rows = row_records fields (table.entries rows)
+
+-- the payments of each district, by ascending districts, and those of a district in the order of its list
+abbrev pub payment_records : List (DistrictKey × List History) → List (List Field)
+payment_records lists = flat_map (λ e. map (history_fields e.0) e.1) lists
+
+-- the records of the nine tables, table by table
+unfoldable pub records_by_table : Database → List (List (List Field))
+records_by_table t =
+    table_records item_fields t.items ∷ table_records warehouse_fields t.warehouses
+    ∷ table_records district_fields t.districts ∷ table_records stock_fields t.stocks
+    ∷ table_records customer_fields t.customers ∷ payment_records (table.entries t.histories)
+    ∷ table_records order_fields t.orders ∷ table_records new_order_fields t.new_orders
+    ∷ table_records line_fields t.lines ∷ []
+
+-- END, and how many records each table has
+abbrev pub end_fields : List (List (List Field)) → List Field
+end_fields tables = Words (codes "END") ∷ map (λ records. Number (length records)) tables
+
+-- the header, the records of all tables, and the end
+unfoldable pub records : Database → List (List Field)
+records t = header_fields t.scale ∷ flat_map (λ records. records) (records_by_table t) ++ end_fields (records_by_table t) ∷ []
+
+-- ---- as texts
+
+-- each text spells its field
+abbrev pub AreSpelt : List Field → List (List ℕ) → Type 0
+AreSpelt fields texts = AllZip IsSpelt fields texts
+
+-- these are the records of the tables, each a list of texts
+unfoldable pub AreRecords : Database → List (List (List ℕ)) → Type 0
+AreRecords t rows = AllZip AreSpelt (records t) rows

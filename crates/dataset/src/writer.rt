@@ -1,0 +1,82 @@
+ghost use Rattle.std.specs.Prelude.{◌≤◌, ℕ, List, length, IfOk, OnOk};
+ghost use Rattle.std.specs.List.{zip};
+ghost use Rattle.std.specs.BTreeMap.{IsOrdered};
+ghost use Rattle.std.specs.Io.KnownBytes.{Appends};
+ghost use Rattle.files.specs.Written.{IsBetweenRecords, csv_text};
+ghost use Rattle.dataset.specs.Records.{AreRecords, row_records};
+ghost use Rattle.dataset.specs.Writing.{Writes};
+
+use crate::recorded::{Dense, Recorded};
+use crate::{end, header, histories};
+use files::{FileError, NewRecord, RecordWriter};
+use schema::{Scale, Tables};
+use std::alloc::Global;
+use std::collections::BTreeMap;
+use std::io::Write;
+
+/// Writes the dataset of the tables, and gives the sink back.
+///
+/// `NoMemory` comes where there is none for a record, and the fault `Io` where the sink fails, with the
+/// number of the record under way; since records are gathered before they are handed over, what was not
+/// taken may be an earlier one. After an error the sink has a beginning of the text. Use a `&mut` to a sink
+/// that is needed then.
+pub fn write<W: Write + Drop>(alloc: Global, sink: W, tables: &Tables) -> Result<W, FileError>
+    ensures { IfOk result (λ full. (rows : List (List (List ℕ))) × AreRecords tables.now rows × Appends (W.contents sink) (W.contents full) (csv_text rows)) }
+{
+    let scale = tables.scale();
+    let rows = tables.rows();
+    let mut writer = RecordWriter::new(sink);
+    let mut record = NewRecord::new(alloc);
+    header::put(&mut record, scale)?;
+    writer.write(&record)?;
+    write_dense(&mut writer, &mut record, scale, &rows.items)?;
+    write_dense(&mut writer, &mut record, scale, &rows.warehouses)?;
+    write_dense(&mut writer, &mut record, scale, &rows.districts)?;
+    write_dense(&mut writer, &mut record, scale, &rows.stocks)?;
+    write_dense(&mut writer, &mut record, scale, &rows.customers)?;
+    histories::write(&mut writer, &mut record, scale, &rows.histories)?;
+    write_ordered(&mut writer, &mut record, &rows.orders)?;
+    write_ordered(&mut writer, &mut record, &rows.new_orders)?;
+    write_ordered(&mut writer, &mut record, &rows.lines)?;
+    record.clear();
+    end::put(&mut record, rows)?;
+    writer.write(&record)?;
+    writer.finish()
+}
+
+// Writes the rows of a table that stand in the order of the scale's keys.
+fn write_dense<W: Write + Drop, K, T: Dense<K>>(
+    writer: &mut RecordWriter<W>,
+    record: &mut NewRecord,
+    scale: Scale,
+    rows: &[T],
+) -> Result<(), FileError>
+    requires count { length rows.now ≤ length (T.keys scale) }
+    requires between { IsBetweenRecords writer.old }
+    ensures { OnOk result (Writes W.contents writer.old writer.new (row_records T.fields (zip (T.keys scale) rows.now))) }
+{
+    for (place, row) in rows.iter().enumerate() {
+        record.clear();
+        row.put(T::key_at(scale, place), record)?;
+        writer.write(record)?;
+    }
+    Ok(())
+}
+
+// Writes the rows of a table that stand by their keys.
+fn write_ordered<W: Write + Drop, K: Ord + Copy, T: Recorded<K>>(
+    writer: &mut RecordWriter<W>,
+    record: &mut NewRecord,
+    rows: &BTreeMap<K, T>,
+) -> Result<(), FileError>
+    requires { IsBetweenRecords writer.old }
+    ensures written { OnOk result (Writes W.contents writer.old writer.new (row_records T.fields rows.now.entries)) }
+    ensures ordered { OnOk result (IsOrdered K.cmp rows.now) }
+{
+    for (key, row) in rows.iter() {
+        record.clear();
+        row.put(*key, record)?;
+        writer.write(record)?;
+    }
+    Ok(())
+}

@@ -1,0 +1,18 @@
+use Rattle.std.proofs.Common.{◌≡◌, ℕ, List, [], ◌∷◌, ◌++◌, None, ap}
+use Rattle.std.specs.Fmt.{decimal}
+use Rattle.files.specs.declared.fields.Fields.{Fields}
+use Rattle.files.specs.Taken.{TakesWell, fault_of, fields_left}
+use Rattle.terminals.proofs.schedules.ScheduledListed.take.Goals as goal
+
+-- a letter and an executor
+executor_was_read : (letter wanted : List ℕ) (executor : ℕ) (old new : Fields) → letter ≡ wanted → TakesWell old new (decimal executor)
+    → fault_of new ≡ None → (fault_of old ≡ None) × ((said : List (List ℕ)) × (letter ∷ said ≡ wanted ∷ decimal executor ∷ []) × (fields_left old ≡ said ++ fields_left new))
+executor_was_read letter wanted executor old new is taken none =
+    let read = taken none in
+    (read.0, (decimal executor ∷ [], ap (λ (l : List ℕ). l ∷ decimal executor ∷ []) is, read.1))
+
+pub returns-in-T-clause-taken : goal.returns-in-T-clause-taken
+returns-in-T-clause-taken c = executor_was_read _ _ c.whole.result c.args.fields.now c.whole.new.self c.in-T.is c.whole.ensures.taken
+
+pub returns-in-X-clause-taken : goal.returns-in-X-clause-taken
+returns-in-X-clause-taken c = executor_was_read _ _ c.whole-in-X.result c.args.fields.now c.whole-in-X.new.self c.in-X.is c.whole-in-X.ensures.taken

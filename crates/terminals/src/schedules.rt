@@ -1,0 +1,63 @@
+ghost use Rattle.std.specs.Prelude.{◌≡◌, ◌≢◌, ℕ, List, ◌∷◌, ◌++◌, Some, None, codes, IfOk, IfSome, IfNone};
+ghost use Rattle.files.specs.Place.{IsCsv};
+ghost use Rattle.files.specs.Taken.{fields_left, fault_of};
+ghost use Rattle.terminals.specs.Schedule.{IsSchedule, IsScheduleRecord};
+
+use crate::listing;
+use crate::listing::Listed;
+use files::{FaultKind, Fields, FileError};
+use history::{Event, Scheduled};
+use requests::Request;
+use std::alloc::Global;
+use std::io::Read;
+
+/// The schedule that `source` gives.
+///
+/// A fault comes with its record, and nothing else is given then. The first faulty record decides, and
+/// of its faults the least one. Whether there are such sessions and executors, and whether the numbers
+/// fit a scale, is not looked at. Memory is taken record by record.
+pub fn read_schedule<R: Read + Drop>(alloc: Global, source: R) -> Result<Vec<Scheduled>, FileError>
+    ensures { IfOk result (λ schedule. (text : List ℕ) → R.remaining source ≡ Some text → (rows : List (List (List ℕ))) × IsCsv text rows × IsSchedule schedule.items rows) }
+{
+    listing::read(alloc, source)
+}
+
+impl Listed for Scheduled {
+    ghost is_record = { IsScheduleRecord };
+
+    fn take(letter: &str, fields: &mut Fields) -> Option<Scheduled> {
+        match letter {
+            "S" => take_submit(fields),
+            "T" => Some(Scheduled::Event(Event::Take {
+                executor: fields.whole(0, u32::MAX),
+            })),
+            "X" => Some(Scheduled::Event(Event::Send {
+                executor: fields.whole(0, u32::MAX),
+            })),
+            "R" => Some(Scheduled::Rounds),
+            _ => {
+                fields.note(FaultKind::WrongShape);
+                None
+            }
+        }
+    }
+}
+
+// Takes the session, the number and the request; `None` where the request's letter is unknown.
+fn take_submit(fields: &mut Fields) -> Option<Scheduled>
+    ensures taken { IfSome result (λ item. fault_of fields.new ≡ None → (fault_of fields.old ≡ None)
+        × ((said : List (List ℕ)) × IsScheduleRecord item (codes "S" ∷ said) × (fields_left fields.old ≡ said ++ fields_left fields.new))) }
+    ensures unknown { IfNone result (fault_of fields.new ≢ None) }
+{
+    let session = fields.whole(0, u32::MAX);
+    let number = fields.whole(0, u32::MAX);
+    let letter = fields.word();
+    match Request::take(letter, fields) {
+        Some(request) => Some(Scheduled::Event(Event::Submit {
+            session,
+            number,
+            request,
+        })),
+        None => None,
+    }
+}

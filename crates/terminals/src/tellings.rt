@@ -1,0 +1,65 @@
+ghost use Rattle.std.specs.Prelude.{◌≡◌, ◌++◌, map, IfOk, OnOk};
+ghost use Rattle.std.specs.Io.KnownBytes.{Appends};
+ghost use Rattle.files.specs.Written.{csv_text};
+ghost use Rattle.terminals.specs.Tellings.{event_answer_fields, told_fields};
+
+use crate::answers;
+use files::{FileError, NewRecord, RecordWriter};
+use history::{EventAnswer, Told};
+use schema::NoMemory;
+use std::alloc::Global;
+use std::io::Write;
+
+/// Writes a record for each thing that is told of a schedule, and gives the sink back. Use a `&mut` to a
+/// sink that is needed after a fault too.
+pub fn write_told<W: Write + Drop>(alloc: Global, sink: W, told: &[Told]) -> Result<W, FileError>
+    ensures { IfOk result (λ full. Appends (W.contents sink) (W.contents full) (csv_text (map told_fields told.now))) }
+{
+    let mut writer = RecordWriter::new(sink);
+    let mut row = NewRecord::new(alloc);
+    for one in told {
+        row.clear();
+        put_told(&mut row, one)?;
+        writer.write(&row)?;
+    }
+    writer.finish()
+}
+
+// Adds the fields of what is told.
+fn put_told(row: &mut NewRecord, told: &Told) -> Result<(), NoMemory>
+    ensures { OnOk result (row.new ≡ row.old ++ told_fields told.now) }
+{
+    match told {
+        Told::Event(answer) => put_event_answer(row, answer),
+        Told::Quiet => row.push("quiet"),
+        Told::Limit => row.push("limit"),
+    }
+}
+
+// Adds the fields of what came of an event.
+fn put_event_answer(row: &mut NewRecord, answer: &EventAnswer) -> Result<(), NoMemory>
+    ensures { OnOk result (row.new ≡ row.old ++ event_answer_fields answer.now) }
+{
+    match answer {
+        EventAnswer::Accepted { age } => {
+            row.push("accepted")?;
+            row.push_number(*age)
+        }
+        EventAnswer::Took => row.push("took"),
+        EventAnswer::Sent => row.push("sent"),
+        EventAnswer::Full => row.push("full"),
+        EventAnswer::Logged { place } => {
+            row.push("logged")?;
+            row.push_number(u64::from(*place))
+        }
+        EventAnswer::Answered {
+            session,
+            number,
+            answer,
+        } => {
+            row.push("answered")?;
+            answers::put_answer(row, *session, u64::from(*number), answer)
+        }
+        EventAnswer::Nothing => row.push("nothing"),
+    }
+}

@@ -1,0 +1,83 @@
+ghost use Rattle.tpcc.specs.declared.command_fault.CommandFault.TheVariants.{NoMemory};
+ghost use Rattle.std.specs.Prelude.{◌≡◌};
+
+use crate::status::Status;
+use engine::ServeFault;
+use files::{FaultKind, FileError, FileFault};
+use std::alloc::AllocFailed;
+use std::fmt;
+use std::io::Write;
+
+/// Why a command ended early.
+#[derive(Clone, Copy, Debug, PartialEq, Eq)]
+pub enum CommandFault<'a> {
+    NoMemory,
+    /// The file of that path has a fault.
+    File { path: &'a str, fault: FileFault },
+    /// The tables of the dataset break this condition of consistency, the least of those that they break.
+    NotConsistent(u8),
+    /// A thread could not be started.
+    NoThread,
+    /// The tables were asked for while a transaction was active.
+    NotIdle,
+}
+
+impl<'a> CommandFault<'a> {
+    /// A file that can't be opened or made.
+    pub fn not_opened(path: &'a str) -> CommandFault<'a> {
+        let fault = FileFault {
+            kind: FaultKind::Io,
+            record: 0,
+        };
+        CommandFault::File { path, fault }
+    }
+
+    /// What was wrong with the file of that path.
+    pub fn of_file(path: &'a str, error: FileError) -> CommandFault<'a> {
+        match error {
+            FileError::NoMemory => CommandFault::NoMemory,
+            FileError::File(fault) => CommandFault::File { path, fault },
+        }
+    }
+
+    /// Why the scripts were not served.
+    pub fn of_serving(fault: ServeFault) -> CommandFault<'a> {
+        match fault {
+            ServeFault::NoMemory => CommandFault::NoMemory,
+            ServeFault::NotConsistent(number) => CommandFault::NotConsistent(number),
+            ServeFault::NoThread => CommandFault::NoThread,
+        }
+    }
+
+    /// Tells of the fault, and gives the exit status. That it can't be told changes nothing.
+    pub fn report<W: Write>(self, errors: &mut W) -> Status {
+        let _ = writeln!(errors, "tpcc: {self}");
+        match self {
+            CommandFault::NoMemory => Status::NoMemory,
+            CommandFault::File { .. } | CommandFault::NoThread | CommandFault::NotIdle => {
+                Status::Failed
+            }
+            CommandFault::NotConsistent(_) => Status::NotConsistent,
+        }
+    }
+}
+
+impl fmt::Display for CommandFault<'_> {
+    fn fmt<W: fmt::Write>(&self, f: &mut fmt::Formatter<W>) -> fmt::Result {
+        match self {
+            CommandFault::NoMemory => f.write_str("no memory"),
+            CommandFault::File { path, fault } => write!(f, "{path}: {fault}"),
+            CommandFault::NotConsistent(number) => write!(f, "not consistent: {number}"),
+            CommandFault::NoThread => f.write_str("no thread"),
+            CommandFault::NotIdle => f.write_str("not idle"),
+        }
+    }
+}
+
+impl<T: Drop> From<AllocFailed<T>> for CommandFault<'_> {
+    ghost from_gives = { λ _ fault. fault ≡ NoMemory };
+
+    fn from(_error: AllocFailed<T>) -> Self {
+        CommandFault::NoMemory
+    }
+}

@@ -1,0 +1,91 @@
+ghost use Rattle.tpcc.specs.Settings.{HasOneExecutor};
+
+use crate::command_fault::CommandFault;
+use crate::settings::SimSettings;
+use crate::status::Status;
+use crate::streams::{STANDARD_OUTPUT, read_tables, write_entries};
+use schema::Tables;
+use std::alloc::Global;
+use std::io::{Read, Write};
+use terminals::{read_schedule, write_told};
+use world::{OpenFault, simulate};
+
+/// Simulates a schedule on the dataset, event by event, and gives the exit status.
+///
+/// `data` is read first, and then the schedule; the first fault decides, and then nothing was run. What is
+/// told of the schedule goes to `told`, one record for each event, then the log to `log`, and then the
+/// tables to `tables`; there are none while a transaction is active. Why a simulation ended early is told
+/// on `errors`, as `tpcc: PATH: row R: fault N`, `tpcc: not consistent: N`, `tpcc: not idle` or
+/// `tpcc: no memory`.
+pub fn sim_over<
+    D: Read + Drop,
+    S: Read + Drop,
+    A: Write,
+    L: Write + Drop,
+    T: Write + Drop,
+    E: Write,
+>(
+    alloc: Global,
+    settings: &SimSettings,
+    data: D,
+    schedule: S,
+    told: &mut A,
+    log: Option<L>,
+    tables: Option<T>,
+    errors: &mut E,
+) -> Status
+    requires { HasOneExecutor settings.now }
+{
+    match sim(alloc, settings, data, schedule, told, log, tables) {
+        Ok(()) => Status::Success,
+        Err(fault) => fault.report(errors),
+    }
+}
+
+fn sim<'a, D: Read + Drop, S: Read + Drop, A: Write, L: Write + Drop, T: Write + Drop>(
+    alloc: Global,
+    settings: &SimSettings<'a>,
+    data: D,
+    schedule: S,
+    told: &mut A,
+    log: Option<L>,
+    tables: Option<T>,
+) -> Result<(), CommandFault<'a>>
+    requires { HasOneExecutor settings.now }
+{
+    let opening = read_tables(alloc, settings.data, data)?;
+    let schedule = match read_schedule(alloc, schedule) {
+        Ok(schedule) => schedule,
+        Err(error) => return Err(CommandFault::of_file(settings.schedule, error)),
+    };
+    let simulation = match simulate(alloc, opening, settings.executors, schedule.as_slice()) {
+        Ok(simulation) => simulation,
+        Err(OpenFault::NoMemory) => return Err(CommandFault::NoMemory),
+        Err(OpenFault::NotConsistent(number)) => return Err(CommandFault::NotConsistent(number)),
+        Err(OpenFault::BadExecutors) => unreachable!(),
+    };
+    if let Err(error) = write_told(alloc, told, simulation.told.as_slice()) {
+        return Err(CommandFault::of_file(STANDARD_OUTPUT, error));
+    }
+    write_entries(alloc, settings.log, log, simulation.log.as_slice())?;
+    write_tables(alloc, settings.tables, tables, &simulation.tables)
+}
+
+// Writes the tables to their file, if there is to be one.
+fn write_tables<'a, T: Write + Drop>(
+    alloc: Global,
+    path: Option<&'a str>,
+    sink: Option<T>,
+    last: &Option<Tables>,
+) -> Result<(), CommandFault<'a>> {
+    let (Some(path), Some(sink)) = (path, sink) else {
+        return Ok(());
+    };
+    let Some(last) = last else {
+        return Err(CommandFault::NotIdle);
+    };
+    match dataset::write(alloc, sink, last) {
+        Ok(_) => Ok(()),
+        Err(error) => Err(CommandFault::of_file(path, error)),
+    }
+}

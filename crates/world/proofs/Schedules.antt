@@ -1,0 +1,174 @@
+-- Schedules, one item more at a time.
+use Rattle.std.proofs.Common.{◌≡◌, ◌≢◌, ◌⊎◌, ⊎_elim, ℕ, ◌+◌, ◌<◌, List, [], ◌∷◌, ◌++◌, length, refl, sym, ap, subst, ◌∙◌, arith, append_assoc, append-nil, length-append, Option, Some, None, Result, Ok, Err, OnErr}
+use Rattle.std.specs.Prelude.{IsTrue, is_some}
+use Rattle.std.specs.List.{All, flat_map}
+use Rattle.std.proofs.lemmas.Grind.{flat_map-append}
+use Rattle.std.proofs.lemmas.List.Elements.{All-append, All-cons, All-nil}
+use Rattle.std.proofs.lemmas.List.{same_from_push}
+use Rattle.schema.specs.Database.{Database}
+use Rattle.history.specs.declared.event.Event.{Event}
+use Rattle.history.specs.declared.event.Event.TheVariants.{Take, Send}
+use Rattle.history.specs.declared.event.EventAnswer.{EventAnswer}
+use Rattle.history.specs.declared.event.EventAnswer.TheVariants.{Nothing}
+use Rattle.history.specs.declared.schedule.Scheduled.{Scheduled}
+use Rattle.history.specs.declared.schedule.Scheduled.TheVariants.{Rounds}
+use Rattle.history.specs.declared.schedule.Told.{Told}
+use Rattle.history.specs.declared.schedule.Told.TheVariants as told
+use Rattle.history.specs.History.{Step, step}
+use Rattle.history.specs.Schedules.{EndAs, EndsQuiet, Follows, IsBusy, IsIdle, Plays, Round, steps_of_round, told_in_round, told_of_round}
+use Rattle.world.specs.declared.flight.Item.{Item}
+use Rattle.world.specs.declared.flight.Message.{Message}
+use Rattle.world.specs.declared.world.Parts.{Parts}
+use Rattle.world.specs.Openings.{gathered}
+use Rattle.world.specs.Worlds.{Advances, ComeAbout, Happens, IsAtRest, SendsFirst, TakesFirst}
+use Rattle.world.proofs.Answered.{nothing_exactly}
+use Rattle.world.proofs.Runs.{comes_after, happens_once}
+
+-- ---- schedules
+
+pub nothing_played : Plays [] [] []
+nothing_played = (refl, refl)
+
+-- one item more
+pub plays_more : (schedule : List Scheduled) (item : Scheduled) (tellings more : List Told) (steps later : List Step) → Plays schedule tellings steps → Follows item more later
+    → Plays (schedule ++ item ∷ []) (tellings ++ more) (steps ++ later)
+plays_more [] item tellings more steps later played follows =
+    let same : tellings ++ more ≡ more ++ [] = ap (λ (l : List Told). l ++ more) played.0 ∙ sym (append-nil more) in
+    let alike : steps ++ later ≡ later ++ [] = ap (λ (l : List Step). l ++ later) played.1 ∙ sym (append-nil later) in
+    (more, ([], (later, ([], (same, (alike, (follows, (refl, refl))))))))
+plays_more (first ∷ schedule) item tellings more steps later played follows =
+    let told_first = played.0 in
+    let told_rest = played.1.0 in
+    let begun = played.1.1.0 in
+    let rest = played.1.1.1.0 in
+    let facts = played.1.1.1.1 in (
+      told_first,
+      (
+        told_rest ++ more,
+        (
+          begun,
+          (
+            rest ++ later,
+            (
+              ap (λ (l : List Told). l ++ more) facts.0 ∙ append_assoc told_first told_rest more,
+              (
+                ap (λ (l : List Step). l ++ later) facts.1.0 ∙ append_assoc begun rest later,
+                (facts.1.1.0, plays_more schedule item told_rest more rest later facts.1.1.1 follows),
+              ),
+            ),
+          ),
+        ),
+      ),
+    )
+
+-- ---- rounds
+
+flat_map_one_more : {X Y : Type 0} (f : X → List Y) (xs : List X) (x : X) → flat_map f (xs ++ x ∷ []) ≡ flat_map f xs ++ f x
+flat_map_one_more f xs x = flat_map-append f xs (x ∷ []) ∙ ap (λ l. flat_map f xs ++ l) (append-nil (f x))
+
+-- what is told of one round more
+pub told_more : (rounds : List Round) (r : Round) (first before mid after : List Told) → before ≡ first ++ flat_map told_of_round rounds
+    → mid ≡ before ++ told_in_round r.took → after ≡ mid ++ told_in_round r.sent → after ≡ first ++ flat_map told_of_round (rounds ++ r ∷ [])
+told_more rounds r first before mid after so_far took sent =
+    sent ∙ ap (λ (l : List Told). l ++ told_in_round r.sent) (took ∙ ap (λ (l : List Told). l ++ told_in_round r.took) so_far)
+    ∙ append_assoc (first ++ flat_map told_of_round rounds) (told_in_round r.took) (told_in_round r.sent)
+    ∙ append_assoc first (flat_map told_of_round rounds) (told_of_round r) ∙ ap (λ (l : List Told). first ++ l) (sym (flat_map_one_more told_of_round rounds r))
+
+none_told : (r : Round) → IsIdle r → told_of_round r ≡ []
+none_told r idle = ap (λ (a : EventAnswer). told_in_round a ++ told_in_round r.sent) idle.0 ∙ ap told_in_round idle.1
+
+-- what is told where they end quiet
+pub told_quiet : (rounds : List Round) (r : Round) (before after : List Told) → IsIdle r → after ≡ (before ++ flat_map told_of_round rounds) ++ told.Quiet ∷ []
+    → after ≡ before ++ (flat_map told_of_round (rounds ++ r ∷ []) ++ told.Quiet ∷ [])
+told_quiet rounds r before after idle is =
+    let same : flat_map told_of_round (rounds ++ r ∷ []) ≡ flat_map told_of_round rounds =
+    flat_map_one_more told_of_round rounds r ∙ ap (λ (l : List Told). flat_map told_of_round rounds ++ l) (none_told r idle) ∙ append-nil (flat_map told_of_round rounds) in
+    is ∙ append_assoc before (flat_map told_of_round rounds) (told.Quiet ∷ []) ∙ ap (λ (l : List Told). before ++ (l ++ told.Quiet ∷ [])) (sym same)
+
+-- rounds in which something happened, and how many
+pub record AreRounds (rounds : List Round) (count : ℕ) : Type 0 where
+  pub busy : All IsBusy rounds
+  pub many : length rounds ≡ count
+
+pub no_rounds : AreRounds [] 0
+no_rounds = record { busy = All-nil IsBusy; many = refl }
+
+pub round_more : (rounds : List Round) (count : ℕ) (r : Round) → AreRounds rounds count → IsBusy r → AreRounds (rounds ++ r ∷ []) (count + 1)
+round_more rounds count r are busy = record {
+  busy = All-append IsBusy rounds (r ∷ []) are.busy (All-cons IsBusy r [] busy (All-nil IsBusy));
+  many = omega (arith, length-append rounds (r ∷ []), are.many);
+}
+
+-- they end quiet with one in which nothing could happen
+pub end_quiet : (rounds : List Round) (count : ℕ) (last : Round) → AreRounds rounds count → count < 100000 → IsIdle last → EndAs (rounds ++ last ∷ []) told.Quiet
+end_quiet rounds count last are few idle =
+    (rounds, (last, (refl, (are.busy, (idle, omega (arith, length-append rounds (last ∷ []), are.many, few))))))
+
+-- they end at the limit
+pub end_at_limit : (rounds : List Round) → AreRounds rounds 100000 → EndAs rounds told.Limit
+end_at_limit rounds are = (are.busy, are.many)
+
+-- ---- what was told last
+
+-- what was told last isn't that rounds ended quiet
+pub ends_otherwise : (tellings before : List Told) (last : Told) → tellings ≡ before ++ last ∷ [] → last ≢ told.Quiet → ¬ EndsQuiet tellings
+ends_otherwise tellings before last is other quiet = other ((same_from_push before quiet.0 last told.Quiet (sym is ∙ quiet.1)).1)
+
+pub nothing_told : ¬ EndsQuiet []
+nothing_told quiet = absurd (omega (arith, ap (λ (l : List Told). length l) quiet.1, length-append quiet.0 (told.Quiet ∷ [])))
+
+-- ---- worlds
+
+none_of : {X : Type 0} (xs : List X) → (let zero : ℕ = 0 in zero ≢ zero) ⊎ (xs ≡ []) → xs ≡ []
+none_of xs h = ⊎_elim (λ other. absurd (other refl)) (λ is. is) h
+
+module _ {J : Type 0} where
+  -- an event came about
+  pub event_comes : (event : Event) (answer : EventAnswer) (old new : Parts J) → Happens event old answer new → Advances old (step event answer ∷ []) new
+      → ComeAbout (step event answer ∷ []) old new
+  event_comes event answer old new happens advances = (happens_once event answer old new happens, advances)
+
+  -- a round more came about
+  pub round_comes : (rounds : List Round) (r : Round) (first old mid new : Parts J) → ComeAbout (flat_map steps_of_round rounds) first old
+      → ComeAbout (step (Take 0) r.took ∷ []) old mid → ComeAbout (step (Send 0) r.sent ∷ []) mid new
+      → ComeAbout (flat_map steps_of_round (rounds ++ r ∷ [])) first new
+  round_comes rounds r first old mid new before takes sends =
+      let both : ComeAbout (steps_of_round r) old new = comes_after (step (Take 0) r.took ∷ []) (step (Send 0) r.sent ∷ []) old mid new takes sends in
+      subst (λ (steps : List Step). ComeAbout steps first new) (sym (flat_map_one_more steps_of_round rounds r))
+      (comes_after (flat_map steps_of_round rounds) (steps_of_round r) first old new before both)
+
+  untaken : (messages : List (Message J)) (old new : Parts J) → messages ≡ [] → TakesFirst messages old Nothing new → new ≡ old
+  untaken [] old new is said = said.1
+  untaken (message ∷ rest) old new is said = absurd (cc)
+
+  unsent : (items : List (Item J)) (old new : Parts J) → items ≡ [] → SendsFirst items old Nothing new → new ≡ old
+  unsent [] old new is said = said.1
+  unsent (item ∷ rest) old new is said = absurd (cc)
+
+  rest_at : (old mid new : Parts J) → Happens (Take 0) old Nothing mid → Happens (Send 0) mid Nothing new → IsAtRest new
+  rest_at old mid new takes sends =
+      let inbox : old.inbox ≡ [] = none_of old.inbox ((nothing_exactly (Take 0) old mid Nothing takes).0 refl) in
+      let outbox : mid.outbox ≡ [] = none_of mid.outbox ((nothing_exactly (Send 0) mid new Nothing sends).0 refl) in
+      let same : mid ≡ old = untaken old.inbox old mid inbox takes in
+      let still : new ≡ mid = unsent mid.outbox mid new outbox sends in
+      subst IsAtRest (sym still) (ap (λ (w : Parts J). w.inbox) same ∙ inbox, outbox)
+
+  -- after a round in which nothing could happen, nothing can be taken or sent
+  pub rests : (r : Round) (old mid new : Parts J) → IsIdle r → Happens (Take 0) old r.took mid → Happens (Send 0) mid r.sent new → IsAtRest new
+  rests r old mid new idle takes sends =
+      rest_at old mid new (subst (λ a. Happens (Take 0) old a mid) idle.0 takes) (subst (λ a. Happens (Send 0) mid a new) idle.1 sends)
+
+-- whatever came of it
+pub on_err : {X E P : Type 0} (r : Result X E) → P → OnErr r P
+on_err (Ok x) p = tt
+on_err (Err e) p = p
+
+-- ---- the tables that are gathered
+
+pub gathered_some : {X : Type 0} (active : Option X) (tables : Database) → ¬ IsTrue (is_some active) → Some tables ≡ gathered (is_some active) tables
+gathered_some None tables other = refl
+gathered_some (Some x) tables other = absurd (other refl)
+
+pub gathered_none : {X : Type 0} (active : Option X) (tables : Database) → IsTrue (is_some active) → None ≡ gathered (is_some active) tables
+gathered_none None tables is = absurd (cc)
+gathered_none (Some x) tables is = refl

@@ -1,0 +1,34 @@
+use Rattle.std.proofs.Common.{[], ◌∷◌, refl, sym, subst}
+use Rattle.history.specs.History.{step}
+use Rattle.history.specs.Schedules.{Follows}
+use Rattle.history.specs.declared.schedule.Told.TheVariants as told
+use Rattle.world.proofs.Schedules.{event_comes, on_err}
+use Rattle.world.proofs.world.World.play_item.Goals as goal
+
+pub returns-in_err-push-in-Event-clause-err : goal.returns-in_err-push-in-Event-clause-err
+returns-in_err-push-in-Event-clause-err g c =
+    let event = c.in-Event.event in
+    let answer = c.step-answer.result in
+    on_err c.from_residual.result (
+      step event answer ∷ [],
+      event_comes event answer c.args.self.now c.step-answer.new.self c.step-answer.ensures.happens c.step-answer.ensures.advances,
+    )
+
+pub returns-in_ok-push-in-Event-clause-follows : goal.returns-in_ok-push-in-Event-clause-follows
+returns-in_ok-push-in-Event-clause-follows g c =
+    let event = c.in-Event.event in
+    let answer = c.step-answer.result in
+    let tellings = told.Event answer ∷ [] in
+    let steps = step event answer ∷ [] in (
+      tellings,
+      (
+        steps,
+        (
+          c.in_ok-push-in-Event.ensures.items,
+          (
+            subst (λ item. Follows item tellings steps) (sym c.in-Event.is) (answer, (refl, refl)),
+            event_comes event answer c.args.self.now c.step-answer.new.self c.step-answer.ensures.happens c.step-answer.ensures.advances,
+          ),
+        ),
+      ),
+    )
