@@ -1,14 +1,13 @@
-ghost use Rattle.std.specs.Prelude.{◌≡◌, [], ◌∷◌, IsTrue, OnOk};
+ghost use Rattle.std.specs.Prelude.{[], ◌∷◌, IsTrue, OnOk};
 ghost use Rattle.schema.specs.Scale.{has_customer, customer_keys};
-ghost use Rattle.files.specs.Word.{credit_text};
 ghost use Rattle.dataset.specs.Records.{Number, customer_fields, account_fields};
 ghost use Rattle.dataset.specs.Writing.{Adds};
 
 use crate::moments::put_moment;
 use crate::recorded::{Dense, Recorded};
 use crate::warehouses::{address, put_address};
-use files::{Fields, NewRecord};
-use rows::{Credit, Customer, CustomerKey, District};
+use files::{Fields, NewRecord, credit_word};
+use rows::{Customer, CustomerKey, District};
 use schema::{NoMemory, Scale};
 
 /// Takes the key of a customer, three fields.
@@ -51,28 +50,28 @@ fn parse(fields: &mut Fields) -> Customer {
 }
 
 /// Adds the key of a customer, three fields.
-pub fn put_key(record: &mut NewRecord, key: CustomerKey) -> Result<(), NoMemory>
-    ensures { OnOk result (Adds (Number key.w_id ∷ Number key.d_id ∷ Number key.c_id ∷ []) record.old record.new) }
+pub fn put_key(out: &mut NewRecord, key: CustomerKey) -> Result<(), NoMemory>
+    ensures { OnOk result (Adds (Number key.w_id ∷ Number key.d_id ∷ Number key.c_id ∷ []) out.old out.new) }
 {
-    record.push_number(u64::from(key.w_id))?;
-    record.push_number(u64::from(key.d_id))?;
-    record.push_number(u64::from(key.c_id))
+    out.push_number(u64::from(key.w_id))?;
+    out.push_number(u64::from(key.d_id))?;
+    out.push_number(u64::from(key.c_id))
 }
 
 impl Recorded<CustomerKey> for Customer {
     ghost fields = { customer_fields };
 
-    fn put(&self, key: CustomerKey, record: &mut NewRecord) -> Result<(), NoMemory> {
-        record.push("C")?;
-        put_key(record, key)?;
-        record.push(self.first.as_str())?;
-        record.push(self.middle.as_str())?;
-        record.push(self.last.as_str())?;
-        put_address(record, &self.address)?;
-        record.push(self.phone.as_str())?;
-        put_moment(record, self.since)?;
-        record.push(credit_word(self.credit))?;
-        put_account(record, self)
+    fn put(&self, key: CustomerKey, out: &mut NewRecord) -> Result<(), NoMemory> {
+        out.push("C")?;
+        put_key(out, key)?;
+        out.push(self.first.as_str())?;
+        out.push(self.middle.as_str())?;
+        out.push(self.last.as_str())?;
+        put_address(out, &self.address)?;
+        out.push(self.phone.as_str())?;
+        put_moment(out, self.since)?;
+        out.push(credit_word(self.credit))?;
+        put_account(out, self)
     }
 }
 
@@ -91,23 +90,14 @@ impl Dense<CustomerKey> for Customer {
 }
 
 // Adds C_CREDIT_LIM to C_DATA.
-fn put_account(record: &mut NewRecord, row: &Customer) -> Result<(), NoMemory>
-    ensures { OnOk result (Adds (account_fields row.now) record.old record.new) }
+fn put_account(out: &mut NewRecord, row: &Customer) -> Result<(), NoMemory>
+    ensures { OnOk result (Adds (account_fields row.now) out.old out.new) }
 {
-    record.push_signed(row.credit_lim.get())?;
-    record.push_number(u64::from(row.discount.get()))?;
-    record.push_signed(row.balance.get())?;
-    record.push_signed(row.ytd_payment.get())?;
-    record.push_number(u64::from(row.payment_cnt.get()))?;
-    record.push_number(u64::from(row.delivery_cnt.get()))?;
-    record.push(row.data.as_str())
-}
-
-fn credit_word(credit: Credit) -> &'static str
-    ensures { result.now ≡ credit_text credit }
-{
-    match credit {
-        Credit::Good => "GC",
-        Credit::Bad => "BC",
-    }
+    out.push_signed(row.credit_lim.get())?;
+    out.push_number(u64::from(row.discount.get()))?;
+    out.push_signed(row.balance.get())?;
+    out.push_signed(row.ytd_payment.get())?;
+    out.push_number(u64::from(row.payment_cnt.get()))?;
+    out.push_number(u64::from(row.delivery_cnt.get()))?;
+    out.push(row.data.as_str())
 }

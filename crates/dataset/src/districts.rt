@@ -35,24 +35,24 @@ pub fn add(fields: &mut Fields, districts: &mut Vec<District>) -> Result<(), NoM
 }
 
 /// Adds the key of a district, two fields.
-pub fn put_key(record: &mut NewRecord, key: DistrictKey) -> Result<(), NoMemory>
-    ensures { OnOk result (Adds (Number key.w_id ∷ Number key.d_id ∷ []) record.old record.new) }
+pub fn put_key(out: &mut NewRecord, key: DistrictKey) -> Result<(), NoMemory>
+    ensures { OnOk result (Adds (Number key.w_id ∷ Number key.d_id ∷ []) out.old out.new) }
 {
-    record.push_number(u64::from(key.w_id))?;
-    record.push_number(u64::from(key.d_id))
+    out.push_number(u64::from(key.w_id))?;
+    out.push_number(u64::from(key.d_id))
 }
 
 impl Recorded<DistrictKey> for District {
     ghost fields = { district_fields };
 
-    fn put(&self, key: DistrictKey, record: &mut NewRecord) -> Result<(), NoMemory> {
-        record.push("D")?;
-        put_key(record, key)?;
-        record.push(self.name.as_str())?;
-        put_address(record, &self.address)?;
-        record.push_number(u64::from(self.tax.get()))?;
-        record.push_signed(self.ytd.get())?;
-        record.push_number(u64::from(self.next_o_id.get()))
+    fn put(&self, key: DistrictKey, out: &mut NewRecord) -> Result<(), NoMemory> {
+        out.push("D")?;
+        put_key(out, key)?;
+        out.push(self.name.as_str())?;
+        put_address(out, &self.address)?;
+        out.push_number(u64::from(self.tax.get()))?;
+        out.push_signed(self.ytd.get())?;
+        out.push_number(u64::from(self.next_o_id.get()))
     }
 }
 

@@ -20,17 +20,17 @@ pub fn check(fields: &mut Fields, rows: &TableRows, histories: u64) {
 }
 
 /// Adds the fields of the end record.
-pub fn put(record: &mut NewRecord, rows: &TableRows) -> Result<(), NoMemory>
-    ensures { OnOk result (Adds (count_fields rows.now) record.old record.new) }
+pub fn put(out: &mut NewRecord, rows: &TableRows) -> Result<(), NoMemory>
+    ensures { OnOk result (Adds (count_fields rows.now) out.old out.new) }
 {
-    record.push("END")?;
-    record.push_number(rows.items.len() as u64)?;
-    record.push_number(rows.warehouses.len() as u64)?;
-    record.push_number(rows.districts.len() as u64)?;
-    record.push_number(rows.stocks.len() as u64)?;
-    record.push_number(rows.customers.len() as u64)?;
-    record.push_display(&histories::count(&rows.histories))?;
-    record.push_number(rows.orders.len() as u64)?;
-    record.push_number(rows.new_orders.len() as u64)?;
-    record.push_number(rows.lines.len() as u64)
+    out.push("END")?;
+    out.push_number(rows.items.len() as u64)?;
+    out.push_number(rows.warehouses.len() as u64)?;
+    out.push_number(rows.districts.len() as u64)?;
+    out.push_number(rows.stocks.len() as u64)?;
+    out.push_number(rows.customers.len() as u64)?;
+    out.push_display(&histories::count(&rows.histories))?;
+    out.push_number(rows.orders.len() as u64)?;
+    out.push_number(rows.new_orders.len() as u64)?;
+    out.push_number(rows.lines.len() as u64)
 }

@@ -20,12 +20,12 @@ pub fn parse(fields: &mut Fields) -> Result<Scale, FaultKind> {
 }
 
 /// Adds the fields of the header record.
-pub fn put(record: &mut NewRecord, scale: Scale) -> Result<(), NoMemory>
-    ensures { OnOk result (Adds (header_fields scale) record.old record.new) }
+pub fn put(out: &mut NewRecord, scale: Scale) -> Result<(), NoMemory>
+    ensures { OnOk result (Adds (header_fields scale) out.old out.new) }
 {
-    record.push("TPCC")?;
-    record.push_number(1)?;
-    record.push_number(u64::from(scale.warehouses))?;
-    record.push_number(u64::from(scale.items))?;
-    record.push_number(u64::from(scale.customers))
+    out.push("TPCC")?;
+    out.push_number(1)?;
+    out.push_number(u64::from(scale.warehouses))?;
+    out.push_number(u64::from(scale.items))?;
+    out.push_number(u64::from(scale.customers))
 }

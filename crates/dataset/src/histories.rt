@@ -26,20 +26,20 @@ pub fn parse(fields: &mut Fields, scale: Scale) -> History {
 impl Recorded<DistrictKey> for History {
     ghost fields = { history_fields };
 
-    fn put(&self, home: DistrictKey, record: &mut NewRecord) -> Result<(), NoMemory> {
-        record.push("H")?;
-        districts::put_key(record, home)?;
-        customers::put_key(record, self.customer)?;
-        put_moment(record, self.date)?;
-        record.push_signed(self.amount.get())?;
-        record.push(self.data.as_str())
+    fn put(&self, home: DistrictKey, out: &mut NewRecord) -> Result<(), NoMemory> {
+        out.push("H")?;
+        districts::put_key(out, home)?;
+        customers::put_key(out, self.customer)?;
+        put_moment(out, self.date)?;
+        out.push_signed(self.amount.get())?;
+        out.push(self.data.as_str())
     }
 }
 
 /// Writes the payments of all districts, each district's in the order of its list.
 pub fn write<W: Write + Drop>(
     writer: &mut RecordWriter<W>,
-    record: &mut NewRecord,
+    out: &mut NewRecord,
     scale: Scale,
     lists: &[HistoryList],
 ) -> Result<(), FileError>
@@ -48,7 +48,7 @@ pub fn write<W: Write + Drop>(
     ensures { OnOk result (Writes W.contents writer.old writer.new (payment_records (zip (district_keys scale) lists.now))) }
 {
     for (place, list) in lists.iter().enumerate() {
-        write_list(writer, record, District::key_at(scale, place), list.rows())?;
+        write_list(writer, out, District::key_at(scale, place), list.rows())?;
     }
     Ok(())
 }
@@ -56,7 +56,7 @@ pub fn write<W: Write + Drop>(
 // Writes the payments of a district.
 fn write_list<W: Write + Drop>(
     writer: &mut RecordWriter<W>,
-    record: &mut NewRecord,
+    out: &mut NewRecord,
     home: DistrictKey,
     payments: &[History],
 ) -> Result<(), FileError>
@@ -64,9 +64,9 @@ fn write_list<W: Write + Drop>(
     ensures { OnOk result (Writes W.contents writer.old writer.new (map (history_fields home) payments.now)) }
 {
     for payment in payments {
-        record.clear();
-        payment.put(home, record)?;
-        writer.write(record)?;
+        out.clear();
+        payment.put(home, out)?;
+        writer.write(out)?;
     }
     Ok(())
 }

@@ -31,13 +31,13 @@ pub fn add(fields: &mut Fields, items: &mut Vec<Item>) -> Result<(), NoMemory> {
 impl Recorded<u32> for Item {
     ghost fields = { item_fields };
 
-    fn put(&self, i_id: u32, record: &mut NewRecord) -> Result<(), NoMemory> {
-        record.push("I")?;
-        record.push_number(u64::from(i_id))?;
-        record.push_number(u64::from(self.im_id.get()))?;
-        record.push(self.name.as_str())?;
-        record.push_number(u64::from(self.price.get()))?;
-        record.push(self.data.as_str())
+    fn put(&self, i_id: u32, out: &mut NewRecord) -> Result<(), NoMemory> {
+        out.push("I")?;
+        out.push_number(u64::from(i_id))?;
+        out.push_number(u64::from(self.im_id.get()))?;
+        out.push(self.name.as_str())?;
+        out.push_number(u64::from(self.price.get()))?;
+        out.push(self.data.as_str())
     }
 }
 

@@ -50,25 +50,25 @@ pub fn add(
 impl Recorded<OrderLineKey> for OrderLine {
     ghost fields = { line_fields };
 
-    fn put(&self, key: OrderLineKey, record: &mut NewRecord) -> Result<(), NoMemory> {
-        record.push("L")?;
-        orders::put_key(record, key.order())?;
-        record.push_number(u64::from(key.number))?;
-        record.push_number(u64::from(self.i_id))?;
-        record.push_number(u64::from(self.supply_w_id))?;
-        put_delivery(record, self.delivery_d)?;
-        record.push_number(u64::from(self.quantity.get()))?;
-        record.push_number(u64::from(self.amount.get()))?;
-        record.push(self.dist_info.as_str())
+    fn put(&self, key: OrderLineKey, out: &mut NewRecord) -> Result<(), NoMemory> {
+        out.push("L")?;
+        orders::put_key(out, key.order())?;
+        out.push_number(u64::from(key.number))?;
+        out.push_number(u64::from(self.i_id))?;
+        out.push_number(u64::from(self.supply_w_id))?;
+        put_delivery(out, self.delivery_d)?;
+        out.push_number(u64::from(self.quantity.get()))?;
+        out.push_number(u64::from(self.amount.get()))?;
+        out.push(self.dist_info.as_str())
     }
 }
 
 // Adds OL_DELIVERY_D, an empty field where it is null.
-fn put_delivery(record: &mut NewRecord, delivery: Option<Moment>) -> Result<(), NoMemory>
-    ensures { OnOk result (Adds (delivery_field delivery ∷ []) record.old record.new) }
+fn put_delivery(out: &mut NewRecord, delivery: Option<Moment>) -> Result<(), NoMemory>
+    ensures { OnOk result (Adds (delivery_field delivery ∷ []) out.old out.new) }
 {
     match delivery {
-        Some(moment) => put_moment(record, moment),
-        None => record.push(""),
+        Some(moment) => put_moment(out, moment),
+        None => out.push(""),
     }
 }

@@ -7,8 +7,8 @@ use rows::Moment;
 use schema::NoMemory;
 
 /// Adds a field that spells the moment.
-pub fn put_moment(record: &mut NewRecord, moment: Moment) -> Result<(), NoMemory>
-    ensures { OnOk result (Adds (Date moment ∷ []) record.old record.new) }
+pub fn put_moment(out: &mut NewRecord, moment: Moment) -> Result<(), NoMemory>
+    ensures { OnOk result (Adds (Date moment ∷ []) out.old out.new) }
 {
-    record.push(moment_text(moment).as_str())
+    out.push(moment_text(moment).as_str())
 }

@@ -22,8 +22,8 @@ pub fn add(
 impl Recorded<OrderKey> for NewOrder {
     ghost fields = { new_order_fields };
 
-    fn put(&self, key: OrderKey, record: &mut NewRecord) -> Result<(), NoMemory> {
-        record.push("N")?;
-        orders::put_key(record, key)
+    fn put(&self, key: OrderKey, out: &mut NewRecord) -> Result<(), NoMemory> {
+        out.push("N")?;
+        orders::put_key(out, key)
     }
 }

@@ -44,34 +44,34 @@ pub fn add(
 }
 
 /// Adds the key of an order, three fields.
-pub fn put_key(record: &mut NewRecord, key: OrderKey) -> Result<(), NoMemory>
-    ensures { OnOk result (Adds (Number key.w_id ∷ Number key.d_id ∷ Number key.o_id ∷ []) record.old record.new) }
+pub fn put_key(out: &mut NewRecord, key: OrderKey) -> Result<(), NoMemory>
+    ensures { OnOk result (Adds (Number key.w_id ∷ Number key.d_id ∷ Number key.o_id ∷ []) out.old out.new) }
 {
-    record.push_number(u64::from(key.w_id))?;
-    record.push_number(u64::from(key.d_id))?;
-    record.push_number(u64::from(key.o_id))
+    out.push_number(u64::from(key.w_id))?;
+    out.push_number(u64::from(key.d_id))?;
+    out.push_number(u64::from(key.o_id))
 }
 
 impl Recorded<OrderKey> for Order {
     ghost fields = { order_fields };
 
-    fn put(&self, key: OrderKey, record: &mut NewRecord) -> Result<(), NoMemory> {
-        record.push("O")?;
-        put_key(record, key)?;
-        record.push_number(u64::from(self.c_id))?;
-        put_moment(record, self.entry_d)?;
-        put_carrier(record, self.carrier_id)?;
-        record.push_number(u64::from(self.ol_cnt.get()))?;
-        record.push_number(u64::from(self.all_local))
+    fn put(&self, key: OrderKey, out: &mut NewRecord) -> Result<(), NoMemory> {
+        out.push("O")?;
+        put_key(out, key)?;
+        out.push_number(u64::from(self.c_id))?;
+        put_moment(out, self.entry_d)?;
+        put_carrier(out, self.carrier_id)?;
+        out.push_number(u64::from(self.ol_cnt.get()))?;
+        out.push_number(u64::from(self.all_local))
     }
 }
 
 // Adds O_CARRIER_ID, an empty field where it is null.
-fn put_carrier(record: &mut NewRecord, carrier: Option<CarrierId>) -> Result<(), NoMemory>
-    ensures { OnOk result (Adds (carrier_field carrier ∷ []) record.old record.new) }
+fn put_carrier(out: &mut NewRecord, carrier: Option<CarrierId>) -> Result<(), NoMemory>
+    ensures { OnOk result (Adds (carrier_field carrier ∷ []) out.old out.new) }
 {
     match carrier {
-        Some(carrier) => record.push_number(u64::from(carrier.get())),
-        None => record.push(""),
+        Some(carrier) => out.push_number(u64::from(carrier.get())),
+        None => out.push(""),
     }
 }

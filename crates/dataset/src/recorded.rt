@@ -12,8 +12,8 @@ pub trait Recorded<K> {
     ghost fields: { K → Self → List Field };
 
     /// Adds the fields of the record: the table's letter, the key, and the other columns.
-    fn put(&self, key: K, record: &mut NewRecord) -> Result<(), NoMemory>
-        ensures { OnOk result (Adds (fields key self.now) record.old record.new) };
+    fn put(&self, key: K, out: &mut NewRecord) -> Result<(), NoMemory>
+        ensures { OnOk result (Adds (fields key self.now) out.old out.new) };
 }
 
 /// A row of a table whose keys are exactly those of the scale.

@@ -53,16 +53,16 @@ fn district_infos(fields: &mut Fields) -> [Text<24>; 10] {
 impl Recorded<StockKey> for Stock {
     ghost fields = { stock_fields };
 
-    fn put(&self, key: StockKey, record: &mut NewRecord) -> Result<(), NoMemory> {
-        record.push("S")?;
-        record.push_number(u64::from(key.w_id))?;
-        record.push_number(u64::from(key.i_id))?;
-        record.push_number(u64::from(self.quantity.get()))?;
-        put_district_infos(record, &self.dist)?;
-        record.push_number(u64::from(self.ytd.get()))?;
-        record.push_number(u64::from(self.order_cnt.get()))?;
-        record.push_number(u64::from(self.remote_cnt.get()))?;
-        record.push(self.data.as_str())
+    fn put(&self, key: StockKey, out: &mut NewRecord) -> Result<(), NoMemory> {
+        out.push("S")?;
+        out.push_number(u64::from(key.w_id))?;
+        out.push_number(u64::from(key.i_id))?;
+        out.push_number(u64::from(self.quantity.get()))?;
+        put_district_infos(out, &self.dist)?;
+        out.push_number(u64::from(self.ytd.get()))?;
+        out.push_number(u64::from(self.order_cnt.get()))?;
+        out.push_number(u64::from(self.remote_cnt.get()))?;
+        out.push(self.data.as_str())
     }
 }
 
@@ -79,11 +79,11 @@ impl Dense<StockKey> for Stock {
 }
 
 // Adds S_DIST_01 to S_DIST_10.
-fn put_district_infos(record: &mut NewRecord, infos: &[Text<24>]) -> Result<(), NoMemory>
-    ensures { OnOk result (Adds (map (λ text. Words text) infos.now) record.old record.new) }
+fn put_district_infos(out: &mut NewRecord, infos: &[Text<24>]) -> Result<(), NoMemory>
+    ensures { OnOk result (Adds (map (λ text. Words text) infos.now) out.old out.new) }
 {
     for info in infos {
-        record.push(info.as_str())?;
+        out.push(info.as_str())?;
     }
     Ok(())
 }

@@ -43,13 +43,13 @@ pub fn address(fields: &mut Fields) -> Address {
 impl Recorded<u32> for Warehouse {
     ghost fields = { warehouse_fields };
 
-    fn put(&self, w_id: u32, record: &mut NewRecord) -> Result<(), NoMemory> {
-        record.push("W")?;
-        record.push_number(u64::from(w_id))?;
-        record.push(self.name.as_str())?;
-        put_address(record, &self.address)?;
-        record.push_number(u64::from(self.tax.get()))?;
-        record.push_signed(self.ytd.get())
+    fn put(&self, w_id: u32, out: &mut NewRecord) -> Result<(), NoMemory> {
+        out.push("W")?;
+        out.push_number(u64::from(w_id))?;
+        out.push(self.name.as_str())?;
+        put_address(out, &self.address)?;
+        out.push_number(u64::from(self.tax.get()))?;
+        out.push_signed(self.ytd.get())
     }
 }
 
@@ -62,12 +62,12 @@ impl Dense<u32> for Warehouse {
 }
 
 /// Adds the five fields of an address.
-pub fn put_address(record: &mut NewRecord, address: &Address) -> Result<(), NoMemory>
-    ensures { OnOk result (Adds (address_fields address.now) record.old record.new) }
+pub fn put_address(out: &mut NewRecord, address: &Address) -> Result<(), NoMemory>
+    ensures { OnOk result (Adds (address_fields address.now) out.old out.new) }
 {
-    record.push(address.street_1.as_str())?;
-    record.push(address.street_2.as_str())?;
-    record.push(address.city.as_str())?;
-    record.push(address.state.as_str())?;
-    record.push(address.zip.as_str())
+    out.push(address.street_1.as_str())?;
+    out.push(address.street_2.as_str())?;
+    out.push(address.city.as_str())?;
+    out.push(address.state.as_str())?;
+    out.push(address.zip.as_str())
 }

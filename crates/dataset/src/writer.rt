@@ -26,28 +26,28 @@ pub fn write<W: Write + Drop>(alloc: Global, sink: W, tables: &Tables) -> Result
     let scale = tables.scale();
     let rows = tables.rows();
     let mut writer = RecordWriter::new(sink);
-    let mut record = NewRecord::new(alloc);
-    header::put(&mut record, scale)?;
-    writer.write(&record)?;
-    write_dense(&mut writer, &mut record, scale, &rows.items)?;
-    write_dense(&mut writer, &mut record, scale, &rows.warehouses)?;
-    write_dense(&mut writer, &mut record, scale, &rows.districts)?;
-    write_dense(&mut writer, &mut record, scale, &rows.stocks)?;
-    write_dense(&mut writer, &mut record, scale, &rows.customers)?;
-    histories::write(&mut writer, &mut record, scale, &rows.histories)?;
-    write_ordered(&mut writer, &mut record, &rows.orders)?;
-    write_ordered(&mut writer, &mut record, &rows.new_orders)?;
-    write_ordered(&mut writer, &mut record, &rows.lines)?;
-    record.clear();
-    end::put(&mut record, rows)?;
-    writer.write(&record)?;
+    let mut out = NewRecord::new(alloc);
+    header::put(&mut out, scale)?;
+    writer.write(&out)?;
+    write_dense(&mut writer, &mut out, scale, &rows.items)?;
+    write_dense(&mut writer, &mut out, scale, &rows.warehouses)?;
+    write_dense(&mut writer, &mut out, scale, &rows.districts)?;
+    write_dense(&mut writer, &mut out, scale, &rows.stocks)?;
+    write_dense(&mut writer, &mut out, scale, &rows.customers)?;
+    histories::write(&mut writer, &mut out, scale, &rows.histories)?;
+    write_ordered(&mut writer, &mut out, &rows.orders)?;
+    write_ordered(&mut writer, &mut out, &rows.new_orders)?;
+    write_ordered(&mut writer, &mut out, &rows.lines)?;
+    out.clear();
+    end::put(&mut out, rows)?;
+    writer.write(&out)?;
     writer.finish()
 }
 
 // Writes the rows of a table that stand in the order of the scale's keys.
 fn write_dense<W: Write + Drop, K, T: Dense<K>>(
     writer: &mut RecordWriter<W>,
-    record: &mut NewRecord,
+    out: &mut NewRecord,
     scale: Scale,
     rows: &[T],
 ) -> Result<(), FileError>
@@ -56,9 +56,9 @@ fn write_dense<W: Write + Drop, K, T: Dense<K>>(
     ensures { OnOk result (Writes W.contents writer.old writer.new (row_records T.fields (zip (T.keys scale) rows.now))) }
 {
     for (place, row) in rows.iter().enumerate() {
-        record.clear();
-        row.put(T::key_at(scale, place), record)?;
-        writer.write(record)?;
+        out.clear();
+        row.put(T::key_at(scale, place), out)?;
+        writer.write(out)?;
     }
     Ok(())
 }
@@ -66,7 +66,7 @@ fn write_dense<W: Write + Drop, K, T: Dense<K>>(
 // Writes the rows of a table that stand by their keys.
 fn write_ordered<W: Write + Drop, K: Ord + Copy, T: Recorded<K>>(
     writer: &mut RecordWriter<W>,
-    record: &mut NewRecord,
+    out: &mut NewRecord,
     rows: &BTreeMap<K, T>,
 ) -> Result<(), FileError>
     requires { IsBetweenRecords writer.old }
@@ -74,9 +74,9 @@ fn write_ordered<W: Write + Drop, K: Ord + Copy, T: Recorded<K>>(
     ensures ordered { OnOk result (IsOrdered K.cmp rows.now) }
 {
     for (key, row) in rows.iter() {
-        record.clear();
-        row.put(*key, record)?;
-        writer.write(record)?;
+        out.clear();
+        row.put(*key, out)?;
+        writer.write(out)?;
     }
     Ok(())
 }

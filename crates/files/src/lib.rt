@@ -18,7 +18,7 @@ pub use new_record::NewRecord;
 pub use numbers::{parse_cents, parse_ranged, parse_rate, parse_whole};
 pub use record_writer::RecordWriter;
 pub use records::Records;
-pub use words::{parse_credit, parse_text};
+pub use words::{credit_word, parse_credit, parse_text};
 
 #[cfg(test)]
 mod tests;

@@ -1,5 +1,5 @@
 ghost use Rattle.std.specs.Prelude.{◌≡◌, ◌↔◌, ◌⊎◌, codes, IfErr};
-ghost use Rattle.files.specs.Word.{text_read};
+ghost use Rattle.files.specs.Word.{credit_text, text_read};
 
 use crate::FaultKind;
 use rows::{Credit, Text, TextFault};
@@ -30,5 +30,15 @@ pub fn parse_credit(field: &str) -> Result<Credit, FaultKind>
             Err(TextFault::Byte) => Err(FaultKind::NotOfKind),
             _ => Err(FaultKind::OutOfRange),
         },
+    }
+}
+
+/// How a credit is spelt: `GC` where it is good and `BC` where it is bad.
+pub fn credit_word(credit: Credit) -> &'static str
+    ensures { result.now ≡ credit_text credit }
+{
+    match credit {
+        Credit::Good => "GC",
+        Credit::Bad => "BC",
     }
 }

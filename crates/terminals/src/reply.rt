@@ -1,10 +1,9 @@
-ghost use Rattle.std.specs.Prelude.{◌≡◌, ◌++◌, OnOk, codes};
-ghost use Rattle.files.specs.Word.{credit_text};
+ghost use Rattle.std.specs.Prelude.{◌≡◌, ◌++◌, OnOk};
 ghost use Rattle.terminals.specs.Answers.{fault_text, reply_fields};
 
-use files::NewRecord;
+use files::{NewRecord, credit_word};
 use requests::{Fault, PaymentReply, Reply};
-use schema::{Credit, NoMemory};
+use schema::NoMemory;
 
 /// Adds the fields of the reply, with its letter.
 pub fn put(row: &mut NewRecord, reply: &Reply) -> Result<(), NoMemory>
@@ -31,15 +30,6 @@ fn put_payment(row: &mut NewRecord, shown: &PaymentReply) -> Result<(), NoMemory
     row.push_number(u64::from(shown.discount.get()))?;
     row.push_signed(shown.balance.get())?;
     row.push(shown.data.as_str())
-}
-
-fn credit_word(credit: Credit) -> &'static str
-    ensures { result.now ≡ credit_text credit }
-{
-    match credit {
-        Credit::Good => "GC",
-        Credit::Bad => "BC",
-    }
 }
 
 fn fault_word(fault: Fault) -> &'static str

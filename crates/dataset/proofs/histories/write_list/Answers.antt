@@ -22,5 +22,5 @@ loop-payment-preserved g c =
     ap (map fields) (take-next payments i row below c.payment-item.is) ∙ map-append fields (take i payments) (row ∷ []) in
     let writes : List (List Field) → Type 0 = λ records. Writes contents c.args.writer.now c.write.new.self records in
     subst writes (sym one)
-    (writes-more contents c.args.writer.now c.loop-payment.writer c.write.new.self before (fields row) c.clear.new.self c.put.new.record
+    (writes-more contents c.args.writer.now c.loop-payment.writer c.write.new.self before (fields row) c.clear.new.self c.put.new.out
     c.loop-payment.invariant c.clear.ensures c.in_ok-put.ensures c.in_ok-write.ensures.between c.in_ok-write.ensures.text)

@@ -15,5 +15,5 @@ loop-info-preserved c =
     let below : i < length infos = c.loop-info-test.true in
     let one : map field (take (i + 1) infos) ≡ map field (take i infos) ++ (Words info ∷ []) =
     ap (map field) (take-next infos i info below c.info-item.is) ∙ map-append field (take i infos) (info ∷ []) in
-    let adds : List Field → Type 0 = λ fields. Adds fields c.args.record.now c.push.new.self in
+    let adds : List Field → Type 0 = λ fields. Adds fields c.args.out.now c.push.new.self in
     subst adds (sym one) (adds-then c.loop-info.invariant (adds-words info _ c.as_str.ensures.bytes c.in_ok-push.ensures.added))

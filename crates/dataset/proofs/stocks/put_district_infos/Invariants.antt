@@ -4,4 +4,4 @@ use Rattle.dataset.specs.Writing.{Adds}
 use Rattle.dataset.proofs.stocks.put_district_infos.Given as goal
 
 abbrev pub invariant-loop-info : goal.invariant-loop-info
-invariant-loop-info l = Adds (map (λ text. Words text) (take l.info-index l.infos)) l.fn.record l.record
+invariant-loop-info l = Adds (map (λ text. Words text) (take l.info-index l.infos)) l.fn.out l.out

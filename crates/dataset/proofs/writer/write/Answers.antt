@@ -79,8 +79,8 @@ returns g c =
     let w11 = c.write-3.new.self in
     let header = header_fields scale in
     let top : Writes contents w0 w1 (header ∷ []) =
-    writes-more contents w0 w0 w1 [] header c.new-record.result c.put.new.record (writes-none contents w0 c.new-writer.ensures.between)
-    c.new-record.ensures c.in_ok-put.ensures c.in_ok-write.ensures.between c.in_ok-write.ensures.text in
+    writes-more contents w0 w0 w1 [] header c.new-out.result c.put.new.out (writes-none contents w0 c.new-writer.ensures.between)
+    c.new-out.ensures c.in_ok-put.ensures c.in_ok-write.ensures.between c.in_ok-write.ensures.text in
     let of_items : List Item → Type 0 = λ l. Writes contents w1 w2 (row_records item_fields (zip (item_ids scale) l)) in
     let of_warehouses : List Warehouse → Type 0 = λ l. Writes contents w2 w3 (row_records warehouse_fields (zip (warehouse_ids scale) l)) in
     let of_districts : List District → Type 0 = λ l. Writes contents w3 w4 (row_records district_fields (zip (district_keys scale) l)) in
@@ -108,7 +108,7 @@ returns g c =
     let body : List (List Field) = header ∷ flat_map (λ part. part) (rows_by_table scale rows) in
     let almost : Writes contents w0 w10 body = writes-then contents w0 w1 w10 (header ∷ []) (flat_map (λ part. part) (rows_by_table scale rows)) top tail1 in
     let all : Writes contents w0 w11 (body ++ (count_fields rows ∷ [])) =
-    writes-more contents w0 w10 w11 body (count_fields rows) c.clear.new.self c.put-2.new.record almost c.clear.ensures c.in_ok-put-2.ensures c.in_ok-write-3.ensures.between c.in_ok-write-3.ensures.text in
+    writes-more contents w0 w10 w11 body (count_fields rows) c.clear.new.self c.put-2.new.out almost c.clear.ensures c.in_ok-put-2.ensures c.in_ok-write-3.ensures.between c.in_ok-write-3.ensures.text in
     let records_of : Database → Type 0 = λ t. AreRecords t all.rows in
     let are = subst records_of same (are-records scale rows counts orders.ordered new_orders.ordered lines.ordered all.rows all.are_spelt) in
     let appends : Option (List ℕ) → Type 0 = λ start. Appends start (written contents w11) (csv_text all.rows) in

@@ -25,7 +25,7 @@ loop-place-preserved g c =
     ap (row_records fields) (take-zip keys rows i key row c.key_at.ensures below c.index-rows-place.is) ∙ map-append (λ e. fields e.0 e.1) before ((key, row) ∷ []) in
     let writes : List (List Field) → Type 0 = λ records. Writes contents c.args.writer.now c.write.new.self records in
     subst writes (sym one)
-    (writes-more contents c.args.writer.now c.loop-place.writer c.write.new.self (row_records fields before) (fields key row) c.clear.new.self c.put.new.record
+    (writes-more contents c.args.writer.now c.loop-place.writer c.write.new.self (row_records fields before) (fields key row) c.clear.new.self c.put.new.out
     c.loop-place.invariant c.clear.ensures c.in_ok-put.ensures c.in_ok-write.ensures.between c.in_ok-write.ensures.text)
 
 pub returns : goal.returns

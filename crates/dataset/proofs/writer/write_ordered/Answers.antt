@@ -27,7 +27,7 @@ loop-key-preserved g c =
       tt,
       tt,
       subst writes (sym one)
-          (writes-more contents c.args.writer.now c.loop-key.writer c.write.new.self before (fields key row) c.clear.new.self c.put.new.record
+          (writes-more contents c.args.writer.now c.loop-key.writer c.write.new.self before (fields key row) c.clear.new.self c.put.new.out
           c.loop-key.invariant.2 c.clear.ensures c.in_ok-put.ensures c.in_ok-write.ensures.between c.in_ok-write.ensures.text),
       ap (λ l. l ++ rest) shown ∙ append_assoc (map deref_pair yielded) ((key, row) ∷ []) rest ∙ ap (λ l. map deref_pair yielded ++ l) (sym left) ∙ c.loop-key.invariant.3,
     )

@@ -9,7 +9,7 @@ use Rattle.dataset.proofs.lines.OrderLineRecordedOrderLineKey.put.Goals as goal
 pub returns : goal.returns
 returns c =
     let row = c.args.self.now in
-    let adds : OrderKey → Type 0 = λ key. Adds (Number key.w_id ∷ Number key.d_id ∷ Number key.o_id ∷ []) c.push.new.self c.put_key.new.record in
+    let adds : OrderKey → Type 0 = λ key. Adds (Number key.w_id ∷ Number key.d_id ∷ Number key.o_id ∷ []) c.push.new.self c.put_key.new.out in
     let of_order = subst adds c.order.ensures c.in_ok-put_key.ensures in
     on_ok_weaker c.push-2.result (λ last.
     adds-then (adds-words (codes "L") (codes "L") refl c.in_ok-push.ensures.added)
