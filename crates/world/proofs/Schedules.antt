@@ -11,7 +11,6 @@ use Rattle.history.specs.declared.event.Event.TheVariants.{Take, Send}
 use Rattle.history.specs.declared.event.EventAnswer.{EventAnswer}
 use Rattle.history.specs.declared.event.EventAnswer.TheVariants.{Nothing}
 use Rattle.history.specs.declared.schedule.Scheduled.{Scheduled}
-use Rattle.history.specs.declared.schedule.Scheduled.TheVariants.{Rounds}
 use Rattle.history.specs.declared.schedule.Told.{Told}
 use Rattle.history.specs.declared.schedule.Told.TheVariants as told
 use Rattle.history.specs.History.{Step, step}

@@ -93,6 +93,8 @@ fn rounds_end_quiet(rt: HostRuntime) -> Result<(), Fail> {
     let records =
         "accepted,0\nlogged,0\nanswered,0,0,done,0,X,nocustomer\nquiet\nnothing\nanswered,0,1,refused,6\n";
     assert_eq!(rt; told.told.as_slice(), records.as_bytes());
+    let log = "0,0,0,8,P,1,1,1,1,#2,100,2024-05-01T12:00:00,X,nocustomer\nEND,1\n";
+    assert_eq!(rt; told.log.as_slice(), log.as_bytes());
     assert_eq!(rt; told.tables.as_slice(), data.as_bytes());
     Ok(())
 }

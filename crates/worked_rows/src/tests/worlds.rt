@@ -109,6 +109,28 @@ fn a_payment_is_rolled_back(rt: HostRuntime) -> Result<(), Fail> {
     Ok(())
 }
 
+// A customer of bad credit pays in another district, in rounds: C_DATA begins with what was paid where, and
+// keeps its 500 bytes.
+#[test]
+fn a_customer_of_bad_credit_pays_in_rounds(rt: HostRuntime) -> Result<(), Fail> {
+    let alloc = rt.alloc();
+    let bad = payment(district_key(1, 2), customer_key(1, 1, 4), 12_345);
+    let schedule = submitting(alloc, bad, b"r")?;
+    let simulation = ran(&rt, alloc, &schedule)?;
+    assert!(rt; spell(&simulation.told, b"ALRQ"));
+    let tables = simulation.tables.expect(&rt, "nothing is active");
+    let customer = tables
+        .customer(customer_key(1, 1, 4))
+        .expect(&rt, "a customer");
+    assert!(rt; customer.data.as_str().starts_with("4 1 1 2 1 12345|xxx"));
+    assert_eq!(rt; customer.data.as_str().len(), 500);
+    let district = tables
+        .district(district_key(1, 2))
+        .expect(&rt, "a district");
+    assert_eq!(rt; district.ytd.get(), 17_345);
+    Ok(())
+}
+
 fn refused(session: u32, number: u32, refusal: Refusal) -> Told {
     Told::Event(EventAnswer::Answered {
         session,

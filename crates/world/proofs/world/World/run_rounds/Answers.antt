@@ -1,10 +1,9 @@
-use Rattle.std.proofs.Common.{◌≡◌, ◌∙◌, ◌++◌, ◌∷◌, [], List, ap, sym, subst, refl}
+use Rattle.std.proofs.Common.{◌∙◌, ◌++◌, ◌∷◌, [], ap, refl}
 use Rattle.std.specs.List.{flat_map}
 use Rattle.history.specs.declared.event.Event.TheVariants.{Take, Send}
 use Rattle.history.specs.declared.schedule.Told.TheVariants as told
 use Rattle.history.specs.Schedules.{IsIdle, Round, steps_of_round, told_of_round}
-use Rattle.world.specs.Worlds.{ComeAbout}
-use Rattle.world.proofs.Schedules.{end_quiet, event_comes, on_err, rests, round_comes, round_more, told_more, told_quiet}
+use Rattle.world.proofs.Schedules.{end_quiet, event_comes, on_err, round_comes, round_more, told_more, told_quiet}
 use Rattle.world.proofs.world.World.run_rounds.Goals as goal
 use Rattle.world.proofs.world.World.run_rounds.Goals.{else-is_nothing-via-then-is_nothing+else-is_nothing-2, else-is_nothing-via-else-is_nothing}
 
