@@ -1,0 +1,6 @@
+pub mod Counts
+pub mod DistrictEntries
+pub mod Runs
+pub mod Fits
+pub mod Latest
+pub mod Members

@@ -1,0 +1,34 @@
+-- Laws of the look-up by last name.
+use Rattle.std.specs.Prelude.{◌≡◌, ℕ, List, Some}
+use Rattle.std.specs.FinMap as map
+use Rattle.rows.specs.declared.keys.DistrictKey.{DistrictKey}
+use Rattle.rows.specs.declared.keys.CustomerKey.{CustomerKey}
+use Rattle.rows.specs.declared.records.Customer.{Customer}
+use Rattle.schema.specs.Scale.{customer_key}
+use Rattle.schema.specs.Database.{Database}
+use Rattle.indexes.specs.Namesakes.{IsMiddleOf}
+use Rattle.indexes.specs.NameOrder.{last_of, first_of, FitsNames}
+
+-- at most one customer is the middle one
+abbrev pub MiddleIsOne : Type 0
+MiddleIsOne = (t : Database) (home : DistrictKey) (last : List ℕ) (a b : ℕ) → IsMiddleOf t home last a → IsMiddleOf t home last b → a ≡ b
+
+-- the middle one is a customer of the tables, with that C_LAST
+abbrev pub MiddleIsThere : Type 0
+MiddleIsThere = (t : Database) (home : DistrictKey) (last : List ℕ) (number : ℕ) → IsMiddleOf t home last number
+    → (row : Customer) × (map.get t.customers (customer_key home number) ≡ Some row) × (row.last ≡ last)
+
+-- the same scale, and at every key a customer of the same names
+pub record SameNames (old new : Database) : Type 0 where
+  pub scale : new.scale ≡ old.scale
+  pub last : (key : CustomerKey) → last_of (map.get new.customers key) ≡ last_of (map.get old.customers key)
+  pub first : (key : CustomerKey) → first_of (map.get new.customers key) ≡ first_of (map.get old.customers key)
+
+-- an index fits as long as the names stay
+abbrev pub SameNamesFit : Type 0
+SameNamesFit = (index : List (List ℕ)) (old new : Database) → SameNames old new → FitsNames index old → FitsNames index new
+
+-- a customer's row that is put with the same C_LAST and C_FIRST leaves the names as they are
+abbrev pub PutKeepsNames : Type 0
+PutKeepsNames = (t : Database) (key : CustomerKey) (old new : Customer) → map.get t.customers key ≡ Some old → new.last ≡ old.last → new.first ≡ old.first
+    → SameNames t (record t { customers = map.insert t.customers key new })

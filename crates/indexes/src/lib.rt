@@ -1,0 +1,18 @@
+//! Look-ups in the tables that would else be scans: a customer by last name, and a customer's
+//! latest order. Clauses are those of TPC-C 5.11.
+#![tactic(auto)]
+
+mod latest_orders;
+mod laws;
+mod name_index;
+mod name_run;
+
+pub use latest_orders::LatestOrders;
+pub use laws::{
+    middle_is_one, middle_is_there, noted_order_fits, put_keeps_names, put_order_fits,
+    same_names_fit, taken_back_is_as_before,
+};
+pub use name_index::NameIndex;
+
+#[cfg(test)]
+mod tests;
