@@ -1,17 +1,20 @@
 -- The scale's keys: which one stands at a place, and that they ascend.
-use Rattle.std.proofs.Common.{◌≡◌, ℕ, zero, suc, ◌+◌, ◌*◌, ◌/◌, ◌<◌, ◌≤◌, List, [], ◌∷◌, ◌++◌, map, length, Some, refl, sym, ap, subst, ◌∙◌, arith}
+use Rattle.std.proofs.Common.{Bool, true, false, cond, Option, None, ◌≡◌, ℕ, zero, suc, ◌+◌, ◌*◌, ◌/◌, ◌<◌, ◌≤◌, List, [], ◌∷◌, ◌++◌, map, length, Some, refl, sym, ap, subst, ◌∙◌, arith}
 use Rattle.std.specs.List.{range_with_len, slice_get, AllByRecursion, zip}
 use Rattle.std.specs.List.Sorted.{IsStrictlySortedBy}
 use Rattle.std.specs.Map.{keys_of}
 use Rattle.std.specs.declared.cmp.Ordering.{Ordering}
 use Rattle.std.specs.declared.cmp.Ordering.TheVariants.{Less, Equal, Greater}
-use Rattle.std.specs.Ordering.{nat_cmp, ordering_then}
+use Rattle.std.specs.Ordering.{nat_cmp, ordering_then, eq_by_cmp}
+use Rattle.std.specs.Option.{option_map}
+use Rattle.std.specs.Cmp.{Equal-is}
+use Rattle.std.specs.FinMap.{IsAntisymmetric}
 use Rattle.std.proofs.lemmas.Bool.Decides.{nat_tests}
 use Rattle.std.proofs.Math.Nat.{div-lt_iff_lt-mul}
 use Rattle.std.proofs.lemmas.List.FromFn.{length-map-range_with_len}
 use Rattle.rows.specs.Keys.{district_cmp, stock_cmp, customer_cmp}
 use Rattle.schema.specs.declared.scale.Scale.{Scale}
-use Rattle.schema.specs.Dense.{grid}
+use Rattle.schema.specs.Dense.{grid, place}
 use Rattle.schema.specs.Scale.{item_ids, warehouse_ids, district_key, district_keys, stock_key, stock_keys, customer_key, customer_keys}
 
 -- ---- the key at a place
@@ -60,11 +63,11 @@ get-range first count n below = ap (λ l. slice_get l n) (sym (same_numbers (ran
 
 -- ---- their order
 
-all-append : {X : Type 0} (P : X → Type 0) (xs ys : List X) → AllByRecursion P xs → AllByRecursion P ys → AllByRecursion P (xs ++ ys)
+pub all-append : {X : Type 0} (P : X → Type 0) (xs ys : List X) → AllByRecursion P xs → AllByRecursion P ys → AllByRecursion P (xs ++ ys)
 all-append P [] ys h g = g
 all-append P (x ∷ xs) ys h g = (h.0, all-append P xs ys h.1 g)
 
-all-weaker : {X : Type 0} (P Q : X → Type 0) → ((x : X) → P x → Q x) → (xs : List X) → AllByRecursion P xs → AllByRecursion Q xs
+pub all-weaker : {X : Type 0} (P Q : X → Type 0) → ((x : X) → P x → Q x) → (xs : List X) → AllByRecursion P xs → AllByRecursion Q xs
 all-weaker P Q f [] h = tt
 all-weaker P Q f (x ∷ xs) h = (f x h.0, all-weaker P Q f xs h.1)
 
@@ -147,3 +150,15 @@ pub keys_of-zip : {K X : Type 0} (ks : List K) (xs : List X) → length xs ≡ l
 keys_of-zip [] xs e = refl
 keys_of-zip (k ∷ ks) [] e = absurd (omega arith)
 keys_of-zip (k ∷ ks) (x ∷ xs) e = ap (λ l. k ∷ l) (keys_of-zip ks xs (omega arith))
+
+-- the key whose place is known
+pub get-place : {K : Type 0} {R : K → K → Ordering} → IsAntisymmetric R → (q : K) (ks : List K) (n : ℕ) → place (eq_by_cmp R q) ks ≡ Some n → slice_get ks n ≡ Some q
+get-place exact q [] n e = absurd cc
+get-place {R = R} exact q (k ∷ ks) n e = by (get-place exact q ks) (eq_by_cmp R q k) refl (place (eq_by_cmp R q) ks) refl n e
+  where
+    by : ((m : ℕ) → place (eq_by_cmp R q) ks ≡ Some m → slice_get ks m ≡ Some q) → (b : Bool) → eq_by_cmp R q k ≡ b → (o : Option ℕ) → place (eq_by_cmp R q) ks ≡ o → (n : ℕ) → cond b (Some 0) (option_map (λ m. suc m) o) ≡ Some n → slice_get (k ∷ ks) n ≡ Some q
+    by later true test o rest zero e = ap Some (sym (exact q k ((Equal-is (R q k)).0 test)))
+    by later true test o rest (suc n) e = absurd cc
+    by later false test None rest n e = absurd cc
+    by later false test (Some m) rest zero e = absurd cc
+    by later false test (Some m) rest (suc n) e = let same : m ≡ n = cc in later n (rest ∙ ap Some same)

@@ -3,3 +3,8 @@ pub mod Texts
 pub mod Lists
 pub mod Written
 pub mod Tables
+pub mod Order
+pub mod Taking
+pub mod Payments
+pub mod Loading
+pub mod Finished

@@ -1,2 +1,6 @@
 pub mod Records
 pub mod Writing
+pub mod Taking
+pub mod Payments
+pub mod Order
+pub mod Loading

@@ -40,7 +40,7 @@ IsSpelt (Money cents) text = text ≡ signed_decimal cents
 IsSpelt (Date seconds) text = IsMomentText text seconds
 IsSpelt Null text = text ≡ []
 
--- ---- a record of each table: its letter, the key, and the other columns
+-- ---- the columns of each table beside its key
 
 -- the five columns of an address (clause 1.3.1, as all columns)
 abbrev pub address_fields : Address → List Field
@@ -52,41 +52,35 @@ account_fields row =
     Money row.credit_lim ∷ Number row.discount ∷ Money row.balance ∷ Money row.ytd_payment
     ∷ Number row.payment_cnt ∷ Number row.delivery_cnt ∷ Words row.data ∷ []
 
--- ITEM, by I_ID
-abbrev pub item_fields : ℕ → Item → List Field
-item_fields i_id row =
-    Words (codes "I") ∷ Number i_id ∷ Number row.im_id ∷ Words row.name ∷ Number row.price ∷ Words row.data ∷ []
+-- ITEM
+abbrev pub item_columns : Item → List Field
+item_columns row = Number row.im_id ∷ Words row.name ∷ Number row.price ∷ Words row.data ∷ []
 
--- WAREHOUSE, by W_ID
-abbrev pub warehouse_fields : ℕ → Warehouse → List Field
-warehouse_fields w_id row =
-    Words (codes "W") ∷ Number w_id ∷ Words row.name ∷ address_fields row.address
-    ++ Number row.tax ∷ Money row.ytd ∷ []
+-- WAREHOUSE
+abbrev pub warehouse_columns : Warehouse → List Field
+warehouse_columns row = Words row.name ∷ address_fields row.address ++ Number row.tax ∷ Money row.ytd ∷ []
 
--- DISTRICT, by D_W_ID and D_ID
-abbrev pub district_fields : DistrictKey → District → List Field
-district_fields key row =
-    Words (codes "D") ∷ Number key.w_id ∷ Number key.d_id ∷ Words row.name ∷ address_fields row.address
-    ++ Number row.tax ∷ Money row.ytd ∷ Number row.next_o_id ∷ []
+-- DISTRICT
+abbrev pub district_columns : District → List Field
+district_columns row =
+    Words row.name ∷ address_fields row.address ++ Number row.tax ∷ Money row.ytd ∷ Number row.next_o_id ∷ []
 
--- STOCK, by S_W_ID and S_I_ID; after S_QUANTITY come S_DIST_01 to S_DIST_10
-abbrev pub stock_fields : StockKey → Stock → List Field
-stock_fields key row =
-    Words (codes "S") ∷ Number key.w_id ∷ Number key.i_id ∷ Number row.quantity ∷ map (λ text. Words text) row.dist
+-- STOCK; after S_QUANTITY come S_DIST_01 to S_DIST_10
+abbrev pub stock_columns : Stock → List Field
+stock_columns row =
+    Number row.quantity ∷ map (λ text. Words text) row.dist
     ++ Number row.ytd ∷ Number row.order_cnt ∷ Number row.remote_cnt ∷ Words row.data ∷ []
 
--- CUSTOMER, by C_W_ID, C_D_ID and C_ID
-abbrev pub customer_fields : CustomerKey → Customer → List Field
-customer_fields key row =
-    Words (codes "C") ∷ Number key.w_id ∷ Number key.d_id ∷ Number key.c_id
-    ∷ Words row.first ∷ Words row.middle ∷ Words row.last ∷ address_fields row.address
+-- CUSTOMER
+abbrev pub customer_columns : Customer → List Field
+customer_columns row =
+    Words row.first ∷ Words row.middle ∷ Words row.last ∷ address_fields row.address
     ++ Words row.phone ∷ Date row.since ∷ Words (credit_text row.credit) ∷ account_fields row
 
--- HISTORY, by the district in whose list the payment stands; then comes the customer who paid
-abbrev pub history_fields : DistrictKey → History → List Field
-history_fields home row =
-    Words (codes "H") ∷ Number home.w_id ∷ Number home.d_id
-    ∷ Number row.customer.w_id ∷ Number row.customer.d_id ∷ Number row.customer.c_id
+-- HISTORY; first comes the customer who paid
+abbrev pub history_columns : History → List Field
+history_columns row =
+    Number row.customer.w_id ∷ Number row.customer.d_id ∷ Number row.customer.c_id
     ∷ Date row.date ∷ Money row.amount ∷ Words row.data ∷ []
 
 -- O_CARRIER_ID, null until the order is delivered
@@ -94,27 +88,75 @@ abbrev pub carrier_field : Option ℕ → Field
 carrier_field None = Null
 carrier_field (Some carrier) = Number carrier
 
--- ORDER, by O_W_ID, O_D_ID and O_ID; O_ALL_LOCAL is 1 or 0
-abbrev pub order_fields : OrderKey → Order → List Field
-order_fields key row =
-    Words (codes "O") ∷ Number key.w_id ∷ Number key.d_id ∷ Number key.o_id ∷ Number row.c_id ∷ Date row.entry_d
-    ∷ carrier_field row.carrier_id ∷ Number row.ol_cnt ∷ Number (if row.all_local then 1 else 0) ∷ []
-
--- NEW-ORDER, by NO_W_ID, NO_D_ID and NO_O_ID
-abbrev pub new_order_fields : OrderKey → NewOrder → List Field
-new_order_fields key row = Words (codes "N") ∷ Number key.w_id ∷ Number key.d_id ∷ Number key.o_id ∷ []
+-- ORDER; O_ALL_LOCAL is 1 or 0
+abbrev pub order_columns : Order → List Field
+order_columns row =
+    Number row.c_id ∷ Date row.entry_d ∷ carrier_field row.carrier_id ∷ Number row.ol_cnt
+    ∷ Number (if row.all_local then 1 else 0) ∷ []
 
 -- OL_DELIVERY_D, null until the order is delivered
 abbrev pub delivery_field : Option ℕ → Field
 delivery_field None = Null
 delivery_field (Some seconds) = Date seconds
 
+-- ORDER-LINE
+abbrev pub line_columns : OrderLine → List Field
+line_columns row =
+    Number row.i_id ∷ Number row.supply_w_id ∷ delivery_field row.delivery_d ∷ Number row.quantity
+    ∷ Number row.amount ∷ Words row.dist_info ∷ []
+
+-- ---- the keys
+
+-- W_ID and D_ID
+abbrev pub district_key_fields : DistrictKey → List Field
+district_key_fields key = Number key.w_id ∷ Number key.d_id ∷ []
+
+-- W_ID, D_ID and C_ID
+abbrev pub customer_key_fields : CustomerKey → List Field
+customer_key_fields key = Number key.w_id ∷ Number key.d_id ∷ Number key.c_id ∷ []
+
+-- W_ID, D_ID and O_ID
+abbrev pub order_key_fields : OrderKey → List Field
+order_key_fields key = Number key.w_id ∷ Number key.d_id ∷ Number key.o_id ∷ []
+
+-- ---- a record of each table: its letter, the key, and the other columns
+
+-- ITEM, by I_ID
+abbrev pub item_fields : ℕ → Item → List Field
+item_fields i_id row = Words (codes "I") ∷ Number i_id ∷ item_columns row
+
+-- WAREHOUSE, by W_ID
+abbrev pub warehouse_fields : ℕ → Warehouse → List Field
+warehouse_fields w_id row = Words (codes "W") ∷ Number w_id ∷ warehouse_columns row
+
+-- DISTRICT, by D_W_ID and D_ID
+abbrev pub district_fields : DistrictKey → District → List Field
+district_fields key row = Words (codes "D") ∷ district_key_fields key ++ district_columns row
+
+-- STOCK, by S_W_ID and S_I_ID
+abbrev pub stock_fields : StockKey → Stock → List Field
+stock_fields key row = Words (codes "S") ∷ Number key.w_id ∷ Number key.i_id ∷ stock_columns row
+
+-- CUSTOMER, by C_W_ID, C_D_ID and C_ID
+abbrev pub customer_fields : CustomerKey → Customer → List Field
+customer_fields key row = Words (codes "C") ∷ customer_key_fields key ++ customer_columns row
+
+-- HISTORY, by the district in whose list the payment stands
+abbrev pub history_fields : DistrictKey → History → List Field
+history_fields home row = Words (codes "H") ∷ district_key_fields home ++ history_columns row
+
+-- ORDER, by O_W_ID, O_D_ID and O_ID
+abbrev pub order_fields : OrderKey → Order → List Field
+order_fields key row = Words (codes "O") ∷ order_key_fields key ++ order_columns row
+
+-- NEW-ORDER, by NO_W_ID, NO_D_ID and NO_O_ID; it has no other column
+abbrev pub new_order_fields : OrderKey → NewOrder → List Field
+new_order_fields key row = Words (codes "N") ∷ order_key_fields key
+
 -- ORDER-LINE, by OL_W_ID, OL_D_ID, OL_O_ID and OL_NUMBER
 abbrev pub line_fields : OrderLineKey → OrderLine → List Field
 line_fields key row =
-    Words (codes "L") ∷ Number key.w_id ∷ Number key.d_id ∷ Number key.o_id ∷ Number key.number
-    ∷ Number row.i_id ∷ Number row.supply_w_id ∷ delivery_field row.delivery_d ∷ Number row.quantity
-    ∷ Number row.amount ∷ Words row.dist_info ∷ []
+    Words (codes "L") ∷ Number key.w_id ∷ Number key.d_id ∷ Number key.o_id ∷ Number key.number ∷ line_columns row
 
 -- ---- all records
 

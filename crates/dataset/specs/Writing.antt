@@ -13,13 +13,17 @@ pub record Adds (fields : List Field) (old new : List (List ℕ)) : Type 0 where
   pub are_spelt : AreSpelt fields texts
   pub added : new ≡ old ++ texts
 
--- the end record of these rows
-abbrev pub count_fields : TableRows → List Field
-count_fields rows =
-    Words (codes "END") ∷ Number (length rows.items.items) ∷ Number (length rows.warehouses.items)
+-- how many rows each table has
+abbrev pub row_counts : TableRows → List Field
+row_counts rows =
+    Number (length rows.items.items) ∷ Number (length rows.warehouses.items)
     ∷ Number (length rows.districts.items) ∷ Number (length rows.stocks.items) ∷ Number (length rows.customers.items)
     ∷ Number (sum (map length rows.histories.items)) ∷ Number (length rows.orders.entries)
     ∷ Number (length rows.new_orders.entries) ∷ Number (length rows.lines.entries) ∷ []
+
+-- the end record of these rows
+abbrev pub count_fields : TableRows → List Field
+count_fields rows = Words (codes "END") ∷ row_counts rows
 
 -- the text of these records was written, by a writer that stands after a whole record again
 pub record Writes {W : Type 0} (contents : W → Option (List ℕ)) (old new : RecordWriter W) (records : List (List Field)) : Type 0 where

@@ -1,8 +1,11 @@
-ghost use Rattle.std.specs.Prelude.{[], ◌∷◌, IsTrue, OnOk};
+ghost use Rattle.std.specs.Prelude.{◌≡◌, [], ◌∷◌, ◌++◌, None, IsTrue, OnOk};
 ghost use Rattle.schema.specs.Scale.{has_customer, customer_keys};
-ghost use Rattle.dataset.specs.Records.{Number, customer_fields, account_fields};
+ghost use Rattle.files.specs.Taken.{fault_of};
+ghost use Rattle.dataset.specs.Records.{customer_key_fields, customer_columns, customer_fields, account_fields};
+ghost use Rattle.dataset.specs.Taking.{Takes, Added};
 ghost use Rattle.dataset.specs.Writing.{Adds};
 
+use crate::added;
 use crate::moments::put_moment;
 use crate::recorded::{Dense, Recorded};
 use crate::warehouses::{address, put_address};
@@ -12,7 +15,8 @@ use schema::{NoMemory, Scale};
 
 /// Takes the key of a customer, three fields.
 pub fn key(fields: &mut Fields, scale: Scale) -> CustomerKey
-    ensures { IsTrue (has_customer scale result) }
+    ensures known { IsTrue (has_customer scale result) }
+    ensures taken { Takes (customer_key_fields result) fields.old fields.new }
 {
     CustomerKey {
         w_id: fields.whole(1, scale.warehouses),
@@ -22,15 +26,16 @@ pub fn key(fields: &mut Fields, scale: Scale) -> CustomerKey
 }
 
 /// Takes the other fields of a record of CUSTOMER, and adds the row if the record has no fault.
-pub fn add(fields: &mut Fields, customers: &mut Vec<Customer>) -> Result<(), NoMemory> {
+pub fn add(fields: &mut Fields, customers: &mut Vec<Customer>) -> Result<(), NoMemory>
+    ensures { OnOk result (fault_of fields.new ≡ None → Added customer_columns (λ row. customers.new.items ≡ customers.old.items ++ row ∷ []) fields.old) }
+{
     let row = parse(fields);
-    if fields.finish().is_none() {
-        customers.push(row)?;
-    }
-    Ok(())
+    added::push(fields, row, customers)
 }
 
-fn parse(fields: &mut Fields) -> Customer {
+fn parse(fields: &mut Fields) -> Customer
+    ensures { Takes (customer_columns result) fields.old fields.new }
+{
     Customer {
         first: fields.text(),
         middle: fields.text(),
@@ -51,7 +56,7 @@ fn parse(fields: &mut Fields) -> Customer {
 
 /// Adds the key of a customer, three fields.
 pub fn put_key(out: &mut NewRecord, key: CustomerKey) -> Result<(), NoMemory>
-    ensures { OnOk result (Adds (Number key.w_id ∷ Number key.d_id ∷ Number key.c_id ∷ []) out.old out.new) }
+    ensures { OnOk result (Adds (customer_key_fields key) out.old out.new) }
 {
     out.push_number(u64::from(key.w_id))?;
     out.push_number(u64::from(key.d_id))?;

@@ -1,8 +1,11 @@
-ghost use Rattle.std.specs.Prelude.{[], ◌∷◌, IsTrue, OnOk};
+ghost use Rattle.std.specs.Prelude.{◌≡◌, [], ◌∷◌, ◌++◌, None, IsTrue, OnOk};
 ghost use Rattle.schema.specs.Scale.{has_district, district_keys};
-ghost use Rattle.dataset.specs.Records.{Number, district_fields};
+ghost use Rattle.files.specs.Taken.{fault_of};
+ghost use Rattle.dataset.specs.Records.{district_key_fields, district_columns, district_fields};
+ghost use Rattle.dataset.specs.Taking.{Takes, Added};
 ghost use Rattle.dataset.specs.Writing.{Adds};
 
+use crate::added;
 use crate::recorded::{Dense, Recorded};
 use crate::warehouses::{address, put_address};
 use files::{Fields, NewRecord};
@@ -11,7 +14,8 @@ use schema::{NoMemory, Scale};
 
 /// Takes the key of a district, two fields.
 pub fn key(fields: &mut Fields, scale: Scale) -> DistrictKey
-    ensures { IsTrue (has_district scale result) }
+    ensures known { IsTrue (has_district scale result) }
+    ensures taken { Takes (district_key_fields result) fields.old fields.new }
 {
     DistrictKey {
         w_id: fields.whole(1, scale.warehouses),
@@ -20,23 +24,28 @@ pub fn key(fields: &mut Fields, scale: Scale) -> DistrictKey
 }
 
 /// Takes the other fields of a record of DISTRICT, and adds the row if the record has no fault.
-pub fn add(fields: &mut Fields, districts: &mut Vec<District>) -> Result<(), NoMemory> {
-    let row = District {
+pub fn add(fields: &mut Fields, districts: &mut Vec<District>) -> Result<(), NoMemory>
+    ensures { OnOk result (fault_of fields.new ≡ None → Added district_columns (λ row. districts.new.items ≡ districts.old.items ++ row ∷ []) fields.old) }
+{
+    let row = parse(fields);
+    added::push(fields, row, districts)
+}
+
+fn parse(fields: &mut Fields) -> District
+    ensures { Takes (district_columns result) fields.old fields.new }
+{
+    District {
         name: fields.text(),
         address: address(fields),
         tax: fields.rate(),
         ytd: fields.cents(),
         next_o_id: fields.ranged(),
-    };
-    if fields.finish().is_none() {
-        districts.push(row)?;
     }
-    Ok(())
 }
 
 /// Adds the key of a district, two fields.
 pub fn put_key(out: &mut NewRecord, key: DistrictKey) -> Result<(), NoMemory>
-    ensures { OnOk result (Adds (Number key.w_id ∷ Number key.d_id ∷ []) out.old out.new) }
+    ensures { OnOk result (Adds (district_key_fields key) out.old out.new) }
 {
     out.push_number(u64::from(key.w_id))?;
     out.push_number(u64::from(key.d_id))

@@ -1,22 +1,36 @@
-ghost use Rattle.std.specs.Prelude.{OnOk};
-ghost use Rattle.dataset.specs.Writing.{Adds, count_fields};
+ghost use Rattle.std.specs.Prelude.{[], ◌∷◌, length, map, sum, OnOk};
+ghost use Rattle.dataset.specs.Records.{Number};
+ghost use Rattle.dataset.specs.Taking.{Takes};
+ghost use Rattle.dataset.specs.Writing.{Adds, count_fields, row_counts};
 
 use crate::histories;
-use files::{Fields, NewRecord};
-use schema::{NoMemory, TableRows};
+use files::{FaultKind, Fields, NewRecord};
+use schema::{HistoryList, NoMemory, TableRows};
 
 /// Takes the counts of an end record, from its second field on; `WrongCount` where one is not that of
 /// the rows read.
-pub fn check(fields: &mut Fields, rows: &TableRows, histories: u64) {
+pub fn check(fields: &mut Fields, rows: &TableRows)
+    ensures { Takes (row_counts rows.now) fields.old fields.new }
+{
     fields.expect_count(rows.items.len() as u64);
     fields.expect_count(rows.warehouses.len() as u64);
     fields.expect_count(rows.districts.len() as u64);
     fields.expect_count(rows.stocks.len() as u64);
     fields.expect_count(rows.customers.len() as u64);
-    fields.expect_count(histories);
+    check_payments(fields, &rows.histories);
     fields.expect_count(rows.orders.len() as u64);
     fields.expect_count(rows.new_orders.len() as u64);
     fields.expect_count(rows.lines.len() as u64);
+}
+
+// Takes the count of HISTORY. A field can't have the number of more payments than a `u64` counts.
+fn check_payments(fields: &mut Fields, lists: &[HistoryList])
+    ensures { Takes (Number (sum (map length lists.now)) ∷ []) fields.old fields.new }
+{
+    match u64::try_from(histories::count(lists)) {
+        Ok(count) => fields.expect_count(count),
+        Err(_) => fields.note(FaultKind::WrongCount),
+    }
 }
 
 /// Adds the fields of the end record.

@@ -1,12 +1,15 @@
-ghost use Rattle.std.specs.Prelude.{OnOk};
-ghost use Rattle.dataset.specs.Records.{header_fields};
+ghost use Rattle.std.specs.Prelude.{IfOk, OnOk};
+ghost use Rattle.files.specs.Taken.{fields_left};
+ghost use Rattle.dataset.specs.Records.{AreSpelt, header_fields};
 ghost use Rattle.dataset.specs.Writing.{Adds};
 
 use files::{FaultKind, Fields, NewRecord};
 use schema::{NoMemory, Scale};
 
 /// The scale of a header record: `NoHeader` where the record is none of this format.
-pub fn parse(fields: &mut Fields) -> Result<Scale, FaultKind> {
+pub fn parse(fields: &mut Fields) -> Result<Scale, FaultKind>
+    ensures { IfOk result (λ scale. AreSpelt (header_fields scale) (fields_left fields.old)) }
+{
     if fields.count() != 5 || fields.word() != "TPCC" || fields.word() != "1" {
         return Err(FaultKind::NoHeader);
     }

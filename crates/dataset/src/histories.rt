@@ -1,8 +1,11 @@
-ghost use Rattle.std.specs.Prelude.{◌≡◌, ◌≤◌, length, map, sum, OnOk};
+ghost use Rattle.std.specs.Prelude.{◌≡◌, ◌≤◌, ◌<◌, ◌+◌, ◌^◌, [], ◌∷◌, ◌++◌, length, map, sum, Some, None, IsTrue, OnOk};
 ghost use Rattle.std.specs.List.{zip};
-ghost use Rattle.schema.specs.Scale.{district_keys};
+ghost use Rattle.schema.specs.Scale.{has_district, district_keys, district_slot};
+ghost use Rattle.files.specs.Taken.{fields_left, fault_of};
 ghost use Rattle.files.specs.Written.{IsBetweenRecords};
-ghost use Rattle.dataset.specs.Records.{history_fields, payment_records};
+ghost use Rattle.dataset.specs.Payments.{Opens, Pays};
+ghost use Rattle.dataset.specs.Records.{history_columns, history_fields, payment_records};
+ghost use Rattle.dataset.specs.Taking.{Takes, Added};
 ghost use Rattle.dataset.specs.Writing.{Writes};
 
 use crate::moments::put_moment;
@@ -11,16 +14,64 @@ use crate::{customers, districts};
 use files::{Fields, FileError, NewRecord, RecordWriter};
 use rows::{District, DistrictKey, History};
 use schema::{HistoryList, NoMemory, Scale};
+use std::alloc::Global;
 use std::io::Write;
 
-/// Takes the fields of a record of HISTORY that come after its district.
-pub fn parse(fields: &mut Fields, scale: Scale) -> History {
+/// Takes the fields of a record of HISTORY that come after its district, and adds the row at the end of
+/// the district's list if the record has no fault.
+pub fn add(
+    fields: &mut Fields,
+    scale: Scale,
+    home: DistrictKey,
+    alloc: Global,
+    lists: &mut Vec<HistoryList>,
+) -> Result<(), NoMemory>
+    requires { IsTrue (has_district scale home) }
+    ensures { OnOk result (fault_of fields.new ≡ None → Added history_columns (λ row. Pays (district_slot scale home) row lists.old.items lists.new.items) fields.old) }
+{
+    let row = parse(fields, scale);
+    if fields.finish().is_some() {
+        return Ok(());
+    }
+    match scale.district_slot(home) {
+        Some(place) => push(alloc, lists, place, row),
+        None => Ok(()),
+    }
+}
+
+fn parse(fields: &mut Fields, scale: Scale) -> History
+    ensures { Takes (history_columns result) fields.old fields.new }
+{
     History {
         customer: customers::key(fields, scale),
         date: fields.moment(),
         amount: fields.cents(),
         data: fields.text(),
     }
+}
+
+// Adds the row at the end of the list of that place, which is opened if need be.
+fn push(
+    alloc: Global,
+    lists: &mut Vec<HistoryList>,
+    place: usize,
+    row: History,
+) -> Result<(), NoMemory>
+    requires { place < 2 ^ 32 }
+    ensures { OnOk result (Pays (Some place) row lists.old.items lists.new.items) }
+{
+    open(alloc, lists, place + 1)?;
+    lists[place].push(row)
+}
+
+/// Adds empty lists until there are that many.
+pub fn open(alloc: Global, lists: &mut Vec<HistoryList>, count: usize) -> Result<(), NoMemory>
+    ensures { OnOk result (Opens count lists.old.items lists.new.items) }
+{
+    while lists.len() < count {
+        lists.push(HistoryList::new(alloc))?;
+    }
+    Ok(())
 }
 
 impl Recorded<DistrictKey> for History {

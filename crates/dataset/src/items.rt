@@ -1,7 +1,10 @@
-ghost use Rattle.std.specs.Prelude.{IsTrue};
+ghost use Rattle.std.specs.Prelude.{◌≡◌, [], ◌∷◌, ◌++◌, None, IsTrue, OnOk};
 ghost use Rattle.schema.specs.Scale.{has_item, item_ids};
-ghost use Rattle.dataset.specs.Records.{item_fields};
+ghost use Rattle.files.specs.Taken.{fault_of};
+ghost use Rattle.dataset.specs.Records.{Number, item_columns, item_fields};
+ghost use Rattle.dataset.specs.Taking.{Takes, Added};
 
+use crate::added;
 use crate::recorded::{Dense, Recorded};
 use files::{Fields, NewRecord};
 use rows::Item;
@@ -9,23 +12,29 @@ use schema::{NoMemory, Scale};
 
 /// Takes I_ID, the second field of a record of ITEM.
 pub fn key(fields: &mut Fields, scale: Scale) -> u32
-    ensures { IsTrue (has_item scale result) }
+    ensures known { IsTrue (has_item scale result) }
+    ensures taken { Takes (Number result ∷ []) fields.old fields.new }
 {
     fields.whole(1, scale.items)
 }
 
 /// Takes the other fields, and adds the row if the record has no fault.
-pub fn add(fields: &mut Fields, items: &mut Vec<Item>) -> Result<(), NoMemory> {
-    let row = Item {
+pub fn add(fields: &mut Fields, items: &mut Vec<Item>) -> Result<(), NoMemory>
+    ensures { OnOk result (fault_of fields.new ≡ None → Added item_columns (λ row. items.new.items ≡ items.old.items ++ row ∷ []) fields.old) }
+{
+    let row = parse(fields);
+    added::push(fields, row, items)
+}
+
+fn parse(fields: &mut Fields) -> Item
+    ensures { Takes (item_columns result) fields.old fields.new }
+{
+    Item {
         im_id: fields.ranged(),
         name: fields.text(),
         price: fields.ranged(),
         data: fields.text(),
-    };
-    if fields.finish().is_none() {
-        items.push(row)?;
     }
-    Ok(())
 }
 
 impl Recorded<u32> for Item {

@@ -11,6 +11,7 @@
 //! record of HISTORY has the district in whose list it stands, and then the customer who paid.
 #![tactic(auto)]
 
+mod added;
 mod customers;
 mod districts;
 mod end;

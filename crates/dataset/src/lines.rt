@@ -1,12 +1,16 @@
-ghost use Rattle.std.specs.Prelude.{[], ◌∷◌, IsTrue, OnOk};
+ghost use Rattle.std.specs.Prelude.{◌≡◌, [], ◌∷◌, None, IsTrue, OnOk};
+ghost use Rattle.std.specs.BTreeMap.{insert_entry};
+ghost use Rattle.rows.specs.Keys.{line_cmp};
 ghost use Rattle.schema.specs.Scale.{has_district};
 ghost use Rattle.schema.specs.Database.{is_order_id, is_line_number};
-ghost use Rattle.dataset.specs.Records.{delivery_field, line_fields};
+ghost use Rattle.files.specs.Taken.{fault_of};
+ghost use Rattle.dataset.specs.Records.{Number, delivery_field, line_columns, line_fields};
+ghost use Rattle.dataset.specs.Taking.{Takes, Added};
 ghost use Rattle.dataset.specs.Writing.{Adds};
 
 use crate::moments::put_moment;
-use crate::orders;
 use crate::recorded::Recorded;
+use crate::{added, orders};
 use files::{Fields, NewRecord};
 use rows::{Moment, OrderLine, OrderLineKey};
 use schema::{NoMemory, Scale};
@@ -17,6 +21,7 @@ pub fn key(fields: &mut Fields, scale: Scale) -> OrderLineKey
     ensures district { IsTrue (has_district scale (record { w_id = result.w_id; d_id = result.d_id })) }
     ensures order { IsTrue (is_order_id result.o_id) }
     ensures number { IsTrue (is_line_number result.number) }
+    ensures taken { Takes (Number result.w_id ∷ Number result.d_id ∷ Number result.o_id ∷ Number result.number ∷ []) fields.old fields.new }
 {
     OrderLineKey {
         w_id: fields.whole(1, scale.warehouses),
@@ -32,19 +37,31 @@ pub fn add(
     scale: Scale,
     key: OrderLineKey,
     lines: &mut BTreeMap<OrderLineKey, OrderLine>,
-) -> Result<(), NoMemory> {
-    let row = OrderLine {
+) -> Result<(), NoMemory>
+    ensures { OnOk result (fault_of fields.new ≡ None → Added line_columns (λ row. lines.new.entries ≡ insert_entry line_cmp lines.old.entries key row) fields.old) }
+{
+    let row = parse(fields, scale);
+    added::insert(fields, key, row, lines)
+}
+
+fn parse(fields: &mut Fields, scale: Scale) -> OrderLine
+    ensures { Takes (line_columns result) fields.old fields.new }
+{
+    OrderLine {
         i_id: fields.whole(1, scale.items),
         supply_w_id: fields.whole(1, scale.warehouses),
-        delivery_d: fields.optional_moment(),
+        delivery_d: delivery(fields),
         quantity: fields.ranged(),
         amount: fields.ranged(),
         dist_info: fields.text(),
-    };
-    if fields.finish().is_none() {
-        lines.insert(key, row)?;
     }
-    Ok(())
+}
+
+// Takes OL_DELIVERY_D, which is null where the field is empty.
+fn delivery(fields: &mut Fields) -> Option<Moment>
+    ensures { Takes (delivery_field result ∷ []) fields.old fields.new }
+{
+    fields.optional_moment()
 }
 
 impl Recorded<OrderLineKey> for OrderLine {

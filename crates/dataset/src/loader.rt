@@ -1,10 +1,16 @@
+ghost use Rattle.std.specs.Prelude.{◌≡◌, ℕ, List, [], ◌∷◌, ◌++◌, None, codes, IsTrue, IfOk, OnOk};
+ghost use Rattle.files.specs.Taken.{fields_left, fault_of};
+ghost use Rattle.dataset.specs.Order.{follows};
+ghost use Rattle.dataset.specs.Loading.{HasLoaded, LoadsRow, LoadsRecord};
+ghost use Rattle.dataset.specs.Records.{AreRecords, AreSpelt, header_fields};
+ghost use Rattle.dataset.specs.Writing.{count_fields};
+
 use crate::place::Place;
 use crate::{
     customers, districts, end, histories, items, lines, new_orders, orders, stocks, warehouses,
 };
 use files::{FaultKind, Fields};
-use rows::{DistrictKey, History};
-use schema::{HistoryList, NoMemory, Scale, ScaleFault, TableRows, Tables};
+use schema::{NoMemory, Scale, ScaleFault, TableRows, Tables};
 use std::alloc::Global;
 
 /// What kind of record was taken.
@@ -20,26 +26,27 @@ pub struct Loader {
     alloc: Global,
     scale: Scale,
     rows: TableRows,
-    // How many rows of HISTORY there are.
-    histories: u64,
     // Where the last record stood.
     last: Place,
 }
 
 impl Loader {
     /// No rows, after a header record of that scale.
-    pub fn new(alloc: Global, scale: Scale) -> Self {
+    pub fn new(alloc: Global, scale: Scale) -> Self
+        ensures { (texts : List (List ℕ)) → AreSpelt (header_fields scale) texts → HasLoaded result (texts ∷ []) }
+    {
         Loader {
             alloc,
             scale,
             rows: TableRows::new(alloc),
-            histories: 0,
             last: Place::Header,
         }
     }
 
     /// Takes a record. Its fault, if it has one, is noted in `fields`.
-    pub fn take(&mut self, fields: &mut Fields) -> Result<Taken, NoMemory> {
+    pub fn take(&mut self, fields: &mut Fields) -> Result<Taken, NoMemory>
+        ensures { IfOk result (λ taken. LoadsRecord taken self.old self.new fields.old fields.new) }
+    {
         match fields.word() {
             "I" => self.take_item(fields)?,
             "W" => self.take_warehouse(fields)?,
@@ -51,7 +58,7 @@ impl Loader {
             "N" => self.take_new_order(fields)?,
             "L" => self.take_line(fields)?,
             "END" => {
-                end::check(fields, &self.rows, self.histories);
+                end::check(fields, &self.rows);
                 let _ = fields.finish();
                 return Ok(Taken::End);
             }
@@ -61,96 +68,98 @@ impl Loader {
     }
 
     /// The tables of all rows; `Err` is a rule of the scale that they break.
-    pub fn finish(mut self) -> Result<Result<Tables, ScaleFault>, NoMemory> {
+    pub fn finish(mut self) -> Result<Result<Tables, ScaleFault>, NoMemory>
+        ensures { IfOk result (λ checked. IfOk checked (λ tables. (read : List (List (List ℕ))) (end : List (List ℕ))
+            → HasLoaded self read → AreSpelt (count_fields self.rows) end → AreRecords tables (read ++ end ∷ []))) }
+    {
         let districts = self.scale.warehouses as usize * 10;
-        self.open_histories(districts)?;
+        histories::open(self.alloc, &mut self.rows.histories, districts)?;
         let Loader { scale, rows, .. } = self;
         Ok(Tables::checked(scale, rows))
     }
 
     // Notes where the record stands, whose key was taken.
-    fn stand_at(&mut self, place: Place, fields: &mut Fields) {
+    fn stand_at(&mut self, place: Place, fields: &mut Fields)
+        ensures placed { fault_of fields.new ≡ None → (fault_of fields.old ≡ None) × IsTrue (follows place self.old.last) }
+        ensures left { fields_left fields.new ≡ fields_left fields.old }
+        ensures same { self.new ≡ record self.old { last = place } }
+    {
         if !place.follows(self.last) {
             fields.note(FaultKind::OutOfOrder);
         }
         self.last = place;
     }
 
-    fn take_item(&mut self, fields: &mut Fields) -> Result<(), NoMemory> {
+    fn take_item(&mut self, fields: &mut Fields) -> Result<(), NoMemory>
+        ensures { OnOk result (LoadsRow (codes "I") self.old self.new fields.old fields.new) }
+    {
         let key = items::key(fields, self.scale);
         self.stand_at(Place::Item(key), fields);
         items::add(fields, &mut self.rows.items)
     }
 
-    fn take_warehouse(&mut self, fields: &mut Fields) -> Result<(), NoMemory> {
+    fn take_warehouse(&mut self, fields: &mut Fields) -> Result<(), NoMemory>
+        ensures { OnOk result (LoadsRow (codes "W") self.old self.new fields.old fields.new) }
+    {
         let key = warehouses::key(fields, self.scale);
         self.stand_at(Place::Warehouse(key), fields);
         warehouses::add(fields, &mut self.rows.warehouses)
     }
 
-    fn take_district(&mut self, fields: &mut Fields) -> Result<(), NoMemory> {
+    fn take_district(&mut self, fields: &mut Fields) -> Result<(), NoMemory>
+        ensures { OnOk result (LoadsRow (codes "D") self.old self.new fields.old fields.new) }
+    {
         let key = districts::key(fields, self.scale);
         self.stand_at(Place::District(key), fields);
         districts::add(fields, &mut self.rows.districts)
     }
 
-    fn take_stock(&mut self, fields: &mut Fields) -> Result<(), NoMemory> {
+    fn take_stock(&mut self, fields: &mut Fields) -> Result<(), NoMemory>
+        ensures { OnOk result (LoadsRow (codes "S") self.old self.new fields.old fields.new) }
+    {
         let key = stocks::key(fields, self.scale);
         self.stand_at(Place::Stock(key), fields);
         stocks::add(fields, &mut self.rows.stocks)
     }
 
-    fn take_customer(&mut self, fields: &mut Fields) -> Result<(), NoMemory> {
+    fn take_customer(&mut self, fields: &mut Fields) -> Result<(), NoMemory>
+        ensures { OnOk result (LoadsRow (codes "C") self.old self.new fields.old fields.new) }
+    {
         let key = customers::key(fields, self.scale);
         self.stand_at(Place::Customer(key), fields);
         customers::add(fields, &mut self.rows.customers)
     }
 
-    fn take_history(&mut self, fields: &mut Fields) -> Result<(), NoMemory> {
-        let district = districts::key(fields, self.scale);
-        self.stand_at(Place::History(district), fields);
-        let row = histories::parse(fields, self.scale);
-        if fields.finish().is_none() {
-            self.push_history(district, row)?;
-        }
-        Ok(())
+    fn take_history(&mut self, fields: &mut Fields) -> Result<(), NoMemory>
+        ensures { OnOk result (LoadsRow (codes "H") self.old self.new fields.old fields.new) }
+    {
+        let home = districts::key(fields, self.scale);
+        self.stand_at(Place::History(home), fields);
+        let lists = &mut self.rows.histories;
+        histories::add(fields, self.scale, home, self.alloc, lists)
     }
 
-    fn take_order(&mut self, fields: &mut Fields) -> Result<(), NoMemory> {
+    fn take_order(&mut self, fields: &mut Fields) -> Result<(), NoMemory>
+        ensures { OnOk result (LoadsRow (codes "O") self.old self.new fields.old fields.new) }
+    {
         let key = orders::key(fields, self.scale);
         self.stand_at(Place::Order(key), fields);
         orders::add(fields, self.scale, key, &mut self.rows.orders)
     }
 
-    fn take_new_order(&mut self, fields: &mut Fields) -> Result<(), NoMemory> {
+    fn take_new_order(&mut self, fields: &mut Fields) -> Result<(), NoMemory>
+        ensures { OnOk result (LoadsRow (codes "N") self.old self.new fields.old fields.new) }
+    {
         let key = orders::key(fields, self.scale);
         self.stand_at(Place::NewOrder(key), fields);
         new_orders::add(fields, key, &mut self.rows.new_orders)
     }
 
-    fn take_line(&mut self, fields: &mut Fields) -> Result<(), NoMemory> {
+    fn take_line(&mut self, fields: &mut Fields) -> Result<(), NoMemory>
+        ensures { OnOk result (LoadsRow (codes "L") self.old self.new fields.old fields.new) }
+    {
         let key = lines::key(fields, self.scale);
         self.stand_at(Place::Line(key), fields);
         lines::add(fields, self.scale, key, &mut self.rows.lines)
-    }
-
-    // Adds a row at the end of the district's list.
-    fn push_history(&mut self, district: DistrictKey, row: History) -> Result<(), NoMemory> {
-        if let Some(slot) = self.scale.district_slot(district) {
-            self.open_histories(slot + 1)?;
-            if let Some(list) = self.rows.histories.get_mut(slot) {
-                list.push(row)?;
-                self.histories = self.histories.saturating_add(1);
-            }
-        }
-        Ok(())
-    }
-
-    // Adds empty lists until there are that many.
-    fn open_histories(&mut self, count: usize) -> Result<(), NoMemory> {
-        for _ in self.rows.histories.len()..count {
-            self.rows.histories.push(HistoryList::new(self.alloc))?;
-        }
-        Ok(())
     }
 }

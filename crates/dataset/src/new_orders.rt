@@ -1,7 +1,12 @@
+ghost use Rattle.std.specs.Prelude.{◌≡◌, [], None, OnOk};
+ghost use Rattle.std.specs.BTreeMap.{insert_entry};
+ghost use Rattle.rows.specs.Keys.{order_cmp};
+ghost use Rattle.files.specs.Taken.{fault_of};
 ghost use Rattle.dataset.specs.Records.{new_order_fields};
+ghost use Rattle.dataset.specs.Taking.{Added};
 
-use crate::orders;
 use crate::recorded::Recorded;
+use crate::{added, orders};
 use files::{Fields, NewRecord};
 use rows::{NewOrder, OrderKey};
 use schema::NoMemory;
@@ -12,11 +17,10 @@ pub fn add(
     fields: &mut Fields,
     key: OrderKey,
     new_orders: &mut BTreeMap<OrderKey, NewOrder>,
-) -> Result<(), NoMemory> {
-    if fields.finish().is_none() {
-        new_orders.insert(key, NewOrder)?;
-    }
-    Ok(())
+) -> Result<(), NoMemory>
+    ensures { OnOk result (fault_of fields.new ≡ None → Added (λ _. []) (λ row. new_orders.new.entries ≡ insert_entry order_cmp new_orders.old.entries key row) fields.old) }
+{
+    added::insert(fields, key, NewOrder, new_orders)
 }
 
 impl Recorded<OrderKey> for NewOrder {

@@ -1,7 +1,11 @@
-ghost use Rattle.std.specs.Prelude.{[], ◌∷◌, IsTrue, OnOk};
+ghost use Rattle.std.specs.Prelude.{◌≡◌, [], ◌∷◌, None, IsTrue, OnOk, if◌then◌else◌};
+ghost use Rattle.std.specs.BTreeMap.{insert_entry};
+ghost use Rattle.rows.specs.Keys.{order_cmp};
 ghost use Rattle.schema.specs.Scale.{has_district};
 ghost use Rattle.schema.specs.Database.{is_order_id};
-ghost use Rattle.dataset.specs.Records.{Number, carrier_field, order_fields};
+ghost use Rattle.files.specs.Taken.{fault_of};
+ghost use Rattle.dataset.specs.Records.{Number, carrier_field, order_key_fields, order_columns, order_fields};
+ghost use Rattle.dataset.specs.Taking.{Takes, Added};
 ghost use Rattle.dataset.specs.Writing.{Adds};
 
 use crate::moments::put_moment;
@@ -15,6 +19,7 @@ use std::collections::BTreeMap;
 pub fn key(fields: &mut Fields, scale: Scale) -> OrderKey
     ensures district { IsTrue (has_district scale (record { w_id = result.w_id; d_id = result.d_id })) }
     ensures number { IsTrue (is_order_id result.o_id) }
+    ensures taken { Takes (order_key_fields result) fields.old fields.new }
 {
     OrderKey {
         w_id: fields.whole(1, scale.warehouses),
@@ -29,13 +34,15 @@ pub fn add(
     scale: Scale,
     key: OrderKey,
     orders: &mut BTreeMap<OrderKey, Order>,
-) -> Result<(), NoMemory> {
+) -> Result<(), NoMemory>
+    ensures { OnOk result (fault_of fields.new ≡ None → Added order_columns (λ row. orders.new.entries ≡ insert_entry order_cmp orders.old.entries key row) fields.old) }
+{
     let row = Order {
         c_id: fields.whole(1, scale.customers),
         entry_d: fields.moment(),
-        carrier_id: fields.optional_ranged(),
+        carrier_id: carrier(fields),
         ol_cnt: fields.ranged(),
-        all_local: fields.whole(0, 1) == 1,
+        all_local: is_all_local(fields),
     };
     if fields.finish().is_none() {
         orders.insert(key, row)?;
@@ -43,9 +50,23 @@ pub fn add(
     Ok(())
 }
 
+// Takes O_CARRIER_ID, which is null where the field is empty.
+fn carrier(fields: &mut Fields) -> Option<CarrierId>
+    ensures { Takes (carrier_field result ∷ []) fields.old fields.new }
+{
+    fields.optional_ranged()
+}
+
+// Takes O_ALL_LOCAL.
+fn is_all_local(fields: &mut Fields) -> bool
+    ensures { Takes (Number (if result then 1 else 0) ∷ []) fields.old fields.new }
+{
+    fields.whole(0, 1) == 1
+}
+
 /// Adds the key of an order, three fields.
 pub fn put_key(out: &mut NewRecord, key: OrderKey) -> Result<(), NoMemory>
-    ensures { OnOk result (Adds (Number key.w_id ∷ Number key.d_id ∷ Number key.o_id ∷ []) out.old out.new) }
+    ensures { OnOk result (Adds (order_key_fields key) out.old out.new) }
 {
     out.push_number(u64::from(key.w_id))?;
     out.push_number(u64::from(key.d_id))?;

@@ -1,3 +1,6 @@
+ghost use Rattle.std.specs.Prelude.{◌≡◌};
+ghost use Rattle.dataset.specs.Order.{follows};
+
 use rows::{CustomerKey, DistrictKey, OrderKey, OrderLineKey, StockKey};
 
 /// Where a record stands in the order of a dataset: by table, and in its table by key.
@@ -18,7 +21,9 @@ pub enum Place {
 impl Place {
     /// Whether a record at this place may come right after one at `last`. Only the rows of HISTORY, which
     /// have no key, may share a place.
-    pub fn follows(self, last: Place) -> bool {
+    pub fn follows(self, last: Place) -> bool
+        ensures { result ≡ follows self last }
+    {
         match self {
             Place::History(_) => last <= self,
             _ => last < self,

@@ -1,3 +1,8 @@
+ghost use Rattle.std.specs.Prelude.{◌≡◌, ℕ, List, [], ◌∷◌, Some, IfOk, OnOk};
+ghost use Rattle.files.specs.Place.{HasRead, IsCsv, record_fields};
+ghost use Rattle.dataset.specs.Loading.{HasLoaded, HasEnded, IsLoaded};
+ghost use Rattle.dataset.specs.Records.{AreRecords, AreSpelt, header_fields};
+
 use crate::header;
 use crate::loader::{Loader, Taken};
 use files::{FaultKind, FileError, FileFault, Records};
@@ -10,7 +15,9 @@ use std::io::Read;
 /// A fault comes with its record, and nothing else is given then. The first faulty record decides, and
 /// of its faults the least one; a broken rule of the scale is looked for after the whole file was read,
 /// and named at the end record. Memory is taken row by row, never by the numbers of the header.
-pub fn read<R: Read + Drop>(alloc: Global, source: R) -> Result<Tables, FileError> {
+pub fn read<R: Read + Drop>(alloc: Global, source: R) -> Result<Tables, FileError>
+    ensures { IfOk result (λ tables. (text : List ℕ) → R.remaining source ≡ Some text → (rows : List (List (List ℕ))) × IsCsv text rows × AreRecords tables rows) }
+{
     let mut records = Records::new(alloc, source);
     let scale = read_header(&mut records)?;
     let mut loader = Loader::new(alloc, scale);
@@ -19,7 +26,10 @@ pub fn read<R: Read + Drop>(alloc: Global, source: R) -> Result<Tables, FileErro
 }
 
 // The scale of the first record, which is the header.
-fn read_header<R: Read + Drop>(records: &mut Records<R>) -> Result<Scale, FileError> {
+fn read_header<R: Read + Drop>(records: &mut Records<R>) -> Result<Scale, FileError>
+    ensures { IfOk result (λ scale. (text : List ℕ) → HasRead R.remaining text [] records.old
+        → (texts : List (List ℕ)) × AreSpelt (header_fields scale) texts × HasRead R.remaining text (texts ∷ []) records.new) }
+{
     if !records.advance()? {
         return Err(records.fault(FaultKind::NoHeader));
     }
@@ -30,16 +40,17 @@ fn read_header<R: Read + Drop>(records: &mut Records<R>) -> Result<Scale, FileEr
 }
 
 // Takes the records up to the end record, which is then under way.
-fn read_rows<R: Read + Drop>(
-    records: &mut Records<R>,
-    loader: &mut Loader,
-) -> Result<(), FileError> {
+fn read_rows<R: Read + Drop>(records: &mut Records<R>, loader: &mut Loader) -> Result<(), FileError>
+    ensures { OnOk result ((text : List ℕ) (read : List (List (List ℕ))) → HasRead R.remaining text read records.old → HasLoaded loader.old read
+        → HasEnded R.remaining text loader.new records.new) }
+{
     for _ in 0..u64::MAX {
         if !records.advance()? {
             break;
         }
-        if read_record(records, loader)? == Taken::End {
-            return Ok(());
+        match read_record(records, loader)? {
+            Taken::Row => {}
+            Taken::End => return Ok(()),
         }
     }
     Err(records.fault(FaultKind::NoEnd))
@@ -49,7 +60,9 @@ fn read_rows<R: Read + Drop>(
 fn read_record<R: Read + Drop>(
     records: &Records<R>,
     loader: &mut Loader,
-) -> Result<Taken, FileError> {
+) -> Result<Taken, FileError>
+    ensures { IfOk result (λ taken. IsLoaded taken loader.old loader.new (record_fields records.now)) }
+{
     let mut fields = records.fields();
     let taken = loader.take(&mut fields)?;
     match fields.fault() {
@@ -59,7 +72,9 @@ fn read_record<R: Read + Drop>(
 }
 
 // The tables, after the end record, which has to be the last.
-fn finish<R: Read + Drop>(mut records: Records<R>, loader: Loader) -> Result<Tables, FileError> {
+fn finish<R: Read + Drop>(mut records: Records<R>, loader: Loader) -> Result<Tables, FileError>
+    ensures { IfOk result (λ tables. (text : List ℕ) → HasEnded R.remaining text loader records → (rows : List (List (List ℕ))) × IsCsv text rows × AreRecords tables rows) }
+{
     let end = records.number();
     if records.advance()? {
         return Err(records.fault(FaultKind::AfterEnd));

@@ -1,8 +1,11 @@
-ghost use Rattle.std.specs.Prelude.{map, IsTrue, OnOk};
+ghost use Rattle.std.specs.Prelude.{◌≡◌, [], ◌∷◌, ◌++◌, map, None, IsTrue, OnOk};
 ghost use Rattle.schema.specs.Scale.{has_stock, stock_keys};
-ghost use Rattle.dataset.specs.Records.{Words, stock_fields};
+ghost use Rattle.files.specs.Taken.{fault_of};
+ghost use Rattle.dataset.specs.Records.{Words, Number, stock_columns, stock_fields};
+ghost use Rattle.dataset.specs.Taking.{Takes, Added};
 ghost use Rattle.dataset.specs.Writing.{Adds};
 
+use crate::added;
 use crate::recorded::{Dense, Recorded};
 use files::{Fields, NewRecord};
 use rows::{Stock, StockKey, Text};
@@ -10,7 +13,8 @@ use schema::{NoMemory, Scale};
 
 /// Takes the key of a record of STOCK, its second and third field.
 pub fn key(fields: &mut Fields, scale: Scale) -> StockKey
-    ensures { IsTrue (has_stock scale result) }
+    ensures known { IsTrue (has_stock scale result) }
+    ensures taken { Takes (Number result.w_id ∷ Number result.i_id ∷ []) fields.old fields.new }
 {
     StockKey {
         w_id: fields.whole(1, scale.warehouses),
@@ -19,23 +23,30 @@ pub fn key(fields: &mut Fields, scale: Scale) -> StockKey
 }
 
 /// Takes the other fields, and adds the row if the record has no fault.
-pub fn add(fields: &mut Fields, stocks: &mut Vec<Stock>) -> Result<(), NoMemory> {
-    let row = Stock {
+pub fn add(fields: &mut Fields, stocks: &mut Vec<Stock>) -> Result<(), NoMemory>
+    ensures { OnOk result (fault_of fields.new ≡ None → Added stock_columns (λ row. stocks.new.items ≡ stocks.old.items ++ row ∷ []) fields.old) }
+{
+    let row = parse(fields);
+    added::push(fields, row, stocks)
+}
+
+fn parse(fields: &mut Fields) -> Stock
+    ensures { Takes (stock_columns result) fields.old fields.new }
+{
+    Stock {
         quantity: fields.ranged(),
         dist: district_infos(fields),
         ytd: fields.ranged(),
         order_cnt: fields.ranged(),
         remote_cnt: fields.ranged(),
         data: fields.text(),
-    };
-    if fields.finish().is_none() {
-        stocks.push(row)?;
     }
-    Ok(())
 }
 
 // Takes S_DIST_01 to S_DIST_10.
-fn district_infos(fields: &mut Fields) -> [Text<24>; 10] {
+fn district_infos(fields: &mut Fields) -> [Text<24>; 10]
+    ensures { Takes (map (λ text. Words text) result) fields.old fields.new }
+{
     [
         fields.text(),
         fields.text(),

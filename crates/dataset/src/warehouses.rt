@@ -1,8 +1,11 @@
-ghost use Rattle.std.specs.Prelude.{IsTrue, OnOk};
+ghost use Rattle.std.specs.Prelude.{◌≡◌, [], ◌∷◌, ◌++◌, None, IsTrue, OnOk};
 ghost use Rattle.schema.specs.Scale.{has_warehouse, warehouse_ids};
-ghost use Rattle.dataset.specs.Records.{address_fields, warehouse_fields};
+ghost use Rattle.files.specs.Taken.{fault_of};
+ghost use Rattle.dataset.specs.Records.{Number, address_fields, warehouse_columns, warehouse_fields};
+ghost use Rattle.dataset.specs.Taking.{Takes, Added};
 ghost use Rattle.dataset.specs.Writing.{Adds};
 
+use crate::added;
 use crate::recorded::{Dense, Recorded};
 use files::{Fields, NewRecord};
 use rows::{Address, Warehouse};
@@ -10,27 +13,35 @@ use schema::{NoMemory, Scale};
 
 /// Takes W_ID, the second field of a record of WAREHOUSE.
 pub fn key(fields: &mut Fields, scale: Scale) -> u32
-    ensures { IsTrue (has_warehouse scale result) }
+    ensures known { IsTrue (has_warehouse scale result) }
+    ensures taken { Takes (Number result ∷ []) fields.old fields.new }
 {
     fields.whole(1, scale.warehouses)
 }
 
 /// Takes the other fields, and adds the row if the record has no fault.
-pub fn add(fields: &mut Fields, warehouses: &mut Vec<Warehouse>) -> Result<(), NoMemory> {
-    let row = Warehouse {
+pub fn add(fields: &mut Fields, warehouses: &mut Vec<Warehouse>) -> Result<(), NoMemory>
+    ensures { OnOk result (fault_of fields.new ≡ None → Added warehouse_columns (λ row. warehouses.new.items ≡ warehouses.old.items ++ row ∷ []) fields.old) }
+{
+    let row = parse(fields);
+    added::push(fields, row, warehouses)
+}
+
+fn parse(fields: &mut Fields) -> Warehouse
+    ensures { Takes (warehouse_columns result) fields.old fields.new }
+{
+    Warehouse {
         name: fields.text(),
         address: address(fields),
         tax: fields.rate(),
         ytd: fields.cents(),
-    };
-    if fields.finish().is_none() {
-        warehouses.push(row)?;
     }
-    Ok(())
 }
 
 /// Takes the five fields of an address.
-pub fn address(fields: &mut Fields) -> Address {
+pub fn address(fields: &mut Fields) -> Address
+    ensures { Takes (address_fields result) fields.old fields.new }
+{
     Address {
         street_1: fields.text(),
         street_2: fields.text(),

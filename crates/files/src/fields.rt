@@ -1,4 +1,4 @@
-ghost use Rattle.std.specs.Prelude.{◌≡◌, ◌≢◌, ◌≤◌, ℕ, List, [], ◌∷◌, drop, None, Some, IfOk, IfErr, IsUtf8};
+ghost use Rattle.std.specs.Prelude.{◌≡◌, ◌≢◌, ◌↔◌, ◌≤◌, ℕ, List, [], ◌∷◌, length, drop, IsTrue, None, Some, MatchOption, IfNone, IfSome, IfOk, IfErr, IsUtf8};
 ghost use Rattle.std.specs.Fmt.{decimal, signed_decimal};
 ghost use Rattle.csv.specs.Records.{fields_of};
 ghost use Rattle.files.specs.MomentText.{IsMomentText};
@@ -42,6 +42,23 @@ impl<'r> Fields<'r> {
     /// How many fields the record has.
     pub fn count(&self) -> usize {
         self.record.len()
+    }
+
+    /// How many fields are left.
+    pub fn left(&self) -> usize
+        ensures { result ≡ length (fields_left self.now) }
+    {
+        self.record.len().saturating_sub(self.place)
+    }
+
+    /// Whether the next field is there and is empty.
+    pub fn next_is_empty(&self) -> bool
+        ensures { IsTrue result ↔ ((rest : List (List ℕ)) × (fields_left self.now ≡ [] ∷ rest)) }
+    {
+        match self.record.get(self.place) {
+            Some(bytes) => bytes.is_empty(),
+            None => false,
+        }
     }
 
     /// The least fault so far.
@@ -130,9 +147,9 @@ impl<'r> Fields<'r> {
     }
 
     /// The same, and `None` where the field is empty.
-    pub fn optional_ranged<const LOW: u32, const HIGH: u32>(
-        &mut self,
-    ) -> Option<Ranged<LOW, HIGH>> {
+    pub fn optional_ranged<const LOW: u32, const HIGH: u32>(&mut self) -> Option<Ranged<LOW, HIGH>>
+        ensures { MatchOption result (TakesWell self.old self.new []) (λ number. TakesWell self.old self.new (decimal number)) }
+    {
         let word = self.word();
         if word.is_empty() {
             return None;
@@ -188,13 +205,21 @@ impl<'r> Fields<'r> {
     }
 
     /// The same, and `None` where the field is empty.
-    pub fn optional_moment(&mut self) -> Option<Moment> {
+    pub fn optional_moment(&mut self) -> Option<Moment>
+        ensures null { IfNone result (TakesWell self.old self.new []) }
+        ensures moment { IfSome result (λ seconds. fault_of self.new ≡ None → (fault_of self.old ≡ None) × ((text : List ℕ) × IsMomentText text seconds × (fields_left self.old ≡ text ∷ fields_left self.new))) }
+    {
         let word = self.word();
         if word.is_empty() {
             return None;
         }
-        let moment = parse_moment(word).map(Some);
-        self.or_note(moment, None)
+        match parse_moment(word) {
+            Ok(moment) => Some(moment),
+            Err(kind) => {
+                self.note(kind);
+                None
+            }
+        }
     }
 
     /// Notes `WrongCount` where the next field is another number than `count`.

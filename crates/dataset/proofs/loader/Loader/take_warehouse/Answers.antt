@@ -1,0 +1,26 @@
+use Rattle.std.proofs.Common.{◌≡◌, [], ◌∷◌, ◌++◌, None, OnOk, IsTrue, codes, sym, subst}
+use Rattle.std.proofs.lemmas.Result.{on_ok_weaker}
+use Rattle.schema.specs.declared.table_rows.TableRows.{TableRows}
+use Rattle.files.specs.Taken.{fault_of}
+use Rattle.dataset.specs.declared.loader.Loader.{Loader}
+use Rattle.dataset.specs.declared.place.Place.TheVariants as at
+use Rattle.dataset.specs.Order.{follows}
+use Rattle.dataset.specs.Records.{Number, warehouse_columns}
+use Rattle.dataset.specs.Taking.{Added}
+use Rattle.dataset.specs.Loading.{LoadsRow}
+use Rattle.dataset.proofs.Loading.{loads_row, load_warehouse}
+use Rattle.dataset.proofs.loader.Loader.take_warehouse.Goals as goal
+
+pub returns : goal.returns
+returns c =
+    let l = c.args.self.now in
+    let key = c.key-key.result in
+    let rows : Loader → TableRows = λ s. record s.rows { warehouses = c.add.new.warehouses } in
+    let loads : Loader → Type 0 = λ s. OnOk c.add.result (fault_of c.add.new.fields ≡ None → Added warehouse_columns (λ row. c.add.new.warehouses.items ≡ s.rows.warehouses.items ++ (row ∷ [])) c.stand_at.new.fields)
+    → OnOk c.add.result (LoadsRow (codes "W") l (record s { rows = rows s }) c.args.fields.now c.add.new.fields) in
+    subst loads (sym c.stand_at.ensures.same)
+    (on_ok_weaker c.add.result (λ adds.
+    loads_row (codes "W") l _ warehouse_columns (Number key ∷ []) (IsTrue (follows (at.Warehouse key) l.last)) _ c.args.fields.now c.key-key.new.fields c.stand_at.new.fields c.add.new.fields
+    c.key-key.ensures.taken c.stand_at.ensures.placed c.stand_at.ensures.left adds
+    (λ row read texts h follow added spelt. load_warehouse l (rows l) key row read texts h follow c.key-key.ensures.known added spelt)))
+    c.add.ensures

@@ -1,0 +1,22 @@
+-- The lists of payments while records of HISTORY are read.
+use Rattle.std.specs.Prelude.{◌≡◌, ℕ, ◌+◌, ◌≤◌, List, [], ◌∷◌, ◌++◌, length, slice_set, Option, Some}
+use Rattle.std.specs.List.{AllByRecursion, slice_get}
+use Rattle.rows.specs.declared.records.History.{History}
+
+-- empty lists came, until there were so many, and no more than these
+pub record Opens (count : ℕ) (old new : List (List History)) : Type 0 where
+  pub opened : List (List History)
+  pub are_empty : AllByRecursion (λ list. list ≡ []) opened
+  pub more : new ≡ old ++ opened
+  pub reaches : count ≤ length new
+  pub enough : length old ≤ count → length new ≡ count
+
+-- the list of that place, which may have been opened for it with those before it, has a payment more
+pub record Pays (place : Option ℕ) (row : History) (old new : List (List History)) : Type 0 where
+  pub slot : ℕ
+  pub is_slot : place ≡ Some slot
+  pub opened : List (List History)
+  pub opens : Opens (slot + 1) old opened
+  pub list : List History
+  pub is_list : slice_get opened slot ≡ Some list
+  pub paid : new ≡ slice_set opened slot (list ++ row ∷ [])
