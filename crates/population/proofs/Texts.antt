@@ -1,0 +1,20 @@
+-- Parts of printable texts.
+use Rattle.std.proofs.Common.{◌≡◌, ℕ, zero, suc, ◌-◌, ◌&&◌, Bool, true, false, List, [], ◌∷◌, drop, refl}
+use Rattle.std.specs.List.{list_all, slice_range}
+use Rattle.rows.proofs.Fitting.{list_all-take}
+
+list_all-drop : {X : Type 0} (p : X → Bool) (n : ℕ) (xs : List X) → list_all p xs ≡ true → list_all p (drop n xs) ≡ true
+list_all-drop p zero xs h = h
+list_all-drop p (suc n) [] h = refl
+list_all-drop p (suc n) (x ∷ xs) h =
+    elim (p x) as (λ b. (b && list_all p xs) ≡ true → list_all p (drop n xs) ≡ true) [
+      | true ↦ λ k. list_all-drop p n xs k
+      | false ↦ λ k. absurd cc
+    ] h
+
+-- what each character has, each of a part has
+pub list_all-part : {X : Type 0} (p : X → Bool) (low high : ℕ) (xs : List X) → list_all p xs ≡ true → list_all p (slice_range xs low high) ≡ true
+list_all-part p low high xs h = list_all-take p (high - low) (drop low xs) (list_all-drop p low xs h)
+
+pub list_all-rest : {X : Type 0} (p : X → Bool) (low : ℕ) (xs : List X) → list_all p xs ≡ true → list_all p (drop low xs) ≡ true
+list_all-rest p low xs h = list_all-drop p low xs h

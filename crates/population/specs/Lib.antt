@@ -1,0 +1,7 @@
+pub mod Keys
+pub mod Profile
+pub mod Append
+pub mod Rows
+pub mod Book
+pub mod Filled
+pub mod Population

@@ -1,0 +1,100 @@
+ghost use Rattle.std.specs.Prelude.{◌≡◌, ◌+◌, ◌≤◌, OnOk, IfOk, length, pos};
+ghost use Rattle.std.specs.List.{All};
+ghost use Rattle.population.specs.Rows.{IsOpeningCustomer, AreOpeningPayments};
+
+use crate::draws::Draws;
+use amounts::{Cents, Rate};
+use schema::{
+    Counter, Credit, Customer, CustomerKey, DistrictKey, History, HistoryList, Moment, NoMemory,
+    Scale, Text, last_name,
+};
+use std::alloc::Global;
+
+/// Adds the customers of a district, by C_ID, and gives the payment that each of them made.
+pub(crate) fn add_customers(
+    alloc: Global,
+    draws: &mut Draws,
+    customers: &mut Vec<Customer>,
+    home: DistrictKey,
+    scale: Scale,
+    now: Moment,
+) -> Result<HistoryList, NoMemory>
+    requires { All IsOpeningCustomer customers.old.items }
+    ensures rows { OnOk result (All IsOpeningCustomer customers.new.items) }
+    ensures count { OnOk result (length customers.new.items ≡ length customers.old.items + scale.customers) }
+    ensures payments { IfOk result (AreOpeningPayments home scale.customers) }
+{
+    let mut payments = HistoryList::new(alloc);
+    for place in 0..scale.customers {
+        let key = CustomerKey {
+            w_id: home.w_id,
+            d_id: home.d_id,
+            c_id: place + 1,
+        };
+        customers.push(customer(draws, key.c_id, now))?;
+        payments.push(payment(draws, key, now))?;
+    }
+    Ok(payments)
+}
+
+// The row of a customer, who has paid 1,000 cents once.
+fn customer(draws: &mut Draws, number: u32, now: Moment) -> Customer
+    requires { 1 ≤ number }
+    ensures { IsOpeningCustomer result }
+{
+    Customer {
+        first: draws.text(8, 16),
+        middle: middle(),
+        last: last(draws, number),
+        address: draws.address(),
+        phone: draws.digits(16),
+        since: now,
+        credit: credit(draws),
+        credit_lim: Cents::new(5_000_000),
+        discount: Rate::new(draws.random(0, 5_000) as u16),
+        balance: Cents::new(-1_000),
+        ytd_payment: Cents::new(1_000),
+        payment_cnt: Counter::new(1),
+        delivery_cnt: Counter::new(0),
+        data: draws.text(300, 500),
+    }
+}
+
+fn middle() -> Text<2> {
+    let mut middle = Text::new();
+    middle.push_fitting("OE");
+    middle
+}
+
+/// The first 1,000 customers have the names of the numbers from 0 to 999, and the others random ones.
+pub(crate) fn last(draws: &mut Draws, number: u32) -> Text<16>
+    requires { 1 ≤ number }
+{
+    if number <= 1_000 {
+        last_name(number - 1)
+    } else {
+        last_name(draws.nu_rand(255, 0, 999))
+    }
+}
+
+// One customer in ten is of bad credit.
+fn credit(draws: &mut Draws) -> Credit {
+    if draws.random(1, 10) == 1 {
+        Credit::Bad
+    } else {
+        Credit::Good
+    }
+}
+
+// The payment of 1,000 cents that the customer made at home.
+fn payment(draws: &mut Draws, customer: CustomerKey, now: Moment) -> History
+    ensures customer { result.customer ≡ customer }
+    ensures amount { result.amount ≡ pos 1000 }
+{
+    History {
+        customer,
+        date: now,
+        amount: Cents::new(1_000),
+        data: draws.text(12, 24),
+    }
+}

@@ -1,0 +1,149 @@
+ghost use Rattle.std.specs.Prelude.{◌≡◌, ◌+◌, ◌<◌, ◌≤◌, ◌^◌, length, IsTrue};
+ghost use Rattle.std.specs.List.{list_all};
+ghost use Rattle.rows.specs.Text.{is_printable_byte};
+
+use rand_core::{Rng, SeedableRng};
+use rand_pcg::Pcg64;
+use schema::{Address, Text};
+
+const DIGITS: &str = "0123456789";
+
+const LETTERS: &str = "ABCDEFGHIJKLMNOPQRSTUVWXYZ";
+
+const DIGITS_AND_LETTERS: &str = "0123456789ABCDEFGHIJKLMNOPQRSTUVWXYZabcdefghijklmnopqrstuvwxyz";
+
+const ORIGINAL: &str = "ORIGINAL";
+
+/// The random values of one seed, in the order in which they are drawn. Each is one or more words of
+/// a generator, and of the same seed they are the same.
+#[derive(Drop)]
+pub(crate) struct Draws {
+    generator: Pcg64,
+}
+
+impl Draws {
+    pub(crate) fn new(seed: u32) -> Self {
+        Draws {
+            generator: Pcg64::seed_from_u64(u64::from(seed)),
+        }
+    }
+
+    /// A whole number from `low` to `high`, both included: `low` and the rest of one word divided by
+    /// their count.
+    pub(crate) fn random(&mut self, low: u32, high: u32) -> u32
+        requires { low ≤ high }
+        ensures low { low ≤ result }
+        ensures high { result ≤ high }
+    {
+        let count = u64::from(high - low) + 1;
+        low + (self.generator.next_u64() % count) as u32
+    }
+
+    /// A number from `low` to `high` that isn't evenly spread (clause 2.1.6): the bits of a number up to
+    /// `bits` or those of one from `low` to `high`, and of that the rest by their count. The constant
+    /// that the clause adds is 0.
+    pub(crate) fn nu_rand(&mut self, bits: u32, low: u32, high: u32) -> u32
+        requires order { low ≤ high }
+        requires count { high + 1 < 2 ^ 32 }
+        ensures low { low ≤ result }
+        ensures high { result ≤ high }
+    {
+        let left = self.random(0, bits);
+        let right = self.random(low, high);
+        (left | right) % (high - low + 1) + low
+    }
+
+    /// From `low` to `high` digits and letters.
+    pub(crate) fn text<const WIDTH: usize>(&mut self, low: u32, high: u32) -> Text<WIDTH>
+        requires order { low ≤ high }
+        requires fits { high ≤ WIDTH }
+        ensures low { low ≤ length result }
+        ensures high { length result ≤ high }
+    {
+        let count = self.random(low, high);
+        self.characters(count, DIGITS_AND_LETTERS)
+    }
+
+    /// That many capital letters.
+    pub(crate) fn letters<const WIDTH: usize>(&mut self, count: u32) -> Text<WIDTH> {
+        self.characters(count, LETTERS)
+    }
+
+    /// That many digits.
+    pub(crate) fn digits<const WIDTH: usize>(&mut self, count: u32) -> Text<WIDTH> {
+        self.characters(count, DIGITS)
+    }
+
+    /// From `low` to `high` digits and letters; in one of ten the word `ORIGINAL` stands somewhere in
+    /// place of eight of them (clause 4.3.3.1).
+    pub(crate) fn original_text<const WIDTH: usize>(&mut self, low: u32, high: u32) -> Text<WIDTH>
+        requires room { 8 ≤ low }
+        requires order { low ≤ high }
+        requires fits { high ≤ WIDTH }
+    {
+        let text = self.text(low, high);
+        if self.random(1, 10) == 1 {
+            self.with_original(&text)
+        } else {
+            text
+        }
+    }
+
+    /// A random address (clause 4.3.2.7 for its zip code).
+    pub(crate) fn address(&mut self) -> Address {
+        Address {
+            street_1: self.text(10, 20),
+            street_2: self.text(10, 20),
+            city: self.text(10, 20),
+            state: self.letters(2),
+            zip: self.zip(),
+        }
+    }
+
+    // Four digits, and `11111`.
+    fn zip(&mut self) -> Text<9> {
+        let mut zip = self.digits(4);
+        zip.push_fitting("11111");
+        zip
+    }
+
+    // The text with the word `ORIGINAL` at a random place in it.
+    fn with_original<const WIDTH: usize>(&mut self, text: &Text<WIDTH>) -> Text<WIDTH>
+        requires room { 8 ≤ length text.now }
+        requires short { length text.now < 2 ^ 32 }
+    {
+        let words = text.as_str();
+        let place = self.random(0, words.len() as u32 - 8) as usize;
+        let mut original = Text::new();
+        original.push_fitting(&words[..place]);
+        original.push_fitting(ORIGINAL);
+        original.push_fitting(&words[place + ORIGINAL.len()..]);
+        original
+    }
+
+    // That many characters of the alphabet; what doesn't fit falls off.
+    fn characters<const WIDTH: usize>(&mut self, count: u32, alphabet: &str) -> Text<WIDTH>
+        requires some { 0 < length alphabet.now }
+        requires short { length alphabet.now < 2 ^ 32 }
+        requires printable { IsTrue (list_all is_printable_byte alphabet.now) }
+        ensures { count ≤ WIDTH → length result ≡ count }
+    {
+        let mut text = Text::new();
+        for _ in 0..count {
+            text.push_fitting(self.character(alphabet));
+        }
+        text
+    }
+
+    // One character of the alphabet, by itself.
+    fn character<'a>(&mut self, alphabet: &'a str) -> &'a str
+        requires some { 0 < length alphabet.now }
+        requires short { length alphabet.now < 2 ^ 32 }
+        requires printable { IsTrue (list_all is_printable_byte alphabet.now) }
+        ensures one { length result.now ≡ 1 }
+        ensures printable { IsTrue (list_all is_printable_byte result.now) }
+    {
+        let place = self.random(0, alphabet.len() as u32 - 1) as usize;
+        &alphabet[place..place + 1]
+    }
+}

@@ -1,0 +1,89 @@
+ghost use Rattle.std.specs.Prelude.{◌≡◌, ◌↔◌, ◌<◌, false, None, IsTrue, IfOk, OnOk, ◌++◌, map};
+ghost use Rattle.std.specs.List.{All, range_with_len};
+ghost use Rattle.std.specs.BTreeMap.{IsOrdered};
+ghost use Rattle.std.specs.Map.{keys_of};
+ghost use Rattle.rows.specs.Keys.{line_cmp};
+ghost use Rattle.schema.specs.Scale.{has_warehouse};
+ghost use Rattle.schema.specs.Database.{is_line_number};
+ghost use Rattle.population.specs.Keys.{line_key};
+ghost use Rattle.population.specs.Profile.{delivered_orders};
+ghost use Rattle.population.specs.Rows.{IsOpeningLine, AreOfEarlierOrders};
+
+use crate::append::append;
+use crate::draws::Draws;
+use crate::profile::is_new;
+use schema::{
+    CarrierId, LineAmount, LineCount, LineQuantity, Moment, NoMemory, OrderKey, OrderLine,
+    OrderLineKey, Scale,
+};
+use std::collections::BTreeMap;
+
+/// Who delivered the order; nobody, where it is new.
+pub(crate) fn carrier(draws: &mut Draws, scale: Scale, order: u32) -> Option<CarrierId>
+    ensures { (result ≡ None) ↔ (delivered_orders scale < order) }
+{
+    if is_new(scale, order) {
+        None
+    } else {
+        Some(CarrierId::new(draws.random(1, 10)))
+    }
+}
+
+/// Adds the lines of the order, `count` of them.
+pub(crate) fn add_lines(
+    draws: &mut Draws,
+    lines: &mut BTreeMap<OrderLineKey, OrderLine>,
+    scale: Scale,
+    now: Moment,
+    order: OrderKey,
+    count: LineCount,
+) -> Result<(), NoMemory>
+    requires warehouse { IsTrue (has_warehouse scale order.w_id) }
+    requires before { AreOfEarlierOrders order lines.old.entries }
+    requires rows { All (λ e. IsOpeningLine scale e.0 e.1) lines.old.entries }
+    requires ordered { IsOrdered line_cmp lines.old }
+    ensures keys { OnOk result (keys_of lines.new.entries ≡ keys_of lines.old.entries ++ map (line_key order) (range_with_len 1 count)) }
+    ensures rows { OnOk result (All (λ e. IsOpeningLine scale e.0 e.1) lines.new.entries) }
+    ensures ordered { IsOrdered line_cmp lines.new }
+{
+    for place in 0..count.get() {
+        let key = OrderLineKey {
+            w_id: order.w_id,
+            d_id: order.d_id,
+            o_id: order.o_id,
+            number: place + 1,
+        };
+        append(lines, key, line(draws, scale, now, key))?;
+    }
+    Ok(())
+}
+
+// The row of the line: five of an item, from the order's own warehouse. What was delivered cost
+// nothing.
+fn line(draws: &mut Draws, scale: Scale, now: Moment, key: OrderLineKey) -> OrderLine
+    requires warehouse { IsTrue (has_warehouse scale key.w_id) }
+    requires number { IsTrue (is_line_number key.number) }
+    ensures { IsOpeningLine scale key result }
+{
+    let i_id = draws.random(1, scale.items);
+    let waits = is_new(scale, key.o_id);
+    OrderLine {
+        i_id,
+        supply_w_id: key.w_id,
+        delivery_d: if waits { None } else { Some(now) },
+        quantity: LineQuantity::new(5),
+        amount: amount(draws, waits),
+        dist_info: draws.text(24, 24),
+    }
+}
+
+// OL_AMOUNT of a line of a new order, or of one that was delivered.
+fn amount(draws: &mut Draws, waits: bool) -> LineAmount
+    ensures { waits ≡ false → result ≡ 0 }
+{
+    if waits {
+        LineAmount::new(draws.random(1, 999_999))
+    } else {
+        LineAmount::new(0)
+    }
+}
