@@ -14,18 +14,18 @@ with_refused() {
     }
 }
 
-# Two sets take 308 allocations to make, and a payment on one of them takes the next.
-for number in 1 100 308 309 310; do
+# Two sets, each with an engine, take 358 allocations to make, and a payment on one of them takes the next.
+for number in 1 100 358 359 360; do
     with_refused payments::want_of_memory_changes_nothing "$number"
 done
 
-# A set, a script, an engine with its 64 sessions, and a thread take 561 allocations to make, and the first entry of the
+# A set, a script, an engine with its 64 sessions, and a thread take 586 allocations to make, and the first entry of the
 # log takes the next.
-with_refused serving::want_of_memory_is_answered 562
+with_refused serving::want_of_memory_is_answered 587
 
-# Two sets, a list of events and a world with its 64 sessions take 2,197 allocations to make. Then the submission of a
+# Two sets, a list of events and a world with its 64 sessions take 2,221 allocations to make. Then the submission of a
 # payment takes three, the actions of its first phase three, that of its second one, and its entry in the log one.
-for number in 2198 2201 2204 2205; do
+for number in 2222 2225 2228 2229; do
     with_refused worlds::want_of_memory_is_taken_back "$number"
 done
 

@@ -11,7 +11,7 @@ use Rattle.requests.specs.declared.request.Payment.{Payment}
 use Rattle.requests.specs.declared.refusal.Refusal.{Refusal}
 use Rattle.requests.specs.declared.refusal.Refusal.TheVariants.{BadWarehouse, BadDistrict, BadLines, BadQuantity, BadSupply, BadAmount, BadThreshold, BadCarrier}
 use Rattle.requests.specs.Check.{refused_by, applies, IsAccepted}
-use Rattle.groups.specs.Footprint.{payment_footprint, groups_of}
+use Rattle.groups.specs.Footprint.{payment_footprint, order_status_footprint, groups_of}
 use Rattle.tickets.specs.Places.{IsBetween, IsGroupOf}
 use Rattle.actions.specs.Laws.{AcceptedRequestsHaveTheirGroups, AcceptedPaymentsHaveTheirDistrict}
 
@@ -50,6 +50,14 @@ accepted_requests_have_their_groups scale (request.Payment p) accepted =
     let payers_district = between 1 10 p.customer_home.d_id is.payers_district in
     All-from_recursion (IsGroupOf scale.warehouses) (groups_of (payment_footprint p))
     (warehouse, ((warehouse, district), ((payers_warehouse, payers_district), ((warehouse, district), tt))))
+accepted_requests_have_their_groups scale (request.OrderStatus o) accepted =
+    let others = BadLines ∷ BadQuantity ∷ BadSupply ∷ BadAmount ∷ BadThreshold ∷ BadCarrier ∷ [] in
+    let first = not_first (applies scale (request.OrderStatus o)) BadWarehouse (BadDistrict ∷ others) accepted in
+    let second = not_first (applies scale (request.OrderStatus o)) BadDistrict others first.1 in
+    let warehouse = between 1 scale.warehouses o.home.w_id (not-false _ first.0) in
+    let district = between 1 10 o.home.d_id (not-false _ second.0) in
+    All-from_recursion (IsGroupOf scale.warehouses) (groups_of (order_status_footprint o))
+    ((warehouse, district), ((warehouse, district), tt))
 
 pub accepted_payments_have_their_district : AcceptedPaymentsHaveTheirDistrict
 accepted_payments_have_their_district scale p accepted =

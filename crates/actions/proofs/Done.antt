@@ -2,12 +2,13 @@
 use Rattle.std.proofs.Common.{◌≡◌, ◌⊎◌, Option, Some, None, inl, inr, refl, sym, ap, ◌∙◌}
 use Rattle.std.specs.Prelude.{pos}
 use Rattle.std.specs.FinMap as map
-use Rattle.rows.specs.Keys.{customer_cmp}
+use Rattle.rows.specs.declared.keys.CustomerKey.{CustomerKey}
 use Rattle.rows.specs.declared.records.Warehouse.{Warehouse}
 use Rattle.rows.specs.declared.records.District.{District}
 use Rattle.rows.specs.declared.records.Customer.{Customer}
 use Rattle.rows.specs.declared.records.History.{History}
 use Rattle.schema.specs.Database.{Database}
+use Rattle.indexes.specs.Namesakes.{Customers}
 use Rattle.requests.specs.declared.group.Group.{Group}
 use Rattle.requests.specs.declared.group.Group.TheVariants as g
 use Rattle.requests.specs.declared.request.Payment.{Payment}
@@ -18,10 +19,11 @@ use Rattle.groups.specs.Content.Content.{OfWarehouse, OfDistrict, OfCustomers}
 use Rattle.groups.specs.Laws.{with_warehouse, with_district, with_customer}
 use Rattle.tickets.specs.Claims.{Claiming, leaving}
 use Rattle.slices.specs.Undo.{with_payment_more}
+use Rattle.machine.specs.Chosen.{chosen}
 use Rattle.machine.specs.Payment.{warehouse_paid, district_paid, payment_reply}
 use Rattle.actions.specs.declared.gathering.HomePaid.TheVariants as h
 use Rattle.actions.specs.declared.gathering.CustomerPaid.TheVariants as c
-use Rattle.actions.specs.Payments.{IsExclusiveOn, IsFresh, IsHomePaid, IsCustomerPaid, IsPaymentAdded, payer_of, payer_paid}
+use Rattle.actions.specs.Payments.{IsExclusiveOn, IsFresh, IsHomePaid, IsCustomerPaid, IsPaymentAdded, payer_paid}
 use Rattle.actions.proofs.Told.{customer_told}
 
 -- ---- a claim that began as a fresh one on what the tables have in its group
@@ -124,40 +126,41 @@ module _ (p : Payment) (t : Database) where
       (left : customers.left ≡ content t customers.group)
       (now : Claiming)
     where
-      abbrev rows : map.FinMap customer_cmp Customer
+      abbrev rows : Customers
       rows = rows_of group_of_customer (g.Customers p.customer_home.w_id p.customer_home.d_id) t.customers
 
       customers_have : customers.told ≡ OfCustomers rows
       customers_have = told_here t _ customers on new left
 
-      payer_in : map.get t.customers (payer_of p) ≡ map.get rows (payer_of p)
+      payer_in : chosen t.customers p.customer_home p.customer ≡ chosen rows p.customer_home p.customer
       payer_in = customer_told t p customers (sym left ∙ new.left) on rows customers_have
 
-      pub no_customer : now ≡ customers → map.get t.customers (payer_of p) ≡ None → IsCustomerPaid p c.Missing now
+      pub no_customer : now ≡ customers → chosen t.customers p.customer_home p.customer ≡ None → IsCustomerPaid p c.Missing now
       no_customer same none = record {
         claim = on_still _ customers now on customers.left same;
         rows = record { rows = rows; told = ap (λ (k : Claiming). k.told) same ∙ customers_have; missing = sym payer_in ∙ none; left = untouched customers now new same };
       }
 
-      pub customer_out : (row : Customer) → now ≡ customers → map.get t.customers (payer_of p) ≡ Some row → payer_paid p row ≡ None → IsCustomerPaid p c.OutOfRange now
-      customer_out row same is out = record {
+      pub customer_out : (key : CustomerKey) (row : Customer) → now ≡ customers → chosen t.customers p.customer_home p.customer ≡ Some (key, row) → payer_paid p key row ≡ None → IsCustomerPaid p c.OutOfRange now
+      customer_out key row same is out = record {
         claim = on_still _ customers now on customers.left same;
-        rows = record { rows = rows; row = row; told = ap (λ (k : Claiming). k.told) same ∙ customers_have; there = sym payer_in ∙ is; out = out; left = untouched customers now new same };
+        rows = record { rows = rows; key = key; row = row; told = ap (λ (k : Claiming). k.told) same ∙ customers_have; there = sym payer_in ∙ is; out = out; left = untouched customers now new same };
       }
 
-      pub customer_is_paid : (row new_row : Customer) (reply : PaymentReply) → map.get t.customers (payer_of p) ≡ Some row → payer_paid p row ≡ Some new_row
-          → now ≡ leaving customers (with_customer (payer_of p) new_row customers.left) → reply ≡ payment_reply (payer_of p) new_row
+      pub customer_is_paid : (key : CustomerKey) (row new_row : Customer) (reply : PaymentReply) → chosen t.customers p.customer_home p.customer ≡ Some (key, row) → payer_paid p key row ≡ Some new_row
+          → now ≡ leaving customers (with_customer key new_row customers.left) → reply ≡ payment_reply key new_row
           → IsCustomerPaid p (c.Paid reply) now
-      customer_is_paid row new_row reply is made after shown = record {
+      customer_is_paid key row new_row reply is made after shown = record {
         claim = on_still _ customers now on _ after;
         rows = record {
           rows = rows;
+          key = key;
           row = row;
           told = ap (λ (k : Claiming). k.told) after ∙ customers_have;
           there = sym payer_in ∙ is;
           new_row = new_row;
           made = made;
-          left = ap (λ (k : Claiming). k.left) after ∙ ap (with_customer (payer_of p) new_row) (left_here t _ customers on new left);
+          left = ap (λ (k : Claiming). k.left) after ∙ ap (with_customer key new_row) (left_here t _ customers on new left);
           shown = shown;
         };
       }

@@ -4,12 +4,13 @@ use Rattle.std.specs.Prelude.{pos}
 use Rattle.std.specs.List.{AllByRecursion}
 use Rattle.std.proofs.lemmas.List.Elements.{recursion_from_All}
 use Rattle.std.specs.FinMap as map
-use Rattle.rows.specs.Keys.{customer_cmp}
+use Rattle.rows.specs.declared.keys.CustomerKey.{CustomerKey}
 use Rattle.rows.specs.declared.records.Warehouse.{Warehouse}
 use Rattle.rows.specs.declared.records.District.{District}
 use Rattle.rows.specs.declared.records.Customer.{Customer}
 use Rattle.rows.specs.declared.records.History.{History}
 use Rattle.schema.specs.Database.{Database}
+use Rattle.indexes.specs.Namesakes.{Customers, Keyed}
 use Rattle.requests.specs.declared.group.Group.TheVariants as g
 use Rattle.requests.specs.declared.request.Payment.{Payment}
 use Rattle.requests.specs.declared.reply.Fault.{Fault}
@@ -18,6 +19,7 @@ use Rattle.groups.specs.Content.{content}
 use Rattle.groups.specs.Content.Content.{OfWarehouse, OfDistrict, OfCustomers}
 use Rattle.tickets.specs.Claims.{Claiming}
 use Rattle.tickets.specs.Committed.{TellsContent}
+use Rattle.machine.specs.Chosen.{chosen}
 use Rattle.machine.specs.Outcome.{Outcome, rolled_back}
 use Rattle.machine.specs.Payment.{payment, paid, posted, payment_row, warehouse_paid, district_paid}
 use Rattle.actions.specs.declared.gathering.HomePaid.{HomePaid}
@@ -25,7 +27,7 @@ use Rattle.actions.specs.declared.gathering.HomePaid.TheVariants as h
 use Rattle.actions.specs.declared.gathering.CustomerPaid.{CustomerPaid}
 use Rattle.actions.specs.declared.gathering.CustomerPaid.TheVariants as c
 use Rattle.actions.specs.declared.gathering.Gathered.TheVariants.{RollBack}
-use Rattle.actions.specs.Payments.{IsExclusiveOn, FindsHome, IsHomeOutOfRange, AreHomeRowsPaid, FindsCustomer, IsCustomerMissing, IsCustomerOutOfRange, payer_of, payer_paid}
+use Rattle.actions.specs.Payments.{IsExclusiveOn, FindsHome, IsHomeOutOfRange, AreHomeRowsPaid, FindsCustomer, IsCustomerMissing, IsCustomerOutOfRange, payer_paid}
 use Rattle.actions.specs.Gathering.{gathered}
 use Rattle.actions.specs.Laws.{RolledBackPaymentsAreCarriedOut}
 use Rattle.actions.proofs.Told as told
@@ -33,36 +35,36 @@ use Rattle.actions.proofs.Told as told
 module _ (t : Database) (p : Payment) where
   -- ---- a row that isn't there
 
-  no_warehouse : (w : Option Warehouse) (d : Option District) (customer : Option Customer) → w ≡ None → paid t p (payer_of p) w d customer ≡ rolled_back t NoCustomer
-  no_warehouse w d customer none = ap (λ o. paid t p (payer_of p) o d customer) none
+  no_warehouse : (w : Option Warehouse) (d : Option District) (customer : Option Keyed) → w ≡ None → paid t p w d customer ≡ rolled_back t NoCustomer
+  no_warehouse w d customer none = ap (λ o. paid t p o d customer) none
 
-  no_district : (w : Option Warehouse) (d : Option District) (customer : Option Customer) → d ≡ None → paid t p (payer_of p) w d customer ≡ rolled_back t NoCustomer
-  no_district (Some w) d customer none = ap (λ o. paid t p (payer_of p) (Some w) o customer) none
+  no_district : (w : Option Warehouse) (d : Option District) (customer : Option Keyed) → d ≡ None → paid t p w d customer ≡ rolled_back t NoCustomer
+  no_district (Some w) d customer none = ap (λ o. paid t p (Some w) o customer) none
   no_district None d customer none = refl
 
-  no_customer : (w : Option Warehouse) (d : Option District) (customer : Option Customer) → customer ≡ None → paid t p (payer_of p) w d customer ≡ rolled_back t NoCustomer
-  no_customer (Some w) (Some d) customer none = ap (λ o. paid t p (payer_of p) (Some w) (Some d) o) none
+  no_customer : (w : Option Warehouse) (d : Option District) (customer : Option Keyed) → customer ≡ None → paid t p w d customer ≡ rolled_back t NoCustomer
+  no_customer (Some w) (Some d) customer none = ap (λ o. paid t p (Some w) (Some d) o) none
   no_customer (Some w) None customer none = refl
   no_customer None d customer none = refl
 
   -- ---- a sum that would leave its range
 
-  module _ (row : History) where
-    home_out : (w : Option Warehouse) (d : Option District) (customer : Option Customer) → (w ≡ None) ⊎ (d ≡ None) → posted t p (payer_of p) row w d customer ≡ rolled_back t Range
-    home_out w d customer (inl none) = ap (λ o. posted t p (payer_of p) row o d customer) none
-    home_out (Some w) d customer (inr none) = ap (λ o. posted t p (payer_of p) row (Some w) o customer) none
+  module _ (key : CustomerKey) (row : History) where
+    home_out : (w : Option Warehouse) (d : Option District) (customer : Option Customer) → (w ≡ None) ⊎ (d ≡ None) → posted t p key row w d customer ≡ rolled_back t Range
+    home_out w d customer (inl none) = ap (λ o. posted t p key row o d customer) none
+    home_out (Some w) d customer (inr none) = ap (λ o. posted t p key row (Some w) o customer) none
     home_out None d customer (inr none) = refl
 
-    customer_out : (w : Option Warehouse) (d : Option District) (customer : Option Customer) → customer ≡ None → posted t p (payer_of p) row w d customer ≡ rolled_back t Range
-    customer_out (Some w) (Some d) customer none = ap (λ o. posted t p (payer_of p) row (Some w) (Some d) o) none
+    customer_out : (w : Option Warehouse) (d : Option District) (customer : Option Customer) → customer ≡ None → posted t p key row w d customer ≡ rolled_back t Range
+    customer_out (Some w) (Some d) customer none = ap (λ o. posted t p key row (Some w) (Some d) o) none
     customer_out (Some w) None customer none = refl
     customer_out None d customer none = refl
 
   -- the rows that are there
-  all_there : (w : Warehouse) (d : District) (customer : Customer)
-      → map.get t.warehouses p.home.w_id ≡ Some w → map.get t.districts p.home ≡ Some d → map.get t.customers (payer_of p) ≡ Some customer
-      → payment t p ≡ posted t p (payer_of p) (payment_row p (payer_of p) w d) (warehouse_paid w (pos p.amount)) (district_paid d (pos p.amount)) (payer_paid p customer)
-  all_there w d customer w_is d_is c_is = λ i. paid t p (payer_of p) (w_is i) (d_is i) (c_is i)
+  all_there : (w : Warehouse) (d : District) (key : CustomerKey) (customer : Customer)
+      → map.get t.warehouses p.home.w_id ≡ Some w → map.get t.districts p.home ≡ Some d → chosen t.customers p.customer_home p.customer ≡ Some (key, customer)
+      → payment t p ≡ posted t p key (payment_row p key w d) (warehouse_paid w (pos p.amount)) (district_paid d (pos p.amount)) (payer_paid p key customer)
+  all_there w d key customer w_is d_is c_is = λ i. paid t p (w_is i) (d_is i) (c_is i)
 
   -- ---- by what was found
 
@@ -81,23 +83,23 @@ module _ (t : Database) (p : Payment) where
       missing_customer found = no_customer _ _ _ (told.customer_told t p customers tells.1.1.0 on_customers found.rows found.told ∙ found.missing)
 
       home_out_of_range : IsHomeOutOfRange p warehouse district
-          → (rows : map.FinMap customer_cmp Customer) (row : Customer) → customers.told ≡ OfCustomers rows → map.get rows (payer_of p) ≡ Some row
+          → (rows : Customers) (key : CustomerKey) (row : Customer) → customers.told ≡ OfCustomers rows → chosen rows p.customer_home p.customer ≡ Some (key, row)
           → payment t p ≡ rolled_back t Range
-      home_out_of_range found rows row rows_told there =
-          all_there found.warehouse_row found.district_row row
+      home_out_of_range found rows key row rows_told there =
+          all_there found.warehouse_row found.district_row key row
           (told.warehouse_told t p warehouse tells.0 (Some found.warehouse_row) on_warehouse found.warehouse_told)
           (told.district_told t p district tells.1.0 (Some found.district_row) on_district found.district_told)
           (told.customer_told t p customers tells.1.1.0 on_customers rows rows_told ∙ there)
-          ∙ home_out _ _ _ _ found.out
+          ∙ home_out _ _ _ _ _ found.out
 
       customer_out_of_range : (warehouse_name district_name : List ℕ) → AreHomeRowsPaid p warehouse_name district_name warehouse district → IsCustomerOutOfRange p customers
           → payment t p ≡ rolled_back t Range
       customer_out_of_range warehouse_name district_name home found =
-          all_there home.warehouse_row home.district_row found.row
+          all_there home.warehouse_row home.district_row found.key found.row
           (told.warehouse_told t p warehouse tells.0 (Some home.warehouse_row) on_warehouse home.warehouse_told)
           (told.district_told t p district tells.1.0 (Some home.district_row) on_district home.district_told)
           (told.customer_told t p customers tells.1.1.0 on_customers found.rows found.told ∙ found.there)
-          ∙ customer_out _ _ _ _ found.out
+          ∙ customer_out _ _ _ _ _ found.out
 
       rolled : (home : HomePaid) (customer : CustomerPaid) (fault : Fault) → FindsHome p home warehouse district → FindsCustomer p customer customers
           → gathered p home customer ≡ RollBack fault → payment t p ≡ rolled_back t fault
@@ -105,9 +107,9 @@ module _ (t : Database) (p : Payment) where
       rolled h.OutOfRange c.Missing fault found there is = missing_customer there ∙ ap (rolled_back t) (let same : NoCustomer ≡ fault = cc in same)
       rolled (h.Paid warehouse_name district_name) c.Missing fault found there is = missing_customer there ∙ ap (rolled_back t) (let same : NoCustomer ≡ fault = cc in same)
       rolled h.OutOfRange c.OutOfRange fault found there is =
-          home_out_of_range found there.rows there.row there.told there.there ∙ ap (rolled_back t) (let same : Range ≡ fault = cc in same)
+          home_out_of_range found there.rows there.key there.row there.told there.there ∙ ap (rolled_back t) (let same : Range ≡ fault = cc in same)
       rolled h.OutOfRange (c.Paid reply) fault found there is =
-          home_out_of_range found there.rows there.row there.told there.there ∙ ap (rolled_back t) (let same : Range ≡ fault = cc in same)
+          home_out_of_range found there.rows there.key there.row there.told there.there ∙ ap (rolled_back t) (let same : Range ≡ fault = cc in same)
       rolled (h.Paid warehouse_name district_name) c.OutOfRange fault found there is =
           customer_out_of_range warehouse_name district_name found there ∙ ap (rolled_back t) (let same : Range ≡ fault = cc in same)
       rolled (h.Paid warehouse_name district_name) (c.Paid reply) fault found there is = absurd cc

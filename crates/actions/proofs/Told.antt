@@ -1,23 +1,45 @@
 -- What stands in tables that a claim tells.
-use Rattle.std.proofs.Common.{◌≡◌, List, Option, sym, ap, ◌∙◌}
+use Rattle.std.proofs.Common.{◌≡◌, List, Option, filter, sym, ap, ◌∙◌}
+use Rattle.std.specs.Option.{option_map}
 use Rattle.std.specs.FinMap as map
-use Rattle.rows.specs.Keys.{customer_cmp}
+use Rattle.rows.specs.declared.keys.DistrictKey.{DistrictKey}
 use Rattle.rows.specs.declared.records.Warehouse.{Warehouse}
 use Rattle.rows.specs.declared.records.District.{District}
-use Rattle.rows.specs.declared.records.Customer.{Customer}
 use Rattle.rows.specs.declared.records.History.{History}
+use Rattle.schema.specs.Scale.{customer_key}
 use Rattle.schema.specs.Database.{Database}
+use Rattle.schema.proofs.KeyOrders.{customers_total, customers_exact}
+use Rattle.indexes.specs.Namesakes.{Customers, Keyed, has_last, is_customer_of, is_namesake, middle, namesakes}
+use Rattle.indexes.proofs.Counts.{filter-part}
 use Rattle.requests.specs.declared.group.Group.{Group}
 use Rattle.requests.specs.declared.group.Group.TheVariants as g
+use Rattle.requests.specs.declared.request.Choice.{Choice}
+use Rattle.requests.specs.declared.request.Choice.TheVariants.{Number, LastName}
 use Rattle.requests.specs.declared.request.Payment.{Payment}
-use Rattle.groups.specs.Groups.{group_of_customer}
-use Rattle.groups.specs.Content.{Content, content}
+use Rattle.groups.specs.Groups.{group_of_customer, is_same}
+use Rattle.groups.specs.Content.{Content, content, rows_of}
 use Rattle.groups.specs.Content.Content.{OfWarehouse, OfDistrict, OfCustomers, OfHistory}
-use Rattle.groups.specs.Laws.{customer_in}
-use Rattle.groups.proofs.RowsInGroups.{each_row_stands_in_one_group}
+use Rattle.groups.proofs.Parts.{entries-where, get-rows_of-own}
 use Rattle.tickets.specs.Claims.{Claiming}
-use Rattle.machine.proofs.PaymentGroups.{group_of_chosen}
-use Rattle.actions.specs.Payments.{IsExclusiveOn, payer_of}
+use Rattle.machine.specs.Chosen.{chosen}
+use Rattle.actions.specs.Payments.{IsExclusiveOn}
+
+-- ---- the customers of a district
+
+abbrev district_rows : Customers → DistrictKey → Customers
+district_rows customers home = rows_of group_of_customer (g.Customers home.w_id home.d_id) customers
+
+namesakes_among : (customers : Customers) (home : DistrictKey) (last : List _) → namesakes (district_rows customers home) home last ≡ namesakes customers home last
+namesakes_among customers home last =
+    ap (filter (is_namesake home last)) (entries-where customers_total customers_exact customers (λ key. is_same (group_of_customer key) (g.Customers home.w_id home.d_id)))
+    ∙ filter-part (λ (c : Keyed). is_customer_of home c.0) (λ c. has_last last c.1) (map.entries customers)
+
+chosen_among : (customers : Customers) (home : DistrictKey) (choice : Choice) → chosen (district_rows customers home) home choice ≡ chosen customers home choice
+chosen_among customers home (Number n) =
+    ap (option_map (λ row. (customer_key home n, row))) (get-rows_of-own customers_total customers_exact group_of_customer customers (customer_key home n))
+chosen_among customers home (LastName last) = ap middle (namesakes_among customers home last)
+
+-- ---- what a claim tells
 
 -- the claim on a group tells what the tables have in it
 told_of : (t : Database) (own : Group) (claim : Claiming) (has : Content) → content t claim.group ≡ claim.told → IsExclusiveOn own claim → claim.told ≡ has → content t own ≡ has
@@ -34,14 +56,12 @@ module _ (t : Database) (p : Payment) (claim : Claiming) (tells : content t clai
   history_told rows on is = let has : OfHistory (map.get t.histories p.home) ≡ OfHistory rows = told_of t _ claim _ tells on is in cc
 
   module _ (on : IsExclusiveOn (g.Customers p.customer_home.w_id p.customer_home.d_id) claim) where
-    -- the claim on the customers is one on the payer's group
-    pub on_payer : IsExclusiveOn (group_of_customer (payer_of p)) claim
-    on_payer = record { group = on.group ∙ sym (group_of_chosen p.customer_home p.customer); mode = on.mode }
+    pub customers_told : (rows : Customers) → claim.told ≡ OfCustomers rows → content t (g.Customers p.customer_home.w_id p.customer_home.d_id) ≡ OfCustomers rows
+    customers_told rows is = told_of t _ claim _ tells on is
 
-    pub customers_told : (rows : map.FinMap customer_cmp Customer) → claim.told ≡ OfCustomers rows → content t (group_of_customer (payer_of p)) ≡ OfCustomers rows
-    customers_told rows is = told_of t _ claim _ tells on_payer is
-
-    pub customer_told : (rows : map.FinMap customer_cmp Customer) → claim.told ≡ OfCustomers rows → map.get t.customers (payer_of p) ≡ map.get rows (payer_of p)
+    -- who is chosen is chosen among the customers of the district alone
+    pub customer_told : (rows : Customers) → claim.told ≡ OfCustomers rows → chosen t.customers p.customer_home p.customer ≡ chosen rows p.customer_home p.customer
     customer_told rows is =
-        let key = payer_of p in
-        sym ((each_row_stands_in_one_group t).customers key).0 ∙ ap (λ has. customer_in (group_of_customer key) has key) (customers_told rows is)
+        let has : OfCustomers (district_rows t.customers p.customer_home) ≡ OfCustomers rows = customers_told rows is in
+        let same : district_rows t.customers p.customer_home ≡ rows = cc in
+        sym (chosen_among t.customers p.customer_home p.customer) ∙ ap (λ r. chosen r p.customer_home p.customer) same

@@ -2,7 +2,6 @@
 -- and what they left.
 use Rattle.std.specs.Prelude.{◌≡◌, ◌⊎◌, ℕ, pos, List, [], ◌∷◌, ◌++◌, Option, Some, None, unwrap_or, IsTrue}
 use Rattle.std.specs.FinMap as map
-use Rattle.rows.specs.Keys.{customer_cmp}
 use Rattle.rows.specs.PaymentNote.{payment_note}
 use Rattle.rows.specs.declared.keys.CustomerKey.{CustomerKey}
 use Rattle.rows.specs.declared.records.Warehouse.{Warehouse}
@@ -10,7 +9,8 @@ use Rattle.rows.specs.declared.records.District.{District}
 use Rattle.rows.specs.declared.records.Customer.{Customer}
 use Rattle.rows.specs.declared.records.History.{History}
 use Rattle.schema.specs.declared.scale.Scale.{Scale}
-use Rattle.schema.specs.Scale.{has_customer}
+use Rattle.schema.specs.Scale.{customer_key, has_customer}
+use Rattle.indexes.specs.Namesakes.{Customers}
 use Rattle.requests.specs.declared.group.Group.{Group}
 use Rattle.requests.specs.declared.group.Group.TheVariants as g
 use Rattle.requests.specs.declared.request.Payment.{Payment}
@@ -18,7 +18,8 @@ use Rattle.requests.specs.declared.reply.PaymentReply.{PaymentReply}
 use Rattle.groups.specs.Content.Content.{OfWarehouse, OfDistrict, OfCustomers, OfHistory}
 use Rattle.groups.specs.declared.wishes.Mode.TheVariants.{Exclusive}
 use Rattle.tickets.specs.Claims.{Claiming}
-use Rattle.machine.specs.Payment.{chosen, warehouse_paid, district_paid, customer_paid, payment_reply}
+use Rattle.machine.specs.Chosen.{chosen}
+use Rattle.machine.specs.Payment.{warehouse_paid, district_paid, customer_paid, payment_reply}
 use Rattle.actions.specs.declared.gathering.HomePaid.{HomePaid}
 use Rattle.actions.specs.declared.gathering.HomePaid.TheVariants as h
 use Rattle.actions.specs.declared.gathering.CustomerPaid.{CustomerPaid}
@@ -81,39 +82,38 @@ pub record IsHomePaid (p : Payment) (found : HomePaid) (warehouse district : Cla
 
 -- ---- the customer
 
-abbrev pub payer_of : Payment → CustomerKey
-payer_of p = chosen p.customer_home p.customer
-
 -- the customer's row with the amount paid, or none where a sum would leave its range
-abbrev pub payer_paid : Payment → Customer → Option Customer
-payer_paid p row = customer_paid row (payment_note (payer_of p) p.home p.amount) (pos p.amount)
+abbrev pub payer_paid : Payment → CustomerKey → Customer → Option Customer
+payer_paid p key row = customer_paid row (payment_note key p.home p.amount) (pos p.amount)
 
 -- the district has no such customer, and nothing is done
 pub record IsCustomerMissing (p : Payment) (customers : Claiming) : Type 0 where
-  pub rows : map.FinMap customer_cmp Customer
+  pub rows : Customers
   pub told : customers.told ≡ OfCustomers rows
-  pub missing : map.get rows (payer_of p) ≡ None
+  pub missing : chosen rows p.customer_home p.customer ≡ None
   pub left : customers.left ≡ customers.told
 
 -- the customer is there, a sum would leave its range, and nothing is done
 pub record IsCustomerOutOfRange (p : Payment) (customers : Claiming) : Type 0 where
-  pub rows : map.FinMap customer_cmp Customer
+  pub rows : Customers
+  pub key : CustomerKey
   pub row : Customer
   pub told : customers.told ≡ OfCustomers rows
-  pub there : map.get rows (payer_of p) ≡ Some row
-  pub out : payer_paid p row ≡ None
+  pub there : chosen rows p.customer_home p.customer ≡ Some (key, row)
+  pub out : payer_paid p key row ≡ None
   pub left : customers.left ≡ customers.told
 
 -- the customer is there, left is the customer's row with the amount paid, and the reply shows that
 pub record IsCustomerRowPaid (p : Payment) (reply : PaymentReply) (customers : Claiming) : Type 0 where
-  pub rows : map.FinMap customer_cmp Customer
+  pub rows : Customers
+  pub key : CustomerKey
   pub row : Customer
   pub told : customers.told ≡ OfCustomers rows
-  pub there : map.get rows (payer_of p) ≡ Some row
+  pub there : chosen rows p.customer_home p.customer ≡ Some (key, row)
   pub new_row : Customer
-  pub made : payer_paid p row ≡ Some new_row
-  pub left : customers.left ≡ OfCustomers (map.insert rows (payer_of p) new_row)
-  pub shown : reply ≡ payment_reply (payer_of p) new_row
+  pub made : payer_paid p key row ≡ Some new_row
+  pub left : customers.left ≡ OfCustomers (map.insert rows key new_row)
+  pub shown : reply ≡ payment_reply key new_row
 
 abbrev pub FindsCustomer : Payment → CustomerPaid → Claiming → Type 0
 FindsCustomer p c.Missing customers = IsCustomerMissing p customers
@@ -127,7 +127,7 @@ pub record IsCustomerPaid (p : Payment) (found : CustomerPaid) (customers : Clai
 
 -- a customer whose row is paid is one of the scale
 abbrev pub IsPayerKnown : Scale → Payment → CustomerPaid → Type 0
-IsPayerKnown scale p (c.Paid reply) = IsTrue (has_customer scale (payer_of p))
+IsPayerKnown scale p (c.Paid reply) = IsTrue (has_customer scale (customer_key p.customer_home reply.c_id))
 IsPayerKnown scale p _ = Unit {0}
 
 -- ---- the list of payments

@@ -1,9 +1,9 @@
 ghost use Rattle.std.specs.Prelude.{◌≡◌};
 ghost use Rattle.actions.specs.Gathering.{gathered};
 
-use machine::{chosen, history_row};
+use machine::history_row;
 use requests::{Fault, Payment, PaymentReply};
-use schema::{History, Text};
+use schema::{CustomerKey, History, Text};
 
 /// What a payment finds of its home warehouse and district.
 #[derive(Clone, Debug, PartialEq, Eq, Drop)]
@@ -52,7 +52,11 @@ pub fn gather_paid(payment: &Payment, home: HomePaid, customer: CustomerPaid) ->
             },
             CustomerPaid::Paid(reply),
         ) => {
-            let key = chosen(payment.customer_home, &payment.customer);
+            let key = CustomerKey {
+                w_id: payment.customer_home.w_id,
+                d_id: payment.customer_home.d_id,
+                c_id: reply.c_id,
+            };
             let row = history_row(payment, key, &warehouse, &district);
             Gathered::Next { row, reply }
         }

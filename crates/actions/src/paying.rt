@@ -91,7 +91,8 @@ fn put_home<J: Naming>(
     }
 }
 
-/// Takes a payment's amount from its customer's balance. Want of memory changes nothing.
+/// Takes a payment's amount from the balance of its customer, who is chosen by number or by last name.
+/// Want of memory changes nothing.
 pub fn pay_customer<J: Naming>(
     slice: &mut Slice<J>,
     customers: &mut Claim<J>,
@@ -107,8 +108,8 @@ pub fn pay_customer<J: Naming>(
 {
     slice.look(customers);
     let _scale = slice.tables().scale();
-    let key = chosen(payment.customer_home, &payment.customer);
-    let Some(row) = slice.tables().customer(key) else {
+    let home = payment.customer_home;
+    let Some((key, row)) = chosen(slice.tables(), slice.names(), home, &payment.customer) else {
         return Ok(CustomerPaid::Missing);
     };
     let Some(row) = customer_paid(row, key, payment.home, payment.amount)? else {

@@ -113,6 +113,6 @@ fn commit<J: Naming + tickets::Naming>(
     seats.look_all(claims);
     match reply {
         Reply::RolledBack(_) => {}
-        Reply::Payment(_) => seats.settle_all(claims),
+        Reply::Payment(_) | Reply::OrderStatus(_) => seats.settle_all(claims),
     }
 }

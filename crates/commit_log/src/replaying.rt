@@ -6,13 +6,14 @@ use crate::{Entry, Replay};
 use machine::Plain;
 use requests::check;
 use schema::{NoMemory, Tables};
+use std::alloc::Global;
 
 /// Carries out the entries' requests one at a time, in log order, from the opening tables, and compares
 /// the replies. After want of memory nothing is given.
-pub fn replay(opening: Tables, entries: &[Entry]) -> Result<Replay, NoMemory>
+pub fn replay(alloc: Global, opening: Tables, entries: &[Entry]) -> Result<Replay, NoMemory>
     ensures { IfOk result (IsReplayOf opening entries.now) }
 {
-    let mut plain = Plain::open(opening);
+    let mut plain = Plain::open(alloc, opening)?;
     for (place, entry) in entries.iter().enumerate() {
         if !repeats(&mut plain, entry)? {
             return Ok(Replay::Differs(place));
@@ -30,5 +31,5 @@ fn repeats(plain: &mut Plain, entry: &Entry) -> Result<bool, NoMemory>
     if check(&plain.tables().scale(), &entry.request).is_err() {
         return Ok(false);
     }
-    Ok(plain.step(&entry.request)? == entry.reply)
+    Ok(plain.step(&entry.request)?.is(&entry.reply))
 }

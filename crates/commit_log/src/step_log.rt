@@ -56,11 +56,8 @@ impl<J: Naming> StepLog<J> {
             (session : ℕ) → session < 64 → slice_get opened.1.items session ≡ Some (new_pass session, new_seat session)) }
     {
         let (book, sessions) = LogBook::open(alloc, seats)?;
-        let log = StepLog {
-            plain: Plain::open(tables),
-            book,
-        };
-        Ok((log, sessions))
+        let plain = Plain::open(alloc, tables)?;
+        Ok((StepLog { plain, book }, sessions))
     }
 
     /// The entries, in log order.
@@ -130,7 +127,11 @@ impl<J: Naming> StepLog<J> {
         let Ok(reply) = self.plain.step(request) else {
             return Err((AppendFault::NoMemory, pass));
         };
-        self.book.log(&mut pass, number, request_copy, reply.copy());
+        // Only what changed no table is copied with memory.
+        let Ok(reply_copy) = reply.try_clone() else {
+            return Err((AppendFault::NoMemory, pass));
+        };
+        self.book.log(&mut pass, number, request_copy, reply_copy);
         Ok((place, reply, pass))
     }
 

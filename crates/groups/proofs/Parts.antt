@@ -5,7 +5,8 @@ use Rattle.std.specs.declared.cmp.Ordering.{Ordering}
 use Rattle.std.specs.declared.cmp.Ordering.TheVariants.{Less, Equal, Greater}
 use Rattle.std.specs.Ordering.{eq_by_cmp, is_eq}
 use Rattle.std.specs.Cmp.{IsTotalOrder}
-use Rattle.std.specs.FinMap.{FinMap, get, insert, remove, get-insert, get-remove, get-retain_keys, same_map, IsAntisymmetric}
+use Rattle.std.specs.FinMap.{FinMap, entries, entries_sorted, entries-from_sorted, from_sorted, get, insert, remove, retain_keys, get-entries, get-from_sorted, get-insert, get-remove, get-retain_keys, same_map, IsAntisymmetric}
+use Rattle.std.specs.FinMap.Entries.{find-where_key, is_sorted-where_key, where_key}
 use Rattle.schema.proofs.TableSums.{part-insert_inside, part-insert_outside}
 use Rattle.requests.specs.declared.group.Group.{Group}
 use Rattle.groups.specs.Content.{rows_of}
@@ -28,6 +29,16 @@ module _ {K X : Type 0} {R : K → K → Ordering} (o : IsTotalOrder R) (a : IsA
         | Equal ↦ λ e. absurd (apart (a q k e))
         | Greater ↦ λ e. refl
       ] refl
+
+  -- the entries of a part are those whose keys pass the test
+  pub entries-where : (m : FinMap R X) (p : K → Bool) → entries (retain_keys m p) ≡ where_key R p (entries m)
+  entries-where m p =
+      let es = where_key R p (entries m) in
+      let sorted = is_sorted-where_key R p (entries m) (entries_sorted m) in
+      let alike = λ (q x : K) (tied : R q x ≡ Equal). ap p (sym (a q x tied)) in
+      let same = same_map o a (retain_keys m p) (from_sorted es)
+      (λ q. get-retain_keys m p q (alike q) ∙ ap (λ row. cond (p q) row None) (get-entries m q) ∙ sym (find-where_key R p q (alike q) (entries m)) ∙ sym (get-from_sorted R es q sorted)) in
+      ap entries same ∙ entries-from_sorted R es sorted
 
   -- ---- the rows of a group
 

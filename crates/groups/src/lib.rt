@@ -13,4 +13,4 @@ pub use laws::{
     contents_make_tables, each_put_changes_one_group, each_row_stands_in_one_group,
     footprints_ascend, groups_are_ordered, items_stand_in_no_group,
 };
-pub use wishes::{MOST_WISHES, Mode, Wish, footprint};
+pub use wishes::{Mode, Wish, footprint};

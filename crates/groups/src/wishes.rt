@@ -1,8 +1,9 @@
-ghost use Rattle.std.specs.Prelude.{◌≡◌};
+ghost use Rattle.std.specs.Prelude.{◌≡◌, IfOk};
 ghost use Rattle.groups.specs.Footprint as spec;
 
-use arrayvec::ArrayVec;
-use requests::{Group, Payment, Request};
+use requests::{Group, OrderStatus, Payment, Request};
+use schema::{DistrictKey, NoMemory};
+use std::alloc::Global;
 
 /// How a group is claimed.
 #[derive(Clone, Copy, Debug, PartialEq, Eq)]
@@ -20,15 +21,13 @@ pub struct Wish {
     pub mode: Mode,
 }
 
-/// The most groups that a request claims.
-pub const MOST_WISHES: usize = 4;
-
-/// The groups that a request claims, in the order of groups.
-pub fn footprint(request: &Request) -> ArrayVec<Wish, MOST_WISHES>
-    ensures { result.items ≡ spec.footprint request.now }
+/// The groups that a request claims, in the order of groups. Want of memory leaves nothing behind.
+pub fn footprint(alloc: Global, request: &Request) -> Result<Vec<Wish>, NoMemory>
+    ensures { IfOk result (λ wishes. wishes.items ≡ spec.footprint request.now) }
 {
     match request {
-        Request::Payment(payment) => ArrayVec::from(payment_wishes(payment)),
+        Request::Payment(payment) => Vec::from_slice(alloc, &payment_wishes(payment)),
+        Request::OrderStatus(asked) => Vec::from_slice(alloc, &order_status_wishes(asked)),
     }
 }
 
@@ -56,5 +55,20 @@ fn payment_wishes(payment: &Payment) -> [Wish; 4]
     .map(|group| Wish {
         group,
         mode: Mode::Exclusive,
+    })
+}
+
+// The rows that Order-Status reads, while others may read them too.
+fn order_status_wishes(asked: &OrderStatus) -> [Wish; 2]
+    ensures { result ≡ spec.order_status_footprint asked.now }
+{
+    let DistrictKey { w_id, d_id } = asked.home;
+    [
+        Group::Customers { w_id, d_id },
+        Group::Orders { w_id, d_id },
+    ]
+    .map(|group| Wish {
+        group,
+        mode: Mode::Shared,
     })
 }

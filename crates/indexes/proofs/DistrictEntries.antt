@@ -181,7 +181,7 @@ module _ (t : Database) (within : IsWithinScale t) (home : DistrictKey) (rows : 
       ∙ read-key q ∙ sym (find-numbered q home 1 rows))
 
   -- and so are those of one last name
-  pub same_namesakes : (last : List ℕ) → namesakes t home last ≡ namesakes_among rows home last
+  pub same_namesakes : (last : List ℕ) → namesakes t.customers home last ≡ namesakes_among rows home last
   same_namesakes last =
       sym (filter-part (λ (e : Keyed). is_customer_of home e.0) (λ e. has_last last e.1) (entries t.customers))
       ∙ ap (filter (is_namesake home last)) district_entries
@@ -197,7 +197,7 @@ module _ (t : Database) (within : IsWithinScale t) (home : DistrictKey) (rows : 
       grind (arith, nat_tests)
 
 -- a district that isn't in the scale has no customers
-pub no_district : (t : Database) → IsWithinScale t → (home : DistrictKey) (last : List ℕ) → has_district t.scale home ≡ false → namesakes t home last ≡ []
+pub no_district : (t : Database) → IsWithinScale t → (home : DistrictKey) (last : List ℕ) → has_district t.scale home ≡ false → namesakes t.customers home last ≡ []
 no_district t within home last outside =
     same_namesakes t within home []
     (λ c. sym (no_row _ (within.customers (customer_key home (c + 1)) ∙ (let out : has_customer t.scale (customer_key home (c + 1)) ≡ false = rw outside refl in out)))) last

@@ -32,7 +32,7 @@ module _ (t : Database) (within : IsWithinScale t) (home : DistrictKey) (rows : 
   pub run_of_tables : (run : List ℕ) → IsNameRun (last_at rows) (first_at rows) (length rows) run → IsNameRun (last_name t home) (first_name t home) t.scale.customers run
   run_of_tables run h = same_run _ _ _ _ _ _ run last_is first_is (row_count t within home rows read inside) h
 
-  pub middle_of_tables : (last : List ℕ) (r : Option ℕ) → MatchOption r (namesakes_among rows home last ≡ []) (IsMiddleAmong rows home last) → MatchOption r (namesakes t home last ≡ []) (IsMiddleOf t home last)
+  pub middle_of_tables : (last : List ℕ) (r : Option ℕ) → MatchOption r (namesakes_among rows home last ≡ []) (IsMiddleAmong rows home last) → MatchOption r (namesakes t.customers home last ≡ []) (IsMiddleOf t.customers home last)
   middle_of_tables last r h =
       subst (λ (l : List Keyed). MatchOption r (l ≡ []) (λ number. (row : Customer) × IsMiddle l (customer_key home number, row))) (sym (same_namesakes t within home rows read last)) h
 

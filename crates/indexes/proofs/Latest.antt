@@ -136,7 +136,7 @@ most-insert : (t : Database) (key : OrderKey) (row : Order) → map.get t.orders
 most-insert t key row none c =
     ap (most c) (entries-insert orders_total t.orders key row) ∙ most-put c key row (entries t.orders) (sym (get-entries t.orders key) ∙ none)
 
-pub noted_fits : (index : List ℕ) (t : Database) (key : OrderKey) (row : Order) → FitsLatest index t → map.get t.orders key ≡ None → greatest (order_numbers t (customer_of_order key row)) < key.o_id
+pub noted_fits : (index : List ℕ) (t : Database) (key : OrderKey) (row : Order) → FitsLatest index t → map.get t.orders key ≡ None → greatest (order_numbers t.orders (customer_of_order key row)) < key.o_id
     → FitsLatest (with_latest t.scale index (customer_of_order key row) key.o_id) (record t { orders = map.insert t.orders key row })
 noted_fits index t key row fits none larger c slot at =
     let more = most-insert t key row none c in
@@ -273,7 +273,7 @@ none_of p q (e ∷ es) never all =
     rw here (none_of p q es never (and_second _ _ all))
 
 -- who is no customer of the scale has no order
-pub latest_outside : (t : Database) → IsWithinScale t → (c : CustomerKey) → customer_slot t.scale c ≡ None → latest t c ≡ None
+pub latest_outside : (t : Database) → IsWithinScale t → (c : CustomerKey) → customer_slot t.scale c ≡ None → latest t.orders c ≡ None
 latest_outside t within c none =
     ap (λ (l : List (OrderKey × Order)). largest (numbers l))
     (none_of (is_order_by c) (λ e. has_customer t.scale (customer_of_order e.0 e.1)) (entries t.orders)
@@ -301,7 +301,7 @@ positive c (e ∷ es) all =
     ]
 
 -- the number at the slot is the latest order's
-pub latest_inside : (t : Database) → IsWithinScale t → (index : List ℕ) → FitsLatest index t → (c : CustomerKey) (slot n : ℕ) → customer_slot t.scale c ≡ Some slot → Some n ≡ slice_get index slot → number_of n ≡ latest t c
+pub latest_inside : (t : Database) → IsWithinScale t → (index : List ℕ) → FitsLatest index t → (c : CustomerKey) (slot n : ℕ) → customer_slot t.scale c ≡ Some slot → Some n ≡ slice_get index slot → number_of n ≡ latest t.orders c
 latest_inside t within index fits c slot n at found =
     let same : Some n ≡ Some (most c (entries t.orders)) = found ∙ fits c slot at in
     let is : n ≡ most c (entries t.orders) = cc in

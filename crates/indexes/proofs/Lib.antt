@@ -4,3 +4,5 @@ pub mod Runs
 pub mod Fits
 pub mod Latest
 pub mod Members
+pub mod Middles
+pub mod Names

@@ -10,7 +10,7 @@ use Rattle.indexes.specs.LatestOrder.{order_numbers}
 
 -- each customer's latest order stands at the customer's slot, and 0 where there is none
 abbrev pub FitsLatest : List ℕ → Database → Type 0
-FitsLatest index t = (customer : CustomerKey) (slot : ℕ) → customer_slot t.scale customer ≡ Some slot → slice_get index slot ≡ Some (greatest (order_numbers t customer))
+FitsLatest index t = (customer : CustomerKey) (slot : ℕ) → customer_slot t.scale customer ≡ Some slot → slice_get index slot ≡ Some (greatest (order_numbers t.orders customer))
 
 -- what a number of the index means
 abbrev pub number_of : ℕ → Option ℕ

@@ -12,7 +12,7 @@ use Rattle.indexes.specs.LatestIndex.{FitsLatest, latest_at, with_latest}
 
 -- a new order whose number is larger than those of its customer's orders is noted
 abbrev pub NotedOrderFits : Type 0
-NotedOrderFits = (index : List ℕ) (t : Database) (key : OrderKey) (row : Order) → FitsLatest index t → map.get t.orders key ≡ None → greatest (order_numbers t (customer_of_order key row)) < key.o_id
+NotedOrderFits = (index : List ℕ) (t : Database) (key : OrderKey) (row : Order) → FitsLatest index t → map.get t.orders key ≡ None → greatest (order_numbers t.orders (customer_of_order key row)) < key.o_id
     → FitsLatest (with_latest t.scale index (customer_of_order key row) key.o_id) (record t { orders = map.insert t.orders key row })
 
 -- what is put back as it was leaves no trace

@@ -4,17 +4,21 @@ use Rattle.std.specs.List.{filter}
 use Rattle.std.specs.FinMap as map
 use Rattle.rows.specs.declared.keys.CustomerKey.{CustomerKey}
 use Rattle.rows.specs.declared.keys.OrderKey.{OrderKey}
+use Rattle.rows.specs.Keys.{order_cmp}
 use Rattle.rows.specs.declared.records.Order.{Order}
-use Rattle.schema.specs.Database.{Database}
 use Rattle.schema.specs.Consistency.{numbers, greatest}
 
 -- the customer has ordered this
 abbrev pub is_order_by : CustomerKey → OrderKey × Order → Bool
 is_order_by customer e = (e.0.w_id == customer.w_id) && ((e.0.d_id == customer.d_id) && (e.1.c_id == customer.c_id))
 
+-- the rows of orders
+abbrev pub Orders : Type 0
+Orders = map.FinMap order_cmp Order
+
 -- the numbers of all orders of the customer
-abbrev pub order_numbers : Database → CustomerKey → List ℕ
-order_numbers t customer = numbers (filter (is_order_by customer) (map.entries t.orders))
+abbrev pub order_numbers : Orders → CustomerKey → List ℕ
+order_numbers orders customer = numbers (filter (is_order_by customer) (map.entries orders))
 
 -- the largest of some numbers, where there is one
 abbrev pub largest : List ℕ → Option ℕ
@@ -22,5 +26,5 @@ largest [] = None
 largest (n ∷ ns) = Some (greatest (n ∷ ns))
 
 -- the number of the customer's latest order, where there is one
-abbrev pub latest : Database → CustomerKey → Option ℕ
-latest t customer = largest (order_numbers t customer)
+abbrev pub latest : Orders → CustomerKey → Option ℕ
+latest orders customer = largest (order_numbers orders customer)

@@ -11,11 +11,11 @@ use Rattle.indexes.specs.NameOrder.{last_of, first_of, FitsNames}
 
 -- at most one customer is the middle one
 abbrev pub MiddleIsOne : Type 0
-MiddleIsOne = (t : Database) (home : DistrictKey) (last : List ℕ) (a b : ℕ) → IsMiddleOf t home last a → IsMiddleOf t home last b → a ≡ b
+MiddleIsOne = (t : Database) (home : DistrictKey) (last : List ℕ) (a b : ℕ) → IsMiddleOf t.customers home last a → IsMiddleOf t.customers home last b → a ≡ b
 
 -- the middle one is a customer of the tables, with that C_LAST
 abbrev pub MiddleIsThere : Type 0
-MiddleIsThere = (t : Database) (home : DistrictKey) (last : List ℕ) (number : ℕ) → IsMiddleOf t home last number
+MiddleIsThere = (t : Database) (home : DistrictKey) (last : List ℕ) (number : ℕ) → IsMiddleOf t.customers home last number
     → (row : Customer) × (map.get t.customers (customer_key home number) ≡ Some row) × (row.last ≡ last)
 
 -- the same scale, and at every key a customer of the same names

@@ -1,5 +1,5 @@
 -- The customers of a district who share a last name, and the middle one of them (clauses 2.5.2.2 and 2.6.2.2).
-use Rattle.std.specs.Prelude.{◌≡◌, ℕ, ◌-◌, ◌/◌, Bool, ◌&&◌, ◌==◌, List, length}
+use Rattle.std.specs.Prelude.{◌≡◌, ℕ, ◌-◌, ◌/◌, Bool, ◌&&◌, ◌==◌, List, length, Option, find}
 use Rattle.std.specs.List.{filter, Contains}
 use Rattle.std.specs.declared.cmp.Ordering.{Ordering}
 use Rattle.std.specs.Ordering.{nat_cmp, ordering_then, is_lt, is_eq}
@@ -7,9 +7,9 @@ use Rattle.std.specs.Cmp.Lexicographic.{slice_cmp}
 use Rattle.std.specs.FinMap as map
 use Rattle.rows.specs.declared.keys.DistrictKey.{DistrictKey}
 use Rattle.rows.specs.declared.keys.CustomerKey.{CustomerKey}
+use Rattle.rows.specs.Keys.{customer_cmp}
 use Rattle.rows.specs.declared.records.Customer.{Customer}
 use Rattle.schema.specs.Scale.{customer_key}
-use Rattle.schema.specs.Database.{Database}
 
 -- a customer's key and row
 abbrev pub Keyed : Type 0
@@ -31,9 +31,13 @@ has_last last row = is_eq (text_cmp row.last last)
 abbrev pub is_namesake : DistrictKey → List ℕ → Keyed → Bool
 is_namesake home last c = is_customer_of home c.0 && has_last last c.1
 
+-- the rows of customers
+abbrev pub Customers : Type 0
+Customers = map.FinMap customer_cmp Customer
+
 -- all customers of the district with that C_LAST
-abbrev pub namesakes : Database → DistrictKey → List ℕ → List Keyed
-namesakes t home last = filter (is_namesake home last) (map.entries t.customers)
+abbrev pub namesakes : Customers → DistrictKey → List ℕ → List Keyed
+namesakes customers home last = filter (is_namesake home last) (map.entries customers)
 
 -- by C_FIRST, and by C_ID where that is the same
 abbrev pub first_cmp : Keyed → Keyed → Ordering
@@ -43,11 +47,19 @@ first_cmp a b = ordering_then (text_cmp a.1.first b.1.first) (nat_cmp a.0.c_id b
 abbrev pub is_before : Keyed → Keyed → Bool
 is_before a b = is_lt (first_cmp a b)
 
+-- whether exactly (n-1)/2 of n customers come before this one
+abbrev pub is_middle : List Keyed → Keyed → Bool
+is_middle customers c = length (filter (λ other. is_before other c) customers) == (length customers - 1) / 2
+
+-- the middle one of some customers, where there is one
+abbrev pub middle : List Keyed → Option Keyed
+middle customers = find (is_middle customers) customers
+
 -- one of n customers, with exactly (n-1)/2 of them before it
 pub record IsMiddle (customers : List Keyed) (c : Keyed) : Type 0 where
   pub is_one : Contains customers c
   pub half_before : length (filter (λ other. is_before other c) customers) ≡ (length customers - 1) / 2
 
 -- the number of the middle one of the district's customers with that C_LAST
-abbrev pub IsMiddleOf : Database → DistrictKey → List ℕ → ℕ → Type 0
-IsMiddleOf t home last number = (row : Customer) × IsMiddle (namesakes t home last) (customer_key home number, row)
+abbrev pub IsMiddleOf : Customers → DistrictKey → List ℕ → ℕ → Type 0
+IsMiddleOf customers home last number = (row : Customer) × IsMiddle (namesakes customers home last) (customer_key home number, row)

@@ -46,7 +46,7 @@ impl LatestOrders {
     /// none. It reads one number, and of the tables the scale alone.
     pub fn latest_order(&self, tables: &Tables, customer: CustomerKey) -> Option<u32>
         requires { FitsLatest self.now tables.now }
-        ensures { result ≡ latest tables.now customer }
+        ensures { result ≡ latest tables.now.orders customer }
     {
         let slot = tables.scale().customer_slot(customer)?;
         number_of(*self.numbers.get(slot)?)

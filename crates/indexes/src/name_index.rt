@@ -47,7 +47,7 @@ impl NameIndex {
     /// or no such district. It takes two binary searches in the district, and no memory.
     pub fn middle_of(&self, tables: &Tables, home: DistrictKey, last: &str) -> Option<u32>
         requires { FitsNames self.now tables.now }
-        ensures { MatchOption result (namesakes tables.now home last.now ≡ []) (IsMiddleOf tables.now home last.now) }
+        ensures { MatchOption result (namesakes tables.now.customers home last.now ≡ []) (IsMiddleOf tables.now.customers home last.now) }
     {
         let slot = tables.scale().district_slot(home)?;
         let rows = tables.customers_of(home)?;

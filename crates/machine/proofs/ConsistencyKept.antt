@@ -19,7 +19,7 @@ use Rattle.schema.specs.Database.{Database, list_at}
 use Rattle.schema.specs.Consistency.{Consistent, amounts_of, is_payer, delivered, paid, WarehousesSumDistricts, NextOrdersFollow, NewOrdersHaveNoGap, DistrictsCountLines, WarehousesSumPayments, DistrictsSumPayments, BalancesAreOwed, BalancesArePaid}
 use Rattle.schema.proofs.KeyOrders.{districts_total, districts_exact, customers_total, customers_exact}
 use Rattle.requests.specs.declared.request.Payment.{Payment}
-use Rattle.machine.specs.Payment.{chosen, posted, payment_row}
+use Rattle.machine.specs.Payment.{posted, payment_row}
 use Rattle.machine.specs.PaymentLaws.{PaymentKeepsConsistency}
 use Rattle.machine.proofs.PaidRows.{IsPaidBy, warehouse_paid-is, district_paid-is, customer_paid-is}
 use Rattle.machine.proofs.TableChanges.{get-insert_here, get-insert_elsewhere, each_row-insert, column-insert, sum_rows-grow}
@@ -37,14 +37,11 @@ no_share true = refl
 no_share false = refl
 
 -- a payment that was carried out: the rows that it found, and those that it put in their places
-module _ (t : Database) (p : Payment) (w new_w : Warehouse) (d new_d : District) (c new_c : Customer)
+module _ (t : Database) (p : Payment) (payer : CustomerKey) (w new_w : Warehouse) (d new_d : District) (c new_c : Customer)
     (w_is : map.get t.warehouses p.home.w_id ≡ Some w) (d_is : map.get t.districts p.home ≡ Some d)
-    (c_is : map.get t.customers (chosen p.customer_home p.customer) ≡ Some c)
+    (c_is : map.get t.customers payer ≡ Some c)
     (w_paid : new_w ≡ record w { ytd = w.ytd +ℤ pos p.amount }) (d_paid : new_d ≡ record d { ytd = d.ytd +ℤ pos p.amount })
     (c_paid : IsPaidBy c new_c (pos p.amount)) where
-  abbrev payer : CustomerKey
-  payer = chosen p.customer_home p.customer
-
   abbrev row : History
   row = payment_row p payer w d
 
@@ -167,7 +164,7 @@ module _ (t : Database) (p : Payment) (w new_w : Warehouse) (d new_d : District)
 pub payment_keeps_consistency : PaymentKeepsConsistency
 payment_keeps_consistency t p h =
     payment-cases t p (λ o. Consistent o.tables) (λ fault. h)
-    (λ w new_w d new_d c new_c w_is d_is c_is w_made d_made c_made.
-    left_consistent t p w new_w d new_d c new_c w_is d_is c_is
+    (λ payer w new_w d new_d c new_c w_is d_is payer_is w_made d_made c_made.
+    left_consistent t p payer w new_w d new_d c new_c w_is d_is payer_is.row
     (warehouse_paid-is w new_w (pos p.amount) w_made) (district_paid-is d new_d (pos p.amount) d_made)
-    (customer_paid-is c new_c (payment_note (chosen p.customer_home p.customer) p.home p.amount) (pos p.amount) c_made) h)
+    (customer_paid-is c new_c (payment_note payer p.home p.amount) (pos p.amount) c_made) h)

@@ -1,3 +1,4 @@
+pub mod ChosenRows
 pub mod Payments
 pub mod PaidRows
 pub mod PaymentCases
@@ -6,3 +7,6 @@ pub mod ListedPayments
 pub mod ConsistencyKept
 pub mod RequestLaws
 pub mod PaymentGroups
+pub mod SameChosen
+pub mod StatusGroups
+pub mod KeptIndexes

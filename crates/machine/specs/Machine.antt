@@ -2,14 +2,16 @@
 use Rattle.std.specs.Prelude.{List, [], ◌∷◌}
 use Rattle.schema.specs.Database.{Database}
 use Rattle.requests.specs.declared.request.Request.{Request}
-use Rattle.requests.specs.declared.request.Request.TheVariants.{Payment}
+use Rattle.requests.specs.declared.request.Request.TheVariants.{Payment, OrderStatus}
 use Rattle.requests.specs.declared.reply.Reply.{Reply}
 use Rattle.machine.specs.Outcome.{Outcome}
 use Rattle.machine.specs.Payment.{payment}
+use Rattle.machine.specs.OrderStatus.{order_status}
 
 -- what one request leaves and answers
 abbrev pub transaction : Database → Request → Outcome
 transaction t (Payment p) = payment t p
+transaction t (OrderStatus o) = order_status t o
 
 -- the replies to requests, one after another
 abbrev pub replies : Database → List Request → List Reply

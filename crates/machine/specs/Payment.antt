@@ -7,7 +7,6 @@ use Rattle.rows.specs.Ranged.{in_range}
 use Rattle.schema.specs.Database.{with_payment}
 use Rattle.rows.specs.PaymentNote.{payment_note}
 use Rattle.schema.specs.Database.{Database}
-use Rattle.rows.specs.declared.keys.DistrictKey.{DistrictKey}
 use Rattle.rows.specs.declared.keys.CustomerKey.{CustomerKey}
 use Rattle.rows.specs.declared.records.Warehouse.{Warehouse}
 use Rattle.rows.specs.declared.records.District.{District}
@@ -15,17 +14,13 @@ use Rattle.rows.specs.declared.records.Customer.{Customer}
 use Rattle.rows.specs.declared.records.History.{History}
 use Rattle.rows.specs.declared.records.Credit.{Credit}
 use Rattle.rows.specs.declared.records.Credit.TheVariants.{Good, Bad}
-use Rattle.requests.specs.declared.request.Choice.{Choice}
-use Rattle.requests.specs.declared.request.Choice.TheVariants.{Number}
 use Rattle.requests.specs.declared.request.Payment.{Payment}
 use Rattle.requests.specs.declared.reply.PaymentReply.{PaymentReply}
 use Rattle.requests.specs.declared.reply.Reply.TheVariants.{Payment as Paid}
 use Rattle.requests.specs.declared.reply.Fault.TheVariants.{NoCustomer, Range}
+use Rattle.indexes.specs.Namesakes.{Keyed}
+use Rattle.machine.specs.Chosen.{chosen}
 use Rattle.machine.specs.Outcome.{Outcome, rolled_back}
-
--- the key of the customer that is chosen in a district (clause 2.5.1.2)
-abbrev pub chosen : DistrictKey → Choice → CustomerKey
-chosen home (Number customer) = record { w_id = home.w_id; d_id = home.d_id; c_id = customer }
 
 -- W_YTD grows by the amount (clause 2.5.2.2)
 abbrev pub warehouse_paid : Warehouse → ℤ → Option Warehouse
@@ -92,16 +87,15 @@ posted t p key row (Some w) (Some d) (Some c) = record {
 }
 posted t p key row _ _ _ = rolled_back t Range
 
--- by the rows that are there; within the scale only the customer's can be missing
-abbrev pub paid : Database → Payment → CustomerKey → Option Warehouse → Option District → Option Customer → Outcome
-paid t p key (Some w) (Some d) (Some c) =
-    posted t p key (payment_row p key w d)
+-- by the rows that are there; within the scale only the customer can be missing
+abbrev pub paid : Database → Payment → Option Warehouse → Option District → Option Keyed → Outcome
+paid t p (Some w) (Some d) (Some c) =
+    posted t p c.0 (payment_row p c.0 w d)
     (warehouse_paid w (pos p.amount)) (district_paid d (pos p.amount))
-    (customer_paid c (payment_note key p.home p.amount) (pos p.amount))
-paid t p key _ _ _ = rolled_back t NoCustomer
+    (customer_paid c.1 (payment_note c.0 p.home p.amount) (pos p.amount))
+paid t p _ _ _ = rolled_back t NoCustomer
 
 -- what a payment leaves and answers
 abbrev pub payment : Database → Payment → Outcome
 payment t p =
-    let key = chosen p.customer_home p.customer in
-    paid t p key (map.get t.warehouses p.home.w_id) (map.get t.districts p.home) (map.get t.customers key)
+    paid t p (map.get t.warehouses p.home.w_id) (map.get t.districts p.home) (chosen t.customers p.customer_home p.customer)

@@ -1,5 +1,5 @@
 -- What every payment does, said of the definition of a payment.
-use Rattle.std.specs.Prelude.{◌≡◌, ◌≢◌, ℕ, ℤ, ◌-ℤ◌}
+use Rattle.std.specs.Prelude.{◌≡◌, ◌≢◌, ℕ, ℤ, ◌-ℤ◌, IfSome}
 use Rattle.std.specs.FinMap as map
 use Rattle.rows.specs.declared.keys.DistrictKey.{DistrictKey}
 use Rattle.rows.specs.declared.keys.CustomerKey.{CustomerKey}
@@ -10,7 +10,12 @@ use Rattle.requests.specs.declared.request.Payment.{Payment}
 use Rattle.requests.specs.declared.group.Group.{Group}
 use Rattle.groups.specs.Content.{content, AreAlikeIn, IsNoneOf}
 use Rattle.groups.specs.Footprint.{payment_footprint, groups_of}
-use Rattle.machine.specs.Payment.{chosen, payment}
+use Rattle.machine.specs.Chosen.{chosen}
+use Rattle.machine.specs.Payment.{payment}
+
+-- the key is not that of the customer who pays
+abbrev pub IsNotPayer : Database → Payment → CustomerKey → Type 0
+IsNotPayer t p key = IfSome (chosen t.customers p.customer_home p.customer) (λ c. key ≢ c.0)
 
 -- no row is changed but those of the home warehouse, the home district, its list of payments and the customer
 pub record ChangesItsRowsAlone (p : Payment) (old new : Database) : Type 0 where
@@ -19,7 +24,7 @@ pub record ChangesItsRowsAlone (p : Payment) (old new : Database) : Type 0 where
   pub warehouses : (key : ℕ) → key ≢ p.home.w_id → map.get new.warehouses key ≡ map.get old.warehouses key
   pub districts : (key : DistrictKey) → key ≢ p.home → map.get new.districts key ≡ map.get old.districts key
   pub stocks : new.stocks ≡ old.stocks
-  pub customers : (key : CustomerKey) → key ≢ chosen p.customer_home p.customer → map.get new.customers key ≡ map.get old.customers key
+  pub customers : (key : CustomerKey) → IsNotPayer old p key → map.get new.customers key ≡ map.get old.customers key
   pub histories : (key : DistrictKey) → key ≢ p.home → map.get new.histories key ≡ map.get old.histories key
   pub orders : new.orders ≡ old.orders
   pub new_orders : new.new_orders ≡ old.new_orders

@@ -3,24 +3,11 @@ ghost use Rattle.rows.specs.PaymentNote.{payment_note};
 ghost use Rattle.machine.specs.Payment as spec;
 
 use amounts::Cents;
-use requests::{Choice, Payment, PaymentReply};
+use requests::{Payment, PaymentReply};
 use schema::{
     Credit, Customer, CustomerKey, District, DistrictKey, History, NoMemory, Text, Warehouse,
     prepend_data,
 };
-
-/// The key of the customer that is chosen in a district.
-pub fn chosen(home: DistrictKey, choice: &Choice) -> CustomerKey
-    ensures { result ≡ spec.chosen home choice.now }
-{
-    match choice {
-        Choice::Number(customer) => CustomerKey {
-            w_id: home.w_id,
-            d_id: home.d_id,
-            c_id: *customer,
-        },
-    }
-}
 
 /// The warehouse's row after a payment, or `None` where its sum leaves its range.
 pub fn warehouse_paid(row: &Warehouse, amount: Cents) -> Result<Option<Warehouse>, NoMemory>

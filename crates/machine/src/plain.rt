@@ -3,19 +3,26 @@ ghost use Rattle.std.specs.FinMap as map;
 ghost use Rattle.requests.specs.Check.{IsAccepted};
 ghost use Rattle.machine.specs.Payment as spec;
 ghost use Rattle.machine.specs.Machine.{transaction};
+ghost use Rattle.machine.specs.OrderStatus.{order_status};
+ghost use Rattle.indexes.specs.NameOrder.{FitsNames};
 
-use crate::payment::{
-    chosen, customer_paid, district_paid, payment_reply, payment_row, warehouse_paid,
-};
+use crate::choosing::chosen;
+use crate::order_status::status_reply;
+use crate::payment::{customer_paid, district_paid, payment_reply, payment_row, warehouse_paid};
 use amounts::Cents;
-use requests::{Fault, Payment, Reply, Request};
+use indexes::{LatestOrders, NameIndex};
+use requests::{Fault, OrderStatus, Payment, Reply, Request};
 use schema::{Customer, CustomerKey, District, History, NoMemory, Tables, Warehouse};
+use std::alloc::Global;
 use std::marker::Model;
 
 /// The plain engine: all tables, and one request carried out at a time.
 #[derive(Drop)]
 pub struct Plain {
+    alloc: Global,
     tables: Tables,
+    names: NameIndex,
+    latest: LatestOrders,
 }
 
 impl Model for Plain {
@@ -27,13 +34,27 @@ impl Model for Plain {
     ghost coded = { tables_kind.the_row.coded };
 
     ghost view = { λ p. p.tables };
+
+    ghost use Rattle.indexes.specs.NameOrder.{FitsNames};
+    ghost use Rattle.indexes.specs.LatestIndex.{FitsLatest};
+
+    ghost invariant = { λ p. FitsNames p.names p.tables × FitsLatest p.latest p.tables };
 }
 
 impl Plain {
-    pub fn open(tables: Tables) -> Self
-        ensures { result ≡ tables }
+    /// An engine over these tables. It sorts the customers by last name; want of memory leaves nothing
+    /// behind.
+    pub fn open(alloc: Global, tables: Tables) -> Result<Self, NoMemory>
+        ensures { IfOk result (λ plain. plain ≡ tables) }
     {
-        Plain { tables }
+        let names = NameIndex::build(alloc, &tables)?;
+        let latest = LatestOrders::build(alloc, &tables)?;
+        Ok(Plain {
+            alloc,
+            tables,
+            names,
+            latest,
+        })
     }
 
     pub fn tables(&self) -> &Tables
@@ -58,18 +79,30 @@ impl Plain {
         ensures err { OnErr result (self.new ≡ self.old) }
     {
         match request {
-            Request::Payment(payment) => pay(&mut self.tables, payment),
+            Request::Payment(payment) => pay(&mut self.tables, &self.names, payment),
+            Request::OrderStatus(asked) => self.tell_status(asked),
         }
+    }
+
+    // Shows a customer's last order. No table changes.
+    fn tell_status(&self, asked: &OrderStatus) -> Result<Reply, NoMemory>
+        ensures { IfOk result (λ reply. reply ≡ (order_status self.now asked.now).reply) }
+    {
+        let Some((key, row)) = chosen(&self.tables, &self.names, asked.home, &asked.customer) else {
+            return Ok(Reply::RolledBack(Fault::NoCustomer));
+        };
+        let shown = status_reply(self.alloc, &self.tables, &self.latest, key, row)?;
+        Ok(Reply::OrderStatus(shown))
     }
 }
 
 // Carries out a payment.
-fn pay(tables: &mut Tables, payment: &Payment) -> Result<Reply, NoMemory>
+fn pay(tables: &mut Tables, names: &NameIndex, payment: &Payment) -> Result<Reply, NoMemory>
+    requires names { FitsNames names.now tables.old }
     ensures reply { IfOk result (λ reply. reply ≡ (spec.payment tables.old payment.now).reply) }
     ensures tables { OnOk result (tables.new ≡ (spec.payment tables.old payment.now).tables) }
     ensures err { OnErr result (tables.new ≡ tables.old) }
 {
-    let key = chosen(payment.customer_home, &payment.customer);
     let amount = Cents::new(i64::from(payment.amount));
     let Some(warehouse) = tables.warehouse(payment.home.w_id) else {
         return Ok(Reply::RolledBack(Fault::NoCustomer));
@@ -77,7 +110,8 @@ fn pay(tables: &mut Tables, payment: &Payment) -> Result<Reply, NoMemory>
     let Some(district) = tables.district(payment.home) else {
         return Ok(Reply::RolledBack(Fault::NoCustomer));
     };
-    let Some(customer) = tables.customer(key) else {
+    let Some((key, customer)) = chosen(tables, names, payment.customer_home, &payment.customer)
+    else {
         return Ok(Reply::RolledBack(Fault::NoCustomer));
     };
     let row = payment_row(payment, key, warehouse, district);

@@ -4,7 +4,7 @@ use Rattle.rows.specs.Ranged.{is_between}
 use Rattle.schema.specs.declared.scale.Scale.{Scale}
 use Rattle.schema.specs.Scale.{has_warehouse}
 use Rattle.requests.specs.declared.request.Request.{Request}
-use Rattle.requests.specs.declared.request.Request.TheVariants.{Payment}
+use Rattle.requests.specs.declared.request.Request.TheVariants.{Payment, OrderStatus}
 use Rattle.requests.specs.declared.refusal.Refusal.{Refusal}
 use Rattle.requests.specs.declared.refusal.Refusal.TheVariants.{BadWarehouse, BadDistrict, BadLines, BadQuantity, BadSupply, BadAmount, BadThreshold, BadCarrier}
 
@@ -21,6 +21,11 @@ applies scale (Payment p) BadDistrict = not (is_between 1 10 p.home.d_id && is_b
 -- the amount is not from 1 to 5,000 dollars (clause 2.5.1.3)
 applies scale (Payment p) BadAmount = not (is_between 100 500000 p.amount)
 applies scale (Payment p) _ = false
+-- the warehouse is not in the scale
+applies scale (OrderStatus o) BadWarehouse = not (has_warehouse scale o.home.w_id)
+-- the district is not from 1 to 10 (clause 2.6.1.2)
+applies scale (OrderStatus o) BadDistrict = not (is_between 1 10 o.home.d_id)
+applies scale (OrderStatus o) _ = false
 
 -- the refusal, if there is one
 abbrev pub refused_by : Option Refusal → Result (Unit {0}) Refusal

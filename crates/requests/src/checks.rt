@@ -2,7 +2,7 @@ ghost use Rattle.std.specs.Prelude.{◌≡◌};
 ghost use Rattle.rows.specs.Ranged.{is_between};
 ghost use Rattle.requests.specs.Check.{check_of};
 
-use crate::{Payment, Refusal, Request};
+use crate::{OrderStatus, Payment, Refusal, Request};
 use schema::{DistrictKey, Scale};
 
 /// The first of the refusals `BadWarehouse` to `BadCarrier` that applies to the request, in this
@@ -12,6 +12,7 @@ pub fn check(scale: &Scale, request: &Request) -> Result<(), Refusal>
 {
     match request {
         Request::Payment(payment) => check_payment(*scale, payment),
+        Request::OrderStatus(asked) => check_order_status(*scale, asked),
     }
 }
 
@@ -28,6 +29,18 @@ fn check_payment(scale: Scale, payment: &Payment) -> Result<(), Refusal>
     }
     if !(100..=500_000).contains(&payment.amount) {
         return Err(Refusal::BadAmount);
+    }
+    Ok(())
+}
+
+fn check_order_status(scale: Scale, asked: &OrderStatus) -> Result<(), Refusal>
+    ensures { result ≡ check_of scale (Request.OrderStatus asked.now) }
+{
+    if !scale.has_warehouse(asked.home.w_id) {
+        return Err(Refusal::BadWarehouse);
+    }
+    if !is_district(asked.home) {
+        return Err(Refusal::BadDistrict);
     }
     Ok(())
 }

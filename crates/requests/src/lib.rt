@@ -5,6 +5,8 @@
 mod answer;
 mod checks;
 mod group;
+mod last_name;
+mod lines;
 mod refusal;
 mod reply;
 mod request;
@@ -13,9 +15,11 @@ mod script;
 pub use answer::Answer;
 pub use checks::check;
 pub use group::Group;
+pub use last_name::LastName;
+pub use lines::Lines;
 pub use refusal::Refusal;
-pub use reply::{Fault, PaymentReply, Reply};
-pub use request::{Choice, Payment, Request};
+pub use reply::{Fault, OrderStatusReply, PaymentReply, Reply, StatusLine, StatusOrder};
+pub use request::{Choice, OrderStatus, Payment, Request};
 pub use script::{MOST_REQUESTS, Script};
 
 #[cfg(test)]

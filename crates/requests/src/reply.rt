@@ -1,7 +1,9 @@
-ghost use Rattle.std.specs.Prelude.{◌≡◌, IfOk};
+ghost use Rattle.std.specs.Prelude.{◌≡◌, ◌↔◌, IfOk, IsTrue, OnErr};
+ghost use Rattle.requests.specs.Replies.{ShowsStatus};
 
+use crate::Lines;
 use amounts::{Cents, Rate};
-use schema::{Credit, NoMemory, Text};
+use schema::{CarrierId, Credit, LineAmount, LineQuantity, Moment, NoMemory, Text};
 
 /// What a payment shows of its customer (clause 2.5.3), as the row stands after it.
 #[derive(Clone, Debug, PartialEq, Eq, Drop)]
@@ -37,6 +39,41 @@ impl PaymentReply {
     }
 }
 
+/// What Order-Status shows of a customer (clause 2.6.3.4).
+#[derive(Clone, Debug, PartialEq, Eq, Drop)]
+pub struct OrderStatusReply {
+    pub c_id: u32,
+    pub first: Text<16>,
+    pub middle: Text<2>,
+    pub last: Text<16>,
+    /// C_BALANCE, in cents: -10^15 to 10^15.
+    pub balance: Cents,
+    /// The customer's last order; `None` where there is none.
+    pub order: Option<StatusOrder>,
+}
+
+/// What Order-Status shows of an order (clause 2.6.3.4).
+#[derive(Clone, Debug, PartialEq, Eq, Drop)]
+pub struct StatusOrder {
+    pub o_id: u32,
+    pub entry_d: Moment,
+    /// O_CARRIER_ID, 1 to 10; `None` until the order is delivered.
+    pub carrier_id: Option<CarrierId>,
+    pub lines: Lines<StatusLine>,
+}
+
+/// What Order-Status shows of a line of an order (clause 2.6.3.4).
+#[derive(Clone, Copy, Debug, PartialEq, Eq)]
+pub struct StatusLine {
+    pub i_id: u32,
+    pub supply_w_id: u32,
+    pub quantity: LineQuantity,
+    /// OL_AMOUNT, in cents.
+    pub amount: LineAmount,
+    /// `None` until the order is delivered.
+    pub delivery_d: Option<Moment>,
+}
+
 /// Why a transaction that was carried out and logged changed nothing.
 #[derive(Clone, Copy, Debug, PartialEq, Eq)]
 pub enum Fault {
@@ -50,24 +87,27 @@ pub enum Fault {
 #[derive(Clone, Debug, PartialEq, Eq, Drop)]
 pub enum Reply {
     Payment(PaymentReply),
+    OrderStatus(OrderStatusReply),
     RolledBack(Fault),
 }
 
 impl Reply {
-    /// An equal reply. It takes no memory.
-    pub fn copy(&self) -> Reply
-        ensures { result ≡ self.now }
+    /// Whether the two are the same reply.
+    pub fn is(&self, other: &Reply) -> bool
+        ensures { IsTrue result ↔ (self.now ≡ other.now) }
     {
-        match self {
-            Reply::Payment(shown) => Reply::Payment(shown.copy()),
-            Reply::RolledBack(fault) => Reply::RolledBack(*fault),
-        }
+        self == other
     }
 
-    /// An equal reply. `NoMemory` leaves nothing behind.
+    /// An equal reply. Only the lines of an order take memory; `NoMemory` leaves nothing behind.
     pub fn try_clone(&self) -> Result<Self, NoMemory>
-        ensures { IfOk result (λ copy. copy ≡ self.now) }
+        ensures copy { IfOk result (λ copy. copy ≡ self.now) }
+        ensures lines { OnErr result (ShowsStatus self.now) }
     {
-        self.clone()
+        match self {
+            Reply::Payment(shown) => Ok(Reply::Payment(shown.copy())),
+            Reply::OrderStatus(shown) => Ok(Reply::OrderStatus(shown.clone()?)),
+            Reply::RolledBack(fault) => Ok(Reply::RolledBack(*fault)),
+        }
     }
 }

@@ -1,6 +1,7 @@
 use super::*;
 use amounts::{Cents, Rate};
-use schema::{Credit, DistrictKey, Moment, Scale, Text};
+use schema::{Credit, DistrictKey, LineAmount, LineQuantity, Moment, NoMemory, Scale, Text};
+use std::alloc::Global;
 use std::test::Fail;
 
 // A payment of `amount` cents at the warehouse and district `home`, by customer 1 of another.
@@ -19,6 +20,17 @@ fn district(place: (u32, u32)) -> DistrictKey {
         w_id: place.0,
         d_id: place.1,
     }
+}
+
+fn order_status(home: (u32, u32), customer: Choice) -> Request {
+    Request::OrderStatus(OrderStatus {
+        home: district(home),
+        customer,
+    })
+}
+
+fn last_name(words: &str) -> Result<LastName, Fail> {
+    Ok(LastName::checked_new(Text::parse(words)?).ok_or("begins with #")?)
 }
 
 // At a scale of two warehouses.
@@ -52,6 +64,44 @@ fn the_lowest_number_that_applies_is_answered(rt: HostRuntime) -> Result<(), Fai
         let request = payment(home, customer_home, amount);
         let found = check(&scale, &request).err().map(Refusal::number);
         assert_eq!(rt; found, number, "at {request:?}");
+    }
+    Ok(())
+}
+
+// Who is asked for is no fault, though nobody there has the number or the name.
+#[test]
+fn a_status_is_asked_at_a_district_of_the_scale(rt: HostRuntime) -> Result<(), Fail> {
+    let scale = Scale::checked_new(2, 70, 5).ok_or("no scale")?;
+    for (home, number) in [
+        ((1, 1), None),
+        ((2, 10), None),
+        ((0, 1), Some(1)),
+        ((3, 11), Some(1)),
+        ((1, 0), Some(2)),
+        ((2, 11), Some(2)),
+    ] {
+        for customer in [
+            Choice::Number(6),
+            Choice::LastName(last_name("EINGEINGEING")?),
+        ] {
+            let request = order_status(home, customer);
+            let found = check(&scale, &request).err().map(Refusal::number);
+            assert_eq!(rt; found, number, "at {request:?}");
+        }
+    }
+    Ok(())
+}
+
+#[test]
+fn a_last_name_does_not_begin_as_a_number_does(rt: HostRuntime) -> Result<(), Fail> {
+    for words in ["BARBARBAR", "", "A#1", "a,b", "ABCDEFGHIJKLMNOP"] {
+        assert_eq!(rt; last_name(words)?.as_str(), words);
+    }
+    for words in ["#", "#1", "#BAR"] {
+        assert!(rt;
+            LastName::checked_new(Text::parse(words)?).is_none(),
+            "{words}"
+        );
     }
     Ok(())
 }
@@ -124,8 +174,13 @@ fn groups_are_printed_and_ordered(rt: HostRuntime) -> Result<(), Fail> {
 
 #[test]
 fn copies_are_equal(rt: HostRuntime) -> Result<(), Fail> {
-    let request = payment((1, 1), (2, 10), 12_345);
-    assert_eq!(rt; request.try_clone()?, request);
+    let mut requests = Vec::new(rt.alloc());
+    requests.push(payment((1, 1), (2, 10), 12_345))?;
+    requests.push(order_status((1, 1), Choice::Number(4)))?;
+    requests.push(order_status((1, 1), Choice::LastName(last_name("BAR")?)))?;
+    for request in &requests {
+        assert_eq!(rt; request.try_clone()?, *request);
+    }
     let paid = Reply::Payment(PaymentReply {
         c_id: 4,
         first: Text::parse("C")?,
@@ -136,8 +191,45 @@ fn copies_are_equal(rt: HostRuntime) -> Result<(), Fail> {
         balance: Cents::new(-13_345),
         data: Text::parse("4 1 1 2 1 12345|")?,
     });
-    for reply in [paid, Reply::RolledBack(Fault::NoCustomer)] {
-        assert_eq!(rt; reply.try_clone()?, reply);
+    let mut replies = Vec::new(rt.alloc());
+    replies.push(paid)?;
+    replies.push(Reply::RolledBack(Fault::NoCustomer))?;
+    replies.push(status(None)?)?;
+    for delivery_d in [None, Some(Moment::new(1))] {
+        replies.push(status(Some(one_line(rt.alloc(), delivery_d)?))?)?;
+    }
+    for (place, reply) in replies.iter().enumerate() {
+        for (other_place, other) in replies.iter().enumerate() {
+            assert_eq!(rt; reply.try_clone()?.is(other), place == other_place);
+        }
     }
     Ok(())
+}
+
+fn status(order: Option<StatusOrder>) -> Result<Reply, Fail> {
+    Ok(Reply::OrderStatus(OrderStatusReply {
+        c_id: 5,
+        first: Text::parse("D")?,
+        middle: Text::parse("OE")?,
+        last: Text::parse("BARBAROUGHT")?,
+        balance: Cents::new(-1_000),
+        order,
+    }))
+}
+
+fn one_line(alloc: Global, delivery_d: Option<Moment>) -> Result<StatusOrder, NoMemory> {
+    let mut lines = Vec::new(alloc);
+    lines.push(StatusLine {
+        i_id: 1,
+        supply_w_id: 1,
+        quantity: LineQuantity::new(5),
+        amount: LineAmount::new(100),
+        delivery_d,
+    })?;
+    Ok(StatusOrder {
+        o_id: 5,
+        entry_d: Moment::new(0),
+        carrier_id: None,
+        lines: Lines::new(lines),
+    })
 }

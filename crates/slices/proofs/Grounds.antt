@@ -7,6 +7,7 @@ use Rattle.std.proofs.lemmas.List.{get_or-set_same, get_or-set_other}
 use Rattle.std.proofs.lemmas.List.Elements.{All-append, All-cons, All-nil}
 use Rattle.schema.specs.Database.{Database}
 use Rattle.schema.specs.declared.scale.Scale.{Scale}
+use Rattle.indexes.specs.NameLaws.{SameNames}
 use Rattle.requests.specs.declared.group.Group.{Group}
 use Rattle.groups.specs.Content.{Content, content}
 use Rattle.groups.specs.declared.wishes.Mode.TheVariants.{Shared, Exclusive}
@@ -16,6 +17,7 @@ use Rattle.tickets.proofs.OnePlace.{place_injective, place_inside}
 use Rattle.slices.specs.declared.kept.Kept.{Kept}
 use Rattle.slices.specs.Grounds.{Grounded, grounded, home, IsGroundOf, AreGroundsOf}
 use Rattle.slices.specs.Undo.{put_back, put_back_in, all_put_back, all_put_back_in, IsKeptOf}
+use Rattle.slices.proofs.Names.{same_names, all_still_kept_of}
 use Rattle.slices.proofs.Steps.{IsStep, step_changes, all_changes, all_scale, all_put_back_in-more}
 
 -- ---- the ground of a group
@@ -30,10 +32,10 @@ ground_at t grounds group place ground are known at is =
 
 -- A ground's box, with the rows of its group in the tables, makes way for another; the rows of all other groups stay.
 pub one_ground : (t new : Database) (grounds : List Grounded) (place : ℕ) (ground next : Grounded) → AreGroundsOf t grounds → place < length grounds → IsGroundOf t place ground
-    → new.scale ≡ t.scale → ((group : Group) → group ≢ ground.ticket_box.group → content new group ≡ content t group) → IsGroundOf new place next
+    → SameNames t new → ((group : Group) → group ≢ ground.ticket_box.group → content new group ≡ content t group) → IsGroundOf new place next
     → AreGroundsOf new (set grounds place next)
-one_ground t new grounds place ground next are here own scale elsewhere is = record {
-  all_there = length-set grounds place next ∙ are.all_there ∙ ap (λ (s : Scale). 105 * s.warehouses) (sym scale);
+one_ground t new grounds place ground next are here own names elsewhere is = record {
+  all_there = length-set grounds place next ∙ are.all_there ∙ ap (λ (s : Scale). 105 * s.warehouses) (sym names.scale);
   each = each;
 }
   where
@@ -41,11 +43,11 @@ one_ground t new grounds place ground next are here own scale elsewhere is = rec
     stays k g apart h =
         let differ : g.ticket_box.group ≢ ground.ticket_box.group = λ e. apart (sym h.place ∙ ap place_of e ∙ own.place) in
         record {
-          known = subst (λ (s : Scale). IsGroupOf s.warehouses g.ticket_box.group) (sym scale) h.known;
+          known = subst (λ (s : Scale). IsGroupOf s.warehouses g.ticket_box.group) (sym names.scale) h.known;
           place = h.place;
           left = h.left ∙ sym (elsewhere g.ticket_box.group differ);
           back = h.back;
-          kept = subst (λ (s : Scale). All (IsKeptOf s g.ticket_box.group) g.undo) (sym scale) h.kept;
+          kept = all_still_kept_of t new names g.ticket_box.group g.undo h.kept;
           idle = h.idle;
         }
 
@@ -66,7 +68,7 @@ pub same_ground : (t : Database) (grounds : List Grounded) (place : ℕ) (ground
 same_ground t grounds place ground next are here own same_box same_undo =
     let P : Boxed → List Kept → Type 0 = λ b undo. IsGroundOf t place (grounded b undo next.room next.holder) in
     let h : IsGroundOf t place (grounded ground.ticket_box ground.undo next.room next.holder) = record { known = own.known; place = own.place; left = own.left; back = own.back; kept = own.kept; idle = own.idle } in
-    one_ground t t grounds place ground next are here own refl (λ _ _. refl) (subst (λ b. P b next.undo) (sym same_box) (subst (P ground.ticket_box) (sym same_undo) h))
+    one_ground t t grounds place ground next are here own (same_names t) (λ _ _. refl) (subst (λ b. P b next.undo) (sym same_box) (subst (P ground.ticket_box) (sym same_undo) h))
 
 pub same_homes : (grounds : List Grounded) (place : ℕ) (ground next : Grounded) → ground ≡ get_or grounds place ground → home next ≡ home ground → map home (set grounds place next) ≡ map home grounds
 same_homes grounds place ground next is same = map-set_same home grounds place next ground (same ∙ ap home is)
@@ -82,14 +84,14 @@ stepped t new place ground next kept change own step exclusive box undo =
     let again : put_back_in kept left ≡ b.left =
     sym (subst (λ (g : Group). content (put_back kept new) g ≡ put_back_in kept (content new g)) step.kept_of.0 (step_changes kept new).here)
     ∙ ap (λ (d : Database). content d group) step.back ∙ sym own.left in
-    let one : All (IsKeptOf t.scale group) (kept ∷ []) = All-cons (IsKeptOf t.scale group) kept [] step.kept_of (All-nil (IsKeptOf t.scale group)) in
+    let one : All (IsKeptOf t group) (kept ∷ []) = All-cons (IsKeptOf t group) kept [] step.kept_of (All-nil (IsKeptOf t group)) in
     let P : Boxed → List Kept → Type 0 = λ b undo. IsGroundOf new place (grounded b undo next.room next.holder) in
     let h : P (with_left b left) (ground.undo ++ kept ∷ []) = record {
       known = subst (λ (s : Scale). IsGroupOf s.warehouses group) (sym step.scale) own.known;
       place = own.place;
       left = refl;
       back = own.back ∙ ap (all_put_back_in ground.undo) (sym again) ∙ sym (all_put_back_in-more ground.undo kept left);
-      kept = subst (λ (s : Scale). All (IsKeptOf s group) (ground.undo ++ kept ∷ [])) (sym step.scale) (All-append (IsKeptOf t.scale group) ground.undo (kept ∷ []) own.kept one);
+      kept = all_still_kept_of t new step.names group (ground.undo ++ kept ∷ []) (All-append (IsKeptOf t group) ground.undo (kept ∷ []) own.kept one);
       idle = λ shared. let no : Shared ≡ Exclusive = sym shared ∙ exclusive in cc;
     } in
     subst (λ x. P x next.undo) (sym box) (subst (P (with_left b left)) (sym undo) h)
@@ -106,7 +108,7 @@ undone t place ground next own box undo =
       place = own.place;
       left = own.back ∙ ap (all_put_back_in ground.undo) own.left ∙ sym (all_changes b.group ground.undo t own.kept).here;
       back = refl;
-      kept = All-nil (IsKeptOf new.scale b.group);
+      kept = All-nil (IsKeptOf new b.group);
       idle = λ _. refl;
     } in
     subst (λ x. P x next.undo) (sym box) (subst (P (with_left b b.back)) (sym undo) h)
@@ -118,7 +120,7 @@ granted t place ground next own shared box undo =
     let b = ground.ticket_box in
     let none : ground.undo ≡ [] = own.idle shared in
     let P : Boxed → List Kept → Type 0 = λ b undo. IsGroundOf t place (grounded b undo next.room next.holder) in
-    let h : P (lent b.group b.left) [] = record { known = own.known; place = own.place; left = own.left; back = refl; kept = All-nil (IsKeptOf t.scale b.group); idle = λ _. refl } in
+    let h : P (lent b.group b.left) [] = record { known = own.known; place = own.place; left = own.left; back = refl; kept = All-nil (IsKeptOf t b.group); idle = λ _. refl } in
     subst (λ x. P x next.undo) (sym box) (subst (P (lent b.group b.left)) (sym (undo ∙ none)) h)
 
 -- a claim comes back
@@ -127,5 +129,5 @@ pub given_back : (t : Database) (place : ℕ) (ground next : Grounded) → IsGro
 given_back t place ground next own box undo =
     let b = ground.ticket_box in
     let P : Boxed → List Kept → Type 0 = λ b undo. IsGroundOf t place (grounded b undo next.room next.holder) in
-    let h : P (taken_back b) [] = record { known = own.known; place = own.place; left = own.left; back = refl; kept = All-nil (IsKeptOf t.scale b.group); idle = λ _. refl } in
+    let h : P (taken_back b) [] = record { known = own.known; place = own.place; left = own.left; back = refl; kept = All-nil (IsKeptOf t b.group); idle = λ _. refl } in
     subst (λ x. P x next.undo) (sym box) (subst (P (taken_back b)) (sym undo) h)

@@ -3,6 +3,9 @@ use Rattle.std.proofs.Common.{◌≡◌, ◌≢◌, ◌⊎◌, ℕ, ◌+◌, ◌
 use Rattle.std.proofs.lemmas.List.{get_or-map, map-set, length-map}
 use Rattle.schema.specs.Database.{Database}
 use Rattle.schema.specs.declared.scale.Scale.{Scale}
+use Rattle.indexes.specs.NameLaws.{SameNames}
+use Rattle.indexes.specs.NameOrder.{FitsNames}
+use Rattle.indexes.proofs.Names.{same_names_fit}
 use Rattle.requests.specs.declared.group.Group.{Group}
 use Rattle.groups.specs.Content.{Content, content}
 use Rattle.groups.specs.declared.wishes.Mode.{Mode}
@@ -20,6 +23,7 @@ use Rattle.slices.specs.Sliced.{everywhere, free_of, standing, SliceKeeps}
 use Rattle.slices.specs.Undo.{all_put_back, all_put_back_in}
 use Rattle.slices.proofs.Homes.{free_here, free_set, free_elsewhere}
 use Rattle.slices.proofs.Grounds.{ground_at, one_ground, same_ground, same_homes, stepped, undone, granted, given_back}
+use Rattle.slices.proofs.Names.{same_names, all_names}
 use Rattle.slices.proofs.Steps.{IsStep, all_changes, all_scale, all_items}
 
 -- ---- a write
@@ -56,7 +60,7 @@ step_keeps t new grounds place ground next was now kept change are known at is s
     let box_here : next.ticket_box ≡ with_left ground.ticket_box (content new group) = box ∙ ap (λ g. with_left ground.ticket_box (content new g)) found.1 in
     let before : was.left ≡ content t was.group = same ∙ found.2.left ∙ ap (content t) (sym found.1) in
     let homes : home next ≡ home ground = ap (λ b. tickets_home b.mode b.shared) box in (
-      one_ground t new grounds place ground next are found.0 found.2 step.scale step_here.changes.elsewhere (stepped t new place ground next kept change found.2 step_here out box_here undo),
+      one_ground t new grounds place ground next are found.0 found.2 step.names step_here.changes.elsewhere (stepped t new place ground next kept change found.2 step_here out box_here undo),
       leaves ∙ ap (leaving was) (step.changes.here ∙ ap change (sym before)),
       wrote t new grounds place ground next was now (content new was.group) is homes exclusive leaves refl step.changes.elsewhere step.scale step.items,
     )
@@ -75,23 +79,27 @@ leave_keeps t new grounds place ground roomy next was now own kept change are kn
     (box ∙ (λ i. with_left (same_box i) (content new (same_group i))))
     (undo ∙ ap (λ u. u ++ kept ∷ []) same_undo)
 
+-- what a slice always is
+abbrev pub IsSlice : ℕ → Database → List (List ℕ) → List Grounded → Type 0
+IsSlice warehouses t names grounds = (t.scale.warehouses ≡ warehouses) × AreGroundsOf t grounds × FitsNames names t
+
 -- what a row that is put in its place makes of the slice and of the claim
-pub record IsPut (warehouses : ℕ) (t new : Database) (grounds later : List Grounded) (was now : Claiming) (change : Content → Content) : Type 0 where
-  pub invariant : (new.scale.warehouses ≡ warehouses) × AreGroundsOf new later
+pub record IsPut (warehouses : ℕ) (t new : Database) (names : List (List ℕ)) (grounds later : List Grounded) (was now : Claiming) (change : Content → Content) : Type 0 where
+  pub invariant : IsSlice warehouses new names later
   pub claim : now ≡ leaving was (change was.left)
   pub keeps : SliceKeeps (was ∷ []) (sliced t grounds) (now ∷ []) (sliced new later)
 
-pub put_keeps : (warehouses : ℕ) (t new : Database) (grounds : List Grounded) (place : ℕ) (ground roomy next : Grounded) (was now : Claiming) (own group : Group) (kept : Kept) (change : Content → Content)
-    → (t.scale.warehouses ≡ warehouses) × AreGroundsOf t grounds → IsGroupOf warehouses was.group → place ≡ place_of was.group → was.group ≡ group → was.mode ≡ Exclusive
+pub put_keeps : (warehouses : ℕ) (t new : Database) (names : List (List ℕ)) (grounds : List Grounded) (place : ℕ) (ground roomy next : Grounded) (was now : Claiming) (own group : Group) (kept : Kept) (change : Content → Content)
+    → IsSlice warehouses t names grounds → IsGroupOf warehouses was.group → place ≡ place_of was.group → was.group ≡ group → was.mode ≡ Exclusive
     → (IsGroupOf t.scale.warehouses group → IsStep group kept change t new) → ground ≡ get_or grounds place ground → roomy.ticket_box ≡ ground.ticket_box → roomy.undo ≡ ground.undo → own ≡ was.group
     → was.left ≡ roomy.ticket_box.left → roomy.ticket_box.mode ≡ Exclusive → now ≡ leaving was (content new own) → next.ticket_box ≡ with_left roomy.ticket_box (content new own)
-    → next.undo ≡ roomy.undo ++ kept ∷ [] → IsPut warehouses t new grounds (set grounds place next) was now change
-put_keeps warehouses t new grounds place ground roomy next was now own group kept change invariant known at is_group exclusive steps is same_box same_undo same_group left out leaves box undo =
+    → next.undo ≡ roomy.undo ++ kept ∷ [] → IsPut warehouses t new names grounds (set grounds place next) was now change
+put_keeps warehouses t new names grounds place ground roomy next was now own group kept change invariant known at is_group exclusive steps is same_box same_undo same_group left out leaves box undo =
     let here : IsGroupOf t.scale.warehouses was.group = subst (λ n. IsGroupOf n was.group) (sym invariant.0) known in
     let step : IsStep was.group kept change t new = subst (λ (g : Group). IsStep g kept change t new) (sym is_group) (steps (subst (IsGroupOf t.scale.warehouses) is_group here)) in
     let all = leave_keeps t new grounds place ground roomy next was now own kept change invariant.1 here at is same_box same_undo step same_group exclusive out left leaves box undo in
     record {
-      invariant = (ap (λ s. s.warehouses) step.scale ∙ invariant.0, all.0);
+      invariant = (ap (λ s. s.warehouses) step.scale ∙ invariant.0, all.0, same_names_fit names t new step.names invariant.2);
       claim = all.1;
       keeps = all.2;
     }
@@ -114,18 +122,20 @@ room_keeps t grounds group place ground roomy are known at is same_box same_undo
 pub undo_keeps : (t new : Database) (grounds : List Grounded) (place : ℕ) (ground next : Grounded) (was now : Claiming) → AreGroundsOf t grounds → IsGroupOf t.scale.warehouses was.group → place ≡ place_of was.group
     → ground ≡ get_or grounds place ground → new ≡ all_put_back ground.undo t → was.mode ≡ Exclusive → was.back ≡ ground.ticket_box.back → now ≡ leaving was was.back
     → next.ticket_box ≡ with_left ground.ticket_box ground.ticket_box.back → next.undo ≡ []
-    → AreGroundsOf new (set grounds place next) × SliceKeeps (was ∷ []) (sliced t grounds) (now ∷ []) (sliced new (set grounds place next))
+    → AreGroundsOf new (set grounds place next) × SameNames t new × SliceKeeps (was ∷ []) (sliced t grounds) (now ∷ []) (sliced new (set grounds place next))
 undo_keeps t new grounds place ground next was now are known at is made exclusive same leaves box undo =
     let found = ground_at t grounds was.group place ground are known at is in
     let b = ground.ticket_box in
     let changes = all_changes b.group ground.undo t found.2.kept in
+    let names : SameNames t new = subst (SameNames t) (sym made) (all_names b.group ground.undo t found.2.kept) in
     let scale : new.scale ≡ t.scale = ap (λ d. d.scale) made ∙ all_scale ground.undo t in
     let items : new.items ≡ t.items = ap (λ d. d.items) made ∙ all_items ground.undo t in
     let elsewhere : (group : Group) → group ≢ b.group → content new group ≡ content t group = λ group apart. ap (λ d. content d group) made ∙ changes.elsewhere group apart in
     let now_here : IsGroundOf new place next = subst (λ d. IsGroundOf d place next) (sym made) (undone t place ground next found.2 box undo) in
     let own : was.back ≡ content new was.group =
     same ∙ found.2.back ∙ sym (changes.here ∙ ap (all_put_back_in ground.undo) (sym found.2.left)) ∙ ap (λ d. content d b.group) (sym made) ∙ ap (content new) (sym found.1) in (
-      one_ground t new grounds place ground next are found.0 found.2 scale elsewhere now_here,
+      one_ground t new grounds place ground next are found.0 found.2 names elsewhere now_here,
+      names,
       wrote t new grounds place ground next was now was.back is (ap (λ x. tickets_home x.mode x.shared) box) exclusive leaves own
           (λ group apart. elsewhere group (λ e. apart (e ∙ sym found.1))) scale items,
     )
@@ -181,7 +191,7 @@ grant_keeps_slice t grounds group place ground next claim are known at is shared
       rows = λ _. refl;
       others = home_elsewhere t grounds group place next known at;
     } in (
-      one_ground t t grounds place ground next are found.0 found.2 refl (λ _ _. refl) (granted t place ground next found.2 shared box undo),
+      one_ground t t grounds place ground next are found.0 found.2 (same_names t) (λ _ _. refl) (granted t place ground next found.2 shared box undo),
       same,
       record {
         committed = subst (λ (c : Claiming). KeepsCommitted everywhere [] (standing (sliced t grounds)) (c ∷ []) (standing (sliced t (set grounds place next)))) (sym same) (grant_keeps everywhere given (standing (sliced t grounds)) (standing (sliced t (set grounds place next))) grants);
@@ -240,7 +250,7 @@ back_keeps_slice t grounds place ground next claim are known at is settled mode 
       rows = λ _. refl;
       others = home_elsewhere t grounds claim.group place next known at;
     } in (
-      one_ground t t grounds place ground next are found.0 found.2 refl (λ _ _. refl) (given_back t place ground next found.2 box undo),
+      one_ground t t grounds place ground next are found.0 found.2 (same_names t) (λ _ _. refl) (given_back t place ground next found.2 box undo),
       record {
         committed = give_back_keeps everywhere claim (standing (sliced t grounds)) (standing (sliced t (set grounds place next))) gives;
         scale = refl;

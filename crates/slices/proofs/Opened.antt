@@ -61,7 +61,7 @@ module _ (t : Database) (boxes : List Boxed) (grounds : List Grounded) (are : Ar
     place = is.place;
     left = ap (λ b. b.left) is.has;
     back = ap (λ b. b.back) is.has ∙ sym (ap (λ b. b.left) is.has) ∙ sym (ap (λ undo. all_put_back_in undo ground.ticket_box.left) none);
-    kept = subst (All (IsKeptOf t.scale ground.ticket_box.group)) (sym none) (All-nil (IsKeptOf t.scale ground.ticket_box.group));
+    kept = subst (All (IsKeptOf t ground.ticket_box.group)) (sym none) (All-nil (IsKeptOf t ground.ticket_box.group));
     idle = λ _. none;
   }
 

@@ -18,6 +18,8 @@ use Rattle.rows.specs.declared.records.History as payment
 use Rattle.schema.specs.Scale.{has_warehouse, has_district, has_customer}
 use Rattle.schema.specs.Database.{Database, HistoryTable, list_at, with_payment, without_last, without_payment}
 use Rattle.schema.proofs.KeyOrders.{districts_total, districts_exact, customers_total, customers_exact}
+use Rattle.indexes.specs.NameLaws.{SameNames}
+use Rattle.indexes.specs.NameOrder.{last_of, first_of}
 use Rattle.requests.specs.declared.group.Group.{Group}
 use Rattle.groups.specs.Groups.{group_of_warehouse, group_of_district, group_of_customer, group_of_history}
 use Rattle.groups.specs.Content.{Content}
@@ -26,7 +28,8 @@ use Rattle.groups.proofs.Parts.{get-insert_here}
 use Rattle.groups.proofs.RowsPut.{each_put_changes_one_group}
 use Rattle.slices.specs.declared.kept.Kept.{Kept}
 use Rattle.slices.specs.declared.kept.Kept.TheVariants as k
-use Rattle.slices.specs.Undo.{group_of_kept, put_back, put_back_in, all_put_back, all_put_back_in, IsKeptOf, with_payment_more}
+use Rattle.slices.specs.Undo.{group_of_kept, put_back, put_back_in, all_put_back, all_put_back_in, AreNamesAt, IsKeptOf, with_payment_more}
+use Rattle.slices.proofs.Names.{put_names}
 
 pub All-last : {X : Type 0} (P : X → Type 0) (xs : List X) (x : X) → All P (xs ++ x ∷ []) → P x
 All-last P [] x all = All-head P x [] all
@@ -74,12 +77,12 @@ all_items [] t = refl
 all_items (kept ∷ undo) t = step_items kept (all_put_back undo t) ∙ all_items undo t
 
 -- steps of one group, taken back, change what it has and no other group
-pub all_changes : (group : Group) (undo : List Kept) (t : Database) → All (IsKeptOf t.scale group) undo → ChangesOneGroup group (all_put_back_in undo) t (all_put_back undo t)
+pub all_changes : (group : Group) (undo : List Kept) (t : Database) → All (IsKeptOf t group) undo → ChangesOneGroup group (all_put_back_in undo) t (all_put_back undo t)
 all_changes group [] t all = record { here = refl; elsewhere = λ _ _. refl }
 all_changes group (kept ∷ undo) t all =
     let before : Database = all_put_back undo t in
-    let rest = all_changes group undo t (All-tail (IsKeptOf t.scale group) kept undo all) in
-    let own : group_of_kept kept ≡ group = (All-head (IsKeptOf t.scale group) kept undo all).0 in
+    let rest = all_changes group undo t (All-tail (IsKeptOf t group) kept undo all) in
+    let own : group_of_kept kept ≡ group = (All-head (IsKeptOf t group) kept undo all).0 in
     let step : ChangesOneGroup group (put_back_in kept) before (put_back kept before) = subst (λ (g : Group). ChangesOneGroup g (put_back_in kept) before (put_back kept before)) own (step_changes kept before) in
     record {
       here = step.here ∙ ap (put_back_in kept) rest.here;
@@ -92,7 +95,8 @@ all_changes group (kept ∷ undo) t all =
 pub record IsStep (group : Group) (kept : Kept) (change : Content → Content) (t new : Database) : Type 0 where
   pub changes : ChangesOneGroup group change t new
   pub back : put_back kept new ≡ t
-  pub kept_of : IsKeptOf t.scale group kept
+  pub kept_of : IsKeptOf t group kept
+  pub names : SameNames t new
   pub scale : new.scale ≡ t.scale
   pub items : new.items ≡ t.items
 
@@ -116,6 +120,7 @@ warehouse_step t w_id old row is has = record {
   changes = (each_put_changes_one_group t).warehouses w_id row;
   back = ap (λ m. record t { warehouses = m }) (restored nat_cmp_total nat_cmp-IsAntisymmetric t.warehouses w_id old row is);
   kept_of = (refl, has);
+  names = record { scale = refl; last = λ _. refl; first = λ _. refl };
   scale = refl;
   items = refl;
 }
@@ -126,16 +131,18 @@ district_step t key old row is has = record {
   changes = (each_put_changes_one_group t).districts key row;
   back = ap (λ m. record t { districts = m }) (restored districts_total districts_exact t.districts key old row is);
   kept_of = (refl, has);
+  names = record { scale = refl; last = λ _. refl; first = λ _. refl };
   scale = refl;
   items = refl;
 }
 
-pub customer_step : (t : Database) (key : CustomerKey) (old row : customer.Customer) → map.get t.customers key ≡ Some old → IsTrue (has_customer t.scale key)
+pub customer_step : (t : Database) (key : CustomerKey) (old row : customer.Customer) → map.get t.customers key ≡ Some old → IsTrue (has_customer t.scale key) → AreNamesAt t key row
     → IsStep (group_of_customer key) (k.Customer key old) (with_customer key row) t (record t { customers = map.insert t.customers key row })
-customer_step t key old row is has = record {
+customer_step t key old row is has names = record {
   changes = (each_put_changes_one_group t).customers key row;
   back = ap (λ m. record t { customers = m }) (restored customers_total customers_exact t.customers key old row is);
-  kept_of = (refl, has);
+  kept_of = (refl, (has, (ap last_of is, ap first_of is)));
+  names = put_names t key row names;
   scale = refl;
   items = refl;
 }
@@ -168,6 +175,7 @@ payment_step t key row there has =
       changes = record { here = put.here; elsewhere = put.elsewhere };
       back = ap (λ m. record t { histories = m }) (payment_gone t.histories key row there);
       kept_of = (refl, has);
+      names = record { scale = refl; last = λ _. refl; first = λ _. refl };
       scale = refl;
       items = refl;
     }

@@ -28,14 +28,14 @@ abbrev pub sliced : Database → List Grounded → Sliced
 sliced tables grounds = record { tables = tables; free = map home grounds }
 
 -- The box is that of the group of the place; what stands in the group is what the box has; what is there again after an
--- undo is what taking back all steps, the last one first, makes of that; and while no exclusive claim is out no step is
--- to be taken back.
+-- undo is what taking back all steps, the last one first, makes of that; each step can be taken back; and while no
+-- exclusive claim is out no step is to be taken back.
 pub record IsGroundOf (tables : Database) (number : ℕ) (ground : Grounded) : Type 0 where
   pub known : IsGroupOf tables.scale.warehouses ground.ticket_box.group
   pub place : place_of ground.ticket_box.group ≡ number
   pub left : ground.ticket_box.left ≡ content tables ground.ticket_box.group
   pub back : ground.ticket_box.back ≡ all_put_back_in ground.undo ground.ticket_box.left
-  pub kept : All (IsKeptOf tables.scale ground.ticket_box.group) ground.undo
+  pub kept : All (IsKeptOf tables ground.ticket_box.group) ground.undo
   pub idle : ground.ticket_box.mode ≡ Shared → ground.undo ≡ []
 
 -- there is a ground for each group of the tables, at its place

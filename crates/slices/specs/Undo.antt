@@ -1,10 +1,12 @@
 -- What taking steps back makes of the tables, and of what a group has.
 use Rattle.std.specs.Prelude.{◌≡◌, List, [], ◌∷◌, ◌++◌, Some, IsTrue, unwrap_or}
 use Rattle.std.specs.FinMap as map
+use Rattle.rows.specs.declared.keys.CustomerKey.{CustomerKey}
+use Rattle.rows.specs.declared.records.Customer as customer
 use Rattle.rows.specs.declared.records.History.{History}
-use Rattle.schema.specs.declared.scale.Scale.{Scale}
 use Rattle.schema.specs.Scale.{has_warehouse, has_district, has_customer}
 use Rattle.schema.specs.Database.{Database, without_last, without_payment}
+use Rattle.indexes.specs.NameOrder.{last_of, first_of}
 use Rattle.requests.specs.declared.group.Group.{Group}
 use Rattle.groups.specs.Groups.{group_of_warehouse, group_of_district, group_of_customer, group_of_history}
 use Rattle.groups.specs.Content.{Content}
@@ -31,12 +33,16 @@ group_of_kept (District key row) = group_of_district key
 group_of_kept (Customer key row) = group_of_customer key
 group_of_kept (NoPayment key) = group_of_history key
 
--- the scale has the row
-abbrev pub IsKept : Scale → Kept → Type 0
-IsKept scale (Warehouse w_id row) = IsTrue (has_warehouse scale w_id)
-IsKept scale (District key row) = IsTrue (has_district scale key)
-IsKept scale (Customer key row) = IsTrue (has_customer scale key)
-IsKept scale (NoPayment key) = IsTrue (has_district scale key)
+-- the customer of that key has the C_LAST and the C_FIRST of this row
+abbrev pub AreNamesAt : Database → CustomerKey → customer.Customer → Type 0
+AreNamesAt t key row = (last_of (map.get t.customers key) ≡ row.last) × (first_of (map.get t.customers key) ≡ row.first)
+
+-- The tables' scale has the row; and no step changed a customer's names.
+abbrev pub IsKept : Database → Kept → Type 0
+IsKept t (Warehouse w_id row) = IsTrue (has_warehouse t.scale w_id)
+IsKept t (District key row) = IsTrue (has_district t.scale key)
+IsKept t (Customer key row) = IsTrue (has_customer t.scale key) × AreNamesAt t key row
+IsKept t (NoPayment key) = IsTrue (has_district t.scale key)
 
 -- the tables once the step is taken back
 abbrev pub put_back : Kept → Database → Database
@@ -62,6 +68,6 @@ abbrev pub all_put_back_in : List Kept → Content → Content
 all_put_back_in [] content = content
 all_put_back_in (kept ∷ undo) content = put_back_in kept (all_put_back_in undo content)
 
--- the step was one in the group, and the scale has its row
-abbrev pub IsKeptOf : Scale → Group → Kept → Type 0
-IsKeptOf scale group kept = (group_of_kept kept ≡ group) × IsKept scale kept
+-- the step was one in the group, and can be taken back
+abbrev pub IsKeptOf : Database → Group → Kept → Type 0
+IsKeptOf t group kept = (group_of_kept kept ≡ group) × IsKept t kept

@@ -119,7 +119,7 @@ impl<J: Naming> Ground<J> {
     pub(crate) fn undo(&mut self, claim: &mut Claim<J>, tables: &mut Tables)
         requires group { claim.old.group ≡ self.old.ticket_box.group }
         requires exclusive { claim.old.mode ≡ Exclusive }
-        requires kept { All (IsKept tables.old.scale) self.old.undo }
+        requires kept { All (IsKept tables.old) self.old.undo }
         ensures back { claim.old.back ≡ self.old.ticket_box.back }
         ensures out { self.old.ticket_box.mode ≡ Exclusive }
         ensures claim { claim.new ≡ leaving claim.old claim.old.back }

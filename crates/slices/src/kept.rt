@@ -18,7 +18,7 @@ pub(crate) enum Kept {
 impl Kept {
     /// Takes the step back.
     pub(crate) fn put_back(self, tables: &mut Tables)
-        requires { spec.IsKept tables.old.scale self }
+        requires { spec.IsKept tables.old self }
         ensures { tables.new ≡ spec.put_back self tables.old }
     {
         // The tables have a row at each key of their scale.
@@ -40,7 +40,7 @@ impl Kept {
 
 /// Takes all steps back, the last one first. None is left.
 pub(crate) fn put_all_back(undo: &mut Vec<Kept>, tables: &mut Tables)
-    requires { All (spec.IsKept tables.old.scale) undo.old.items }
+    requires { All (spec.IsKept tables.old) undo.old.items }
     ensures tables { tables.new ≡ spec.all_put_back undo.old.items tables.old }
     ensures none { undo.new.items ≡ [] }
 {

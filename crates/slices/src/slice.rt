@@ -6,28 +6,31 @@ ghost use Rattle.requests.specs.declared.group.Group.TheVariants as group;
 ghost use Rattle.groups.specs.declared.wishes.Mode.TheVariants.{Exclusive};
 ghost use Rattle.groups.specs.Content.{content};
 ghost use Rattle.groups.specs.Laws.{with_warehouse, with_district, with_customer};
+ghost use Rattle.indexes.specs.NameOrder.{FitsNames};
 ghost use Rattle.tickets.specs.Claims.{fresh, leaving};
 ghost use Rattle.tickets.specs.Places.{IsGroupOf};
 ghost use Rattle.slices.specs.Openings.{AreBoxesOf};
 ghost use Rattle.slices.specs.Sliced.{at_rest, standing, SliceKeeps};
-ghost use Rattle.slices.specs.Undo.{with_payment_more};
+ghost use Rattle.slices.specs.Undo.{with_payment_more, AreNamesAt};
 
 use crate::changes::ContentOf;
 use crate::ground::{Ground, Held};
 use crate::kept::Kept;
+use indexes::NameIndex;
 use requests::Group;
 use schema::{Customer, CustomerKey, District, DistrictKey, History, NoMemory, Tables, Warehouse};
 use std::alloc::Global;
 use std::marker::Model;
 use tickets::{Claim, Naming, TicketBox, place_of};
 
-/// The rows of all groups and their ticket boxes.
+/// The rows of all groups, who of the customers has which name, and the groups' ticket boxes.
 ///
 /// Contracts see the rows as they stand, with what open transactions have done to them, and how many of
 /// each group's tickets are at home. A claim is always on one of the groups, so that no call asks that.
 #[derive(Drop)]
 pub struct Slice<J: Naming> {
     tables: Tables,
+    names: NameIndex,
     grounds: Vec<Ground<J>>,
 }
 
@@ -41,15 +44,17 @@ impl<J: Naming> Model for Slice<J> {
     ghost coded = { Prim.hlevel (codes, tables_kind.the_row.coded) };
 
     ghost use Rattle.std.specs.Prelude.{◌≡◌};
+    ghost use Rattle.indexes.specs.NameOrder.{FitsNames};
     ghost use Rattle.slices.specs.Grounds.{sliced, AreGroundsOf};
 
     ghost view = { λ s. sliced s.tables s.grounds.items };
 
-    ghost invariant = { λ s. (s.tables.scale.warehouses ≡ J.warehouses) × AreGroundsOf s.tables s.grounds.items };
+    ghost invariant = { λ s. (s.tables.scale.warehouses ≡ J.warehouses) × AreGroundsOf s.tables s.grounds.items × FitsNames s.names s.tables };
 }
 
 impl<J: Naming> Slice<J> {
-    /// The slice of these tables, with the boxes of their groups. Nothing is left after an error.
+    /// The slice of these tables, with the boxes of their groups. It sorts the customers by last name.
+    /// Nothing is left after an error.
     pub fn open(
         alloc: Global,
         tables: Tables,
@@ -59,11 +64,16 @@ impl<J: Naming> Slice<J> {
         requires boxes { AreBoxesOf tables boxes.items }
         ensures { IfOk result (λ slice. slice ≡ at_rest tables) }
     {
+        let names = NameIndex::build(alloc, &tables)?;
         let mut grounds = Vec::with_capacity(alloc, boxes.len())?;
         for ticket_box in boxes {
             grounds.push(Ground::new(alloc, ticket_box))?;
         }
-        Ok(Slice { tables, grounds })
+        Ok(Slice {
+            tables,
+            names,
+            grounds,
+        })
     }
 
     /// The rows as they stand.
@@ -72,6 +82,13 @@ impl<J: Naming> Slice<J> {
         ensures warehouses { self.now.tables.scale.warehouses ≡ J.warehouses }
     {
         &self.tables
+    }
+
+    /// The customers by last name, as the rows stand.
+    pub fn names(&self) -> &NameIndex
+        ensures { FitsNames result.now self.now.tables }
+    {
+        &self.names
     }
 
     /// An exclusive claim on a group, for a transaction of this age, unless a claim on it is out.
@@ -152,6 +169,7 @@ impl<J: Naming> Slice<J> {
         Ok(())
     }
 
+    /// The row has the names of the one that stands there.
     pub fn put_customer(
         &mut self,
         claim: &mut Claim<J>,
@@ -161,6 +179,7 @@ impl<J: Naming> Slice<J> {
         requires group { claim.old.group ≡ group.Customers key.w_id key.d_id }
         requires exclusive { claim.old.mode ≡ Exclusive }
         requires there { IsTrue (map.contains_key self.old.tables.customers key) }
+        requires names { AreNamesAt self.old.tables key row }
         ensures claim { OnOk result (claim.new ≡ leaving claim.old (with_customer key row claim.old.left)) }
         ensures kept { OnOk result (SliceKeeps (claim.old ∷ []) self.old (claim.new ∷ []) self.new) }
         ensures tables { OnOk result (self.new.tables ≡ record self.old.tables { customers = map.insert self.old.tables.customers key row }) }

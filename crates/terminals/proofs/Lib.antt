@@ -1,2 +1,5 @@
+pub mod Choices
 pub mod Listings
-pub mod Rows
+pub mod Nullables
+pub mod Numbered
+pub mod StatusLines

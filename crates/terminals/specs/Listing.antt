@@ -1,13 +1,13 @@
 -- Files of records that end with their count.
 use Rattle.std.specs.Prelude.{◌≡◌, ℕ, List, [], ◌∷◌, ◌++◌, length, codes}
 use Rattle.std.specs.Fmt.{decimal}
-use Rattle.std.specs.List.{AllZip}
+use Rattle.terminals.specs.Numbered.{AreNumbered}
 
 -- the end record after so many records
 abbrev pub end_fields : ℕ → List (List ℕ)
 end_fields count = codes "END" ∷ decimal count ∷ []
 
--- a record for each item, as `IsRecord` says, and then the end record
-abbrev pub IsListing : {T : Type 0} → (T → List (List ℕ) → Type 0) → List T → List (List (List ℕ)) → Type 0
+-- a record for each item, as `IsRecord` says of the item and of its place from 0, and then the end record
+abbrev pub IsListing : {T : Type 0} → (ℕ → T → List (List ℕ) → Type 0) → List T → List (List (List ℕ)) → Type 0
 IsListing IsRecord items rows =
-    (listed : List (List (List ℕ))) × AllZip IsRecord items listed × (rows ≡ listed ++ (end_fields (length items) ∷ []))
+    (listed : List (List (List ℕ))) × AreNumbered IsRecord 0 items listed × (rows ≡ listed ++ (end_fields (length items) ∷ []))

@@ -22,4 +22,4 @@ IsScheduleRecord scheduled.Rounds fields = fields ≡ codes "R" ∷ []
 
 -- the records of a schedule: one for each of its items, and then the end record
 abbrev pub IsSchedule : List Scheduled → List (List (List ℕ)) → Type 0
-IsSchedule schedule rows = IsListing IsScheduleRecord schedule rows
+IsSchedule schedule rows = IsListing (λ place. IsScheduleRecord) schedule rows

@@ -6,4 +6,4 @@ use Rattle.terminals.specs.RequestFields.{IsRequest}
 
 -- the records of a script: one for each request, and then the end record
 abbrev pub IsScript : List Request → List (List (List ℕ)) → Type 0
-IsScript requests rows = IsListing IsRequest requests rows
+IsScript requests rows = IsListing (λ place. IsRequest) requests rows

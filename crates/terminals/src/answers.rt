@@ -1,8 +1,8 @@
-ghost use Rattle.std.specs.Prelude.{◌≡◌, ◌++◌, IfOk, OnOk};
+ghost use Rattle.std.specs.Prelude.{◌≡◌, ℕ, List, ◌++◌, IfOk, OnOk};
 ghost use Rattle.std.specs.Io.KnownBytes.{Appends};
 ghost use Rattle.csv.specs.Records.{fields_of};
 ghost use Rattle.files.specs.Written.{csv_text};
-ghost use Rattle.terminals.specs.Answers.{answer_fields, answer_rows, refusal_fields};
+ghost use Rattle.terminals.specs.Answers.{IsAnswer, AreAnswers, refusal_fields};
 
 use crate::reply;
 use csv::ByteRecord;
@@ -19,7 +19,7 @@ pub fn answer_record(
     number: u32,
     answer: &Answer,
 ) -> Result<ByteRecord, NoMemory>
-    ensures { IfOk result (λ row. fields_of row ≡ answer_fields session number answer.now) }
+    ensures { IfOk result (λ row. IsAnswer session number answer.now (fields_of row)) }
 {
     let mut row = NewRecord::new(alloc);
     put_answer(&mut row, session, u64::from(number), answer)?;
@@ -34,7 +34,7 @@ pub fn write_answers<W: Write + Drop>(
     session: u32,
     answers: &[Answer],
 ) -> Result<W, FileError>
-    ensures { IfOk result (λ full. Appends (W.contents sink) (W.contents full) (csv_text (answer_rows session 0 answers.now))) }
+    ensures { IfOk result (λ full. (rows : List (List (List ℕ))) × AreAnswers session answers.now rows × Appends (W.contents sink) (W.contents full) (csv_text rows)) }
 {
     let mut writer = RecordWriter::new(sink);
     let mut row = NewRecord::new(alloc);
@@ -53,7 +53,7 @@ pub fn put_answer(
     number: u64,
     answer: &Answer,
 ) -> Result<(), NoMemory>
-    ensures { OnOk result (row.new ≡ row.old ++ answer_fields session number answer.now) }
+    ensures { OnOk result ((fields : List (List ℕ)) × IsAnswer session number answer.now fields × (row.new ≡ row.old ++ fields)) }
 {
     row.push_number(u64::from(session))?;
     row.push_number(number)?;

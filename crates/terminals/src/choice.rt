@@ -1,15 +1,18 @@
-ghost use Rattle.std.specs.Prelude.{◌≡◌, ◌⊎◌, ◌≤◌, ◌++◌, ◌∷◌, [], ℕ, drop, OnOk, IfOk, IfErr};
+ghost use Rattle.std.specs.Prelude.{◌≡◌, ◌⊎◌, ◌≤◌, ◌++◌, ◌∷◌, [], ℕ, List, drop, false, OnOk, IfOk, IfErr};
 ghost use Rattle.files.specs.Taken.{fields_left, TakesWell};
+ghost use Rattle.requests.specs.LastName.{begins_with_hash};
+ghost use Rattle.rows.specs.Text.{IsText};
 ghost use Rattle.terminals.specs.RequestFields.{choice_text};
 
 use arrayvec::ArrayString;
-use files::{FaultKind, Fields, NewRecord, parse_whole};
+use files::{FaultKind, Fields, NewRecord, parse_text, parse_whole};
 use itoa::Buffer;
-use requests::Choice;
+use requests::{Choice, LastName};
 use schema::NoMemory;
 
-/// Takes the field that says who is chosen: `#` and a C_ID, 0 to 4,294,967,295. What doesn't begin with
-/// `#`, or goes on with no number, is noted as `NotOfKind`; a greater number as `OutOfRange`.
+/// Takes the field that says who is chosen: `#` and a C_ID, 0 to 4,294,967,295, or else a C_LAST of at
+/// most 16 bytes. What goes on with no number after `#`, and a name that has a byte outside 32 to 126, is
+/// noted as `NotOfKind`; a greater number and a longer name as `OutOfRange`.
 pub fn take(fields: &mut Fields) -> Choice
     ensures left { fields_left fields.new ≡ drop 1 (fields_left fields.old) }
     ensures taken { TakesWell fields.old fields.new (choice_text result) }
@@ -35,19 +38,32 @@ pub fn put(row: &mut NewRecord, choice: &Choice) -> Result<(), NoMemory>
             words.push_str(buffer.format(*number));
             row.push(words.as_str())
         }
+        Choice::LastName(name) => row.push(name.as_str()),
     }
 }
 
 fn parse(field: &str) -> Result<Choice, FaultKind>
     ensures value { IfOk result (λ choice. choice_text choice ≡ field.now) }
-    ensures reads { (number : ℕ) → number ≤ 4294967295 → choice_text (Choice.Number number) ≡ field.now → result ≡ Ok (Choice.Number number) }
+    ensures number { (number : ℕ) → number ≤ 4294967295 → choice_text (Choice.Number number) ≡ field.now → result ≡ Ok (Choice.Number number) }
+    ensures name { (name : List ℕ) → IsText 16 name → begins_with_hash name ≡ false → choice_text (Choice.LastName name) ≡ field.now → result ≡ Ok (Choice.LastName name) }
     ensures faults { IfErr result (λ kind. (kind ≡ FaultKind.NotOfKind) ⊎ (kind ≡ FaultKind.OutOfRange)) }
 {
     let Some(digits) = field.strip_prefix("#") else {
-        return Err(FaultKind::NotOfKind);
+        return parse_name(field);
     };
     match parse_whole(digits, 0, u64::from(u32::MAX)) {
         Ok(number) => Ok(Choice::Number(number as u32)),
         Err(kind) => Err(kind),
+    }
+}
+
+fn parse_name(field: &str) -> Result<Choice, FaultKind>
+    ensures value { IfOk result (λ choice. choice_text choice ≡ field.now) }
+    ensures name { (name : List ℕ) → IsText 16 name → begins_with_hash name ≡ false → name ≡ field.now → result ≡ Ok (Choice.LastName name) }
+    ensures faults { IfErr result (λ kind. (kind ≡ FaultKind.NotOfKind) ⊎ (kind ≡ FaultKind.OutOfRange)) }
+{
+    match LastName::checked_new(parse_text(field)?) {
+        Some(name) => Ok(Choice::LastName(name)),
+        None => Err(FaultKind::NotOfKind),
     }
 }

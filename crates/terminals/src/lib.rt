@@ -6,11 +6,16 @@
 //!
 //! A script has one record for each request, whose number is its place from 0, and then `END,n`, with
 //! the number of requests. A payment is `P,w,d,cw,cd,who,amount,moment`: the home warehouse and
-//! district, those of the customer, who pays (`#` and C_ID), H_AMOUNT in cents, and H_DATE.
+//! district, those of the customer, who pays (`#` and C_ID, or C_LAST), H_AMOUNT in cents, and H_DATE.
+//! An Order-Status is `O,w,d,who`: the customer's warehouse and district, and who asks.
 //!
 //! An answer is `session,number,done,place` and the reply's fields, or `session,number,refused,code`,
 //! and after code 11 the group and the holder's age. A log has the record `place,session,number,k` for
 //! each entry, followed by the `k` fields of the request and those of the reply, and then `END,n`.
+//!
+//! The reply to an Order-Status is `O,c_id,first,middle,last,balance,o_id,entry,carrier` and, of each line
+//! of the order by OL_NUMBER, `item,supply,quantity,amount,delivery`. Null is the empty field; where the
+//! customer has no order, the three fields of the order are empty and no line follows.
 //!
 //! A schedule has the records `S,session,number` and the fields of a request, which is submitted,
 //! `T,executor` where an executor takes a message, `X,executor` where it sends an item, and `R` for
@@ -21,17 +26,20 @@
 
 mod answers;
 mod choice;
+mod laws;
 mod listing;
 mod log_records;
 mod reply;
 mod request;
 mod schedules;
 mod scripts;
+mod status_reply;
 mod tellings;
 
 pub use answers::{answer_record, write_answers};
 pub use files::{FaultKind, FileError, FileFault};
-pub use log_records::{log_record, write_log};
+pub use laws::choice_texts_differ;
+pub use log_records::{log_record, read_log, write_log};
 pub use schedules::read_schedule;
 pub use scripts::read_script;
 pub use tellings::write_told;

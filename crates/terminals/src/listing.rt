@@ -1,23 +1,29 @@
-ghost use Rattle.std.specs.Prelude.{◌≡◌, ◌≢◌, ℕ, List, [], ◌∷◌, ◌++◌, Some, None, IfOk, IfSome, IfNone};
-ghost use Rattle.files.specs.Place.{HasRead, IsCsv};
-ghost use Rattle.files.specs.Taken.{fields_left, fault_of};
+ghost use Rattle.std.specs.Prelude.{◌≡◌, ◌≢◌, ℕ, List, [], ◌∷◌, Some, None, IfOk, IfSome, IfNone};
+ghost use Rattle.files.specs.Place.{HasRead, IsCsv, record_fields};
+ghost use Rattle.files.specs.Taken.{fault_of};
 ghost use Rattle.terminals.specs.Listing.{IsListing, end_fields};
+ghost use Rattle.terminals.specs.Taking.{TakesFields};
 
 use files::{FaultKind, Fields, FileError, Records};
+use schema::NoMemory;
 use std::alloc::Global;
 use std::io::Read;
 
 /// What a record says, in a file whose records are ended by their count.
 pub trait Listed: Drop {
-    // The record of the item has these fields, with its letter.
-    ghost is_record: { Self → List (List ℕ) → Type 0 };
+    // The record of the item at that place, from 0, has these fields.
+    ghost is_record: { ℕ → Self → List (List ℕ) → Type 0 };
 
-    /// Takes the fields of a record that come after its letter. `None` where the letter is unknown,
-    /// which is noted as `WrongShape`.
-    fn take(letter: &str, fields: &mut Fields) -> Option<Self>
-        ensures taken { IfSome result (λ item. fault_of fields.new ≡ None → (fault_of fields.old ≡ None)
-            × ((said : List (List ℕ)) × is_record item (letter.now ∷ said) × (fields_left fields.old ≡ said ++ fields_left fields.new))) }
-        ensures unknown { IfNone result (fault_of fields.new ≢ None) };
+    /// Takes the fields of the record at that place, from 0, that come after the first one. `None` where
+    /// it can't be told what they are, which is noted as a fault.
+    fn take(
+        alloc: Global,
+        place: u64,
+        first: &str,
+        fields: &mut Fields,
+    ) -> Result<Option<Self>, NoMemory>
+        ensures taken { IfOk result (λ taken. IfSome taken (λ item. TakesFields fields.old fields.new (λ said. is_record place item (first.now ∷ said)))) }
+        ensures unknown { IfOk result (λ taken. IfNone taken (fault_of fields.new ≢ None)) };
 }
 
 /// The items that `source` lists, each in its record, before the end record.
@@ -48,33 +54,37 @@ fn read_items<T: Listed, R: Read + Drop>(
         if !records.advance()? {
             break;
         }
-        match parse(&mut records.fields(), items.len() as u64) {
-            Ok(Some(item)) => {
+        match parse(alloc, records, items.len() as u64)? {
+            Some(item) => {
                 if items.push(item).is_err() {
                     return Err(FileError::NoMemory);
                 }
             }
-            Ok(None) => return Ok(items),
-            Err(kind) => return Err(records.fault(kind)),
+            None => return Ok(items),
         }
     }
     Err(records.fault(FaultKind::NoEnd))
 }
 
-// The item of a record; `None` for the end record, after `count` items.
-fn parse<T: Listed>(fields: &mut Fields, count: u64) -> Result<Option<T>, FaultKind>
-    ensures item { IfOk result (λ said. IfSome said (λ item. T.is_record item (fields_left fields.old))) }
-    ensures end { IfOk result (λ said. IfNone said (fields_left fields.old ≡ end_fields count)) }
+// The item of the record under way; `None` for the end record, after `count` items.
+fn parse<T: Listed, R: Read + Drop>(
+    alloc: Global,
+    records: &Records<R>,
+    count: u64,
+) -> Result<Option<T>, FileError>
+    ensures item { IfOk result (λ said. IfSome said (λ item. T.is_record count item (record_fields records.now))) }
+    ensures end { IfOk result (λ said. IfNone said (record_fields records.now ≡ end_fields count)) }
 {
+    let mut fields = records.fields();
     let item = match fields.word() {
         "END" => {
             fields.expect_count(count);
             None
         }
-        letter => T::take(letter, fields),
+        first => T::take(alloc, count, first, &mut fields)?,
     };
     match fields.finish() {
-        Some(kind) => Err(kind),
+        Some(kind) => Err(records.fault(kind)),
         None => Ok(item),
     }
 }

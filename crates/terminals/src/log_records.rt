@@ -1,16 +1,124 @@
-ghost use Rattle.std.specs.Prelude.{◌≡◌, ℕ, List, ◌++◌, IfOk, OnOk};
+ghost use Rattle.std.specs.Prelude.{◌≡◌, ◌≢◌, ℕ, List, ◌∷◌, ◌++◌, length, Some, None, IfOk, IfSome, IfNone, OnOk};
+ghost use Rattle.std.specs.Fmt.{decimal};
 ghost use Rattle.std.specs.Io.KnownBytes.{Appends};
 ghost use Rattle.csv.specs.Records.{fields_of};
+ghost use Rattle.files.specs.Place.{IsCsv};
+ghost use Rattle.files.specs.Taken.{fields_left, fault_of, TakesWell};
 ghost use Rattle.files.specs.Written.{csv_text};
 ghost use Rattle.terminals.specs.LogRecord.{IsLog, IsLogRecord};
+ghost use Rattle.terminals.specs.RequestFields.{IsRequest};
+ghost use Rattle.terminals.specs.Taking.{TakesFields};
 
-use crate::{reply, request};
+use crate::listing::Listed;
+use crate::{listing, reply, request};
 use commit_log::Entry;
 use csv::ByteRecord;
-use files::{FileError, NewRecord, RecordWriter};
+use files::{FaultKind, Fields, FileError, NewRecord, RecordWriter, parse_whole};
+use requests::Request;
 use schema::NoMemory;
 use std::alloc::Global;
-use std::io::Write;
+use std::io::{Read, Write};
+
+/// The entries of the log that `source` gives, as `write_log` writes it.
+///
+/// A fault comes with its record, and nothing else is given then. The first faulty record decides, and
+/// of its faults the least one. A place is that of its record, from 0, else `OutOfOrder`; another number of
+/// request fields than the kind has is `WrongShape`. Whether a session is one of 64 and the numbers fit a
+/// scale is not looked at, nor whether a reply is of its request's kind. Memory is taken entry by entry.
+pub fn read_log<R: Read + Drop>(alloc: Global, source: R) -> Result<Vec<Entry>, FileError>
+    ensures { IfOk result (λ entries. (text : List ℕ) → R.remaining source ≡ Some text → (rows : List (List (List ℕ))) × IsCsv text rows × IsLog entries.items rows) }
+{
+    listing::read(alloc, source)
+}
+
+impl Listed for Entry {
+    ghost is_record = { IsLogRecord };
+
+    fn take(
+        alloc: Global,
+        place: u64,
+        first: &str,
+        fields: &mut Fields,
+    ) -> Result<Option<Entry>, NoMemory> {
+        expect_place(place, first, fields);
+        let session = fields.whole(0, u32::MAX);
+        let number = fields.whole(0, u32::MAX);
+        let Some(count) = take_count(fields) else {
+            pass_over_rest(fields);
+            return Ok(None);
+        };
+        let Some(request) = take_request(count, fields) else {
+            return Ok(None);
+        };
+        let letter = fields.word();
+        match reply::take(alloc, letter, fields)? {
+            Some(reply) => Ok(Some(Entry {
+                session,
+                number,
+                request,
+                reply,
+            })),
+            None => Ok(None),
+        }
+    }
+}
+
+// Notes a fault where the field is not the number of that place: `OutOfOrder` where it is another one.
+fn expect_place(place: u64, field: &str, fields: &mut Fields)
+    ensures place { fault_of fields.new ≡ None → (fault_of fields.old ≡ None) × (field.now ≡ decimal place) }
+    ensures left { fields_left fields.new ≡ fields_left fields.old }
+{
+    match parse_whole(field, 0, u64::from(u32::MAX)) {
+        Ok(number) => {
+            if number != place {
+                fields.note(FaultKind::OutOfOrder);
+            }
+        }
+        Err(kind) => fields.note(kind),
+    }
+}
+
+// Takes the number of the request's fields. `None` where it is no number, which is noted as `NotOfKind`,
+// or a number that no record has, which is noted as `WrongShape`.
+fn take_count(fields: &mut Fields) -> Option<u64>
+    ensures taken { IfSome result (λ count. TakesWell fields.old fields.new (decimal count)) }
+    ensures unknown { IfNone result (fault_of fields.new ≢ None) }
+{
+    match parse_whole(fields.word(), 0, u64::MAX) {
+        Ok(count) => Some(count),
+        Err(FaultKind::OutOfRange) => {
+            fields.note(FaultKind::WrongShape);
+            None
+        }
+        Err(kind) => {
+            fields.note(kind);
+            None
+        }
+    }
+}
+
+// Passes over the fields after the count, where it isn't known which of them are the request's.
+fn pass_over_rest(fields: &mut Fields)
+    ensures { fault_of fields.old ≢ None → fault_of fields.new ≢ None }
+{
+    for _ in 0..fields.left() {
+        fields.word();
+    }
+}
+
+// Takes the fields of a request, with its letter; another number of them than `count` is noted as
+// `WrongShape`. `None` where the letter is unknown, which is noted so too.
+fn take_request(count: u64, fields: &mut Fields) -> Option<Request>
+    ensures taken { IfSome result (λ request. TakesFields fields.old fields.new (λ asked. IsRequest request asked × (length asked ≡ count))) }
+    ensures unknown { IfNone result (fault_of fields.new ≢ None) }
+{
+    let letter = fields.word();
+    let request = request::take(letter, fields)?;
+    if request::field_count(&request) != count {
+        fields.note(FaultKind::WrongShape);
+    }
+    Some(request)
+}
 
 /// The record of the log's entry at that place.
 pub fn log_record(alloc: Global, place: u32, entry: &Entry) -> Result<ByteRecord, NoMemory>

@@ -1,32 +1,47 @@
-ghost use Rattle.std.specs.Prelude.{◌≡◌, ℕ, List, [], ◌∷◌, ◌++◌, length, None, OnOk, codes};
+ghost use Rattle.std.specs.Prelude.{◌≡◌, ◌≢◌, ℕ, List, [], ◌∷◌, ◌++◌, length, None, OnOk, IfSome, IfNone, codes};
 ghost use Rattle.std.specs.Fmt.{decimal};
-ghost use Rattle.files.specs.MomentText.{IsMomentText};
-ghost use Rattle.files.specs.Taken.{fields_left, fault_of, TakesAll};
-ghost use Rattle.terminals.specs.RequestFields.{IsRequest, request_fields};
+ghost use Rattle.files.specs.Taken.{fault_of, TakesAll};
+ghost use Rattle.terminals.specs.RequestFields.{IsRequest};
+ghost use Rattle.terminals.specs.Taking.{TakesFields};
 
 use crate::choice;
 use crate::listing::Listed;
 use files::{FaultKind, Fields, NewRecord, moment_text};
-use requests::{Payment, Request};
+use requests::{OrderStatus, Payment, Request};
 use schema::{DistrictKey, NoMemory};
+use std::alloc::Global;
 
 impl Listed for Request {
-    ghost is_record = { IsRequest };
+    ghost is_record = { λ place. IsRequest };
 
-    fn take(letter: &str, fields: &mut Fields) -> Option<Request> {
-        match letter {
-            "P" => Some(Request::Payment(take_payment(fields))),
-            _ => {
-                fields.note(FaultKind::WrongShape);
-                None
-            }
+    fn take(
+        _alloc: Global,
+        _place: u64,
+        letter: &str,
+        fields: &mut Fields,
+    ) -> Result<Option<Request>, NoMemory> {
+        Ok(take(letter, fields))
+    }
+}
+
+/// Takes the fields of a request that come after its letter. `None` where the letter is unknown, which
+/// is noted as `WrongShape`.
+pub fn take(letter: &str, fields: &mut Fields) -> Option<Request>
+    ensures taken { IfSome result (λ request. TakesFields fields.old fields.new (λ said. IsRequest request (letter.now ∷ said))) }
+    ensures unknown { IfNone result (fault_of fields.new ≢ None) }
+{
+    match letter {
+        "P" => Some(Request::Payment(take_payment(fields))),
+        "O" => Some(Request::OrderStatus(take_order_status(fields))),
+        _ => {
+            fields.note(FaultKind::WrongShape);
+            None
         }
     }
 }
 
 fn take_payment(fields: &mut Fields) -> Payment
-    ensures { fault_of fields.new ≡ None → (fault_of fields.old ≡ None)
-        × ((asked : List (List ℕ)) × IsRequest (Request.Payment result) (codes "P" ∷ asked) × (fields_left fields.old ≡ asked ++ fields_left fields.new)) }
+    ensures { TakesFields fields.old fields.new (λ said. IsRequest (Request.Payment result) (codes "P" ∷ said)) }
 {
     Payment {
         home: take_district(fields),
@@ -34,6 +49,15 @@ fn take_payment(fields: &mut Fields) -> Payment
         customer: choice::take(fields),
         amount: fields.whole(0, u32::MAX),
         moment: fields.moment(),
+    }
+}
+
+fn take_order_status(fields: &mut Fields) -> OrderStatus
+    ensures { TakesFields fields.old fields.new (λ said. IsRequest (Request.OrderStatus result) (codes "O" ∷ said)) }
+{
+    OrderStatus {
+        home: take_district(fields),
+        customer: choice::take(fields),
     }
 }
 
@@ -48,10 +72,11 @@ fn take_district(fields: &mut Fields) -> DistrictKey
 
 /// How many fields the request has, with its letter.
 pub fn field_count(request: &Request) -> u64
-    ensures { (moment : List ℕ) → result ≡ length (request_fields request.now moment) }
+    ensures { (fields : List (List ℕ)) → IsRequest request.now fields → length fields ≡ result }
 {
     match request {
         Request::Payment(_) => 8,
+        Request::OrderStatus(_) => 4,
     }
 }
 
@@ -61,6 +86,7 @@ pub fn put(row: &mut NewRecord, request: &Request) -> Result<(), NoMemory>
 {
     match request {
         Request::Payment(payment) => put_payment(row, payment),
+        Request::OrderStatus(asked) => put_order_status(row, asked),
     }
 }
 
@@ -73,6 +99,14 @@ fn put_payment(row: &mut NewRecord, payment: &Payment) -> Result<(), NoMemory>
     choice::put(row, &payment.customer)?;
     row.push_number(u64::from(payment.amount))?;
     row.push(moment_text(payment.moment).as_str())
+}
+
+fn put_order_status(row: &mut NewRecord, asked: &OrderStatus) -> Result<(), NoMemory>
+    ensures { OnOk result ((fields : List (List ℕ)) × IsRequest (Request.OrderStatus asked.now) fields × (row.new ≡ row.old ++ fields)) }
+{
+    row.push("O")?;
+    put_district(row, asked.home)?;
+    choice::put(row, &asked.customer)
 }
 
 fn put_district(row: &mut NewRecord, district: DistrictKey) -> Result<(), NoMemory>

@@ -1,13 +1,14 @@
-ghost use Rattle.std.specs.Prelude.{◌≡◌, ◌≢◌, ℕ, List, ◌∷◌, ◌++◌, Some, None, codes, IfOk, IfSome, IfNone};
+ghost use Rattle.std.specs.Prelude.{◌≡◌, ◌≢◌, ℕ, List, ◌∷◌, Some, None, codes, IfOk, IfSome, IfNone};
 ghost use Rattle.files.specs.Place.{IsCsv};
-ghost use Rattle.files.specs.Taken.{fields_left, fault_of};
+ghost use Rattle.files.specs.Taken.{fault_of};
 ghost use Rattle.terminals.specs.Schedule.{IsSchedule, IsScheduleRecord};
+ghost use Rattle.terminals.specs.Taking.{TakesFields};
 
-use crate::listing;
 use crate::listing::Listed;
+use crate::{listing, request};
 use files::{FaultKind, Fields, FileError};
 use history::{Event, Scheduled};
-use requests::Request;
+use schema::NoMemory;
 use std::alloc::Global;
 use std::io::Read;
 
@@ -23,36 +24,47 @@ pub fn read_schedule<R: Read + Drop>(alloc: Global, source: R) -> Result<Vec<Sch
 }
 
 impl Listed for Scheduled {
-    ghost is_record = { IsScheduleRecord };
+    ghost is_record = { λ place. IsScheduleRecord };
 
-    fn take(letter: &str, fields: &mut Fields) -> Option<Scheduled> {
-        match letter {
-            "S" => take_submit(fields),
-            "T" => Some(Scheduled::Event(Event::Take {
-                executor: fields.whole(0, u32::MAX),
-            })),
-            "X" => Some(Scheduled::Event(Event::Send {
-                executor: fields.whole(0, u32::MAX),
-            })),
-            "R" => Some(Scheduled::Rounds),
-            _ => {
-                fields.note(FaultKind::WrongShape);
-                None
-            }
+    fn take(
+        _alloc: Global,
+        _place: u64,
+        letter: &str,
+        fields: &mut Fields,
+    ) -> Result<Option<Scheduled>, NoMemory> {
+        Ok(take(letter, fields))
+    }
+}
+
+fn take(letter: &str, fields: &mut Fields) -> Option<Scheduled>
+    ensures taken { IfSome result (λ item. TakesFields fields.old fields.new (λ said. IsScheduleRecord item (letter.now ∷ said))) }
+    ensures unknown { IfNone result (fault_of fields.new ≢ None) }
+{
+    match letter {
+        "S" => take_submit(fields),
+        "T" => Some(Scheduled::Event(Event::Take {
+            executor: fields.whole(0, u32::MAX),
+        })),
+        "X" => Some(Scheduled::Event(Event::Send {
+            executor: fields.whole(0, u32::MAX),
+        })),
+        "R" => Some(Scheduled::Rounds),
+        _ => {
+            fields.note(FaultKind::WrongShape);
+            None
         }
     }
 }
 
 // Takes the session, the number and the request; `None` where the request's letter is unknown.
 fn take_submit(fields: &mut Fields) -> Option<Scheduled>
-    ensures taken { IfSome result (λ item. fault_of fields.new ≡ None → (fault_of fields.old ≡ None)
-        × ((said : List (List ℕ)) × IsScheduleRecord item (codes "S" ∷ said) × (fields_left fields.old ≡ said ++ fields_left fields.new))) }
+    ensures taken { IfSome result (λ item. TakesFields fields.old fields.new (λ said. IsScheduleRecord item (codes "S" ∷ said))) }
     ensures unknown { IfNone result (fault_of fields.new ≢ None) }
 {
     let session = fields.whole(0, u32::MAX);
     let number = fields.whole(0, u32::MAX);
     let letter = fields.word();
-    match Request::take(letter, fields) {
+    match request::take(letter, fields) {
         Some(request) => Some(Scheduled::Event(Event::Submit {
             session,
             number,

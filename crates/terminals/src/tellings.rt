@@ -1,7 +1,7 @@
-ghost use Rattle.std.specs.Prelude.{◌≡◌, ◌++◌, map, IfOk, OnOk};
+ghost use Rattle.std.specs.Prelude.{◌≡◌, ℕ, List, ◌++◌, IfOk, OnOk};
 ghost use Rattle.std.specs.Io.KnownBytes.{Appends};
 ghost use Rattle.files.specs.Written.{csv_text};
-ghost use Rattle.terminals.specs.Tellings.{event_answer_fields, told_fields};
+ghost use Rattle.terminals.specs.Tellings.{IsEventAnswer, IsTold, AreTold};
 
 use crate::answers;
 use files::{FileError, NewRecord, RecordWriter};
@@ -13,7 +13,7 @@ use std::io::Write;
 /// Writes a record for each thing that is told of a schedule, and gives the sink back. Use a `&mut` to a
 /// sink that is needed after a fault too.
 pub fn write_told<W: Write + Drop>(alloc: Global, sink: W, told: &[Told]) -> Result<W, FileError>
-    ensures { IfOk result (λ full. Appends (W.contents sink) (W.contents full) (csv_text (map told_fields told.now))) }
+    ensures { IfOk result (λ full. (rows : List (List (List ℕ))) × AreTold told.now rows × Appends (W.contents sink) (W.contents full) (csv_text rows)) }
 {
     let mut writer = RecordWriter::new(sink);
     let mut row = NewRecord::new(alloc);
@@ -27,7 +27,7 @@ pub fn write_told<W: Write + Drop>(alloc: Global, sink: W, told: &[Told]) -> Res
 
 // Adds the fields of what is told.
 fn put_told(row: &mut NewRecord, told: &Told) -> Result<(), NoMemory>
-    ensures { OnOk result (row.new ≡ row.old ++ told_fields told.now) }
+    ensures { OnOk result ((fields : List (List ℕ)) × IsTold told.now fields × (row.new ≡ row.old ++ fields)) }
 {
     match told {
         Told::Event(answer) => put_event_answer(row, answer),
@@ -38,7 +38,7 @@ fn put_told(row: &mut NewRecord, told: &Told) -> Result<(), NoMemory>
 
 // Adds the fields of what came of an event.
 fn put_event_answer(row: &mut NewRecord, answer: &EventAnswer) -> Result<(), NoMemory>
-    ensures { OnOk result (row.new ≡ row.old ++ event_answer_fields answer.now) }
+    ensures { OnOk result ((fields : List (List ℕ)) × IsEventAnswer answer.now fields × (row.new ≡ row.old ++ fields)) }
 {
     match answer {
         EventAnswer::Accepted { age } => {

@@ -9,6 +9,8 @@ use std::io;
 use std::io::{Read, Write};
 use std::test::Fail;
 
+mod logs;
+mod order_status;
 mod schedules;
 mod tellings;
 
@@ -38,9 +40,20 @@ fn faults_of_a_payment_are_found(rt: HostRuntime) -> Result<(), Fail> {
         ("#4", "100", "2024-01-01T00:00:00", None),
         ("#0", "0", "1970-01-01T00:00:00", None),
         ("#4294967295", "4294967295", "9999-12-31T23:59:59", None),
-        ("4", "100", "2024-01-01T00:00:00", Some(3)),
-        ("BARBARBAR", "100", "2024-01-01T00:00:00", Some(3)),
-        ("", "100", "2024-01-01T00:00:00", Some(3)),
+        ("4", "100", "2024-01-01T00:00:00", None),
+        ("BARBARBAR", "100", "2024-01-01T00:00:00", None),
+        ("", "100", "2024-01-01T00:00:00", None),
+        (" #~", "100", "2024-01-01T00:00:00", None),
+        ("ABCDEFGHIJKLMNOP", "100", "2024-01-01T00:00:00", None),
+        ("ABCDEFGHIJKLMNOPQ", "100", "2024-01-01T00:00:00", Some(4)),
+        ("BAR\tBAR", "100", "2024-01-01T00:00:00", Some(3)),
+        (
+            "ABCDEFGHIJKLMNOP\x7f",
+            "100",
+            "2024-01-01T00:00:00",
+            Some(3),
+        ),
+        ("BAR\u{e9}", "100", "2024-01-01T00:00:00", Some(3)),
         ("#", "100", "2024-01-01T00:00:00", Some(3)),
         ("##4", "100", "2024-01-01T00:00:00", Some(3)),
         ("#-0", "100", "2024-01-01T00:00:00", Some(3)),
@@ -98,7 +111,7 @@ fn faults_of_a_script_are_found(rt: HostRuntime) -> Result<(), Fail> {
             1,
         ),
         (
-            "P,1,1,1,4294967296,1,100,2024-01-01T00:00:00\nEND,1\n",
+            "P,1,1,1,4294967296,#x,100,2024-01-01T00:00:00\nEND,1\n",
             3,
             1,
         ),
@@ -127,9 +140,10 @@ fn faults_of_a_script_are_found(rt: HostRuntime) -> Result<(), Fail> {
 #[test]
 fn bytes_that_are_no_text_are_faults(rt: HostRuntime) -> Result<(), Fail> {
     let name = b"P,1,1,1,1,#\xff,100,2024-01-01T00:00:00\nEND,1\n".as_slice();
+    let last = b"O,1,1,BAR\xff\nEND,1\n".as_slice();
     let number = b"P,\xff,1,1,1,#1,100,2024-01-01T00:00:00\nEND,1\n".as_slice();
     let letter = b"\xff,1,1,1,1,#1,100,2024-01-01T00:00:00\nEND,1\n".as_slice();
-    for (script, fault) in [(name, 3), (number, 3), (letter, 2)] {
+    for (script, fault) in [(name, 3), (last, 3), (number, 3), (letter, 2)] {
         assert_eq!(rt; fault_of(rt.alloc(), script)?, Some((fault, 1)));
     }
     Ok(())

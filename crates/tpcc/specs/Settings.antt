@@ -1,7 +1,7 @@
 -- Settings within their limits.
 use Rattle.std.specs.Prelude.{◌≡◌, ◌≤◌, length}
 use Rattle.tpcc.specs.declared.settings.Settings.{Settings}
-use Rattle.tpcc.specs.declared.settings.Settings.TheVariants.{Run, Sim}
+use Rattle.tpcc.specs.declared.settings.Settings.TheVariants.{Run, Sim, Populate, Check, Replay}
 use Rattle.tpcc.specs.declared.settings.RunSettings.{RunSettings}
 use Rattle.tpcc.specs.declared.settings.SimSettings.{SimSettings}
 
@@ -16,3 +16,6 @@ HasOneExecutor sim = sim.executors ≡ 1
 abbrev pub IsWithinLimits : Settings → Type 0
 IsWithinLimits (Run run) = HasSessions run
 IsWithinLimits (Sim sim) = HasOneExecutor sim
+IsWithinLimits (Populate populate) = Unit {0}
+IsWithinLimits (Check check) = Unit {0}
+IsWithinLimits (Replay replay) = Unit {0}

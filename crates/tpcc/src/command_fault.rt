@@ -4,7 +4,7 @@ ghost use Rattle.std.specs.Prelude.{◌≡◌};
 use crate::status::Status;
 use engine::ServeFault;
 use files::{FaultKind, FileError, FileFault};
-use std::alloc::AllocFailed;
+use std::alloc::{AllocError, AllocFailed};
 use std::fmt;
 use std::io::Write;
 
@@ -78,6 +78,14 @@ impl<T: Drop> From<AllocFailed<T>> for CommandFault<'_> {
     ghost from_gives = { λ _ fault. fault ≡ NoMemory };
 
     fn from(_error: AllocFailed<T>) -> Self {
+        CommandFault::NoMemory
+    }
+}
+
+impl From<AllocError> for CommandFault<'_> {
+    ghost from_gives = { λ _ fault. fault ≡ NoMemory };
+
+    fn from(_error: AllocError) -> Self {
         CommandFault::NoMemory
     }
 }

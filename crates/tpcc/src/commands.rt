@@ -1,10 +1,15 @@
 ghost use Rattle.std.specs.Prelude.{◌≡◌, length, IfOk};
 ghost use Rattle.tpcc.specs.Settings.{IsWithinLimits, HasOneExecutor, HasSessions};
 
+use crate::check::check_over;
 use crate::command_fault::CommandFault;
+use crate::populate::populate_over;
 use crate::progress::Progress;
+use crate::replay::replay_over;
 use crate::run::run_over;
-use crate::settings::{RunSettings, Settings, SimSettings};
+use crate::settings::{
+    CheckSettings, PopulateSettings, ReplaySettings, RunSettings, Settings, SimSettings,
+};
 use crate::sim::sim_over;
 use crate::status::Status;
 use std::io::{ErrorKind, IsTerminal, Stderr, Stdout};
@@ -27,6 +32,9 @@ pub fn carry_out<R: Files + AllocGlobal + Threads + Wait + Sync>(
     match settings {
         Settings::Run(run) => carry_out_run(rt, stdout, stderr, run),
         Settings::Sim(sim) => carry_out_sim(rt, stdout, stderr, sim),
+        Settings::Populate(populate) => carry_out_populate(rt, stderr, populate),
+        Settings::Check(check) => carry_out_check(rt, stdout, stderr, check),
+        Settings::Replay(replay) => carry_out_replay(rt, stdout, stderr, replay),
     }
 }
 
@@ -89,6 +97,49 @@ fn carry_out_sim<R: Files + AllocGlobal>(
     }
 }
 
+fn carry_out_populate<R: Files + AllocGlobal>(
+    rt: &R,
+    mut stderr: Stderr,
+    settings: &PopulateSettings,
+) -> Status {
+    match opened(settings.file, fs::create(rt, settings.file)) {
+        Ok(file) => populate_over(rt.alloc(), settings, file, &mut stderr),
+        Err(fault) => fault.report(&mut stderr),
+    }
+}
+
+fn carry_out_check<R: Files + AllocGlobal>(
+    rt: &R,
+    mut stdout: Stdout,
+    mut stderr: Stderr,
+    settings: &CheckSettings,
+) -> Status {
+    match open_watched(rt, settings.data, stderr) {
+        Ok(data) => check_over(rt.alloc(), settings, data, &mut stdout, &mut stderr),
+        Err(fault) => fault.report(&mut stderr),
+    }
+}
+
+fn carry_out_replay<R: Files + AllocGlobal>(
+    rt: &R,
+    mut stdout: Stdout,
+    mut stderr: Stderr,
+    settings: &ReplaySettings,
+) -> Status {
+    match ReplayFiles::open(rt, settings, stderr) {
+        Ok(ReplayFiles { data, log, tables }) => replay_over(
+            rt.alloc(),
+            settings,
+            data,
+            log,
+            &mut stdout,
+            tables,
+            &mut stderr,
+        ),
+        Err(fault) => fault.report(&mut stderr),
+    }
+}
+
 // The files of a run: those that are read, told of on a terminal, and the one that is written.
 #[derive(Drop)]
 struct RunFiles<'a, F> {
@@ -140,6 +191,27 @@ impl<'a, F: Drop> SimFiles<'a, F> {
             log,
             tables,
         })
+    }
+}
+
+// The files of a replay: those that are read, told of on a terminal, and the one that is written.
+#[derive(Drop)]
+struct ReplayFiles<'a, F> {
+    data: Progress<'a, F, Stderr>,
+    log: Progress<'a, F, Stderr>,
+    tables: Option<F>,
+}
+
+impl<'a, F: Drop> ReplayFiles<'a, F> {
+    fn open<R: Files<File = F> + AllocGlobal>(
+        rt: &R,
+        settings: &ReplaySettings<'a>,
+        stderr: Stderr,
+    ) -> Result<ReplayFiles<'a, F>, CommandFault<'a>> {
+        let data = open_watched(rt, settings.data, stderr)?;
+        let log = open_watched(rt, settings.log, stderr)?;
+        let tables = made(rt, settings.tables)?;
+        Ok(ReplayFiles { data, log, tables })
     }
 }
 

@@ -1,9 +1,12 @@
 //! `tpcc`: the order-entry engine on the command line.
 #![tactic(auto)]
 
+mod check;
 mod command_fault;
 mod commands;
+mod populate;
 mod progress;
+mod replay;
 mod run;
 mod settings;
 mod sim;

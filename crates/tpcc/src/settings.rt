@@ -1,10 +1,11 @@
-ghost use Rattle.std.specs.Prelude.{◌≡◌, IfOk};
+ghost use Rattle.std.specs.Prelude.{◌≡◌, ◌≤◌, IfOk, None, Ok};
 ghost use Rattle.tpcc.specs.Settings.{IsWithinLimits, HasOneExecutor, HasSessions};
 
 use crate::usage::UsageFault;
 use clap::{Arg, ArgAction, ArgMatches, Command};
 use engine::MOST_SESSIONS;
-use files::parse_whole;
+use files::{parse_moment, parse_whole};
+use schema::{Moment, Scale};
 use std::alloc::{AllocError, Global};
 
 /// What the program was asked to do.
@@ -12,6 +13,9 @@ use std::alloc::{AllocError, Global};
 pub enum Settings<'a> {
     Run(RunSettings<'a>),
     Sim(SimSettings<'a>),
+    Populate(PopulateSettings<'a>),
+    Check(CheckSettings<'a>),
+    Replay(ReplaySettings<'a>),
 }
 
 /// What `tpcc run` was asked to do: paths of files.
@@ -34,6 +38,31 @@ pub struct SimSettings<'a> {
     pub tables: Option<&'a str>,
 }
 
+/// What `tpcc populate` was asked to do: the path of the dataset, and what it is made of.
+#[derive(Debug, Drop)]
+pub struct PopulateSettings<'a> {
+    pub file: &'a str,
+    pub scale: Scale,
+    pub seed: u32,
+    /// The moment of everything that has one.
+    pub now: Moment,
+}
+
+/// What `tpcc check` was asked to do: the path of the dataset, and whether it is a fresh one at full scale.
+#[derive(Debug, Drop)]
+pub struct CheckSettings<'a> {
+    pub data: &'a str,
+    pub fresh: bool,
+}
+
+/// What `tpcc replay` was asked to do: paths of files.
+#[derive(Debug, Drop)]
+pub struct ReplaySettings<'a> {
+    pub data: &'a str,
+    pub log: &'a str,
+    pub tables: Option<&'a str>,
+}
+
 /// The settings that the words of the command line ask for, of which the first is the program's name.
 /// They are within their limits.
 pub fn read_words<'a>(alloc: Global, words: &'a [String]) -> Result<Settings<'a>, UsageFault>
@@ -42,6 +71,9 @@ pub fn read_words<'a>(alloc: Global, words: &'a [String]) -> Result<Settings<'a>
     let matches = program(alloc)?.try_get_matches_from(words)?;
     match matches.subcommand() {
         Some(("sim", sim)) => Ok(Settings::Sim(sim_settings(sim)?)),
+        Some(("populate", populate)) => Ok(Settings::Populate(populate_settings(populate)?)),
+        Some(("check", check)) => Ok(Settings::Check(check_settings(check))),
+        Some(("replay", replay)) => Ok(Settings::Replay(replay_settings(replay))),
         Some((_, run)) => Ok(Settings::Run(run_settings(alloc, run)?)),
         None => Err(UsageFault::NoCommand),
     }
@@ -73,6 +105,36 @@ fn sim_settings<'a>(matches: &ArgMatches<'a>) -> Result<SimSettings<'a>, UsageFa
     })
 }
 
+fn populate_settings<'a>(matches: &ArgMatches<'a>) -> Result<PopulateSettings<'a>, UsageFault> {
+    let warehouses = number(matches.get_str("warehouses"), 1, 1, 64, "--warehouses")?;
+    let items = number(matches.get_str("items"), 100_000, 1, 100_000, "--items")?;
+    let customers = number(matches.get_str("customers"), 3_000, 1, 3_000, "--customers")?;
+    let Some(scale) = Scale::checked_new(warehouses, items, customers) else {
+        unreachable!()
+    };
+    Ok(PopulateSettings {
+        file: matches.get_str("FILE").unwrap_or(""),
+        scale,
+        seed: number(matches.get_str("seed"), 1, 0, u32::MAX, "--seed")?,
+        now: moment(matches.get_str("now"))?,
+    })
+}
+
+fn check_settings<'a>(matches: &ArgMatches<'a>) -> CheckSettings<'a> {
+    CheckSettings {
+        data: matches.get_str("DATA").unwrap_or(""),
+        fresh: matches.get_flag("fresh"),
+    }
+}
+
+fn replay_settings<'a>(matches: &ArgMatches<'a>) -> ReplaySettings<'a> {
+    ReplaySettings {
+        data: matches.get_str("DATA").unwrap_or(""),
+        log: matches.get_str("LOG").unwrap_or(""),
+        tables: matches.get_str("tables"),
+    }
+}
+
 // How many executors the words ask for, 1 where they don't say.
 fn executors(words: Option<&str>) -> Result<u32, UsageFault>
     ensures { IfOk result (λ count. count ≡ 1) }
@@ -86,6 +148,38 @@ fn executors(words: Option<&str>) -> Result<u32, UsageFault>
     }
 }
 
+// The number that an option asks for, `default` where it is absent.
+fn number(
+    words: Option<&str>,
+    default: u32,
+    low: u32,
+    high: u32,
+    option: &'static str,
+) -> Result<u32, UsageFault>
+    requires { (low ≤ default) × (default ≤ high) }
+    ensures limits { IfOk result (λ number. (low ≤ number) × (number ≤ high)) }
+    ensures absent { words.entry ≡ None → result ≡ Ok default }
+{
+    let Some(words) = words else {
+        return Ok(default);
+    };
+    match parse_whole(words, u64::from(low), u64::from(high)) {
+        Ok(number) => Ok(number as u32),
+        Err(_) => Err(UsageFault::Number { option, low, high }),
+    }
+}
+
+// The moment that an option asks for, the beginning of 2024 where it is absent.
+fn moment(words: Option<&str>) -> Result<Moment, UsageFault> {
+    match words {
+        None => Ok(Moment::new(1_704_067_200)),
+        Some(words) => match parse_moment(words) {
+            Ok(moment) => Ok(moment),
+            Err(_) => Err(UsageFault::Moment),
+        },
+    }
+}
+
 // The command line.
 fn program<'a>(alloc: Global) -> Result<Command<'a>, AllocError> {
     Command::new(alloc, "tpcc")
@@ -93,8 +187,75 @@ fn program<'a>(alloc: Global) -> Result<Command<'a>, AllocError> {
         .subcommand_required(true)
         .arg_required_else_help(true)
         .disable_help_subcommand(true)
+        .subcommand(populate_command(alloc)?)?
+        .subcommand(check_command(alloc)?)?
         .subcommand(run_command(alloc)?)?
+        .subcommand(replay_command(alloc)?)?
         .subcommand(sim_command(alloc)?)
+}
+
+fn populate_command<'a>(alloc: Global) -> Result<Command<'a>, AllocError> {
+    let file = Arg::new(alloc, "FILE")
+        .help("Where the dataset is written")
+        .required(true);
+    Command::new(alloc, "populate")
+        .about("Makes a dataset as the benchmark begins with, after clause 4.3")
+        .arg(file)?
+        .arg(counted(
+            alloc,
+            "warehouses",
+            "How many warehouses, 1 to 64; 1 by default",
+        ))?
+        .arg(counted(
+            alloc,
+            "items",
+            "How many items, 1 to 100,000; 100,000 by default",
+        ))?
+        .arg(counted(
+            alloc,
+            "customers",
+            "How many customers a district has, 1 to 3,000; 3,000 by default",
+        ))?
+        .arg(counted(
+            alloc,
+            "seed",
+            "The seed of all draws, 0 to 4,294,967,295; 1 by default",
+        ))?
+        .arg(
+            Arg::new(alloc, "now").long("now").value_name("MOMENT").help(
+                "The date and time of all rows; 2024-01-01T00:00:00 by default",
+            ),
+        )
+}
+
+fn counted<'a>(alloc: Global, name: &'static str, help: &'static str) -> Arg<'a> {
+    Arg::new(alloc, name).long(name).value_name("N").help(help)
+}
+
+fn check_command<'a>(alloc: Global) -> Result<Command<'a>, AllocError> {
+    let fresh = Arg::new(alloc, "fresh")
+        .long("fresh")
+        .help("Asks condition 11 too, which holds of a fresh dataset at full scale")
+        .action(ArgAction::SetTrue);
+    Command::new(alloc, "check")
+        .about("Tells of each of the twelve conditions of consistency whether the dataset meets it")
+        .arg(data(alloc))?
+        .arg(fresh)
+}
+
+fn replay_command<'a>(alloc: Global) -> Result<Command<'a>, AllocError> {
+    let entries = Arg::new(alloc, "LOG")
+        .help("The log of what was carried out from that dataset on")
+        .required(true);
+    let tables = Arg::new(alloc, "tables")
+        .long("tables")
+        .value_name("FILE")
+        .help("Where the tables at the end are written, as a dataset, if the log is equal");
+    Command::new(alloc, "replay")
+        .about("Carries out a log's requests one at a time, and compares the replies")
+        .arg(data(alloc))?
+        .arg(entries)?
+        .arg(tables)
 }
 
 fn run_command<'a>(alloc: Global) -> Result<Command<'a>, AllocError> {

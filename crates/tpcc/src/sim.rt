@@ -3,8 +3,7 @@ ghost use Rattle.tpcc.specs.Settings.{HasOneExecutor};
 use crate::command_fault::CommandFault;
 use crate::settings::SimSettings;
 use crate::status::Status;
-use crate::streams::{STANDARD_OUTPUT, read_tables, write_entries};
-use schema::Tables;
+use crate::streams::{STANDARD_OUTPUT, read_tables, write_entries, write_tables};
 use std::alloc::Global;
 use std::io::{Read, Write};
 use terminals::{read_schedule, write_told};
@@ -68,24 +67,9 @@ fn sim<'a, D: Read + Drop, S: Read + Drop, A: Write, L: Write + Drop, T: Write +
         return Err(CommandFault::of_file(STANDARD_OUTPUT, error));
     }
     write_entries(alloc, settings.log, log, simulation.log.as_slice())?;
-    write_tables(alloc, settings.tables, tables, &simulation.tables)
-}
-
-// Writes the tables to their file, if there is to be one.
-fn write_tables<'a, T: Write + Drop>(
-    alloc: Global,
-    path: Option<&'a str>,
-    sink: Option<T>,
-    last: &Option<Tables>,
-) -> Result<(), CommandFault<'a>> {
-    let (Some(path), Some(sink)) = (path, sink) else {
-        return Ok(());
-    };
-    let Some(last) = last else {
-        return Err(CommandFault::NotIdle);
-    };
-    match dataset::write(alloc, sink, last) {
-        Ok(_) => Ok(()),
-        Err(error) => Err(CommandFault::of_file(path, error)),
+    match &simulation.tables {
+        Some(last) => write_tables(alloc, settings.tables, tables, last),
+        None if tables.is_some() => Err(CommandFault::NotIdle),
+        None => Ok(()),
     }
 }

@@ -9,7 +9,7 @@ pub enum Status {
     Failed,
     /// The words of the command line are not understood, or out of their limits.
     Usage,
-    /// The tables of the dataset break a condition of consistency.
+    /// The tables of the dataset break a condition of consistency, or a replayed log differs.
     NotConsistent,
     NoMemory,
 }

@@ -1,11 +1,19 @@
+use crate::check::check_over;
+use crate::populate::populate_over;
+use crate::replay::replay_over;
 use crate::run::run_over;
-use crate::settings::{RunSettings, Settings, SimSettings, read_words};
+use crate::settings::{
+    CheckSettings, PopulateSettings, ReplaySettings, RunSettings, Settings, SimSettings, read_words,
+};
 use crate::sim::sim_over;
 use crate::status::Status;
 use std::alloc::{AllocError, Global};
 use std::test::Fail;
 
+mod checks;
+mod populations;
 mod reading;
+mod replays;
 mod runs;
 mod sims;
 mod words;
@@ -28,5 +36,22 @@ fn dataset(alloc: Global) -> Result<String, AllocError> {
         text.push_str(row.as_str())?;
     }
     text.push_str("END,1,1,10,1,10,0,0,0,0\n")?;
+    Ok(text)
+}
+
+// The dataset after a payment of a dollar by the first customer.
+fn dataset_after(alloc: Global) -> Result<String, AllocError> {
+    let mut text = dataset(alloc)?;
+    for (old, new) in [
+        ("123456789,500,0\n", "123456789,500,100\n"),
+        ("123456789,700,0,1\n", "123456789,700,100,1\n"),
+        (",1000,0,0,0,0,x\n", ",1000,-100,100,1,0,x\n"),
+        (
+            "END,1,1,10,1,10,0,",
+            "H,1,1,1,1,1,2024-05-01T12:00:00,100,W1    D\nEND,1,1,10,1,10,1,",
+        ),
+    ] {
+        text = text.as_str().replacen(alloc, old, new, 1)?;
+    }
     Ok(text)
 }

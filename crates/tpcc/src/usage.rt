@@ -16,6 +16,14 @@ pub enum UsageFault {
     ScriptCount,
     /// There is not one executor.
     ExecutorCount,
+    /// What stands for this option is no number, or none in its limits.
+    Number {
+        option: &'static str,
+        low: u32,
+        high: u32,
+    },
+    /// What stands for the moment is none.
+    Moment,
 }
 
 impl UsageFault {
@@ -38,6 +46,12 @@ impl fmt::Display for UsageFault {
             UsageFault::NoCommand => f.write_str("error: no command: try `tpcc --help`\n"),
             UsageFault::ScriptCount => f.write_str("error: `tpcc run` takes 1 to 64 scripts\n"),
             UsageFault::ExecutorCount => f.write_str("error: `tpcc sim` takes 1 executor\n"),
+            UsageFault::Number { option, low, high } => {
+                writeln!(f, "error: {option} takes a number from {low} to {high}")
+            }
+            UsageFault::Moment => {
+                f.write_str("error: --now takes a date and time, as 2024-01-01T00:00:00\n")
+            }
         }
     }
 }

@@ -12,6 +12,7 @@ mod log;
 mod payments;
 mod serving;
 mod slice;
+mod statuses;
 mod worlds;
 
 // 2024-05-01T12:00:00
@@ -48,7 +49,7 @@ fn carry_out(rt: &impl Abort, plain: &mut Plain, request: &Request) -> Result<Re
 fn shown(rt: &impl Abort, reply: Reply) -> PaymentReply {
     match reply {
         Reply::Payment(shown) => shown,
-        Reply::RolledBack(fault) => panic!(rt; "{fault:?}"),
+        other => panic!(rt; "{other:?}"),
     }
 }
 

@@ -19,7 +19,7 @@ use Rattle.world.specs.declared.desk.SessionDesk.{SessionDesk}
 use Rattle.world.specs.declared.world.Parts.{Parts}
 use Rattle.world.specs.Flights.{nothing}
 use Rattle.world.specs.Sound.{IsSoundWith, flight}
-use Rattle.world.specs.Worlds.{Happens, IsBusyExactly, SubmitsAt, SubmitsUnless, SubmitsInto, can_admit, refuses}
+use Rattle.world.specs.Worlds.{Happens, IsBusyExactly, SubmitsIfServed, SubmitsAt, SubmitsUnless, SubmitsInto, can_admit, refuses}
 use Rattle.world.proofs.Endings.{IsFalse}
 use Rattle.world.proofs.Ready.{stands_at}
 use Rattle.world.proofs.Tokens.{by_bool}
@@ -33,14 +33,15 @@ found_passes test (y ∷ xs) x is =
     (λ fails. found_passes test xs x (sym (ap (λ b. cond b (Some y) (find test xs)) fails) ∙ is))
 
 -- no check answers that a session is waiting
+not_among : (test : Refusal → Bool) → test SessionBusy ≡ false → (found : Option Refusal) → find test refusals ≡ found → refused_by found ≡ Err SessionBusy → ⊥
+not_among test fails None at is = absurd (cc)
+not_among test fails (Some why) at is =
+    let same : why ≡ SessionBusy = cc in
+    subst (λ b. IsFalse b) (sym fails ∙ found_passes test refusals SessionBusy (at ∙ ap Some same)) tt
+
 never_busy : (scale : Scale) (asked : Request) → check_of scale asked ≡ Err SessionBusy → ⊥
-never_busy scale (request.Payment p) is = by_found (find (applies scale (request.Payment p)) refusals) refl is
-  where
-    by_found : (found : Option Refusal) → find (applies scale (request.Payment p)) refusals ≡ found → refused_by found ≡ Err SessionBusy → ⊥
-    by_found None at is = absurd (cc)
-    by_found (Some why) at is =
-        let same : why ≡ SessionBusy = cc in
-        subst (λ b. IsFalse b) (found_passes (applies scale (request.Payment p)) refusals SessionBusy (at ∙ ap Some same)) tt
+never_busy scale (request.Payment p) is = not_among (applies scale (request.Payment p)) refl (find (applies scale (request.Payment p)) refusals) refl is
+never_busy scale (request.OrderStatus o) is = not_among (applies scale (request.OrderStatus o)) refl (find (applies scale (request.OrderStatus o)) refusals) refl is
 
 module _ {J : Type 0} where
   -- where its pass is at the desk a session isn't told that it waits
@@ -72,8 +73,9 @@ module _ {J : Type 0} where
   )
 
   pub busy_exactly : (scale : Scale) (event : Event) (old new : Parts J) (answer : EventAnswer) → IsSoundWith scale nothing old → Happens event old answer new → IsBusyExactly event old answer
-  busy_exactly scale (Submit session number asked) old new answer h said = λ below.
+  busy_exactly scale (Submit session number asked) old new answer h said = λ served below.
       let found = stands_at old.desk.sessions.items session (subst (λ n. session < n) (sym h.seats) below) in
-      busy_of scale old new h session number asked answer found.0 found.0.pass refl found.1 (subst (λ o. SubmitsAt o session number asked old answer new) found.1 said)
+      busy_of scale old new h session number asked answer found.0 found.0.pass refl found.1 (subst (λ o. SubmitsAt o session number asked old answer new) found.1
+      (subst (λ b. SubmitsIfServed b (slice_get old.desk.sessions.items session) session number asked old answer new) served said))
   busy_exactly scale (Take executor) old new answer h said = tt
   busy_exactly scale (Send executor) old new answer h said = tt

@@ -103,6 +103,9 @@ module _ (opening : Database) (history : List Step) (log : List Entry) where
   logged_committed (reply.Payment shown) tables next slice own others same h =
       kept.AreCommitted-same everywhere _ next slice slice _ (λ group here. same group) (λ group here. refl) (λ group here. refl)
       (kept.AreCommitted-commit everywhere tables slice own others h)
+  logged_committed (reply.OrderStatus shown) tables next slice own others same h =
+      kept.AreCommitted-same everywhere _ next slice slice _ (λ group here. same group) (λ group here. refl) (λ group here. refl)
+      (kept.AreCommitted-commit everywhere tables slice own others h)
 
   -- a transaction is logged
   pub fits_entry : (slice : Sliced) (admitted : ℕ) (own others : List Claiming) (u : Unanswered) (pending : List Unanswered) (executor : ℕ) (entry : Entry)

@@ -97,6 +97,7 @@ module _ {J : Type 0} where
         flow = f;
         carried_out = λ opening. laws.rolled_back opening p found other fault claims.warehouse claims.district claim h.0 c.0 is;
         undo = undoable_three claims claim h.1 c.1.1;
+        shows_no_order = λ shows. shows;
       },
       (refl, refl),
     )
@@ -126,6 +127,7 @@ module _ {J : Type 0} where
         flow = h.flow;
         carried_out = λ opening. laws.done opening p h.found h.found_customer row paid.reply paid.home.warehouse paid.home.district paid.customer claim h.home h.customer h.next r.0;
         undo = All-append IsUndoable (claims_paid paid.home paid.customer) (claim ∷ []) (undoable_three paid.home paid.customer h.undo_home h.undo_customer) (All-cons IsUndoable claim [] r.1 (All-nil IsUndoable));
+        shows_no_order = λ shows. shows;
       },
       (refl, refl),
     )

@@ -1,6 +1,6 @@
 -- A transaction is logged, or refused by the log.
 use Rattle.std.proofs.Common.{◌≡◌, ℕ, ◌<◌, false, List, [], ◌∷◌, ◌++◌, length, Option, Some, None, refl, sym, ◌∙◌, ap, subst}
-use Rattle.std.specs.Prelude.{All, map}
+use Rattle.std.specs.Prelude.{All, Bool, map}
 use Rattle.std.proofs.lemmas.List.Elements.{All-weaker, All-cons, All-nil, All-head, All-tail}
 use Rattle.schema.specs.declared.scale.Scale.{Scale}
 use Rattle.schema.specs.Database.{Database}
@@ -34,8 +34,10 @@ use Rattle.commit_log.specs.declared.asking.Asking.{Asking}
 use Rattle.world.specs.declared.flight.Claims.TheVariants as claims
 use Rattle.world.specs.Flights.{Committing, Part, part, nothing, join, parts, part_held, part_item, claims_commit, claims_optional, unanswered_flow}
 use Rattle.world.specs.Sound.{IsSoundWith, IsSoundItem, IsSoundCommit, IsAnswerIn, IsUndoable, IsSettled, MeetingsFit, awaited, awaited_in, flight, reported_to}
-use Rattle.world.specs.Phases.{entry_of, release_logged, release_refused, is_settled}
-use Rattle.world.specs.Events.{logging, refusing, why_refused}
+use Rattle.world.specs.declared.committing.AllClaims.{AllClaims}
+use Rattle.world.specs.Phases.{entry_of, release, release_logged, release_refused, is_settled}
+use Rattle.world.specs.Sending.{logged_in}
+use Rattle.world.specs.Events.{logging, refusing, releasing, why_refused}
 use Rattle.world.specs.Worlds.{FitsPart, Fits}
 use Rattle.world.proofs.Fitting.{fits_entry}
 use Rattle.world.proofs.Tokens.{one_less, is_awaited, weigh_committing, commit_of}
@@ -63,6 +65,7 @@ all_settled_given (c ∷ cs) h =
 logged_given : (shown : Reply) (cs : List Claiming) → All IsUndoable cs → All (IsGiven (is_settled shown)) (claims_logged shown cs)
 logged_given (reply.RolledBack fault) cs h = h
 logged_given (reply.Payment shown) cs h = all_settled_given cs h
+logged_given (reply.OrderStatus shown) cs h = all_settled_given cs h
 
 refused_pass : (why : AppendFault) (entries : ℕ) (pass : Passing) → ((after_refusal why entries pass).session ≡ pass.session) × ((after_refusal why entries pass).asks ≡ pass.asks)
 refused_pass fault.NoMemory entries pass = (refl, refl)
@@ -91,6 +94,8 @@ module _ {J : Type 0} where
   logged_claims commit (reply.RolledBack fault) place pass = ap (λ cs. commit.home.warehouse ∷ commit.home.district ∷ commit.customer ∷ cs) (third J commit.history)
   logged_claims commit (reply.Payment shown) place pass =
       ap (λ cs. settled commit.home.warehouse ∷ settled commit.home.district ∷ settled commit.customer ∷ cs) (third_settled J commit.history)
+  logged_claims commit (reply.OrderStatus shown) place pass =
+      ap (λ cs. settled commit.home.warehouse ∷ settled commit.home.district ∷ settled commit.customer ∷ cs) (third_settled J commit.history)
 
   refused_claims : (commit : CommitItem J) (why : AppendFault) (pass : Passing) → claims_released (release_refused commit (why_refused why) pass) ≡ claims_commit commit
   refused_claims commit why pass = ap (λ cs. commit.home.warehouse ∷ commit.home.district ∷ commit.customer ∷ cs) (third J commit.history)
@@ -113,12 +118,43 @@ module _ {J : Type 0} where
     request = (asks i).request;
     entry = Some place;
   }
+  logged_unanswered commit (reply.OrderStatus shown) place pass session asks = λ i. record {
+    age = commit.flow.age;
+    session = session i;
+    number = (asks i).number;
+    request = (asks i).request;
+    entry = Some place;
+  }
 
   -- the pass, the number and the answer of what is released
   logged_parts : (commit : CommitItem J) (shown : Reply) (place : ℕ) (pass : Passing)
       → (let r = release_logged commit place pass shown in (r.pass ≡ pass) × ((r.number ≡ commit.flow.number) × (r.answer ≡ Done place commit.reply)))
   logged_parts commit (reply.RolledBack fault) place pass = (refl, (refl, refl))
   logged_parts commit (reply.Payment shown) place pass = (refl, (refl, refl))
+  logged_parts commit (reply.OrderStatus shown) place pass = (refl, (refl, refl))
+
+  released_logged : (commit : CommitItem J) (shown : Reply) (place : ℕ) (pass : Passing)
+      → (let all : AllClaims J = logged_in shown (record { home = commit.home; customer = commit.customer; history = commit.history }) in
+      release commit.flow pass (Done place commit.reply) (Some all.home) (Some all.customer) all.history ≡ release_logged commit place pass shown)
+  released_logged commit (reply.RolledBack fault) place pass = refl
+  released_logged commit (reply.Payment shown) place pass = refl
+  released_logged commit (reply.OrderStatus shown) place pass = refl
+
+  -- the log has the entry, and what the claims are then is given back
+  pub logs : (commit : CommitItem J) (active : Active J) (w : Parts J) (place : ℕ) (pass : Passing) (shown : Reply) (settle : Bool) (entry : Entry) (log : List Entry) (claims : AllClaims J)
+      → entry ≡ entry_of commit → place ≡ length w.log → pass ≡ after_item commit.flow.pass (item_of place entry.number entry.request entry.reply) → shown ≡ commit.reply → settle ≡ is_settled commit.reply
+      → log ≡ w.log ++ entry ∷ [] → claims ≡ logged_in entry.reply (record { home = commit.home; customer = commit.customer; history = commit.history })
+      → releasing settle (release commit.flow pass (Done place shown) (Some claims.home) (Some claims.customer) claims.history) active (record w { log = log }) ≡ logging commit active w
+  logs commit active w place pass shown settle entry log claims entry_is place_is pass_is shown_is settle_is log_is claims_are =
+      let all : AllClaims J = record { home = commit.home; customer = commit.customer; history = commit.history } in
+      let own = entry_of commit in
+      let next : Passing = after_item commit.flow.pass (item_of (length w.log) own.number own.request own.reply) in
+      let passes : pass ≡ next = pass_is ∙ (λ i. after_item commit.flow.pass (item_of (place_is i) (entry_is i).number (entry_is i).request (entry_is i).reply)) in
+      let held : claims ≡ logged_in commit.reply all = claims_are ∙ ap (λ (e : Entry). logged_in e.reply all) entry_is in
+      let released : release commit.flow pass (Done place shown) (Some claims.home) (Some claims.customer) claims.history ≡ release_logged commit (length w.log) next commit.reply =
+      (λ i. release commit.flow (passes i) (Done (place_is i) (shown_is i)) (Some (held i).home) (Some (held i).customer) (held i).history) ∙ released_logged commit commit.reply (length w.log) next in
+      let longer : log ≡ w.log ++ own ∷ [] = log_is ∙ ap (λ (e : Entry). w.log ++ e ∷ []) entry_is in
+      λ i. releasing (settle_is i) (released i) active (record w { log = longer i })
 
   -- ---- the commit
 

@@ -70,5 +70,6 @@ module _ {J : Type 0} where
         number = s.flow.number;
         asks = s.flow.request ∙ ap request.Payment (sym s.flow.payment);
         carried_out = subst (λ q. IsCarriedOut opening (request.Payment q) (claims_commit commit) commit.reply) (sym s.flow.payment) (s.carried_out opening);
+        shows_no_order = s.shows_no_order;
       }
   can_send opening w (item.Reply told) h s = stands_at w.desk.sessions.items told.pass.session (subst (λ n. told.pass.session < n) (sym h.seats) s.0)

@@ -12,6 +12,7 @@ use Rattle.history.specs.declared.event.EventAnswer.TheVariants.{Sent, Full, Log
 use Rattle.requests.specs.declared.request.Payment.{Payment}
 use Rattle.requests.specs.declared.request.Request.TheVariants as request
 use Rattle.requests.specs.Check.{IsAccepted}
+use Rattle.requests.specs.Replies.{ShowsStatus}
 use Rattle.schema.specs.Database.{Database}
 use Rattle.commit_log.specs.Claimed.{IsCarriedOut}
 use Rattle.schema.specs.declared.scale.Scale.{Scale}
@@ -246,6 +247,7 @@ module _ {J : Type 0} where
     pub number : commit.flow.pass.asks.number ≡ commit.flow.number
     pub asks : commit.flow.pass.asks.request ≡ request.Payment commit.flow.payment
     pub carried_out : IsCarriedOut opening (request.Payment commit.flow.payment) (claims_commit commit) commit.reply
+    pub shows_no_order : ShowsStatus commit.reply → ⊥
 
   abbrev pub CanSend : Database → Item J → Parts J → Type 0
   CanSend opening (item.Push message) w = Unit {0}

@@ -37,7 +37,7 @@ use Rattle.world.specs.declared.phases.Gathered.TheVariants.{Act as Acts, Commit
 -- its claims are settled, unless it was rolled back
 abbrev pub is_settled : Reply → Bool
 is_settled (reply.RolledBack fault) = false
-is_settled (reply.Payment shown) = true
+is_settled _ = true
 
 module _ {J : Type 0} where
   -- ---- what a transaction that is over gives back
@@ -127,7 +127,7 @@ module _ {J : Type 0} where
   abbrev pub release_logged : CommitItem J → ℕ → Passing → Reply → Release J
   release_logged commit place pass (reply.RolledBack fault) =
       release commit.flow pass (Done place commit.reply) (Some commit.home) (Some commit.customer) commit.history
-  release_logged commit place pass (reply.Payment shown) =
+  release_logged commit place pass _ =
       release commit.flow pass (Done place commit.reply) (Some (settled_home commit.home)) (Some (settled commit.customer)) (option_map settled commit.history)
 
   -- and where the log refused it

@@ -32,4 +32,4 @@ module _ {J : Type 0} where
   -- the claims once the transaction is logged with this reply: a rolled back one's tell what they told
   abbrev pub logged_in : Reply → AllClaims J → AllClaims J
   logged_in (reply.RolledBack fault) all = all
-  logged_in (reply.Payment shown) all = record { home = settled_home all.home; customer = settled all.customer; history = option_map settled all.history }
+  logged_in _ all = record { home = settled_home all.home; customer = settled all.customer; history = option_map settled all.history }

@@ -10,6 +10,7 @@ use Rattle.requests.specs.declared.request.Payment.{Payment}
 use Rattle.requests.specs.declared.answer.Answer.{Answer}
 use Rattle.requests.specs.declared.answer.Answer.TheVariants.{Done, Refused}
 use Rattle.requests.specs.Check.{IsAccepted}
+use Rattle.requests.specs.Replies.{ShowsStatus}
 use Rattle.groups.specs.declared.wishes.Mode.TheVariants.{Exclusive}
 use Rattle.tickets.specs.Claims.{Claiming}
 use Rattle.commit_log.specs.declared.entry.Entry.{Entry}
@@ -143,6 +144,7 @@ module _ {J : Type 0} where
     pub flow : IsSoundFlow scale p commit.flow
     pub carried_out : (opening : Database) → IsCarriedOut opening (request.Payment p) (claims_commit commit) commit.reply
     pub undo : All IsUndoable (claims_commit commit)
+    pub shows_no_order : ShowsStatus commit.reply → ⊥
 
   abbrev pub IsSoundReply : List Entry → ReplyItem J → Type 0
   IsSoundReply log told = (told.pass.session < 64) × ((told.pass.asks.number ≡ told.number) × IsAnswerIn log told.answer)

@@ -57,6 +57,14 @@ steps_of (event ∷ events) (answer ∷ answers) = step event answer ∷ steps_o
 
 -- ---- submissions
 
+-- Whether requests of this kind are carried out: payments are, and Order-Status is not yet.
+abbrev pub is_served : Request → Bool
+is_served (request.Payment p) = true
+is_served (request.OrderStatus o) = false
+
+abbrev pub IsServed : Request → Type 0
+IsServed asked = IsTrue (is_served asked)
+
 -- Why the desk refuses a request at once: its session has a transaction without an answer, its check refuses it, or a
 -- transaction is active.
 abbrev pub refuses : Option Passing → Result (Unit {0}) Refusal → Bool → Option Refusal
@@ -132,6 +140,11 @@ module _ {J : Type 0} where
   SubmitsAt None session number asked old answer new = StaysAt Nothing old answer new
   SubmitsAt (Some desk) session number asked old answer new = SubmitsUnless (refusal_at desk asked old) session number asked desk old answer new
 
+  -- nothing happens with a request that isn't served, whoever submits it
+  abbrev pub SubmitsIfServed : Bool → Option (SessionDesk J) → ℕ → ℕ → Request → Parts J → EventAnswer → Parts J → Type 0
+  SubmitsIfServed false desk session number asked old answer new = StaysAt Nothing old answer new
+  SubmitsIfServed true desk session number asked old answer new = SubmitsAt desk session number asked old answer new
+
   -- ---- one event
 
   abbrev pub TakesFirst : List (Message J) → Parts J → EventAnswer → Parts J → Type 0
@@ -149,7 +162,7 @@ module _ {J : Type 0} where
 
   -- What an event is answered, and all that it changes.
   abbrev pub Happens : Event → Parts J → EventAnswer → Parts J → Type 0
-  Happens (Submit session number asked) old answer new = SubmitsAt (slice_get old.desk.sessions.items session) session number asked old answer new
+  Happens (Submit session number asked) old answer new = SubmitsIfServed (is_served asked) (slice_get old.desk.sessions.items session) session number asked old answer new
   Happens (Take executor) old answer new = AtExecutor executor (TakesFirst old.inbox) old answer new
   Happens (Send executor) old answer new = AtExecutor executor (SendsFirst old.outbox) old answer new
 
@@ -172,16 +185,16 @@ module _ {J : Type 0} where
   CannotSubmit None asked w = Unit {0}
   CannotSubmit (Some desk) asked w = (refusal_at desk asked w ≡ None) × (can_admit w ≡ false)
 
-  -- A submission by a session of 64 or above, or one that isn't refused while the inbox is full or no age is left; and a
-  -- Take or a Send where there is nothing to take or to send, or no such executor.
+  -- A submission of a request that isn't served, or by a session of 64 or above, or one that isn't refused while the inbox
+  -- is full or no age is left; and a Take or a Send where there is nothing to take or to send, or no such executor.
   abbrev pub CannotHappen : Event → Parts J → Type 0
-  CannotHappen (Submit session number asked) w = CannotSubmit (slice_get w.desk.sessions.items session) asked w
+  CannotHappen (Submit session number asked) w = (is_served asked ≡ false) ⊎ CannotSubmit (slice_get w.desk.sessions.items session) asked w
   CannotHappen (Take executor) w = (executor ≢ 0) ⊎ (w.inbox ≡ [])
   CannotHappen (Send executor) w = (executor ≢ 0) ⊎ (w.outbox ≡ [])
 
-  -- A submission by one of the 64 sessions is refused with SessionBusy exactly where the session has a transaction without an
-  -- answer.
+  -- A submission, by one of the 64 sessions, of a request that is served is refused with SessionBusy exactly where the session
+  -- has a transaction without an answer.
   abbrev pub IsBusyExactly : Event → Parts J → EventAnswer → Type 0
   IsBusyExactly (Submit session number asked) w answer =
-      session < 64 → (answer ≡ Answered session number (Refused refusal.SessionBusy)) ↔ (1 ≤ count_by (is_of session) (flight w).pending)
+      IsServed asked → session < 64 → (answer ≡ Answered session number (Refused refusal.SessionBusy)) ↔ (1 ≤ count_by (is_of session) (flight w).pending)
   IsBusyExactly event w answer = Unit {0}

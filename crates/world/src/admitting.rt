@@ -4,7 +4,8 @@ ghost use Rattle.commit_log.specs.Asks.{asking};
 ghost use Rattle.commit_log.specs.Passing.{seating, with_asks};
 ghost use Rattle.requests.specs.declared.request.Request.TheVariants as request;
 ghost use Rattle.world.specs.declared.desk.SessionDesk.{SessionDesk as AnyDesk};
-ghost use Rattle.world.specs.Worlds.{Admits, CanAsk, CanSubmit, SubmitsAt, admitted_now};
+ghost use Rattle.world.specs.Worlds as spec;
+ghost use Rattle.world.specs.Worlds.{Admits, CanAsk, CanSubmit, IsServed, SubmitsAt, SubmitsIfServed, admitted_now};
 
 use crate::desk::{Active, SessionDesk, Stage};
 use crate::flight::{Flow, Message};
@@ -17,7 +18,7 @@ use schema::NoMemory;
 use std::alloc::Global;
 
 impl<J: commit_log::Naming + tickets::Naming> Parts<J> {
-    // A session submits a request.
+    // A session submits a request. Only what is served can happen.
     pub(crate) fn submit(
         &mut self,
         alloc: Global,
@@ -26,6 +27,25 @@ impl<J: commit_log::Naming + tickets::Naming> Parts<J> {
         request: &Request,
     ) -> EventAnswer
         requires { CanSubmit self.old }
+        ensures { SubmitsIfServed (spec.is_served request.now) (slice_get self.old.desk.sessions.items session) session number request.now self.old result self.new }
+    {
+        if is_served(request) {
+            self.submit_served(alloc, session, number, request)
+        } else {
+            EventAnswer::Nothing
+        }
+    }
+
+    // A session submits a request that is served.
+    fn submit_served(
+        &mut self,
+        alloc: Global,
+        session: u32,
+        number: u32,
+        request: &Request,
+    ) -> EventAnswer
+        requires sessions { CanSubmit self.old }
+        requires served { IsServed request.now }
         ensures { SubmitsAt (slice_get self.old.desk.sessions.items session) session number request.now self.old result self.new }
     {
         let Some(desk) = self.desk.sessions.get(session as usize) else {
@@ -60,6 +80,7 @@ impl<J: commit_log::Naming + tickets::Naming> Parts<J> {
         requires room { length self.old.inbox < 1024 }
         requires age { self.old.desk.admitted < 18446744073709551615 }
         requires sessions { CanSubmit self.old }
+        requires served { IsServed request.now }
         requires here { CanAsk (slice_get self.old.desk.sessions.items session) }
         ensures age { IfOk result (λ age. age ≡ self.old.desk.admitted) }
         ensures admitted { OnOk result ((desk : AnyDesk J) × ((slice_get self.old.desk.sessions.items session ≡ Some desk) × Admits session number request.now desk self.old self.new)) }
@@ -81,6 +102,13 @@ impl<J: commit_log::Naming + tickets::Naming> Parts<J> {
         self.desk.active = Some(active);
         Ok(age)
     }
+}
+
+// Whether the core carries out requests of this kind.
+fn is_served(request: &Request) -> bool
+    ensures { result ≡ spec.is_served request.now }
+{
+    matches!(request, Request::Payment(_))
 }
 
 fn refused(session: u32, number: u32, refusal: Refusal) -> EventAnswer
@@ -112,10 +140,13 @@ impl<J: commit_log::Naming + tickets::Naming> Active<J> {
 
 // The payment that is asked.
 fn payment_of(asked: &Request) -> Result<Payment, NoMemory>
+    requires { IsServed asked.now }
     ensures { IfOk result (λ payment. asked.now ≡ request.Payment payment) }
 {
-    let Request::Payment(payment) = asked.try_clone()?;
-    Ok(payment)
+    let Request::Payment(payment) = asked else {
+        unreachable!()
+    };
+    payment.clone()
 }
 
 // The session asks with its pass, which goes with the request from then on.

@@ -6,6 +6,7 @@ ghost use Rattle.commit_log.specs.Items.{item};
 ghost use Rattle.commit_log.specs.Passing.{after_item, after_refusal};
 ghost use Rattle.world.specs.Events as spec;
 ghost use Rattle.world.specs.Events.{CanCommit, Commits, OfActive};
+ghost use Rattle.world.specs.Phases as phases;
 ghost use Rattle.world.specs.Sending.{claims_in, logged_in};
 
 use crate::flight::{CommitItem, Flow, HomeClaims};
@@ -34,8 +35,11 @@ impl<J: commit_log::Naming + tickets::Naming> Parts<J> {
             reply,
         } = commit;
         let (age, number) = (flow.age, flow.number);
-        let shown = reply.copy();
-        let settle = matches!(reply, Reply::Payment(_));
+        // Only a reply that shows an order takes memory.
+        let Ok(shown) = reply.try_clone() else {
+            unreachable!()
+        };
+        let settle = is_settled(&reply);
         let (pass, entry) = entry_of(flow, reply);
         let claims = AllClaims {
             home,
@@ -59,6 +63,13 @@ impl<J: commit_log::Naming + tickets::Naming> Parts<J> {
             }
         }
     }
+}
+
+// Whether the claims are settled: what a transaction that was rolled back did is taken back.
+fn is_settled(reply: &Reply) -> bool
+    ensures { result ≡ phases.is_settled reply.now }
+{
+    !matches!(reply, Reply::RolledBack(_))
 }
 
 // The entry of a transaction with this reply, and its session's pass.

@@ -101,6 +101,19 @@ fn copies(alloc: Global, entries: &[Entry]) -> Result<Vec<Entry>, NoMemory>
     ensures { IfOk result (λ copies. copies.items ≡ entries.now) }
 {
     let mut copies = Vec::with_capacity(alloc, entries.len())?;
-    copies.extend_with_clones(entries)?;
+    for entry in entries {
+        copies.push(copy_of(entry)?)?;
+    }
     Ok(copies)
+}
+
+fn copy_of(entry: &Entry) -> Result<Entry, NoMemory>
+    ensures { IfOk result (λ copy. copy ≡ entry.now) }
+{
+    Ok(Entry {
+        session: entry.session,
+        number: entry.number,
+        request: entry.request.try_clone()?,
+        reply: entry.reply.try_clone()?,
+    })
 }

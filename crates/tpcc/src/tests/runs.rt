@@ -71,6 +71,21 @@ fn answers_and_log_are_written(rt: HostRuntime) -> Result<(), Fail> {
     Ok(())
 }
 
+// A customer of no orders, and nobody of a name.
+const STATUSES: &str =
+    "O,1,1,BARBARBAR\nO,1,1,#1\nO,1,1,BARBAR\nP,1,1,1,1,BARBARBAR,100,2024-05-01T12:00:00\nO,1,10,BARBARBAR\nEND,5\n";
+
+#[test]
+fn customers_are_chosen_by_last_name(rt: HostRuntime) -> Result<(), Fail> {
+    let data = dataset(rt.alloc())?;
+    let told = run_scripts(&rt, data.as_str(), &["script"], &mut [STATUSES.as_bytes()])?;
+    assert_eq!(rt; told.status, Status::Success);
+    let answers =
+        "0,0,done,0,O,1,B,OE,BARBARBAR,0,,,\n0,1,done,1,O,1,B,OE,BARBARBAR,0,,,\n0,2,done,2,X,nocustomer\n0,3,done,3,P,1,B,OE,BARBARBAR,GC,1000,-100,\n0,4,done,4,O,1,B,OE,BARBARBAR,0,,,\n";
+    assert_eq!(rt; told.answers.as_slice(), answers.as_bytes());
+    Ok(())
+}
+
 #[test]
 fn refused_requests_are_not_logged(rt: HostRuntime) -> Result<(), Fail> {
     let data = dataset(rt.alloc())?;

@@ -1,5 +1,3 @@
-ghost use Rattle.std.specs.Prelude.{◌≡◌};
-
 use super::*;
 
 // What a simulation printed and wrote.
@@ -42,23 +40,6 @@ fn play(alloc: Global, data: &str, schedule: &str) -> Told {
         tables,
         errors,
     }
-}
-
-// The dataset after a payment of a dollar by the first customer.
-fn dataset_after(alloc: Global) -> Result<String, AllocError> {
-    let mut text = dataset(alloc)?;
-    for (old, new) in [
-        ("123456789,500,0\n", "123456789,500,100\n"),
-        ("123456789,700,0,1\n", "123456789,700,100,1\n"),
-        (",1000,0,0,0,0,x\n", ",1000,-100,100,1,0,x\n"),
-        (
-            "END,1,1,10,1,10,0,",
-            "H,1,1,1,1,1,2024-05-01T12:00:00,100,W1    D\nEND,1,1,10,1,10,1,",
-        ),
-    ] {
-        text = text.as_str().replacen(alloc, old, new, 1)?;
-    }
-    Ok(text)
 }
 
 // Each event has its record.

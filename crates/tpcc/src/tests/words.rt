@@ -62,6 +62,104 @@ fn a_simulation_has_its_files(rt: HostRuntime) -> Result<(), Fail> {
     Ok(())
 }
 
+#[test]
+fn a_population_has_its_scale(rt: HostRuntime) -> Result<(), Fail> {
+    let words = all_words(rt.alloc(), &["populate", "file"])?;
+    let Settings::Populate(all) = read_words(rt.alloc(), words.as_slice())? else {
+        panic!(rt; "a population");
+    };
+    let scale = all.scale;
+    assert_eq!(rt; all.file, "file");
+    assert_eq!(rt;
+        (scale.warehouses, scale.items, scale.customers),
+        (1, 100_000, 3_000)
+    );
+    assert_eq!(rt; (all.seed, all.now.seconds()), (1, 1_704_067_200));
+    let words = [
+        "populate",
+        "--warehouses=64",
+        "--items",
+        "1",
+        "file",
+        "--customers",
+        "5",
+        "--seed=4294967295",
+        "--now",
+        "1970-01-01T00:00:00",
+    ];
+    let words = all_words(rt.alloc(), &words)?;
+    let Settings::Populate(all) = read_words(rt.alloc(), words.as_slice())? else {
+        panic!(rt; "a population");
+    };
+    let scale = all.scale;
+    assert_eq!(rt;
+        (scale.warehouses, scale.items, scale.customers),
+        (64, 1, 5)
+    );
+    assert_eq!(rt; (all.seed, all.now.seconds()), (4_294_967_295, 0));
+    for (option, value, told) in [
+        (
+            "--warehouses",
+            "0",
+            "error: --warehouses takes a number from 1 to 64\n",
+        ),
+        (
+            "--warehouses",
+            "65",
+            "error: --warehouses takes a number from 1 to 64\n",
+        ),
+        (
+            "--items",
+            "100001",
+            "error: --items takes a number from 1 to 100000\n",
+        ),
+        (
+            "--customers",
+            "+1",
+            "error: --customers takes a number from 1 to 3000\n",
+        ),
+        (
+            "--seed",
+            "4294967296",
+            "error: --seed takes a number from 0 to 4294967295\n",
+        ),
+        (
+            "--now",
+            "2024-01-01",
+            "error: --now takes a date and time, as 2024-01-01T00:00:00\n",
+        ),
+    ] {
+        let text = fault_text(rt.alloc(), &["populate", "file", option, value])?;
+        assert_eq!(rt; text.ok_or("a fault")?.as_str(), told);
+    }
+    Ok(())
+}
+
+#[test]
+fn a_check_and_a_replay_have_their_files(rt: HostRuntime) -> Result<(), Fail> {
+    for fresh in [false, true] {
+        let words: &[&str] = if fresh {
+            &["check", "data", "--fresh"]
+        } else {
+            &["check", "data"]
+        };
+        let words = all_words(rt.alloc(), words)?;
+        let Settings::Check(check) = read_words(rt.alloc(), words.as_slice())? else {
+            panic!(rt; "a check");
+        };
+        assert_eq!(rt; (check.data, check.fresh), ("data", fresh));
+    }
+    let words = all_words(rt.alloc(), &["replay", "data", "log", "--tables", "tables"])?;
+    let Settings::Replay(replay) = read_words(rt.alloc(), words.as_slice())? else {
+        panic!(rt; "a replay");
+    };
+    assert_eq!(rt;
+        (replay.data, replay.log, replay.tables),
+        ("data", "log", Some("tables"))
+    );
+    Ok(())
+}
+
 // There is one executor, and its number is spelt as numbers are.
 #[test]
 fn other_numbers_of_executors_are_usage(rt: HostRuntime) -> Result<(), Fail> {

@@ -27,7 +27,7 @@ fn assert_last_payment(rt: &impl Abort, tables: &Tables, customer: CustomerKey, 
 
 #[test]
 fn a_payment_of_one_dollar(rt: HostRuntime) -> Result<(), Fail> {
-    let mut plain = Plain::open(set_k(rt.alloc())?);
+    let mut plain = Plain::open(rt.alloc(), set_k(rt.alloc())?)?;
     let customer = customer_key(1, 1, 1);
     let request = payment(district_key(1, 1), customer, 100);
     let reply = shown(&rt, carry_out(&rt, &mut plain, &request)?);
@@ -46,7 +46,7 @@ fn a_payment_of_one_dollar(rt: HostRuntime) -> Result<(), Fail> {
 
 #[test]
 fn a_payment_of_a_customer_of_another_warehouse(rt: HostRuntime) -> Result<(), Fail> {
-    let mut plain = Plain::open(set_k(rt.alloc())?);
+    let mut plain = Plain::open(rt.alloc(), set_k(rt.alloc())?)?;
     let customer = customer_key(2, 3, 2);
     let request = payment(district_key(1, 1), customer, 250);
     let reply = shown(&rt, carry_out(&rt, &mut plain, &request)?);
@@ -61,7 +61,7 @@ fn a_payment_of_a_customer_of_another_warehouse(rt: HostRuntime) -> Result<(), F
 // A note of 16 bytes is put before 495 times `x`, so 11 of these fall off.
 #[test]
 fn a_payment_of_a_customer_of_bad_credit(rt: HostRuntime) -> Result<(), Fail> {
-    let mut plain = Plain::open(set_k(rt.alloc())?);
+    let mut plain = Plain::open(rt.alloc(), set_k(rt.alloc())?)?;
     let customer = customer_key(1, 1, 4);
     let request = payment(district_key(1, 2), customer, 12_345);
     let reply = shown(&rt, carry_out(&rt, &mut plain, &request)?);
@@ -84,7 +84,7 @@ fn a_payment_of_a_customer_of_bad_credit(rt: HostRuntime) -> Result<(), Fail> {
 
 #[test]
 fn a_payment_of_no_customer_changes_nothing(rt: HostRuntime) -> Result<(), Fail> {
-    let mut plain = Plain::open(set_k(rt.alloc())?);
+    let mut plain = Plain::open(rt.alloc(), set_k(rt.alloc())?)?;
     let request = payment(district_key(1, 1), customer_key(1, 1, 6), 100);
     let reply = carry_out(&rt, &mut plain, &request)?;
     assert_eq!(rt; reply, Reply::RolledBack(Fault::NoCustomer));
@@ -94,7 +94,7 @@ fn a_payment_of_no_customer_changes_nothing(rt: HostRuntime) -> Result<(), Fail>
 
 #[test]
 fn a_payment_out_of_range_changes_nothing(rt: HostRuntime) -> Result<(), Fail> {
-    let mut plain = Plain::open(set_e(rt.alloc())?);
+    let mut plain = Plain::open(rt.alloc(), set_e(rt.alloc())?)?;
     let request = payment(district_key(2, 2), customer_key(2, 2, 1), 100);
     let reply = carry_out(&rt, &mut plain, &request)?;
     assert_eq!(rt; reply, Reply::RolledBack(Fault::Range));
@@ -105,7 +105,7 @@ fn a_payment_out_of_range_changes_nothing(rt: HostRuntime) -> Result<(), Fail> {
 // Set K after three payments, so that the next one makes the list of payments grow; `None` where memory
 // was refused.
 fn after_three_payments(rt: &impl Abort, alloc: Global) -> Option<Plain> {
-    let mut plain = Plain::open(set_k(alloc).ok()?);
+    let mut plain = Plain::open(alloc, set_k(alloc).ok()?).ok()?;
     for _ in 0..3 {
         carry_out(rt, &mut plain, &one_dollar()).ok()?;
     }

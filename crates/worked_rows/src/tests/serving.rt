@@ -104,7 +104,7 @@ fn sixteen_scripts_a_hundred_times(rt: HostRuntime) -> Result<(), Fail> {
         let opening = set_k_of(alloc, 1)?;
         let outcome = serve(&rt, alloc, opening, scripts.as_slice(), OpenGate)?;
         assert_eq!(rt; outcome.log.len(), 80);
-        match replay(set_k_of(alloc, 1)?, outcome.log.as_slice())? {
+        match replay(alloc, set_k_of(alloc, 1)?, outcome.log.as_slice())? {
             Replay::Equal(last) => {
                 let warehouse = last.warehouse(1).ok_or("warehouse 1")?;
                 assert_eq!(rt; warehouse.ytd.get(), 58_000);
@@ -120,12 +120,27 @@ fn a_changed_log_differs(rt: HostRuntime) -> Result<(), Fail> {
     let alloc = rt.alloc();
     let scripts = [script(alloc, 4, 100)?];
     let mut log = serve(&rt, alloc, set_k(alloc)?, &scripts, OpenGate)?.log;
-    assert!(rt; matches!(replay(set_k(alloc)?, log.as_slice())?, Replay::Equal(_)));
+    assert!(rt;
+        matches!(
+            replay(alloc, set_k(alloc)?, log.as_slice())?,
+            Replay::Equal(_)
+        )
+    );
     log.get_mut(3).ok_or("entry 3")?.reply = Reply::RolledBack(Fault::Range);
-    assert!(rt; matches!(replay(set_k(alloc)?, log.as_slice())?, Replay::Differs(3)));
+    assert!(rt;
+        matches!(
+            replay(alloc, set_k(alloc)?, log.as_slice())?,
+            Replay::Differs(3)
+        )
+    );
     let elsewhere = payment(district_key(3, 1), customer_key(1, 1, 1), 100);
     log.get_mut(1).ok_or("entry 1")?.request = elsewhere;
-    assert!(rt; matches!(replay(set_k(alloc)?, log.as_slice())?, Replay::Differs(1)));
+    assert!(rt;
+        matches!(
+            replay(alloc, set_k(alloc)?, log.as_slice())?,
+            Replay::Differs(1)
+        )
+    );
     Ok(())
 }
 

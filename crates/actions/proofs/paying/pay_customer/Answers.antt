@@ -1,61 +1,98 @@
-use Rattle.std.proofs.Common.{◌≡◌, [], ◌∷◌, Option, Some, None, sym, ap, ◌∙◌}
+use Rattle.std.proofs.Common.{◌≡◌, [], ◌∷◌, None, IsTrue, is_some, sym, ap, subst, ◌∙◌}
 use Rattle.std.specs.Prelude.{pos}
-use Rattle.std.specs.Option.{option_copied}
+use Rattle.std.specs.Option.{option_map}
 use Rattle.std.specs.FinMap as map
 use Rattle.rows.specs.PaymentNote.{payment_note}
-use Rattle.rows.specs.declared.keys.CustomerKey.{CustomerKey}
-use Rattle.rows.specs.declared.records.Customer.{Customer}
+use Rattle.schema.specs.Scale.{customer_key, has_customer}
 use Rattle.schema.specs.Database.{Database}
-use Rattle.requests.specs.declared.request.Payment.{Payment}
+use Rattle.indexes.specs.Namesakes.{Keyed}
+use Rattle.indexes.specs.NameOrder.{last_of, first_of}
+use Rattle.requests.specs.declared.reply.PaymentReply.{PaymentReply}
+use Rattle.groups.specs.Groups.{group_of_customer}
 use Rattle.groups.specs.Laws.{with_customer}
-use Rattle.tickets.specs.Claims.{leaving}
+use Rattle.tickets.specs.Claims.{Claiming, leaving}
 use Rattle.slices.specs.Sliced.{Sliced}
-use Rattle.machine.specs.Payment.{customer_paid, payment_reply}
-use Rattle.actions.specs.Payments.{payer_of, payer_paid}
+use Rattle.slices.specs.Undo.{AreNamesAt}
+use Rattle.machine.specs.Chosen.{chosen}
+use Rattle.machine.proofs.ChosenRows.{chosen_there}
+use Rattle.machine.proofs.PaidRows.{customer_paid-is}
 use Rattle.actions.proofs.Done as done
 use Rattle.actions.proofs.Kept as kept
 use Rattle.actions.proofs.paying.pay_customer.Goals as goal
-
--- what was read at the payer's key
-read_at : (p : Payment) (seen t : Database) (key : CustomerKey) (row : Option Customer) → seen ≡ t → key ≡ payer_of p → row ≡ map.get seen.customers key → map.get t.customers (payer_of p) ≡ row
-read_at p seen t key row same is read = sym (read ∙ (λ i. map.get (same i).customers (is i)))
-
--- what was made of the payer's row
-made_of : (p : Payment) (key : CustomerKey) (row : Customer) (made new : Option Customer) → key ≡ payer_of p → made ≡ customer_paid row (payment_note key p.home p.amount) (pos p.amount) → made ≡ new → payer_paid p row ≡ new
-made_of p key row made new is by shown = sym (by ∙ ap (λ k. customer_paid row (payment_note k p.home p.amount) (pos p.amount)) is) ∙ shown
 
 pub returns-in_default-clause-paid : goal.returns-in_default-clause-paid
 returns-in_default-clause-paid g c =
     let p = c.args.payment.now in
     let t = c.args.slice.now.tables in
     let seen = c.tables-2.ensures.tables ∙ ap (λ (s : Sliced). s.tables) c.look.ensures.same.0 in
+    let none : None ≡ chosen c.tables-2.result.now.customers p.customer_home p.customer = sym (ap (option_map (λ found. (found.0, found.1.now))) c.in_default.is) ∙ c.chosen.ensures in
     done.no_customer p t c.args.customers.now c.requires.claim c.requires.fresh c.look.ensures.left c.look.new.claim c.look.ensures.same.1
-    (read_at p c.tables-2.result.now t c.chosen-key.result None seen c.chosen-key.ensures (sym (ap option_copied c.in_default.is) ∙ c.customer.ensures))
+    (sym (none ∙ ap (λ (s : Database). chosen s.customers p.customer_home p.customer) seen))
 
 pub returns-in_default-2-clause-paid : goal.returns-in_default-2-clause-paid
 returns-in_default-2-clause-paid g c =
     let p = c.args.payment.now in
     let t = c.args.slice.now.tables in
-    let row = c.in-Some.row.now in
     let seen = c.tables-2.ensures.tables ∙ ap (λ (s : Sliced). s.tables) c.look.ensures.same.0 in
-    done.customer_out p t c.args.customers.now c.requires.claim c.requires.fresh c.look.ensures.left c.look.new.claim row c.look.ensures.same.1
-    (read_at p c.tables-2.result.now t c.chosen-key.result (Some row) seen c.chosen-key.ensures c.in-Some.ensures)
-    (made_of p c.chosen-key.result row c.in_ok-row.field-0 None c.chosen-key.ensures c.in_ok-row.ensures c.in_default-2.is)
+    done.customer_out p t c.args.customers.now c.requires.claim c.requires.fresh c.look.ensures.left c.look.new.claim c.in-Some.key c.in-Some.row.now c.look.ensures.same.1
+    (sym (c.in-Some.ensures ∙ ap (λ (s : Database). chosen s.customers p.customer_home p.customer) seen))
+    (sym c.in_ok-row.ensures ∙ c.in_default-2.is)
+
+-- the customer who was chosen is one of the district
+pub put_customer-requires-clause-group : goal.put_customer-requires-clause-group
+put_customer-requires-clause-group g c =
+    let p = c.args.payment.now in
+    let found : Keyed = (c.in-Some.key, c.in-Some.row.now) in
+    let there = chosen_there c.tables-2.result.now.customers p.customer_home p.customer found (sym c.in-Some.ensures) in
+    ap (λ (k : Claiming). k.group) c.look.ensures.same.1 ∙ c.requires.claim.group ∙ sym (ap group_of_customer there.1)
+
+pub put_customer-requires-clause-there : goal.put_customer-requires-clause-there
+put_customer-requires-clause-there g c =
+    let p = c.args.payment.now in
+    let found : Keyed = (c.in-Some.key, c.in-Some.row.now) in
+    let there = chosen_there c.tables-2.result.now.customers p.customer_home p.customer found (sym c.in-Some.ensures) in
+    subst (λ (s : Database). IsTrue (map.contains_key s.customers c.in-Some.key)) c.tables-2.ensures.tables (ap is_some there.0)
+
+-- a payment changes no name
+pub put_customer-requires-clause-names : goal.put_customer-requires-clause-names
+put_customer-requires-clause-names g c =
+    let p = c.args.payment.now in
+    let key = c.in-Some.key in
+    let row = c.in-Some.row.now in
+    let new = c.in-Some-2.row in
+    let found : Keyed = (key, row) in
+    let there = chosen_there c.tables-2.result.now.customers p.customer_home p.customer found (sym c.in-Some.ensures) in
+    let paid = customer_paid-is row new (payment_note key p.home p.amount) (pos p.amount) (sym c.in_ok-row.ensures ∙ c.in-Some-2.is) in
+    subst (λ (s : Database). AreNamesAt s key new) c.tables-2.ensures.tables (ap last_of there.0 ∙ sym paid.last, ap first_of there.0 ∙ sym paid.first)
 
 pub returns-clause-paid : goal.returns-clause-paid
 returns-clause-paid g c =
     let p = c.args.payment.now in
     let t = c.args.slice.now.tables in
+    let key = c.in-Some.key in
     let row = c.in-Some.row.now in
     let new = c.in-Some-2.row in
-    let key = c.chosen-key.result in
     let seen = c.tables-2.ensures.tables ∙ ap (λ (s : Sliced). s.tables) c.look.ensures.same.0 in
-    done.customer_is_paid p t c.args.customers.now c.requires.claim c.requires.fresh c.look.ensures.left c.put_customer.new.claim row new c.payment_reply-reply.result
-    (read_at p c.tables-2.result.now t key (Some row) seen c.chosen-key.ensures c.in-Some.ensures)
-    (made_of p key row c.in_ok-row.field-0 (Some new) c.chosen-key.ensures c.in_ok-row.ensures c.in-Some-2.is)
+    done.customer_is_paid p t c.args.customers.now c.requires.claim c.requires.fresh c.look.ensures.left c.put_customer.new.claim key row new c.payment_reply-reply.result
+    (sym (c.in-Some.ensures ∙ ap (λ (s : Database). chosen s.customers p.customer_home p.customer) seen))
+    (sym c.in_ok-row.ensures ∙ c.in-Some-2.is)
     (c.in_ok-put_customer.ensures.claim
-    ∙ (λ i. leaving (c.look.ensures.same.1 i) (with_customer (c.chosen-key.ensures i) new (c.look.ensures.same.1 i).left)))
-    (c.payment_reply-reply.ensures ∙ ap (λ k. payment_reply k new) c.chosen-key.ensures)
+    ∙ (λ i. leaving (c.look.ensures.same.1 i) (with_customer key new (c.look.ensures.same.1 i).left)))
+    c.payment_reply-reply.ensures
+
+-- the reply shows the customer who was chosen, and the scale has each customer of the tables
+pub returns-clause-payer : goal.returns-clause-payer
+returns-clause-payer g c =
+    let p = c.args.payment.now in
+    let key = c.in-Some.key in
+    let found : Keyed = (key, c.in-Some.row.now) in
+    let there = chosen_there c.tables-2.result.now.customers p.customer_home p.customer found (sym c.in-Some.ensures) in
+    let both = c.tables-2.ensures.tables ∙ sym c.tables.ensures.tables in
+    let held = subst (λ (s : Database). IsTrue (map.contains_key s.customers key)) both (ap is_some there.0) in
+    let has : IsTrue (has_customer c.tables.result.now.scale key) = sym (c.scale-scale.ensures.within.customers key) ∙ held in
+    let seen = c.tables.ensures.tables ∙ ap (λ (s : Sliced). s.tables) c.look.ensures.same.0 in
+    let shown = there.1 ∙ ap (λ (r : PaymentReply). customer_key p.customer_home r.c_id) (sym c.payment_reply-reply.ensures) in
+    subst (λ k. IsTrue (has_customer c.args.slice.now.tables.scale k)) shown (subst (λ (s : Database). IsTrue (has_customer s.scale key)) seen has)
 
 pub returns-in_err-put_customer-clause-kept : goal.returns-in_err-put_customer-clause-kept
 returns-in_err-put_customer-clause-kept g c =

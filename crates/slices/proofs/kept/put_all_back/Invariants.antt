@@ -6,7 +6,7 @@ use Rattle.slices.proofs.kept.put_all_back.Given as goal
 abbrev pub invariant-loop-kept : goal.invariant-loop-kept
 invariant-loop-kept l = record {
   tables : all_put_back l.undo.items l.tables ≡ all_put_back l.initial.undo.items l.initial.tables;
-  kept : All (IsKept l.tables.scale) l.undo.items;
+  kept : All (IsKept l.tables) l.undo.items;
 }
 
 abbrev pub decreases-loop-kept : goal.decreases-loop-kept

@@ -6,14 +6,15 @@ use Rattle.std.specs.Io.KnownBytes.{Appends}
 use Rattle.files.specs.Written.{record_text, csv_text, written}
 use Rattle.files.proofs.Texts.{appends-start, appends-push, appends-end}
 use Rattle.commit_log.specs.declared.entry.Entry.{Entry}
-use Rattle.terminals.specs.LogRecord.{AreEntries}
 use Rattle.terminals.specs.Listing.{end_fields}
-use Rattle.terminals.proofs.Rows.{are_entries-none, are_entries-more}
+use Rattle.terminals.specs.LogRecord.{IsLogRecord}
+use Rattle.terminals.specs.Numbered.{AreNumbered}
+use Rattle.terminals.proofs.Numbered.{numbered-none, numbered-more}
 use Rattle.terminals.proofs.log_records.write_log.Goals as goal
 
 pub loop-place-init : goal.loop-place-init
 loop-place-init g c =
-    (c.new-writer.ensures.between, [], are_entries-none, appends-start (g.W.Write.contents c.args.sink) (written g.W.Write.contents c.new-writer.result) c.new-writer.ensures.text)
+    (c.new-writer.ensures.between, [], numbered-none IsLogRecord 0, appends-start (g.W.Write.contents c.args.sink) (written g.W.Write.contents c.new-writer.result) c.new-writer.ensures.text)
 
 pub loop-place-preserved : goal.loop-place-preserved
 loop-place-preserved g c =
@@ -30,7 +31,7 @@ loop-place-preserved g c =
     let one = subst adds fields (c.in_ok-write.ensures.text inv.0) in (
       c.in_ok-write.ensures.between inv.0,
       inv.1 ++ (put.0 ∷ []),
-      are_entries-more i c.args.entries.now inv.1 entry put.0 there c.index-entries-place.is inv.2 put.1,
+      numbered-more IsLogRecord i c.args.entries.now inv.1 entry put.0 there c.index-entries-place.is inv.2 put.1,
       appends-push sink old new inv.1 put.0 inv.3 one,
     )
 
@@ -44,7 +45,7 @@ returns g c =
     let end = end_fields (length entries) in
     let rows = inv.1 ++ (end ∷ []) in
     let done : length entries ≤ c.loop-place.place = c.loop-place-test.false in
-    let are : List Entry → Type 0 = λ l. AreEntries 0 l inv.1 in
+    let are : List Entry → Type 0 = λ l. AreNumbered IsLogRecord 0 l inv.1 in
     let logged = subst are (take_all c.loop-place.place entries done) inv.2 in
     let fields : c.push_number.new.self ≡ end =
     c.in_ok-push_number.ensures.added

@@ -12,7 +12,7 @@ pub returns-in_err-slot : goal.returns-in_err-slot
 returns-in_err-slot c =
     let t = c.args.tables.now in
     let none : district_slot t.scale c.args.home ≡ None = ap (λ (s : Scale). district_slot s c.args.home) (sym c.scale.ensures.value) ∙ sym c.district_slot.ensures ∙ c.in_err-slot.was in
-    subst (λ r. MatchOption r (namesakes t c.args.home c.args.last.now ≡ []) (IsMiddleOf t c.args.home c.args.last.now)) (sym c.from_residual.ensures)
+    subst (λ r. MatchOption r (namesakes t.customers c.args.home c.args.last.now ≡ []) (IsMiddleOf t.customers c.args.home c.args.last.now)) (sym c.from_residual.ensures)
     (no_district t c.scale.ensures.within c.args.home c.args.last.now (outside_scale t.scale c.args.home none))
 
 pub returns-in_err-get : goal.returns-in_err-get

@@ -15,7 +15,7 @@ invariant_of-self g c =
     let e = c.grant.ensures in
     let keeps = grant_outcome c.self.inside.tables c.self.inside.grounds.items c.args.group c.place_of.result c.index_mut-ground.result.now c.grant.new.self c.grant.result c.self.invariant.1 known c.place_of.ensures
     c.index_mut-ground.ensures.value e.free e.claim e.out e.undo e.same in
-    (c.self.invariant.0, keeps.0)
+    (c.self.invariant.0, keeps.0, c.self.invariant.2)
 
 pub returns-clause-claim : goal.returns-clause-claim
 returns-clause-claim g c =

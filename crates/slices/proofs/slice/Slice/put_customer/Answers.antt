@@ -1,4 +1,4 @@
-use Rattle.std.proofs.Common.{◌≡◌, Some, IsTrue, [], ◌∷◌, refl, set, ap, subst, sym, ◌∙◌}
+use Rattle.std.proofs.Common.{◌≡◌, Some, IsTrue, [], ◌∷◌, refl, set, subst, sym, ◌∙◌}
 use Rattle.std.specs.FinMap as map
 use Rattle.requests.specs.declared.group.Group.TheVariants.{Customers}
 use Rattle.groups.specs.Laws.{with_customer}
@@ -6,6 +6,7 @@ use Rattle.tickets.specs.Places.{IsGroupOf}
 use Rattle.slices.specs.declared.kept.Kept.TheVariants as kept
 use Rattle.slices.specs.Grounds.{sliced}
 use Rattle.slices.specs.Sliced.{Sliced, SliceKeeps}
+use Rattle.slices.specs.Undo.{AreNamesAt}
 use Rattle.slices.proofs.Keeps.{put_keeps, room_keeps, always_err}
 use Rattle.slices.proofs.Steps.{IsStep, customer_step}
 use Rattle.slices.proofs.slice.Slice.put_customer.Goals as goal
@@ -15,7 +16,7 @@ invariant_of-self g c =
     let known = subst (λ n. IsGroupOf n c.args.claim.now.group) (sym c.self.invariant.0) c.place.ensures.known in
     let room = room_keeps c.self.inside.tables c.self.inside.grounds.items c.args.claim.now.group c.place.result c.index_mut-ground.result.now c.make_room.new.self c.self.invariant.1 known c.place.ensures.place
     c.index_mut-ground.ensures.value c.make_room.ensures.ticket_box c.make_room.ensures.undo in
-    (c.self.invariant.0, room.0)
+    (c.self.invariant.0, room.0, c.self.invariant.2)
 
 pub returns-in_err-make_room-clause-err : goal.returns-in_err-make_room-clause-err
 returns-in_err-make_room-clause-err g c =
@@ -30,13 +31,14 @@ invariant_of-self-2 g c =
     let old = c.in-Some.old in
     let found : map.get t.customers c.args.key ≡ Some old = sym c.replace_customer.ensures.was ∙ c.in-Some.is in
     let there = subst (λ (s : Sliced). IsTrue (map.contains_key s.tables.customers c.args.key)) (sym c.self.view_is) c.requires.there in
+    let names = subst (λ (s : Sliced). AreNamesAt s.tables c.args.key c.args.row) (sym c.self.view_is) c.requires.names in
     let has = sym (c.scale.ensures.within.customers c.args.key) ∙ there in
     let group = Customers c.args.key.w_id c.args.key.d_id in
     let kept = kept.Customer c.args.key old in
     let change = with_customer c.args.key c.args.row in
-    let put = put_keeps g.J.Naming.warehouses t c.replace_customer.new.self c.self.inside.grounds.items c.place.result c.index_mut-ground.result.now c.make_room.new.self c.leave.new.self c.args.claim.now c.leave.new.claim c.group.result group kept change
+    let put = put_keeps g.J.Naming.warehouses t c.replace_customer.new.self c.self.inside.names c.self.inside.grounds.items c.place.result c.index_mut-ground.result.now c.make_room.new.self c.leave.new.self c.args.claim.now c.leave.new.claim c.group.result group kept change
     c.self.invariant c.place.ensures.known c.place.ensures.place c.requires.group c.requires.exclusive
-    (λ (known : IsGroupOf t.scale.warehouses group). subst (IsStep group kept change t) (sym c.replace_customer.ensures.tables) (customer_step t c.args.key old c.args.row found has))
+    (λ (known : IsGroupOf t.scale.warehouses group). subst (IsStep group kept change t) (sym c.replace_customer.ensures.tables) (customer_step t c.args.key old c.args.row found has names))
     c.index_mut-ground.ensures.value c.make_room.ensures.ticket_box c.make_room.ensures.undo c.group.ensures
     c.leave.ensures.left c.leave.ensures.out c.leave.ensures.claim c.leave.ensures.ticket_box c.leave.ensures.undo in
     put.invariant
@@ -47,13 +49,14 @@ returns-clause-claim g c =
     let old = c.in-Some.old in
     let found : map.get t.customers c.args.key ≡ Some old = sym c.replace_customer.ensures.was ∙ c.in-Some.is in
     let there = subst (λ (s : Sliced). IsTrue (map.contains_key s.tables.customers c.args.key)) (sym c.self.view_is) c.requires.there in
+    let names = subst (λ (s : Sliced). AreNamesAt s.tables c.args.key c.args.row) (sym c.self.view_is) c.requires.names in
     let has = sym (c.scale.ensures.within.customers c.args.key) ∙ there in
     let group = Customers c.args.key.w_id c.args.key.d_id in
     let kept = kept.Customer c.args.key old in
     let change = with_customer c.args.key c.args.row in
-    let put = put_keeps g.J.Naming.warehouses t c.replace_customer.new.self c.self.inside.grounds.items c.place.result c.index_mut-ground.result.now c.make_room.new.self c.leave.new.self c.args.claim.now c.leave.new.claim c.group.result group kept change
+    let put = put_keeps g.J.Naming.warehouses t c.replace_customer.new.self c.self.inside.names c.self.inside.grounds.items c.place.result c.index_mut-ground.result.now c.make_room.new.self c.leave.new.self c.args.claim.now c.leave.new.claim c.group.result group kept change
     c.self.invariant c.place.ensures.known c.place.ensures.place c.requires.group c.requires.exclusive
-    (λ (known : IsGroupOf t.scale.warehouses group). subst (IsStep group kept change t) (sym c.replace_customer.ensures.tables) (customer_step t c.args.key old c.args.row found has))
+    (λ (known : IsGroupOf t.scale.warehouses group). subst (IsStep group kept change t) (sym c.replace_customer.ensures.tables) (customer_step t c.args.key old c.args.row found has names))
     c.index_mut-ground.ensures.value c.make_room.ensures.ticket_box c.make_room.ensures.undo c.group.ensures
     c.leave.ensures.left c.leave.ensures.out c.leave.ensures.claim c.leave.ensures.ticket_box c.leave.ensures.undo in
     put.claim
@@ -64,13 +67,14 @@ returns-clause-kept g c =
     let old = c.in-Some.old in
     let found : map.get t.customers c.args.key ≡ Some old = sym c.replace_customer.ensures.was ∙ c.in-Some.is in
     let there = subst (λ (s : Sliced). IsTrue (map.contains_key s.tables.customers c.args.key)) (sym c.self.view_is) c.requires.there in
+    let names = subst (λ (s : Sliced). AreNamesAt s.tables c.args.key c.args.row) (sym c.self.view_is) c.requires.names in
     let has = sym (c.scale.ensures.within.customers c.args.key) ∙ there in
     let group = Customers c.args.key.w_id c.args.key.d_id in
     let kept = kept.Customer c.args.key old in
     let change = with_customer c.args.key c.args.row in
-    let put = put_keeps g.J.Naming.warehouses t c.replace_customer.new.self c.self.inside.grounds.items c.place.result c.index_mut-ground.result.now c.make_room.new.self c.leave.new.self c.args.claim.now c.leave.new.claim c.group.result group kept change
+    let put = put_keeps g.J.Naming.warehouses t c.replace_customer.new.self c.self.inside.names c.self.inside.grounds.items c.place.result c.index_mut-ground.result.now c.make_room.new.self c.leave.new.self c.args.claim.now c.leave.new.claim c.group.result group kept change
     c.self.invariant c.place.ensures.known c.place.ensures.place c.requires.group c.requires.exclusive
-    (λ (known : IsGroupOf t.scale.warehouses group). subst (IsStep group kept change t) (sym c.replace_customer.ensures.tables) (customer_step t c.args.key old c.args.row found has))
+    (λ (known : IsGroupOf t.scale.warehouses group). subst (IsStep group kept change t) (sym c.replace_customer.ensures.tables) (customer_step t c.args.key old c.args.row found has names))
     c.index_mut-ground.ensures.value c.make_room.ensures.ticket_box c.make_room.ensures.undo c.group.ensures
     c.leave.ensures.left c.leave.ensures.out c.leave.ensures.claim c.leave.ensures.ticket_box c.leave.ensures.undo in
     subst (λ (s : Sliced). SliceKeeps (c.args.claim.now ∷ []) s (c.leave.new.claim ∷ []) (sliced c.replace_customer.new.self (set c.self.inside.grounds.items c.place.result c.leave.new.self))) c.self.view_is put.keeps

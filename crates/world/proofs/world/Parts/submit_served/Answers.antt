@@ -2,8 +2,8 @@ use Rattle.std.proofs.Common.{◌≡◌, length, refl, ap, ◌∙◌, arith, inl
 use Rattle.std.specs.Prelude.{slice_get}
 use Rattle.world.specs.Worlds.{can_admit}
 use Rattle.world.proofs.Submitting.{can_ask, found, full, has_both, is_there, spent, submits, unrefused}
-use Rattle.world.proofs.world.Parts.submit.Goals as goal
-use Rattle.world.proofs.world.Parts.submit.Goals.{then-len-ge-INBOX-via-then-len-ge-INBOX, then-len-ge-INBOX-via-else-len-ge-INBOX+then-self}
+use Rattle.world.proofs.world.Parts.submit_served.Goals as goal
+use Rattle.world.proofs.world.Parts.submit_served.Goals.{then-len-ge-INBOX-via-then-len-ge-INBOX, then-len-ge-INBOX-via-else-len-ge-INBOX+then-self}
 
 pub returns-then-len-ge-INBOX : goal.returns-then-len-ge-INBOX
 returns-then-len-ge-INBOX g c =

@@ -2,7 +2,7 @@ use Rattle.std.proofs.Common.{◌≡◌, ℕ, List, [], ◌∷◌, ◌++◌, Non
 use Rattle.std.specs.Fmt.{decimal}
 use Rattle.files.specs.declared.fields.Fields.{Fields}
 use Rattle.files.specs.Taken.{TakesWell, fault_of, fields_left}
-use Rattle.terminals.proofs.schedules.ScheduledListed.take.Goals as goal
+use Rattle.terminals.proofs.schedules.take.Goals as goal
 
 -- a letter and an executor
 executor_was_read : (letter wanted : List ℕ) (executor : ℕ) (old new : Fields) → letter ≡ wanted → TakesWell old new (decimal executor)

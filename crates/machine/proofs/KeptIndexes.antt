@@ -1,0 +1,37 @@
+-- The indexes that fit tables fit them after a payment too.
+use Rattle.std.proofs.Common.{◌≡◌, ℕ, List, Result, Ok, Err, OnOk, OnErr, refl, sym, subst}
+use Rattle.std.specs.Prelude.{pos}
+use Rattle.rows.specs.PaymentNote.{payment_note}
+use Rattle.schema.specs.Database.{Database}
+use Rattle.requests.specs.declared.request.Payment.{Payment}
+use Rattle.indexes.specs.LatestIndex.{FitsLatest}
+use Rattle.indexes.specs.NameLaws.{SameNames}
+use Rattle.indexes.specs.NameOrder.{FitsNames}
+use Rattle.indexes.proofs.Names.{same_names_fit, put_keeps_names}
+use Rattle.machine.specs.Payment.{payment}
+use Rattle.machine.proofs.PaidRows.{customer_paid-is}
+use Rattle.machine.proofs.PaymentCases.{payment-cases}
+
+payment_keeps_names : (t : Database) (p : Payment) → SameNames t (payment t p).tables
+payment_keeps_names t p =
+    payment-cases t p (λ o. SameNames t o.tables)
+    (λ fault. record { scale = refl; last = λ key. refl; first = λ key. refl })
+    (λ key w new_w d new_d c new_c w_is d_is payer_is w_made d_made c_made.
+    let paid = customer_paid-is c new_c (payment_note key p.home p.amount) (pos p.amount) c_made in
+    let same = put_keeps_names t key c new_c payer_is.row paid.last paid.first in
+    record { scale = refl; last = same.last; first = same.first })
+
+pub payment_keeps_indexes : (names : List (List ℕ)) (latest : List ℕ) (t : Database) (p : Payment) → FitsNames names t → FitsLatest latest t
+    → FitsNames names (payment t p).tables × FitsLatest latest (payment t p).tables
+payment_keeps_indexes names latest t p fits_names fits_latest = (
+  same_names_fit names t (payment t p).tables (payment_keeps_names t p) fits_names,
+  payment-cases t p (λ o. FitsLatest latest o.tables) (λ fault. fits_latest)
+      (λ key w new_w d new_d c new_c w_is d_is payer_is w_made d_made c_made. fits_latest),
+)
+
+-- whether it was carried out or wanted memory
+pub indexes_stay : {A E : Type 0} (r : Result A E) (names : List (List ℕ)) (latest : List ℕ) (t new : Database) (p : Payment)
+    → OnOk r (new ≡ (payment t p).tables) → OnErr r (new ≡ t) → FitsNames names t × FitsLatest latest t → FitsNames names new × FitsLatest latest new
+indexes_stay (Ok a) names latest t new p ok err fits =
+    subst (λ s. FitsNames names s × FitsLatest latest s) (sym ok) (payment_keeps_indexes names latest t p fits.0 fits.1)
+indexes_stay (Err e) names latest t new p ok err fits = subst (λ s. FitsNames names s × FitsLatest latest s) (sym err) fits

@@ -1,0 +1,72 @@
+-- Order-Status (clause 2.6).
+use Rattle.std.specs.Prelude.{ℕ, List, map, Option, Some, None}
+use Rattle.std.specs.Option.{option_map, option_and_then}
+use Rattle.std.specs.FinMap as table
+use Rattle.rows.specs.declared.keys.CustomerKey.{CustomerKey}
+use Rattle.rows.specs.declared.keys.OrderKey.{OrderKey}
+use Rattle.rows.specs.declared.records.Customer.{Customer}
+use Rattle.rows.specs.declared.records.Order.{Order}
+use Rattle.rows.specs.declared.records.OrderLine.{OrderLine}
+use Rattle.schema.specs.Database.{Database}
+use Rattle.schema.specs.Consistency.{lines_of}
+use Rattle.indexes.specs.Namesakes.{Keyed}
+use Rattle.indexes.specs.LatestOrder.{latest}
+use Rattle.requests.specs.declared.request.OrderStatus.{OrderStatus}
+use Rattle.requests.specs.declared.reply.OrderStatusReply.{OrderStatusReply}
+use Rattle.requests.specs.declared.reply.StatusOrder.{StatusOrder}
+use Rattle.requests.specs.declared.reply.StatusLine.{StatusLine}
+use Rattle.requests.specs.declared.reply.Reply.TheVariants.{OrderStatus as Shown}
+use Rattle.requests.specs.declared.reply.Fault.TheVariants.{NoCustomer}
+use Rattle.machine.specs.Chosen.{chosen}
+use Rattle.machine.specs.Outcome.{Outcome, rolled_back}
+
+-- what is shown of a line
+abbrev pub status_line : OrderLine → StatusLine
+status_line row = record {
+  i_id = row.i_id;
+  supply_w_id = row.supply_w_id;
+  quantity = row.quantity;
+  amount = row.amount;
+  delivery_d = row.delivery_d;
+}
+
+-- what is shown of an order with these lines
+abbrev pub status_order : ℕ → Order → List StatusLine → StatusOrder
+status_order o_id row lines = record { o_id = o_id; entry_d = row.entry_d; carrier_id = row.carrier_id; lines = lines }
+
+abbrev pub key_of_order : CustomerKey → ℕ → OrderKey
+key_of_order customer o_id = record { w_id = customer.w_id; d_id = customer.d_id; o_id = o_id }
+
+-- the lines of an order, by OL_NUMBER
+abbrev pub lines_shown : Database → OrderKey → List StatusLine
+lines_shown t order = map (λ line. status_line line.1) (lines_of t order)
+
+-- the order of that number
+abbrev pub order_shown : Database → CustomerKey → ℕ → Option StatusOrder
+order_shown t customer o_id =
+    let key = key_of_order customer o_id in
+    option_map (λ row. status_order o_id row (lines_shown t key)) (table.get t.orders key)
+
+-- the customer's order with the largest O_ID, where there is one (clause 2.6.2.2)
+abbrev pub latest_shown : Database → CustomerKey → Option StatusOrder
+latest_shown t customer = option_and_then (order_shown t customer) (latest t.orders customer)
+
+-- what is shown of a customer with that order (clause 2.6.3.4)
+abbrev pub status_reply : CustomerKey → Customer → Option StatusOrder → OrderStatusReply
+status_reply key row order = record {
+  c_id = key.c_id;
+  first = row.first;
+  middle = row.middle;
+  last = row.last;
+  balance = row.balance;
+  order = order;
+}
+
+-- by the customer that was chosen
+abbrev pub status_told : Database → Option Keyed → Outcome
+status_told t (Some c) = record { tables = t; reply = Shown (status_reply c.0 c.1 (latest_shown t c.0)) }
+status_told t None = rolled_back t NoCustomer
+
+-- what Order-Status leaves and answers: it changes nothing
+abbrev pub order_status : Database → OrderStatus → Outcome
+order_status t o = status_told t (chosen t.customers o.home o.customer)

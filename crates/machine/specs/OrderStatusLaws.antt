@@ -1,0 +1,18 @@
+-- What every Order-Status does, said of its definition.
+use Rattle.std.specs.Prelude.{◌≡◌}
+use Rattle.schema.specs.Database.{Database}
+use Rattle.requests.specs.declared.request.OrderStatus.{OrderStatus}
+use Rattle.groups.specs.Content.{AreAlikeIn}
+use Rattle.groups.specs.Footprint.{order_status_footprint, groups_of}
+use Rattle.machine.specs.OrderStatus.{order_status}
+
+-- no table changes
+abbrev pub StatusKeepsTables : Type 0
+StatusKeepsTables = (t : Database) (o : OrderStatus) → (order_status t o).tables ≡ t
+
+-- The reply follows from what the customers and the orders of the district are: where other tables have the same there, it
+-- is the same.
+abbrev pub StatusReadsItsGroups : Type 0
+StatusReadsItsGroups =
+    (s t : Database) (o : OrderStatus) → AreAlikeIn (groups_of (order_status_footprint o)) s t
+    → (order_status s o).reply ≡ (order_status t o).reply

@@ -1,0 +1,86 @@
+ghost use Rattle.std.specs.Prelude.{◌≡◌, IfOk};
+ghost use Rattle.indexes.specs.LatestIndex.{FitsLatest};
+ghost use Rattle.machine.specs.OrderStatus as spec;
+
+use indexes::LatestOrders;
+use requests::{Lines, OrderStatusReply, StatusLine, StatusOrder};
+use schema::{Customer, CustomerKey, NoMemory, OrderKey, OrderLine, Tables};
+use std::alloc::Global;
+
+/// What Order-Status shows of a customer's row, and of the customer's last order. Its lines alone take
+/// memory; want of it leaves nothing behind.
+pub fn status_reply(
+    alloc: Global,
+    tables: &Tables,
+    orders: &LatestOrders,
+    key: CustomerKey,
+    row: &Customer,
+) -> Result<OrderStatusReply, NoMemory>
+    requires { FitsLatest orders.now tables.now }
+    ensures { IfOk result (λ r. r ≡ spec.status_reply key row.now (spec.latest_shown tables.now key)) }
+{
+    Ok(OrderStatusReply {
+        c_id: key.c_id,
+        first: row.first.copy(),
+        middle: row.middle.copy(),
+        last: row.last.copy(),
+        balance: row.balance,
+        order: latest_shown(alloc, tables, orders, key)?,
+    })
+}
+
+// What is shown of the customer's last order, if there is one.
+fn latest_shown(
+    alloc: Global,
+    tables: &Tables,
+    orders: &LatestOrders,
+    customer: CustomerKey,
+) -> Result<Option<StatusOrder>, NoMemory>
+    requires { FitsLatest orders.now tables.now }
+    ensures { IfOk result (λ r. r ≡ spec.latest_shown tables.now customer) }
+{
+    let Some(o_id) = orders.latest_order(tables, customer) else {
+        return Ok(None);
+    };
+    let key = OrderKey {
+        w_id: customer.w_id,
+        d_id: customer.d_id,
+        o_id,
+    };
+    let Some(row) = tables.order(key) else {
+        return Ok(None);
+    };
+    Ok(Some(StatusOrder {
+        o_id,
+        entry_d: row.entry_d,
+        carrier_id: row.carrier_id,
+        lines: lines_shown(alloc, tables, key)?,
+    }))
+}
+
+// What is shown of the order's lines.
+fn lines_shown(
+    alloc: Global,
+    tables: &Tables,
+    order: OrderKey,
+) -> Result<Lines<StatusLine>, NoMemory>
+    ensures { IfOk result (λ r. r ≡ spec.lines_shown tables.now order) }
+{
+    let mut lines = Vec::new(alloc);
+    for (_, row) in tables.lines_of(order) {
+        lines.push(status_line(row))?;
+    }
+    Ok(Lines::new(lines))
+}
+
+fn status_line(row: &OrderLine) -> StatusLine
+    ensures { result ≡ spec.status_line row.now }
+{
+    StatusLine {
+        i_id: row.i_id,
+        supply_w_id: row.supply_w_id,
+        quantity: row.quantity,
+        amount: row.amount,
+        delivery_d: row.delivery_d,
+    }
+}

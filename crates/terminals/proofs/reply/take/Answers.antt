@@ -1,0 +1,9 @@
+use Rattle.std.proofs.Common.{List, ℕ, [], ◌∷◌, ap}
+use Rattle.terminals.specs.ReplyFields.{fault_text}
+use Rattle.terminals.proofs.reply.take.Goals as goal
+
+pub returns-in-Some-clause-taken : goal.returns-in-Some-clause-taken
+returns-in-Some-clause-taken c = λ none.
+    let taken = c.in-Some.ensures.taken none in
+    let fault : List ℕ = fault_text c.in-Some.fault in
+    (taken.0, (fault ∷ [], ap (λ (l : List ℕ). l ∷ fault ∷ []) c.in-X.is, taken.1))
