@@ -59,6 +59,13 @@ impl<J: Naming + tickets::Naming> Log<J> {
         self.book.entries()
     }
 
+    /// The entries, in log order. It takes no memory.
+    pub fn into_entries(self) -> Vec<Entry>
+        ensures { result.items ≡ self }
+    {
+        self.book.into_entries()
+    }
+
     /// Logs a request that was carried out under these claims: the log has this entry more, at the place
     /// that is given, behind all that the pass has seen. What the claims left is committed from then on,
     /// unless the transaction was rolled back. An error changes nothing but that, where the log is full,

@@ -84,6 +84,13 @@ impl<J: Naming> Slice<J> {
         &self.tables
     }
 
+    /// The rows as they stand. It takes no memory.
+    pub fn into_tables(self) -> Tables
+        ensures { result ≡ self.tables }
+    {
+        self.tables
+    }
+
     /// The customers by last name, as the rows stand.
     pub fn names(&self) -> &NameIndex
         ensures { FitsNames result.now self.now.tables }

@@ -11,7 +11,7 @@ use Rattle.world.specs.declared.desk.SessionDesk.{SessionDesk}
 use Rattle.world.specs.declared.flight.Message.{Message}
 use Rattle.world.specs.declared.flight.Item.{Item}
 use Rattle.world.specs.declared.world.Parts.{Parts}
-use Rattle.world.specs.Worlds.{Happens, CannotHappen, CannotSubmit, SubmitsIfServed, SubmitsAt, SubmitsUnless, SubmitsInto, TakesFirst, SendsFirst, refusal_at, can_admit, is_served}
+use Rattle.world.specs.Worlds.{Happens, CannotHappen, CannotSubmit, SubmitsAt, SubmitsUnless, SubmitsInto, TakesFirst, SendsFirst, refusal_at, can_admit}
 use Rattle.world.proofs.Endings.{IsFalse}
 use Rattle.world.proofs.Quiet.{sends_something}
 
@@ -33,24 +33,17 @@ module _ {J : Type 0} where
   )
 
   unless_nothing : (why : Option Refusal) (session number : ℕ) (asked : Request) (desk : SessionDesk J) (old new : Parts J) (answer : EventAnswer) → SubmitsUnless why session number asked desk old answer new
-      → (answer ≡ Nothing → (why ≡ None) × (can_admit old ≡ false)) × ((why ≡ None) × (can_admit old ≡ false) → answer ≡ Nothing)
+      → (answer ≡ Nothing → (why ≡ None) × (can_admit asked old ≡ false)) × ((why ≡ None) × (can_admit asked old ≡ false) → answer ≡ Nothing)
   unless_nothing (Some why) session number asked desk old new answer said =
       (λ is. let e = said.0 in absurd (cc), λ h. let e = h.0 in absurd (cc))
   unless_nothing None session number asked desk old new answer said =
-      let can = into_nothing (can_admit old) session number asked desk old new answer said in
+      let can = into_nothing (can_admit asked old) session number asked desk old new answer said in
       (λ is. (refl, can.0 is), λ h. can.1 h.1)
 
   submit_nothing : (found : Option (SessionDesk J)) (session number : ℕ) (asked : Request) (old new : Parts J) (answer : EventAnswer) → SubmitsAt found session number asked old answer new
       → (answer ≡ Nothing) ↔ CannotSubmit found asked old
   submit_nothing None session number asked old new answer said = (λ is. tt, λ h. said.0)
   submit_nothing (Some desk) session number asked old new answer said = unless_nothing (refusal_at desk asked old) session number asked desk old new answer said
-
-  served_nothing : (served : Bool) (found : Option (SessionDesk J)) (session number : ℕ) (asked : Request) (old new : Parts J) (answer : EventAnswer)
-      → SubmitsIfServed served found session number asked old answer new → (answer ≡ Nothing) ↔ ((served ≡ false) ⊎ CannotSubmit found asked old)
-  served_nothing false found session number asked old new answer said = (λ is. inl refl, λ h. said.0)
-  served_nothing true found session number asked old new answer said =
-      let at = submit_nothing found session number asked old new answer said in
-      (λ is. inr (at.0 is), λ h. ⊎_elim (λ other. absurd (not_both true refl other)) (λ cannot. at.1 cannot) h)
 
   take_nothing : (messages : List (Message J)) (old new : Parts J) (answer : EventAnswer) → TakesFirst messages old answer new → (answer ≡ Nothing → messages ≡ []) × (messages ≡ [] → answer ≡ Nothing)
   take_nothing [] old new answer said = (λ is. refl, λ is. said.0)
@@ -61,7 +54,7 @@ module _ {J : Type 0} where
   send_nothing (item ∷ rest) old new answer said = (λ is. absurd (sends_something item _ new answer said is), λ is. absurd (cc))
 
   pub nothing_exactly : (event : Event) (old new : Parts J) (answer : EventAnswer) → Happens event old answer new → (answer ≡ Nothing) ↔ CannotHappen event old
-  nothing_exactly (Submit session number asked) old new answer said = served_nothing (is_served asked) (slice_get old.desk.sessions.items session) session number asked old new answer said
+  nothing_exactly (Submit session number asked) old new answer said = submit_nothing (slice_get old.desk.sessions.items session) session number asked old new answer said
   nothing_exactly (Take zero) old new answer said = at_executor 0 (old.inbox ≡ []) answer (λ is. take_nothing old.inbox old new answer said) (λ other. absurd (other refl))
   nothing_exactly (Take (suc executor)) old new answer said = at_executor (suc executor) (old.inbox ≡ []) answer (λ is. absurd (cc)) (λ other. said.0)
   nothing_exactly (Send zero) old new answer said = at_executor 0 (old.outbox ≡ []) answer (λ is. send_nothing old.outbox old new answer said) (λ other. absurd (other refl))

@@ -19,7 +19,7 @@ use Rattle.world.specs.declared.desk.SessionDesk.{SessionDesk}
 use Rattle.world.specs.declared.world.Parts.{Parts}
 use Rattle.world.specs.Flights.{nothing}
 use Rattle.world.specs.Sound.{IsSoundWith, flight}
-use Rattle.world.specs.Worlds.{Happens, IsBusyExactly, SubmitsIfServed, SubmitsAt, SubmitsUnless, SubmitsInto, can_admit, refuses}
+use Rattle.world.specs.Worlds.{Happens, IsBusyExactly, SubmitsAt, SubmitsUnless, SubmitsInto, can_admit, refuses}
 use Rattle.world.proofs.Endings.{IsFalse}
 use Rattle.world.proofs.Ready.{stands_at}
 use Rattle.world.proofs.Tokens.{by_bool}
@@ -59,7 +59,7 @@ module _ {J : Type 0} where
           let same : why ≡ SessionBusy = cc in
           never_busy scale asked (at ∙ ap Err same)
       by_check (Ok u) true at said = let e = said.0 in absurd (cc)
-      by_check (Ok u) false at said = into (can_admit old) said
+      by_check (Ok u) false at said = into (can_admit asked old) said
 
   busy_of : (scale : Scale) (old new : Parts J) (h : IsSoundWith scale nothing old) (session number : ℕ) (asked : Request) (answer : EventAnswer) (desk : SessionDesk J) (pass : Option Passing) → desk.pass ≡ pass
       → slice_get old.desk.sessions.items session ≡ Some desk
@@ -73,9 +73,8 @@ module _ {J : Type 0} where
   )
 
   pub busy_exactly : (scale : Scale) (event : Event) (old new : Parts J) (answer : EventAnswer) → IsSoundWith scale nothing old → Happens event old answer new → IsBusyExactly event old answer
-  busy_exactly scale (Submit session number asked) old new answer h said = λ served below.
+  busy_exactly scale (Submit session number asked) old new answer h said = λ below.
       let found = stands_at old.desk.sessions.items session (subst (λ n. session < n) (sym h.seats) below) in
-      busy_of scale old new h session number asked answer found.0 found.0.pass refl found.1 (subst (λ o. SubmitsAt o session number asked old answer new) found.1
-      (subst (λ b. SubmitsIfServed b (slice_get old.desk.sessions.items session) session number asked old answer new) served said))
+      busy_of scale old new h session number asked answer found.0 found.0.pass refl found.1 (subst (λ o. SubmitsAt o session number asked old answer new) found.1 said)
   busy_exactly scale (Take executor) old new answer h said = tt
   busy_exactly scale (Send executor) old new answer h said = tt

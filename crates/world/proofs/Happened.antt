@@ -18,7 +18,7 @@ use Rattle.world.specs.declared.desk.SessionDesk.{SessionDesk}
 use Rattle.world.specs.declared.world.Parts.{Parts}
 use Rattle.world.specs.Flights.{nothing}
 use Rattle.world.specs.Sound.{IsSoundWith, flight}
-use Rattle.world.specs.Worlds.{Fits, Advances, SubmitsIfServed, SubmitsAt, SubmitsUnless, SubmitsInto, StaysAt, refusal_at, can_admit}
+use Rattle.world.specs.Worlds.{Fits, Advances, SubmitsAt, SubmitsUnless, SubmitsInto, StaysAt, refusal_at, can_admit}
 use Rattle.world.proofs.Fitting.{fits_quiet}
 use Rattle.world.proofs.Following.{TheLaws}
 use Rattle.world.proofs.Asking.{not_refused, admits_sound, admits_fits}
@@ -57,20 +57,12 @@ module _ {J : Type 0} where
       → IsSoundWith scale nothing new × Advances old (step (Submit session number asked) answer ∷ []) new
   submits_unless scale old new h session number asked desk answer there (Some why) is said =
       (subst (λ w. IsSoundWith scale nothing w) (sym said.1) h, stays old new (Submit session number asked) (Answered session number (Refused why)) answer tt said)
-  submits_unless scale old new h session number asked desk answer there None is said = submits_into scale old new h session number asked desk answer there is (can_admit old) said
+  submits_unless scale old new h session number asked desk answer there None is said = submits_into scale old new h session number asked desk answer there is (can_admit asked old) said
 
-  submits_on : (scale : Scale) (old new : Parts J) (h : IsSoundWith scale nothing old) (session number : ℕ) (asked : Request) (answer : EventAnswer)
+  pub submits_on : (scale : Scale) (old new : Parts J) (h : IsSoundWith scale nothing old) (session number : ℕ) (asked : Request) (answer : EventAnswer)
       → (found : Option (SessionDesk J)) → slice_get old.desk.sessions.items session ≡ found → SubmitsAt found session number asked old answer new
       → IsSoundWith scale nothing new × Advances old (step (Submit session number asked) answer ∷ []) new
   submits_on scale old new h session number asked answer None there said =
       (subst (λ w. IsSoundWith scale nothing w) (sym said.1) h, stays old new (Submit session number asked) Nothing answer tt said)
   submits_on scale old new h session number asked answer (Some desk) there said =
       submits_unless scale old new h session number asked desk answer there (refusal_at desk asked old) refl said
-
-  pub submits_if_served : (scale : Scale) (old new : Parts J) (h : IsSoundWith scale nothing old) (session number : ℕ) (asked : Request) (answer : EventAnswer)
-      → (served : Bool) → SubmitsIfServed served (slice_get old.desk.sessions.items session) session number asked old answer new
-      → IsSoundWith scale nothing new × Advances old (step (Submit session number asked) answer ∷ []) new
-  submits_if_served scale old new h session number asked answer false said =
-      (subst (λ w. IsSoundWith scale nothing w) (sym said.1) h, stays old new (Submit session number asked) Nothing answer tt said)
-  submits_if_served scale old new h session number asked answer true said =
-      submits_on scale old new h session number asked answer (slice_get old.desk.sessions.items session) refl said

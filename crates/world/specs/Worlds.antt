@@ -57,7 +57,7 @@ steps_of (event ∷ events) (answer ∷ answers) = step event answer ∷ steps_o
 
 -- ---- submissions
 
--- Whether requests of this kind are carried out: payments are, and Order-Status is not yet.
+-- whether requests of this kind are carried out: payments are, and Order-Status is not yet
 abbrev pub is_served : Request → Bool
 is_served (request.Payment p) = true
 is_served (request.OrderStatus o) = false
@@ -86,9 +86,9 @@ module _ {J : Type 0} where
   abbrev pub refusal_at : SessionDesk J → Request → Parts J → Option Refusal
   refusal_at desk request w = refuses desk.pass (check_of w.slice.tables.scale request) (is_some w.desk.active)
 
-  -- the inbox has room, and there is an age left
-  abbrev pub can_admit : Parts J → Bool
-  can_admit w = nat_lt (length w.inbox) 1024 && nat_lt w.desk.admitted 18446744073709551615
+  -- requests of this kind are carried out, the inbox has room, and there is an age left
+  abbrev pub can_admit : Request → Parts J → Bool
+  can_admit asked w = is_served asked && (nat_lt (length w.inbox) 1024 && nat_lt w.desk.admitted 18446744073709551615)
 
   abbrev pub admitted_now : Active J
   admitted_now = record { stage = stage.First; first = None ∷ None ∷ []; second = None ∷ []; ending = none_ended }
@@ -134,16 +134,11 @@ module _ {J : Type 0} where
 
   abbrev pub SubmitsUnless : Option Refusal → ℕ → ℕ → Request → SessionDesk J → Parts J → EventAnswer → Parts J → Type 0
   SubmitsUnless (Some why) session number asked desk old answer new = StaysAt (Answered session number (Refused why)) old answer new
-  SubmitsUnless None session number asked desk old answer new = SubmitsInto (can_admit old) session number asked desk old answer new
+  SubmitsUnless None session number asked desk old answer new = SubmitsInto (can_admit asked old) session number asked desk old answer new
 
   abbrev pub SubmitsAt : Option (SessionDesk J) → ℕ → ℕ → Request → Parts J → EventAnswer → Parts J → Type 0
   SubmitsAt None session number asked old answer new = StaysAt Nothing old answer new
   SubmitsAt (Some desk) session number asked old answer new = SubmitsUnless (refusal_at desk asked old) session number asked desk old answer new
-
-  -- nothing happens with a request that isn't served, whoever submits it
-  abbrev pub SubmitsIfServed : Bool → Option (SessionDesk J) → ℕ → ℕ → Request → Parts J → EventAnswer → Parts J → Type 0
-  SubmitsIfServed false desk session number asked old answer new = StaysAt Nothing old answer new
-  SubmitsIfServed true desk session number asked old answer new = SubmitsAt desk session number asked old answer new
 
   -- ---- one event
 
@@ -162,7 +157,7 @@ module _ {J : Type 0} where
 
   -- What an event is answered, and all that it changes.
   abbrev pub Happens : Event → Parts J → EventAnswer → Parts J → Type 0
-  Happens (Submit session number asked) old answer new = SubmitsIfServed (is_served asked) (slice_get old.desk.sessions.items session) session number asked old answer new
+  Happens (Submit session number asked) old answer new = SubmitsAt (slice_get old.desk.sessions.items session) session number asked old answer new
   Happens (Take executor) old answer new = AtExecutor executor (TakesFirst old.inbox) old answer new
   Happens (Send executor) old answer new = AtExecutor executor (SendsFirst old.outbox) old answer new
 
@@ -183,18 +178,18 @@ module _ {J : Type 0} where
 
   abbrev pub CannotSubmit : Option (SessionDesk J) → Request → Parts J → Type 0
   CannotSubmit None asked w = Unit {0}
-  CannotSubmit (Some desk) asked w = (refusal_at desk asked w ≡ None) × (can_admit w ≡ false)
+  CannotSubmit (Some desk) asked w = (refusal_at desk asked w ≡ None) × (can_admit asked w ≡ false)
 
-  -- A submission of a request that isn't served, or by a session of 64 or above, or one that isn't refused while the inbox
-  -- is full or no age is left; and a Take or a Send where there is nothing to take or to send, or no such executor.
+  -- A submission by a session of 64 or above, or one that isn't refused while the inbox is full or no age is left, or of a
+  -- request that isn't served; and a Take or a Send where there is nothing to take or to send, or no such executor.
   abbrev pub CannotHappen : Event → Parts J → Type 0
-  CannotHappen (Submit session number asked) w = (is_served asked ≡ false) ⊎ CannotSubmit (slice_get w.desk.sessions.items session) asked w
+  CannotHappen (Submit session number asked) w = CannotSubmit (slice_get w.desk.sessions.items session) asked w
   CannotHappen (Take executor) w = (executor ≢ 0) ⊎ (w.inbox ≡ [])
   CannotHappen (Send executor) w = (executor ≢ 0) ⊎ (w.outbox ≡ [])
 
-  -- A submission, by one of the 64 sessions, of a request that is served is refused with SessionBusy exactly where the session
-  -- has a transaction without an answer.
+  -- A submission by one of the 64 sessions is refused with SessionBusy exactly where the session has a transaction without an
+  -- answer.
   abbrev pub IsBusyExactly : Event → Parts J → EventAnswer → Type 0
   IsBusyExactly (Submit session number asked) w answer =
-      IsServed asked → session < 64 → (answer ≡ Answered session number (Refused refusal.SessionBusy)) ↔ (1 ≤ count_by (is_of session) (flight w).pending)
+      session < 64 → (answer ≡ Answered session number (Refused refusal.SessionBusy)) ↔ (1 ≤ count_by (is_of session) (flight w).pending)
   IsBusyExactly event w answer = Unit {0}

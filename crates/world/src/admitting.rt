@@ -5,7 +5,7 @@ ghost use Rattle.commit_log.specs.Passing.{seating, with_asks};
 ghost use Rattle.requests.specs.declared.request.Request.TheVariants as request;
 ghost use Rattle.world.specs.declared.desk.SessionDesk.{SessionDesk as AnyDesk};
 ghost use Rattle.world.specs.Worlds as spec;
-ghost use Rattle.world.specs.Worlds.{Admits, CanAsk, CanSubmit, IsServed, SubmitsAt, SubmitsIfServed, admitted_now};
+ghost use Rattle.world.specs.Worlds.{Admits, CanAsk, CanSubmit, IsServed, SubmitsAt, admitted_now};
 
 use crate::desk::{Active, SessionDesk, Stage};
 use crate::flight::{Flow, Message};
@@ -18,7 +18,7 @@ use schema::NoMemory;
 use std::alloc::Global;
 
 impl<J: commit_log::Naming + tickets::Naming> Parts<J> {
-    // A session submits a request. Only what is served can happen.
+    // A session submits a request.
     pub(crate) fn submit(
         &mut self,
         alloc: Global,
@@ -27,25 +27,6 @@ impl<J: commit_log::Naming + tickets::Naming> Parts<J> {
         request: &Request,
     ) -> EventAnswer
         requires { CanSubmit self.old }
-        ensures { SubmitsIfServed (spec.is_served request.now) (slice_get self.old.desk.sessions.items session) session number request.now self.old result self.new }
-    {
-        if is_served(request) {
-            self.submit_served(alloc, session, number, request)
-        } else {
-            EventAnswer::Nothing
-        }
-    }
-
-    // A session submits a request that is served.
-    fn submit_served(
-        &mut self,
-        alloc: Global,
-        session: u32,
-        number: u32,
-        request: &Request,
-    ) -> EventAnswer
-        requires sessions { CanSubmit self.old }
-        requires served { IsServed request.now }
         ensures { SubmitsAt (slice_get self.old.desk.sessions.items session) session number request.now self.old result self.new }
     {
         let Some(desk) = self.desk.sessions.get(session as usize) else {
@@ -60,7 +41,7 @@ impl<J: commit_log::Naming + tickets::Naming> Parts<J> {
         if self.desk.active.is_some() {
             return refused(session, number, Refusal::Busy);
         }
-        if self.inbox.len() >= INBOX || self.desk.admitted == u64::MAX {
+        if !is_served(request) || self.inbox.len() >= INBOX || self.desk.admitted == u64::MAX {
             return EventAnswer::Nothing;
         }
         match self.admit(alloc, session, number, request) {

@@ -10,7 +10,7 @@ ghost use Rattle.world.specs.Openings.{IsFaultOf, IsNew, Simulates};
 ghost use Rattle.world.specs.Worlds.{Fits};
 
 use crate::opening::{OpenFault, Opening};
-use crate::world::{GatherFault, World};
+use crate::world::World;
 use commit_log::Entry;
 use history::{Scheduled, Told};
 use schema::{NoMemory, Tables};
@@ -87,33 +87,6 @@ fn simulate_in<J: commit_log::Naming + tickets::Naming>(
     ensures quiet { IfOk result (λ s. EndsQuiet s.told.items → IsTrue (is_some s.tables)) }
 {
     let told = world.play(alloc, schedule)?;
-    let log = copies(alloc, world.log())?;
-    let tables = match world.gather() {
-        Ok(tables) => Some(tables),
-        Err(GatherFault::NotIdle) => None,
-        Err(GatherFault::NoMemory) => return Err(NoMemory),
-    };
+    let (log, tables) = world.close();
     Ok(Simulation { told, log, tables })
-}
-
-// Equal entries.
-fn copies(alloc: Global, entries: &[Entry]) -> Result<Vec<Entry>, NoMemory>
-    ensures { IfOk result (λ copies. copies.items ≡ entries.now) }
-{
-    let mut copies = Vec::with_capacity(alloc, entries.len())?;
-    for entry in entries {
-        copies.push(copy_of(entry)?)?;
-    }
-    Ok(copies)
-}
-
-fn copy_of(entry: &Entry) -> Result<Entry, NoMemory>
-    ensures { IfOk result (λ copy. copy ≡ entry.now) }
-{
-    Ok(Entry {
-        session: entry.session,
-        number: entry.number,
-        request: entry.request.try_clone()?,
-        reply: entry.reply.try_clone()?,
-    })
 }

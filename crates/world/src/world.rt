@@ -2,6 +2,7 @@ ghost use Rattle.std.specs.Prelude.{◌≡◌, ◌↔◌, [], ◌∷◌, length,
 ghost use Rattle.schema.specs.Database.{Database};
 ghost use Rattle.std.specs.Prelude.{List};
 ghost use Rattle.history.specs.History.{Step, step as one_step};
+ghost use Rattle.world.specs.Openings.{gathered};
 ghost use Rattle.world.specs.Sound.{flight};
 ghost use Rattle.world.specs.Worlds.{Advances, CannotHappen, Fits, HappenInTurn, Happens, IsAtRest, IsBusyExactly, steps_of, tables_now};
 
@@ -54,6 +55,17 @@ impl<J: commit_log::Naming + tickets::Naming> Model for World<J> {
     ghost view = { λ w. w.parts };
 
     ghost invariant = { λ w. IsSoundWith J.opening.scale nothing w.parts × (J.warehouses ≡ J.opening.scale.warehouses) };
+}
+
+impl<J: commit_log::Naming + tickets::Naming> Parts<J> {
+    // The log's entries, and the rows as they stand.
+    fn into_log_and_rows(self) -> (Vec<Entry>, Tables)
+        ensures log { result.0.items ≡ self.log }
+        ensures rows { result.1 ≡ self.slice.tables }
+    {
+        let Parts { slice, log, .. } = self;
+        (log.into_entries(), slice.into_tables())
+    }
 }
 
 /// Why no tables can be gathered.
@@ -113,6 +125,19 @@ impl<J: commit_log::Naming + tickets::Naming> World<J> {
             Ok(tables) => Ok(tables),
             Err(NoMemory) => Err(GatherFault::NoMemory),
         }
+    }
+
+    /// Ends the world, and gives its log, and the tables as the transactions of the log left them: `None`
+    /// exactly where a transaction is active. It takes no memory, and copies no entry and no row.
+    pub fn close(self) -> (Vec<Entry>, Option<Tables>)
+        ensures log { result.0.items ≡ self.log }
+        ensures tables { (opening : Database) (history : List Step) → Fits opening history self → result.1 ≡ gathered (is_some self.desk.active) (tables_now opening self.log) }
+        ensures idle { IsTrue (is_some result.1) ↔ (self.desk.active ≡ None) }
+        ensures at_rest { IsAtRest self → self.desk.active ≡ None }
+    {
+        let is_idle = self.parts.desk.active.is_none();
+        let (entries, tables) = self.parts.into_log_and_rows();
+        (entries, if is_idle { Some(tables) } else { None })
     }
 
     /// Whether no message can be taken and no item be sent. Then no transaction is active and no claim is

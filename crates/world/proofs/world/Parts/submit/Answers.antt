@@ -1,0 +1,47 @@
+use Rattle.std.proofs.Common.{◌≡◌, length, refl, sym, ap, ◌∙◌, arith, inl, true, false}
+use Rattle.std.specs.Prelude.{slice_get}
+use Rattle.world.specs.Worlds.{can_admit, is_served}
+use Rattle.world.proofs.Submitting.{can_ask, found, full, has_all, is_there, spent, submits, unrefused, unserved}
+use Rattle.world.proofs.world.Parts.submit.Goals as goal
+use Rattle.world.proofs.world.Parts.submit.Goals.{then-not-is_served-via-then-not-is_served, then-not-is_served-via-else-not-is_served+then-len-ge-INBOX, then-not-is_served-via-else-not-is_served+else-len-ge-INBOX+then-self}
+
+pub returns-then-not-is_served : goal.returns-then-not-is_served
+returns-then-not-is_served g c =
+    let old = c.args.self.now in
+    let asked = c.args.request.now in
+    let desk = c.in-Some.desk.now in
+    let looked = c.in-Some.ensures.lookup in
+    let at = found old.desk.sessions.items c.deref.result.now c.args.session desk c.deref.ensures.value looked.3.0 looked.1 in
+    let there = is_there desk.pass c.is_none.result c.is_none.ensures c.if-is_none.false in
+    let scale = c.scale.ensures.value ∙ ap (λ t. t.scale) c.tables.ensures.tables in
+    let none = unrefused desk asked old c.scale.result c.in_default-check.field-0 c.is_some.result there scale c.in_default-check.ensures c.is_some.ensures c.if-is_some.false in
+    let cannot : can_admit asked old ≡ false = elim c.then-not-is_served.branch [
+      | then-not-is_served-via-then-not-is_served w ↦ unserved (is_served asked) _ (sym c.is_served.ensures ∙ w.if-not-is_served.true)
+      | then-not-is_served-via-else-not-is_served+then-len-ge-INBOX w ↦ full (is_served asked) (length old.inbox) 1024 old.desk.admitted 18446744073709551615 (omega arith)
+      | then-not-is_served-via-else-not-is_served+else-len-ge-INBOX+then-self w ↦ spent (is_served asked) (length old.inbox) 1024 old.desk.admitted 18446744073709551615 (omega arith)
+    ] in
+    submits (slice_get old.desk.sessions.items c.args.session) desk c.args.session c.args.number asked old _ old false at none cannot (refl, refl)
+
+pub admit-requires-clause-here : goal.admit-requires-clause-here
+admit-requires-clause-here g c =
+    let desks = c.args.self.now.desk.sessions.items in
+    let desk = c.in-Some.desk.now in
+    let looked = c.in-Some.ensures.lookup in
+    can_ask (slice_get desks c.args.session) desk
+    (found desks c.deref.result.now c.args.session desk c.deref.ensures.value looked.3.0 looked.1)
+    (is_there desk.pass c.is_none.result c.is_none.ensures c.if-is_none.false)
+
+pub returns-in-Err-admit : goal.returns-in-Err-admit
+returns-in-Err-admit g c =
+    let old = c.args.self.now in
+    let asked = c.args.request.now in
+    let desk = c.in-Some.desk.now in
+    let looked = c.in-Some.ensures.lookup in
+    let at = found old.desk.sessions.items c.deref.result.now c.args.session desk c.deref.ensures.value looked.3.0 looked.1 in
+    let there = is_there desk.pass c.is_none.result c.is_none.ensures c.if-is_none.false in
+    let scale = c.scale.ensures.value ∙ ap (λ t. t.scale) c.tables.ensures.tables in
+    let none = unrefused desk asked old c.scale.result c.in_default-check.field-0 c.is_some.result there scale c.in_default-check.ensures c.is_some.ensures c.if-is_some.false in
+    let can : can_admit asked old ≡ true =
+    has_all (is_served asked) (length old.inbox) 1024 old.desk.admitted 18446744073709551615 (sym c.is_served.ensures ∙ c.if-not-is_served.false) (omega arith) (omega arith) in
+    submits (slice_get old.desk.sessions.items c.args.session) desk c.args.session c.args.number asked old c.refused-in-Err-admit.result c.admit.new.self true at none can
+    (inl (c.refused-in-Err-admit.ensures, c.in-Err-admit.ensures.err))
