@@ -1,5 +1,6 @@
 -- The middle one of a district's customers with a last name.
-use Rattle.std.proofs.Common.{◌≡◌, ℕ, zero, suc, ◌<◌, ◌-◌, ◌/◌, Bool, true, false, cond, T, get_or, filter, length, Contains, List, [], ◌∷◌, Some, refl, sym, ap, ◌∙◌, arith}
+use Rattle.std.proofs.Common.{◌≡◌, ℕ, zero, suc, ◌<◌, Bool, true, false, cond, T, get_or, filter, length, Contains, List, [], ◌∷◌, Some, refl, sym, ap, ◌∙◌, arith}
+use Rattle.std.proofs.lemmas.Bool.{eqb-true}
 use Rattle.std.proofs.lemmas.Bool.Decides.{nat_tests}
 use Rattle.std.specs.List.{find}
 use Rattle.std.specs.Ordering.{nat_cmp, ordering_then, ordering_reverse, is_lt}
@@ -43,7 +44,7 @@ then_last Greater y h = absurd cc
 -- at most one customer is the middle one
 pub one : (customers : List Keyed) (a b : Keyed) → IsMiddle customers a → IsMiddle customers b → a.0.c_id ≡ b.0.c_id
 one customers a b h g =
-    let same : length (filter (λ (other : Keyed). is_before other a) customers) ≡ length (filter (λ (other : Keyed). is_before other b) customers) = h.half_before ∙ sym g.half_before in
+    let same : length (filter (λ (other : Keyed). is_before other a) customers) ≡ length (filter (λ (other : Keyed). is_before other b) customers) = eqb-true _ _ h.half_before ∙ sym (eqb-true _ _ g.half_before) in
     elim (first_cmp a b) as (λ o. first_cmp a b ≡ o → a.0.c_id ≡ b.0.c_id) [
       | Less ↦ λ e. let more = fewer_before customers a b h.is_one e in absurd (omega arith)
       | Equal ↦ λ e. nat_cmp-IsAntisymmetric a.0.c_id b.0.c_id (then_last _ (nat_cmp a.0.c_id b.0.c_id) e)
@@ -95,11 +96,9 @@ module _ (customers : Customers) (home : DistrictKey) (last : List ℕ) where
       let all = namesakes customers home last in
       let held = is.1.is_one in
       let same_row : row ≡ is.0 = let at = its_row c held in cc in
-      let passes : is_middle all c ≡ true = let half = is.1.half_before in grind (arith, nat_tests) in
-      find_only (is_middle all) c passes all
+      find_only (is_middle all) c is.1.half_before all
       (λ y y_held y_passes.
-      let y_half : length (filter (λ other. is_before other y) all) ≡ (length all - 1) / 2 = grind (arith, nat_tests) in
-      let number_is : y.0.c_id ≡ number = one all y c (record { is_one = y_held; half_before = y_half }) is.1 in
+      let number_is : y.0.c_id ≡ number = one all y c (record { is_one = y_held; half_before = y_passes }) is.1 in
       let key_is : y.0 ≡ customer_key home number = its_key y y_held ∙ ap (customer_key home) number_is in
       let at = its_row y y_held in
       let c_at = its_row c held in

@@ -8,6 +8,7 @@ use Rattle.std.specs.Ordering.{nat_cmp, ordering_then, ordering_reverse, is_eq, 
 use Rattle.std.specs.Cmp.{IsTotalOrder, IsStrictWeakOrder, nat_cmp_total}
 use Rattle.std.specs.Cmp.Lexicographic.{nat_list_cmp_total}
 use Rattle.std.specs.FinMap.{IsAntisymmetric, slice_cmp-IsAntisymmetric, nat_cmp-IsAntisymmetric}
+use Rattle.std.proofs.lemmas.Bool.{eq-eqb}
 use Rattle.std.proofs.lemmas.Bool.Decides.{nat_tests}
 use Rattle.std.proofs.lemmas.Cmp.{on_total, then_total, tied_itself}
 use Rattle.std.proofs.lemmas.List.{get_or_default, nil_from_length}
@@ -309,7 +310,7 @@ module _ (rows : List Customer) (home : DistrictKey) (last : List ℕ) where
                 row,
                 record {
                   is_one = contains-filter (is_namesake home last) (numbered home 1 rows) (customer_key home (get_or run m 0 + 1), row) passes held.0 held.1 held.2;
-                  half_before = before ∙ (let half : m - from ≡ (length (namesakes_among rows home last) - 1) / 2 = omega (arith, many) in half);
+                  half_before = eq-eqb _ _ (before ∙ (let half : m - from ≡ (length (namesakes_among rows home last) - 1) / 2 = omega (arith, many) in half));
                 },
               )
         ] refl

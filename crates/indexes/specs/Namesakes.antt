@@ -1,5 +1,5 @@
 -- The customers of a district who share a last name, and the middle one of them (clauses 2.5.2.2 and 2.6.2.2).
-use Rattle.std.specs.Prelude.{◌≡◌, ℕ, ◌-◌, ◌/◌, Bool, ◌&&◌, ◌==◌, List, length, Option, find}
+use Rattle.std.specs.Prelude.{ℕ, ◌-◌, ◌/◌, Bool, ◌&&◌, ◌==◌, List, length, Option, find, IsTrue}
 use Rattle.std.specs.List.{filter, Contains}
 use Rattle.std.specs.declared.cmp.Ordering.{Ordering}
 use Rattle.std.specs.Ordering.{nat_cmp, ordering_then, is_lt, is_eq}
@@ -58,7 +58,7 @@ middle customers = find (is_middle customers) customers
 -- one of n customers, with exactly (n-1)/2 of them before it
 pub record IsMiddle (customers : List Keyed) (c : Keyed) : Type 0 where
   pub is_one : Contains customers c
-  pub half_before : length (filter (λ other. is_before other c) customers) ≡ (length customers - 1) / 2
+  pub half_before : IsTrue (is_middle customers c)
 
 -- the number of the middle one of the district's customers with that C_LAST
 abbrev pub IsMiddleOf : Customers → DistrictKey → List ℕ → ℕ → Type 0
