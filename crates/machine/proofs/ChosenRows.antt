@@ -1,5 +1,5 @@
 -- Who is chosen, by what the index and the tables tell.
-use Rattle.std.proofs.Common.{◌≡◌, ℕ, suc, ◌<◌, Bool, true, false, cond, List, [], ◌∷◌, length, Contains, Option, Some, None, sym, ap, ◌∙◌, arith}
+use Rattle.std.proofs.Common.{◌≡◌, ℕ, suc, ◌<◌, Bool, true, false, cond, List, [], ◌∷◌, length, Contains, Option, Some, None, MatchOption, sym, ap, ◌∙◌, arith}
 use Rattle.std.specs.List.{find}
 use Rattle.std.specs.Option.{option_map}
 use Rattle.std.specs.FinMap as map
@@ -13,15 +13,15 @@ use Rattle.requests.specs.declared.request.Choice.TheVariants.{Number, LastName}
 use Rattle.machine.specs.Chosen.{chosen, keyed_at}
 
 module _ (customers : Customers) (home : DistrictKey) (choice : Choice) where
-  pub by_number : (number n : ℕ) → number ≡ n → choice ≡ Number n → keyed_at customers (customer_key home number) ≡ chosen customers home choice
-  by_number number n same is = ap (λ k. keyed_at customers (customer_key home k)) same ∙ ap (chosen customers home) (sym is)
-
-  pub by_name : (last word : List ℕ) (number n : ℕ) → word ≡ last → number ≡ n → choice ≡ LastName last → IsMiddleOf customers home word n
-      → keyed_at customers (customer_key home number) ≡ chosen customers home choice
-  by_name last word number n same_name same is found =
+  -- of a last name the index tells the number
+  pub by_name : (last word : List ℕ) (number : Option ℕ) → word ≡ last → choice ≡ LastName last
+      → MatchOption number (namesakes customers home word ≡ []) (IsMiddleOf customers home word)
+      → MatchOption number (chosen customers home choice ≡ None) (λ n. keyed_at customers (customer_key home n) ≡ chosen customers home choice)
+  by_name last word None same_name is nobody =
+      ap (chosen customers home) is ∙ ap (λ w. middle (namesakes customers home w)) (sym same_name) ∙ ap middle nobody
+  by_name last word (Some n) same_name is found =
       let there : map.get customers (customer_key home n) ≡ Some found.0 = its_row customers home word (customer_key home n, found.0) found.1.is_one in
-      ap (λ k. keyed_at customers (customer_key home k)) same
-      ∙ ap (option_map (λ row. (customer_key home n, row))) there
+      ap (option_map (λ row. (customer_key home n, row))) there
       ∙ sym (middle_found customers home word n found.0 there found)
       ∙ ap (λ w. middle (namesakes customers home w)) same_name
       ∙ ap (chosen customers home) (sym is)

@@ -1,5 +1,6 @@
-ghost use Rattle.std.specs.Prelude.{◌≡◌};
+ghost use Rattle.std.specs.Prelude.{◌≡◌, None, MatchOption};
 ghost use Rattle.std.specs.Option.{option_map};
+ghost use Rattle.schema.specs.Scale.{customer_key};
 ghost use Rattle.indexes.specs.NameOrder.{FitsNames};
 ghost use Rattle.machine.specs.Chosen as spec;
 
@@ -18,14 +19,30 @@ pub fn chosen<'a>(
     requires { FitsNames names.now tables.now }
     ensures { option_map (λ c. (c.0, c.1.now)) result ≡ spec.chosen tables.now.customers home choice.now }
 {
-    let number = match choice {
-        Choice::Number(number) => *number,
-        Choice::LastName(last) => names.middle_of(tables, home, last.as_str())?,
-    };
+    let number = chosen_number(tables, names, home, choice)?;
     let key = CustomerKey {
         w_id: home.w_id,
         d_id: home.d_id,
         c_id: number,
     };
     Some((key, tables.customer(key)?))
+}
+
+// The C_ID at which the row of the chosen customer stands. Where nobody is chosen there is no number, or no
+// row at it.
+fn chosen_number(
+    tables: &Tables,
+    names: &NameIndex,
+    home: DistrictKey,
+    choice: &Choice,
+) -> Option<u32>
+    requires { FitsNames names.now tables.now }
+    ensures { MatchOption result
+        (spec.chosen tables.now.customers home choice.now ≡ None)
+        (λ number. spec.keyed_at tables.now.customers (customer_key home number) ≡ spec.chosen tables.now.customers home choice.now) }
+{
+    match choice {
+        Choice::Number(number) => Some(*number),
+        Choice::LastName(last) => names.middle_of(tables, home, last.as_str()),
+    }
 }
