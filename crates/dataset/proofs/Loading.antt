@@ -27,12 +27,12 @@ use Rattle.schema.specs.declared.table_rows.TableRows.{TableRows}
 use Rattle.schema.specs.Scale.{has_item, has_warehouse, has_district, has_stock, has_customer, district_keys, district_slot}
 use Rattle.schema.proofs.KeyOrders.{orders_total, lines_total}
 use Rattle.files.specs.declared.fields.Fields.{Fields}
-use Rattle.files.specs.Taken.{fault_of, fields_left}
+use Rattle.files.specs.Taken.{Takes, fault_of, fields_left}
 use Rattle.dataset.specs.declared.loader.Loader.{Loader}
 use Rattle.dataset.specs.declared.place.Place.{Place}
 use Rattle.dataset.specs.declared.place.Place.TheVariants as at
 use Rattle.dataset.specs.Order.{place_cmp, follows}
-use Rattle.dataset.specs.Taking.{Takes, Added}
+use Rattle.dataset.specs.Taking.{Added}
 use Rattle.dataset.specs.Payments.{Pays}
 use Rattle.dataset.specs.Records.{Field, Words, IsSpelt, AreSpelt, row_records, payment_records, header_fields, item_fields, warehouse_fields, district_fields, stock_fields, customer_fields, history_fields, order_fields, new_order_fields, line_fields}
 use Rattle.dataset.specs.Loading.{AreKeyed, HasLoaded, LoadsRow, entry_records, entry_places, places}
@@ -118,17 +118,17 @@ records-push fields es key row = map-append (λ e. fields e.0 e.1) es ((key, row
 
 -- a row's record, whose letter was taken, is one record more that was read
 pub loads_row : {X : Type 0} (letter : List ℕ) (l m : Loader) (columns : X → List Field) (key : List Field) (Placed : Type 0) (IsAdded : X → Type 0) (start keyed placed end : Fields)
-    → Takes key start keyed → (fault_of placed ≡ None → (fault_of keyed ≡ None) × Placed) → fields_left placed ≡ fields_left keyed → (fault_of end ≡ None → Added columns IsAdded placed)
+    → Takes start keyed (AreSpelt key) → (fault_of placed ≡ None → (fault_of keyed ≡ None) × Placed) → fields_left placed ≡ fields_left keyed → (fault_of end ≡ None → Added columns IsAdded placed)
     → ((row : X) (read : List (List (List ℕ))) (texts : List (List ℕ)) → HasLoaded l read → Placed → IsAdded row → AreSpelt (Words letter ∷ key ++ columns row) texts → HasLoaded m (read ++ (texts ∷ [])))
     → LoadsRow letter l m start end
 loads_row letter l m columns key Placed IsAdded start keyed placed end takes stands same adds load = record {
   well = λ none.
       let added = adds none in
       let stood = stands added.faultless in
-      let took = takes.well stood.0 in
+      let took = takes stood.0 in
       let texts : letter ∷ fields_left start ≡ letter ∷ took.texts ++ fields_left placed = ap (λ l. letter ∷ l) (took.left ∙ ap (λ l. took.texts ++ l) (sym same)) in
       let spelt : AreSpelt (Words letter ∷ key ++ columns added.row) (letter ∷ fields_left start) =
-      subst (AreSpelt (Words letter ∷ key ++ columns added.row)) (sym texts) (refl, all_zip-append IsSpelt key (columns added.row) took.texts (fields_left placed) took.are_spelt added.are_spelt) in
+      subst (AreSpelt (Words letter ∷ key ++ columns added.row)) (sym texts) (refl, all_zip-append IsSpelt key (columns added.row) took.texts (fields_left placed) took.are_said added.are_spelt) in
       (took.faultless, λ read h. load added.row read (letter ∷ fields_left start) h stood.1 added.is_added spelt);
 }
 

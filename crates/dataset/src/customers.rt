@@ -1,8 +1,8 @@
 ghost use Rattle.std.specs.Prelude.{◌≡◌, [], ◌∷◌, ◌++◌, None, IsTrue, OnOk};
 ghost use Rattle.schema.specs.Scale.{has_customer, customer_keys};
-ghost use Rattle.files.specs.Taken.{fault_of};
-ghost use Rattle.dataset.specs.Records.{customer_key_fields, customer_columns, customer_fields, account_fields};
-ghost use Rattle.dataset.specs.Taking.{Takes, Added};
+ghost use Rattle.files.specs.Taken.{fault_of, Takes};
+ghost use Rattle.dataset.specs.Records.{AreSpelt, customer_key_fields, customer_columns, customer_fields, account_fields};
+ghost use Rattle.dataset.specs.Taking.{Added};
 ghost use Rattle.dataset.specs.Writing.{Adds};
 
 use crate::added;
@@ -16,7 +16,7 @@ use schema::{NoMemory, Scale};
 /// Takes the key of a customer, three fields.
 pub fn key(fields: &mut Fields, scale: Scale) -> CustomerKey
     ensures known { IsTrue (has_customer scale result) }
-    ensures taken { Takes (customer_key_fields result) fields.old fields.new }
+    ensures taken { Takes fields.old fields.new (AreSpelt (customer_key_fields result)) }
 {
     CustomerKey {
         w_id: fields.whole(1, scale.warehouses),
@@ -34,7 +34,7 @@ pub fn add(fields: &mut Fields, customers: &mut Vec<Customer>) -> Result<(), NoM
 }
 
 fn parse(fields: &mut Fields) -> Customer
-    ensures { Takes (customer_columns result) fields.old fields.new }
+    ensures { Takes fields.old fields.new (AreSpelt (customer_columns result)) }
 {
     Customer {
         first: fields.text(),

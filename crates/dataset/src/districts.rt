@@ -1,8 +1,8 @@
 ghost use Rattle.std.specs.Prelude.{◌≡◌, [], ◌∷◌, ◌++◌, None, IsTrue, OnOk};
 ghost use Rattle.schema.specs.Scale.{has_district, district_keys};
-ghost use Rattle.files.specs.Taken.{fault_of};
-ghost use Rattle.dataset.specs.Records.{district_key_fields, district_columns, district_fields};
-ghost use Rattle.dataset.specs.Taking.{Takes, Added};
+ghost use Rattle.files.specs.Taken.{fault_of, Takes};
+ghost use Rattle.dataset.specs.Records.{AreSpelt, district_key_fields, district_columns, district_fields};
+ghost use Rattle.dataset.specs.Taking.{Added};
 ghost use Rattle.dataset.specs.Writing.{Adds};
 
 use crate::added;
@@ -15,7 +15,7 @@ use schema::{NoMemory, Scale};
 /// Takes the key of a district, two fields.
 pub fn key(fields: &mut Fields, scale: Scale) -> DistrictKey
     ensures known { IsTrue (has_district scale result) }
-    ensures taken { Takes (district_key_fields result) fields.old fields.new }
+    ensures taken { Takes fields.old fields.new (AreSpelt (district_key_fields result)) }
 {
     DistrictKey {
         w_id: fields.whole(1, scale.warehouses),
@@ -32,7 +32,7 @@ pub fn add(fields: &mut Fields, districts: &mut Vec<District>) -> Result<(), NoM
 }
 
 fn parse(fields: &mut Fields) -> District
-    ensures { Takes (district_columns result) fields.old fields.new }
+    ensures { Takes fields.old fields.new (AreSpelt (district_columns result)) }
 {
     District {
         name: fields.text(),

@@ -1,6 +1,6 @@
 ghost use Rattle.std.specs.Prelude.{[], ◌∷◌, length, map, sum, OnOk};
-ghost use Rattle.dataset.specs.Records.{Number};
-ghost use Rattle.dataset.specs.Taking.{Takes};
+ghost use Rattle.files.specs.Taken.{Takes};
+ghost use Rattle.dataset.specs.Records.{AreSpelt, Number};
 ghost use Rattle.dataset.specs.Writing.{Adds, count_fields, row_counts};
 
 use crate::histories;
@@ -10,7 +10,7 @@ use schema::{HistoryList, NoMemory, TableRows};
 /// Takes the counts of an end record, from its second field on; `WrongCount` where one is not that of
 /// the rows read.
 pub fn check(fields: &mut Fields, rows: &TableRows)
-    ensures { Takes (row_counts rows.now) fields.old fields.new }
+    ensures { Takes fields.old fields.new (AreSpelt (row_counts rows.now)) }
 {
     fields.expect_count(rows.items.len() as u64);
     fields.expect_count(rows.warehouses.len() as u64);
@@ -25,7 +25,7 @@ pub fn check(fields: &mut Fields, rows: &TableRows)
 
 // Takes the count of HISTORY. A field can't have the number of more payments than a `u64` counts.
 fn check_payments(fields: &mut Fields, lists: &[HistoryList])
-    ensures { Takes (Number (sum (map length lists.now)) ∷ []) fields.old fields.new }
+    ensures { Takes fields.old fields.new (AreSpelt (Number (sum (map length lists.now)) ∷ [])) }
 {
     match u64::try_from(histories::count(lists)) {
         Ok(count) => fields.expect_count(count),

@@ -1,11 +1,11 @@
 ghost use Rattle.std.specs.Prelude.{◌≡◌, ◌≤◌, ◌<◌, ◌+◌, ◌^◌, [], ◌∷◌, ◌++◌, length, map, sum, Some, None, IsTrue, OnOk};
 ghost use Rattle.std.specs.List.{zip};
 ghost use Rattle.schema.specs.Scale.{has_district, district_keys, district_slot};
-ghost use Rattle.files.specs.Taken.{fields_left, fault_of};
+ghost use Rattle.files.specs.Taken.{fields_left, fault_of, Takes};
 ghost use Rattle.files.specs.Written.{IsBetweenRecords};
 ghost use Rattle.dataset.specs.Payments.{Opens, Pays};
-ghost use Rattle.dataset.specs.Records.{history_columns, history_fields, payment_records};
-ghost use Rattle.dataset.specs.Taking.{Takes, Added};
+ghost use Rattle.dataset.specs.Records.{AreSpelt, history_columns, history_fields, payment_records};
+ghost use Rattle.dataset.specs.Taking.{Added};
 ghost use Rattle.dataset.specs.Writing.{Writes};
 
 use crate::moments::put_moment;
@@ -40,7 +40,7 @@ pub fn add(
 }
 
 fn parse(fields: &mut Fields, scale: Scale) -> History
-    ensures { Takes (history_columns result) fields.old fields.new }
+    ensures { Takes fields.old fields.new (AreSpelt (history_columns result)) }
 {
     History {
         customer: customers::key(fields, scale),

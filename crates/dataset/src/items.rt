@@ -1,8 +1,8 @@
 ghost use Rattle.std.specs.Prelude.{◌≡◌, [], ◌∷◌, ◌++◌, None, IsTrue, OnOk};
 ghost use Rattle.schema.specs.Scale.{has_item, item_ids};
-ghost use Rattle.files.specs.Taken.{fault_of};
-ghost use Rattle.dataset.specs.Records.{Number, item_columns, item_fields};
-ghost use Rattle.dataset.specs.Taking.{Takes, Added};
+ghost use Rattle.files.specs.Taken.{fault_of, Takes};
+ghost use Rattle.dataset.specs.Records.{AreSpelt, Number, item_columns, item_fields};
+ghost use Rattle.dataset.specs.Taking.{Added};
 
 use crate::added;
 use crate::recorded::{Dense, Recorded};
@@ -13,7 +13,7 @@ use schema::{NoMemory, Scale};
 /// Takes I_ID, the second field of a record of ITEM.
 pub fn key(fields: &mut Fields, scale: Scale) -> u32
     ensures known { IsTrue (has_item scale result) }
-    ensures taken { Takes (Number result ∷ []) fields.old fields.new }
+    ensures taken { Takes fields.old fields.new (AreSpelt (Number result ∷ [])) }
 {
     fields.whole(1, scale.items)
 }
@@ -27,7 +27,7 @@ pub fn add(fields: &mut Fields, items: &mut Vec<Item>) -> Result<(), NoMemory>
 }
 
 fn parse(fields: &mut Fields) -> Item
-    ensures { Takes (item_columns result) fields.old fields.new }
+    ensures { Takes fields.old fields.new (AreSpelt (item_columns result)) }
 {
     Item {
         im_id: fields.ranged(),

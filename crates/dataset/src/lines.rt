@@ -3,9 +3,9 @@ ghost use Rattle.std.specs.BTreeMap.{insert_entry};
 ghost use Rattle.rows.specs.Keys.{line_cmp};
 ghost use Rattle.schema.specs.Scale.{has_district};
 ghost use Rattle.schema.specs.Database.{is_order_id, is_line_number};
-ghost use Rattle.files.specs.Taken.{fault_of};
-ghost use Rattle.dataset.specs.Records.{Number, delivery_field, line_columns, line_fields};
-ghost use Rattle.dataset.specs.Taking.{Takes, Added};
+ghost use Rattle.files.specs.Taken.{fault_of, Takes};
+ghost use Rattle.dataset.specs.Records.{AreSpelt, Number, delivery_field, line_columns, line_fields};
+ghost use Rattle.dataset.specs.Taking.{Added};
 ghost use Rattle.dataset.specs.Writing.{Adds};
 
 use crate::moments::put_moment;
@@ -21,7 +21,7 @@ pub fn key(fields: &mut Fields, scale: Scale) -> OrderLineKey
     ensures district { IsTrue (has_district scale (record { w_id = result.w_id; d_id = result.d_id })) }
     ensures order { IsTrue (is_order_id result.o_id) }
     ensures number { IsTrue (is_line_number result.number) }
-    ensures taken { Takes (Number result.w_id ∷ Number result.d_id ∷ Number result.o_id ∷ Number result.number ∷ []) fields.old fields.new }
+    ensures taken { Takes fields.old fields.new (AreSpelt (Number result.w_id ∷ Number result.d_id ∷ Number result.o_id ∷ Number result.number ∷ [])) }
 {
     OrderLineKey {
         w_id: fields.whole(1, scale.warehouses),
@@ -45,7 +45,7 @@ pub fn add(
 }
 
 fn parse(fields: &mut Fields, scale: Scale) -> OrderLine
-    ensures { Takes (line_columns result) fields.old fields.new }
+    ensures { Takes fields.old fields.new (AreSpelt (line_columns result)) }
 {
     OrderLine {
         i_id: fields.whole(1, scale.items),
@@ -59,7 +59,7 @@ fn parse(fields: &mut Fields, scale: Scale) -> OrderLine
 
 // Takes OL_DELIVERY_D, which is null where the field is empty.
 fn delivery(fields: &mut Fields) -> Option<Moment>
-    ensures { Takes (delivery_field result ∷ []) fields.old fields.new }
+    ensures { Takes fields.old fields.new (AreSpelt (delivery_field result ∷ [])) }
 {
     fields.optional_moment()
 }

@@ -3,9 +3,9 @@ ghost use Rattle.std.specs.BTreeMap.{insert_entry};
 ghost use Rattle.rows.specs.Keys.{order_cmp};
 ghost use Rattle.schema.specs.Scale.{has_district};
 ghost use Rattle.schema.specs.Database.{is_order_id};
-ghost use Rattle.files.specs.Taken.{fault_of};
-ghost use Rattle.dataset.specs.Records.{Number, carrier_field, order_key_fields, order_columns, order_fields};
-ghost use Rattle.dataset.specs.Taking.{Takes, Added};
+ghost use Rattle.files.specs.Taken.{fault_of, Takes};
+ghost use Rattle.dataset.specs.Records.{AreSpelt, Number, carrier_field, order_key_fields, order_columns, order_fields};
+ghost use Rattle.dataset.specs.Taking.{Added};
 ghost use Rattle.dataset.specs.Writing.{Adds};
 
 use crate::moments::put_moment;
@@ -19,7 +19,7 @@ use std::collections::BTreeMap;
 pub fn key(fields: &mut Fields, scale: Scale) -> OrderKey
     ensures district { IsTrue (has_district scale (record { w_id = result.w_id; d_id = result.d_id })) }
     ensures number { IsTrue (is_order_id result.o_id) }
-    ensures taken { Takes (order_key_fields result) fields.old fields.new }
+    ensures taken { Takes fields.old fields.new (AreSpelt (order_key_fields result)) }
 {
     OrderKey {
         w_id: fields.whole(1, scale.warehouses),
@@ -52,14 +52,14 @@ pub fn add(
 
 // Takes O_CARRIER_ID, which is null where the field is empty.
 fn carrier(fields: &mut Fields) -> Option<CarrierId>
-    ensures { Takes (carrier_field result ∷ []) fields.old fields.new }
+    ensures { Takes fields.old fields.new (AreSpelt (carrier_field result ∷ [])) }
 {
     fields.optional_ranged()
 }
 
 // Takes O_ALL_LOCAL.
 fn is_all_local(fields: &mut Fields) -> bool
-    ensures { Takes (Number (if result then 1 else 0) ∷ []) fields.old fields.new }
+    ensures { Takes fields.old fields.new (AreSpelt (Number (if result then 1 else 0) ∷ [])) }
 {
     fields.whole(0, 1) == 1
 }

@@ -1,8 +1,8 @@
 ghost use Rattle.std.specs.Prelude.{◌≡◌, [], ◌∷◌, ◌++◌, map, None, IsTrue, OnOk};
 ghost use Rattle.schema.specs.Scale.{has_stock, stock_keys};
-ghost use Rattle.files.specs.Taken.{fault_of};
-ghost use Rattle.dataset.specs.Records.{Words, Number, stock_columns, stock_fields};
-ghost use Rattle.dataset.specs.Taking.{Takes, Added};
+ghost use Rattle.files.specs.Taken.{fault_of, Takes};
+ghost use Rattle.dataset.specs.Records.{AreSpelt, Words, Number, stock_columns, stock_fields};
+ghost use Rattle.dataset.specs.Taking.{Added};
 ghost use Rattle.dataset.specs.Writing.{Adds};
 
 use crate::added;
@@ -14,7 +14,7 @@ use schema::{NoMemory, Scale};
 /// Takes the key of a record of STOCK, its second and third field.
 pub fn key(fields: &mut Fields, scale: Scale) -> StockKey
     ensures known { IsTrue (has_stock scale result) }
-    ensures taken { Takes (Number result.w_id ∷ Number result.i_id ∷ []) fields.old fields.new }
+    ensures taken { Takes fields.old fields.new (AreSpelt (Number result.w_id ∷ Number result.i_id ∷ [])) }
 {
     StockKey {
         w_id: fields.whole(1, scale.warehouses),
@@ -31,7 +31,7 @@ pub fn add(fields: &mut Fields, stocks: &mut Vec<Stock>) -> Result<(), NoMemory>
 }
 
 fn parse(fields: &mut Fields) -> Stock
-    ensures { Takes (stock_columns result) fields.old fields.new }
+    ensures { Takes fields.old fields.new (AreSpelt (stock_columns result)) }
 {
     Stock {
         quantity: fields.ranged(),
@@ -45,7 +45,7 @@ fn parse(fields: &mut Fields) -> Stock
 
 // Takes S_DIST_01 to S_DIST_10.
 fn district_infos(fields: &mut Fields) -> [Text<24>; 10]
-    ensures { Takes (map (λ text. Words text) result) fields.old fields.new }
+    ensures { Takes fields.old fields.new (AreSpelt (map (λ text. Words text) result)) }
 {
     [
         fields.text(),

@@ -1,8 +1,8 @@
 ghost use Rattle.std.specs.Prelude.{◌≡◌, [], ◌∷◌, ◌++◌, None, IsTrue, OnOk};
 ghost use Rattle.schema.specs.Scale.{has_warehouse, warehouse_ids};
-ghost use Rattle.files.specs.Taken.{fault_of};
-ghost use Rattle.dataset.specs.Records.{Number, address_fields, warehouse_columns, warehouse_fields};
-ghost use Rattle.dataset.specs.Taking.{Takes, Added};
+ghost use Rattle.files.specs.Taken.{fault_of, Takes};
+ghost use Rattle.dataset.specs.Records.{AreSpelt, Number, address_fields, warehouse_columns, warehouse_fields};
+ghost use Rattle.dataset.specs.Taking.{Added};
 ghost use Rattle.dataset.specs.Writing.{Adds};
 
 use crate::added;
@@ -14,7 +14,7 @@ use schema::{NoMemory, Scale};
 /// Takes W_ID, the second field of a record of WAREHOUSE.
 pub fn key(fields: &mut Fields, scale: Scale) -> u32
     ensures known { IsTrue (has_warehouse scale result) }
-    ensures taken { Takes (Number result ∷ []) fields.old fields.new }
+    ensures taken { Takes fields.old fields.new (AreSpelt (Number result ∷ [])) }
 {
     fields.whole(1, scale.warehouses)
 }
@@ -28,7 +28,7 @@ pub fn add(fields: &mut Fields, warehouses: &mut Vec<Warehouse>) -> Result<(), N
 }
 
 fn parse(fields: &mut Fields) -> Warehouse
-    ensures { Takes (warehouse_columns result) fields.old fields.new }
+    ensures { Takes fields.old fields.new (AreSpelt (warehouse_columns result)) }
 {
     Warehouse {
         name: fields.text(),
@@ -40,7 +40,7 @@ fn parse(fields: &mut Fields) -> Warehouse
 
 /// Takes the five fields of an address.
 pub fn address(fields: &mut Fields) -> Address
-    ensures { Takes (address_fields result) fields.old fields.new }
+    ensures { Takes fields.old fields.new (AreSpelt (address_fields result)) }
 {
     Address {
         street_1: fields.text(),

@@ -25,3 +25,14 @@ TakesWell old new field = fault_of new ≡ None → (fault_of old ≡ None) × (
 -- the same of several fields
 abbrev pub TakesAll : Fields → Fields → List (List ℕ) → Type 0
 TakesAll old new taken = fault_of new ≡ None → (fault_of old ≡ None) × (fields_left old ≡ taken ++ fields_left new)
+
+-- no fault was known before, and texts were taken of which this is said
+pub record Took (old new : Fields) (AreSaid : List (List ℕ) → Type 0) : Type 0 where
+  pub faultless : fault_of old ≡ None
+  pub texts : List (List ℕ)
+  pub are_said : AreSaid texts
+  pub left : fields_left old ≡ texts ++ fields_left new
+
+-- the same, where no fault is known afterwards
+abbrev pub Takes : Fields → Fields → (List (List ℕ) → Type 0) → Type 0
+Takes old new AreSaid = fault_of new ≡ None → Took old new AreSaid

@@ -2,7 +2,6 @@ pub mod RequestFields
 pub mod ChoiceLaws
 pub mod ReplyFields
 pub mod Numbered
-pub mod Taking
 pub mod Listing
 pub mod Script
 pub mod Schedule

@@ -1,8 +1,7 @@
 ghost use Rattle.std.specs.Prelude.{◌≡◌, ◌≢◌, ℕ, List, [], ◌∷◌, Some, None, IfOk, IfSome, IfNone};
 ghost use Rattle.files.specs.Place.{HasRead, IsCsv, record_fields};
-ghost use Rattle.files.specs.Taken.{fault_of};
+ghost use Rattle.files.specs.Taken.{fault_of, Takes};
 ghost use Rattle.terminals.specs.Listing.{IsListing, end_fields};
-ghost use Rattle.terminals.specs.Taking.{TakesFields};
 
 use files::{FaultKind, Fields, FileError, Records};
 use schema::NoMemory;
@@ -22,7 +21,7 @@ pub trait Listed: Drop {
         first: &str,
         fields: &mut Fields,
     ) -> Result<Option<Self>, NoMemory>
-        ensures taken { IfOk result (λ taken. IfSome taken (λ item. TakesFields fields.old fields.new (λ said. is_record place item (first.now ∷ said)))) }
+        ensures taken { IfOk result (λ taken. IfSome taken (λ item. Takes fields.old fields.new (λ said. is_record place item (first.now ∷ said)))) }
         ensures unknown { IfOk result (λ taken. IfNone taken (fault_of fields.new ≢ None)) };
 }
 

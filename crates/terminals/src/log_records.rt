@@ -3,11 +3,10 @@ ghost use Rattle.std.specs.Fmt.{decimal};
 ghost use Rattle.std.specs.Io.KnownBytes.{Appends};
 ghost use Rattle.csv.specs.Records.{fields_of};
 ghost use Rattle.files.specs.Place.{IsCsv};
-ghost use Rattle.files.specs.Taken.{fields_left, fault_of, TakesWell};
+ghost use Rattle.files.specs.Taken.{fields_left, fault_of, TakesWell, Takes};
 ghost use Rattle.files.specs.Written.{csv_text};
 ghost use Rattle.terminals.specs.LogRecord.{IsLog, IsLogRecord};
 ghost use Rattle.terminals.specs.RequestFields.{IsRequest};
-ghost use Rattle.terminals.specs.Taking.{TakesFields};
 
 use crate::listing::Listed;
 use crate::{listing, reply, request};
@@ -109,7 +108,7 @@ fn pass_over_rest(fields: &mut Fields)
 // Takes the fields of a request, with its letter; another number of them than `count` is noted as
 // `WrongShape`. `None` where the letter is unknown, which is noted so too.
 fn take_request(count: u64, fields: &mut Fields) -> Option<Request>
-    ensures taken { IfSome result (λ request. TakesFields fields.old fields.new (λ asked. IsRequest request asked × (length asked ≡ count))) }
+    ensures taken { IfSome result (λ request. Takes fields.old fields.new (λ asked. IsRequest request asked × (length asked ≡ count))) }
     ensures unknown { IfNone result (fault_of fields.new ≢ None) }
 {
     let letter = fields.word();

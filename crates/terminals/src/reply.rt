@@ -1,7 +1,6 @@
 ghost use Rattle.std.specs.Prelude.{◌≡◌, ◌≢◌, ℕ, List, ◌∷◌, ◌++◌, None, OnOk, IfOk, IfSome, IfNone, codes};
-ghost use Rattle.files.specs.Taken.{fault_of, TakesWell};
+ghost use Rattle.files.specs.Taken.{fault_of, TakesWell, Takes};
 ghost use Rattle.terminals.specs.ReplyFields.{IsReply, fault_text, payment_reply_fields};
-ghost use Rattle.terminals.specs.Taking.{TakesFields};
 
 use crate::status_reply;
 use files::{FaultKind, Fields, NewRecord, credit_word};
@@ -12,7 +11,7 @@ use std::alloc::Global;
 /// Takes the fields of a reply that come after its letter. `None` where the letter is unknown, or what
 /// comes after `X` is no fault, which is noted as `WrongShape`. Only the lines of an order take memory.
 pub fn take(alloc: Global, letter: &str, fields: &mut Fields) -> Result<Option<Reply>, NoMemory>
-    ensures taken { IfOk result (λ taken. IfSome taken (λ reply. TakesFields fields.old fields.new (λ said. IsReply reply (letter.now ∷ said)))) }
+    ensures taken { IfOk result (λ taken. IfSome taken (λ reply. Takes fields.old fields.new (λ said. IsReply reply (letter.now ∷ said)))) }
     ensures unknown { IfOk result (λ taken. IfNone taken (fault_of fields.new ≢ None)) }
 {
     match letter {
@@ -33,7 +32,7 @@ pub fn take(alloc: Global, letter: &str, fields: &mut Fields) -> Result<Option<R
 }
 
 fn take_payment(fields: &mut Fields) -> PaymentReply
-    ensures { TakesFields fields.old fields.new (λ said. codes "P" ∷ said ≡ payment_reply_fields result) }
+    ensures { Takes fields.old fields.new (λ said. codes "P" ∷ said ≡ payment_reply_fields result) }
 {
     PaymentReply {
         c_id: fields.whole(0, u32::MAX),

@@ -1,8 +1,7 @@
 ghost use Rattle.std.specs.Prelude.{◌≡◌, ◌≢◌, ℕ, List, [], ◌∷◌, ◌++◌, length, None, OnOk, IfSome, IfNone, codes};
 ghost use Rattle.std.specs.Fmt.{decimal};
-ghost use Rattle.files.specs.Taken.{fault_of, TakesAll};
+ghost use Rattle.files.specs.Taken.{fault_of, TakesAll, Takes};
 ghost use Rattle.terminals.specs.RequestFields.{IsRequest};
-ghost use Rattle.terminals.specs.Taking.{TakesFields};
 
 use crate::choice;
 use crate::listing::Listed;
@@ -27,7 +26,7 @@ impl Listed for Request {
 /// Takes the fields of a request that come after its letter. `None` where the letter is unknown, which
 /// is noted as `WrongShape`.
 pub fn take(letter: &str, fields: &mut Fields) -> Option<Request>
-    ensures taken { IfSome result (λ request. TakesFields fields.old fields.new (λ said. IsRequest request (letter.now ∷ said))) }
+    ensures taken { IfSome result (λ request. Takes fields.old fields.new (λ said. IsRequest request (letter.now ∷ said))) }
     ensures unknown { IfNone result (fault_of fields.new ≢ None) }
 {
     match letter {
@@ -41,7 +40,7 @@ pub fn take(letter: &str, fields: &mut Fields) -> Option<Request>
 }
 
 fn take_payment(fields: &mut Fields) -> Payment
-    ensures { TakesFields fields.old fields.new (λ said. IsRequest (Request.Payment result) (codes "P" ∷ said)) }
+    ensures { Takes fields.old fields.new (λ said. IsRequest (Request.Payment result) (codes "P" ∷ said)) }
 {
     Payment {
         home: take_district(fields),
@@ -53,7 +52,7 @@ fn take_payment(fields: &mut Fields) -> Payment
 }
 
 fn take_order_status(fields: &mut Fields) -> OrderStatus
-    ensures { TakesFields fields.old fields.new (λ said. IsRequest (Request.OrderStatus result) (codes "O" ∷ said)) }
+    ensures { Takes fields.old fields.new (λ said. IsRequest (Request.OrderStatus result) (codes "O" ∷ said)) }
 {
     OrderStatus {
         home: take_district(fields),

@@ -1,8 +1,7 @@
 ghost use Rattle.std.specs.Prelude.{◌≡◌, ◌≢◌, ℕ, List, ◌∷◌, Some, None, codes, IfOk, IfSome, IfNone};
 ghost use Rattle.files.specs.Place.{IsCsv};
-ghost use Rattle.files.specs.Taken.{fault_of};
+ghost use Rattle.files.specs.Taken.{fault_of, Takes};
 ghost use Rattle.terminals.specs.Schedule.{IsSchedule, IsScheduleRecord};
-ghost use Rattle.terminals.specs.Taking.{TakesFields};
 
 use crate::listing::Listed;
 use crate::{listing, request};
@@ -37,7 +36,7 @@ impl Listed for Scheduled {
 }
 
 fn take(letter: &str, fields: &mut Fields) -> Option<Scheduled>
-    ensures taken { IfSome result (λ item. TakesFields fields.old fields.new (λ said. IsScheduleRecord item (letter.now ∷ said))) }
+    ensures taken { IfSome result (λ item. Takes fields.old fields.new (λ said. IsScheduleRecord item (letter.now ∷ said))) }
     ensures unknown { IfNone result (fault_of fields.new ≢ None) }
 {
     match letter {
@@ -58,7 +57,7 @@ fn take(letter: &str, fields: &mut Fields) -> Option<Scheduled>
 
 // Takes the session, the number and the request; `None` where the request's letter is unknown.
 fn take_submit(fields: &mut Fields) -> Option<Scheduled>
-    ensures taken { IfSome result (λ item. TakesFields fields.old fields.new (λ said. IsScheduleRecord item (codes "S" ∷ said))) }
+    ensures taken { IfSome result (λ item. Takes fields.old fields.new (λ said. IsScheduleRecord item (codes "S" ∷ said))) }
     ensures unknown { IfNone result (fault_of fields.new ≢ None) }
 {
     let session = fields.whole(0, u32::MAX);

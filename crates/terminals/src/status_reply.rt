@@ -1,7 +1,6 @@
 ghost use Rattle.std.specs.Prelude.{◌≡◌, ℕ, List, [], ◌∷◌, ◌++◌, None, OnOk, IfOk, codes};
-ghost use Rattle.files.specs.Taken.{TakesWell};
+ghost use Rattle.files.specs.Taken.{TakesWell, Takes};
 ghost use Rattle.terminals.specs.ReplyFields.{IsNullableMoment, IsReply, IsStatusLine, IsStatusOrder, AreStatusLines, nullable_text};
-ghost use Rattle.terminals.specs.Taking.{TakesFields};
 
 use files::{FaultKind, Fields, NewRecord, moment_text};
 use requests::{Lines, OrderStatusReply, Reply, StatusLine, StatusOrder};
@@ -13,7 +12,7 @@ const LINE_FIELDS: usize = 5;
 
 /// Takes the fields of a reply of Order-Status that come after its letter, to the end of the record.
 pub fn take(alloc: Global, fields: &mut Fields) -> Result<OrderStatusReply, NoMemory>
-    ensures { IfOk result (λ shown. TakesFields fields.old fields.new (λ said. IsReply (Reply.OrderStatus shown) (codes "O" ∷ said))) }
+    ensures { IfOk result (λ shown. Takes fields.old fields.new (λ said. IsReply (Reply.OrderStatus shown) (codes "O" ∷ said))) }
 {
     Ok(OrderStatusReply {
         c_id: fields.whole(0, u32::MAX),
@@ -28,7 +27,7 @@ pub fn take(alloc: Global, fields: &mut Fields) -> Result<OrderStatusReply, NoMe
 // Takes what is shown of an order, with as many lines as the record has left; `None` where there is no
 // order, and O_ID is empty.
 fn take_order(alloc: Global, fields: &mut Fields) -> Result<Option<StatusOrder>, NoMemory>
-    ensures { IfOk result (λ order. TakesFields fields.old fields.new (IsStatusOrder order)) }
+    ensures { IfOk result (λ order. Takes fields.old fields.new (IsStatusOrder order)) }
 {
     if fields.next_is_empty() {
         take_no_order(fields);
@@ -52,7 +51,7 @@ fn take_order(alloc: Global, fields: &mut Fields) -> Result<Option<StatusOrder>,
 
 // Takes the three empty fields that stand for no order.
 fn take_no_order(fields: &mut Fields)
-    ensures { TakesFields fields.old fields.new (IsStatusOrder None) }
+    ensures { Takes fields.old fields.new (IsStatusOrder None) }
 {
     take_null(fields);
     take_null(fields);
@@ -69,7 +68,7 @@ fn take_null(fields: &mut Fields)
 }
 
 fn take_line(fields: &mut Fields) -> StatusLine
-    ensures { TakesFields fields.old fields.new (IsStatusLine result) }
+    ensures { Takes fields.old fields.new (IsStatusLine result) }
 {
     StatusLine {
         i_id: fields.whole(0, u32::MAX),

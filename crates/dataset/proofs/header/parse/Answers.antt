@@ -10,11 +10,12 @@ returns-in-None c =
     let name = same_word c.word.result.now (codes "TPCC") c.ne.result c.ne.ensures c.if-ne.false in
     let version = same_word c.word-else-ne.result.now (codes "1") c.ne-else-ne.result c.ne-else-ne.ensures c.if-ne-2.false ∙ sym (decimal_digit 1 (lit< tt)) in
     let whole = c.finish.ensures.well c.in-None.is in
-    let takes = takes-then (takes-one (Words (codes "TPCC")) c.word.result.now c.word.new.self name c.word.ensures.taken)
+    header_spelt c.ok_or.result c.checked_new.result OutOfRange c.whole-warehouses.result c.whole-items.result c.whole-customers.result _ c.ok_or.ensures.value
+    c.checked_new.ensures.warehouses c.checked_new.ensures.items c.checked_new.ensures.customers
+    (all_spelt c.args.fields.now c.whole-customers.new.self
+    (takes-then (takes-one (Words (codes "TPCC")) c.word.result.now c.word.new.self name c.word.ensures.taken)
     (takes-then (takes-one (Number 1) c.word-else-ne.result.now c.word-else-ne.new.self version c.word-else-ne.ensures.taken)
     (takes-then (takes-number c.whole-warehouses.result c.whole-warehouses.new.self c.whole-warehouses.ensures.taken)
     (takes-then (takes-number c.whole-items.result c.whole-items.new.self c.whole-items.ensures.taken)
-    (takes-number c.whole-customers.result c.whole-customers.new.self c.whole-customers.ensures.taken)))) in
-    header_spelt c.ok_or.result c.checked_new.result OutOfRange c.whole-warehouses.result c.whole-items.result c.whole-customers.result _ c.ok_or.ensures.value
-    c.checked_new.ensures.warehouses c.checked_new.ensures.items c.checked_new.ensures.customers
-    (all_spelt _ c.args.fields.now c.whole-customers.new.self (takes.well whole.1) whole.0)
+    (takes-number c.whole-customers.result c.whole-customers.new.self c.whole-customers.ensures.taken)))))
+    whole.1 whole.0)

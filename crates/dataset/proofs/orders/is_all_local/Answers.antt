@@ -3,4 +3,5 @@ use Rattle.dataset.proofs.Taking.{takes-flag}
 use Rattle.dataset.proofs.orders.is_all_local.Goals as goal
 
 pub returns : goal.returns
-returns c = takes-flag c.whole.result _ (omega (arith, c.whole.ensures.range)) refl c.whole.ensures.taken
+returns c =
+    (takes-flag c.whole.result _ (omega (arith, c.whole.ensures.range)) refl c.whole.ensures.taken).well

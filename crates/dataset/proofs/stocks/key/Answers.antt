@@ -3,5 +3,5 @@ use Rattle.dataset.proofs.stocks.key.Goals as goal
 
 pub returns-clause-taken : goal.returns-clause-taken
 returns-clause-taken c =
-    takes-then (takes-number c.whole.result c.whole.new.self c.whole.ensures.taken)
-    (takes-number c.whole-2.result c.whole-2.new.self c.whole-2.ensures.taken)
+    (takes-then (takes-number c.whole.result c.whole.new.self c.whole.ensures.taken)
+    (takes-number c.whole-2.result c.whole-2.new.self c.whole-2.ensures.taken)).well

@@ -6,4 +6,4 @@ pub returns-in-Some-clause-taken : goal.returns-in-Some-clause-taken
 returns-in-Some-clause-taken c = λ none.
     let taken = c.in-Some.ensures.taken none in
     let fault : List ℕ = fault_text c.in-Some.fault in
-    (taken.0, (fault ∷ [], ap (λ (l : List ℕ). l ∷ fault ∷ []) c.in-X.is, taken.1))
+    record { faultless = taken.0; texts = fault ∷ []; are_said = ap (λ (l : List ℕ). l ∷ fault ∷ []) c.in-X.is; left = taken.1 }

@@ -18,4 +18,4 @@ returns c = λ none.
     let money = discount.1 ∙ ap (λ l. decimal c.rate.result ∷ l) (balance.1 ∙ ap (λ l. signed_decimal c.cents.result ∷ l) «data».1) in
     let rest = credit.1 ∙ ap (λ l. credit_text c.credit.result ∷ l) money in
     let names = first.1 ∙ ap (λ l. c.text.result ∷ l) (middle.1 ∙ ap (λ l. c.text-2.result ∷ l) (last.1 ∙ ap (λ l. c.text-3.result ∷ l) rest)) in
-    (number.0, (name (after_name (c.text-4.result ∷ [])), refl, number.1 ∙ ap (λ l. decimal c.whole.result ∷ l) names))
+    record { faultless = number.0; texts = name (after_name (c.text-4.result ∷ [])); are_said = refl; left = number.1 ∙ ap (λ l. decimal c.whole.result ∷ l) names }

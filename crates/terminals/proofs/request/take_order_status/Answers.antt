@@ -8,4 +8,4 @@ returns c = λ none.
     let who = c.take.ensures.taken none in
     let home = c.take_district.ensures who.0 in
     let at_home : List (List ℕ) → List (List ℕ) = λ l. decimal c.take_district.result.w_id ∷ decimal c.take_district.result.d_id ∷ l in
-    (home.0, (at_home (choice_text c.take.result ∷ []), refl, home.1 ∙ ap at_home who.1))
+    record { faultless = home.0; texts = at_home (choice_text c.take.result ∷ []); are_said = refl; left = home.1 ∙ ap at_home who.1 }

@@ -16,4 +16,4 @@ returns c = λ none.
     let paid : List (List ℕ) → List (List ℕ) = λ l. choice_text c.take.result ∷ decimal c.whole.result ∷ l in
     let asked = at_home (at_customer (paid (text ∷ []))) in
     let all = home.1 ∙ ap at_home (away.1 ∙ ap at_customer (who.1 ∙ ap (λ l. choice_text c.take.result ∷ l) (amount.1 ∙ ap (λ l. decimal c.whole.result ∷ l) moment.1.2))) in
-    (home.0, (asked, (text, moment.1.1, refl), all))
+    record { faultless = home.0; texts = asked; are_said = (text, moment.1.1, refl); left = all }

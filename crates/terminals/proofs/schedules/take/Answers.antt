@@ -1,15 +1,15 @@
-use Rattle.std.proofs.Common.{◌≡◌, ℕ, List, [], ◌∷◌, ◌++◌, None, ap}
+use Rattle.std.proofs.Common.{◌≡◌, ℕ, List, [], ◌∷◌, ap}
 use Rattle.std.specs.Fmt.{decimal}
 use Rattle.files.specs.declared.fields.Fields.{Fields}
-use Rattle.files.specs.Taken.{TakesWell, fault_of, fields_left}
+use Rattle.files.specs.Taken.{TakesWell, Takes}
 use Rattle.terminals.proofs.schedules.take.Goals as goal
 
 -- a letter and an executor
 executor_was_read : (letter wanted : List ℕ) (executor : ℕ) (old new : Fields) → letter ≡ wanted → TakesWell old new (decimal executor)
-    → fault_of new ≡ None → (fault_of old ≡ None) × ((said : List (List ℕ)) × (letter ∷ said ≡ wanted ∷ decimal executor ∷ []) × (fields_left old ≡ said ++ fields_left new))
+    → Takes old new (λ said. letter ∷ said ≡ wanted ∷ decimal executor ∷ [])
 executor_was_read letter wanted executor old new is taken none =
     let read = taken none in
-    (read.0, (decimal executor ∷ [], ap (λ (l : List ℕ). l ∷ decimal executor ∷ []) is, read.1))
+    record { faultless = read.0; texts = decimal executor ∷ []; are_said = ap (λ (l : List ℕ). l ∷ decimal executor ∷ []) is; left = read.1 }
 
 pub returns-in-T-clause-taken : goal.returns-in-T-clause-taken
 returns-in-T-clause-taken c = executor_was_read _ _ c.whole.result c.args.fields.now c.whole.new.self c.in-T.is c.whole.ensures.taken

@@ -15,4 +15,4 @@ returns c = λ none.
     let line = decimal c.whole.result ∷ decimal c.whole-2.result ∷ decimal c.ranged.result ∷ decimal c.ranged-2.result ∷ text ∷ [] in
     let last = amount.1 ∙ ap (λ l. decimal c.ranged-2.result ∷ l) delivery.1.2 in
     let rest = supply.1 ∙ ap (λ l. decimal c.whole-2.result ∷ l) (quantity.1 ∙ ap (λ l. decimal c.ranged.result ∷ l) last) in
-    (item.0, (line, (text, delivery.1.1, refl), item.1 ∙ ap (λ l. decimal c.whole.result ∷ l) rest))
+    record { faultless = item.0; texts = line; are_said = (text, delivery.1.1, refl); left = item.1 ∙ ap (λ l. decimal c.whole.result ∷ l) rest }

@@ -11,28 +11,28 @@ use Rattle.terminals.proofs.status_reply.take_order.Goals as goal
 pub loop-init : goal.loop-init
 loop-init c = λ none.
     let are : List StatusLine → Type 0 = λ lines. AreStatusLines lines [] in
-    (none, ([], subst are (sym c.new-lines.ensures.items) lines-none, refl))
+    record { faultless = none; texts = []; are_said = subst are (sym c.new-lines.ensures.items) lines-none; left = refl }
 
 pub loop-preserved : goal.loop-preserved
 loop-preserved c = λ none.
     let line = c.take_line-line.ensures none in
-    let before = c.loop.invariant line.0 in
-    let said = before.1.0 in
-    let more : List (List ℕ) = line.1.0 in
+    let before = c.loop.invariant line.faultless in
+    let said = before.texts in
+    let more : List (List ℕ) = line.texts in
     let are : List StatusLine → Type 0 = λ lines. AreStatusLines lines (said ++ more) in
-    let all = lines-push c.loop.lines.items said c.take_line-line.result more before.1.1 line.1.1 in
-    let left = before.1.2 ∙ ap (λ l. said ++ l) line.1.2 ∙ sym (append_assoc said more (fields_left c.take_line-line.new.fields)) in
-    (before.0, (said ++ more, subst are (sym c.in_ok-push.ensures.items) all, left))
+    let all = lines-push c.loop.lines.items said c.take_line-line.result more before.are_said line.are_said in
+    let left = before.left ∙ ap (λ l. said ++ l) line.left ∙ sym (append_assoc said more (fields_left c.take_line-line.new.fields)) in
+    record { faultless = before.faultless; texts = said ++ more; are_said = subst are (sym c.in_ok-push.ensures.items) all; left = left }
 
 pub returns : goal.returns
 returns c = λ none.
     let lines = c.loop.invariant none in
-    let carrier = number_was_taken c.moment-entry_d.new.self c.optional_ranged-carrier_id.new.self c.optional_ranged-carrier_id.result c.optional_ranged-carrier_id.ensures lines.0 in
+    let carrier = number_was_taken c.moment-entry_d.new.self c.optional_ranged-carrier_id.new.self c.optional_ranged-carrier_id.result c.optional_ranged-carrier_id.ensures lines.faultless in
     let entry = c.moment-entry_d.ensures.taken carrier.0 in
     let number = c.whole-o_id.ensures.taken entry.0 in
-    let are : List StatusLine → Type 0 = λ l. AreStatusLines l lines.1.0 in
-    let shown = subst are (sym c.new.ensures) lines.1.1 in
+    let are : List StatusLine → Type 0 = λ l. AreStatusLines l lines.texts in
+    let shown = subst are (sym c.new.ensures) lines.are_said in
     let carrier_text = nullable_text c.optional_ranged-carrier_id.result in
-    let said = decimal c.whole-o_id.result ∷ entry.1.0 ∷ carrier_text ∷ lines.1.0 in
-    let left = number.1 ∙ ap (λ l. decimal c.whole-o_id.result ∷ l) (entry.1.2 ∙ ap (λ l. entry.1.0 ∷ l) (carrier.1 ∙ ap (λ l. carrier_text ∷ l) lines.1.2)) in
-    (number.0, (said, (entry.1.0, entry.1.1, lines.1.0, shown, refl), left))
+    let said = decimal c.whole-o_id.result ∷ entry.1.0 ∷ carrier_text ∷ lines.texts in
+    let left = number.1 ∙ ap (λ l. decimal c.whole-o_id.result ∷ l) (entry.1.2 ∙ ap (λ l. entry.1.0 ∷ l) (carrier.1 ∙ ap (λ l. carrier_text ∷ l) lines.left)) in
+    record { faultless = number.0; texts = said; are_said = (entry.1.0, entry.1.1, lines.texts, shown, refl); left = left }
