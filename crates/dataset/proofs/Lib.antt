@@ -8,3 +8,9 @@ pub mod Taking
 pub mod Payments
 pub mod Loading
 pub mod Finished
+pub mod FieldTexts
+pub mod RowTexts
+pub mod Parts
+pub mod PaymentTexts
+pub mod TableEntries
+pub mod Told

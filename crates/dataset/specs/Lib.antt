@@ -4,3 +4,5 @@ pub mod Taking
 pub mod Payments
 pub mod Order
 pub mod Loading
+pub mod Ranges
+pub mod RecordLaws

@@ -18,6 +18,7 @@ mod end;
 mod header;
 mod histories;
 mod items;
+mod laws;
 mod lines;
 mod loader;
 mod moments;
@@ -31,6 +32,7 @@ mod warehouses;
 mod writer;
 
 pub use files::{FaultKind, FileError, FileFault};
+pub use laws::different_tables_have_different_records;
 pub use reader::read;
 pub use writer::write;
 

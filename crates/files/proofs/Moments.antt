@@ -1,5 +1,5 @@
 -- `jiff` reads what it writes of a date and time.
-use Rattle.std.proofs.Common.{◌≡◌, ℕ, pos, ◌*ℤ◌, List, Result, Ok, Err, sym, ap, ◌∙◌, arith}
+use Rattle.std.proofs.Common.{◌≡◌, ℕ, pos, ◌*ℤ◌, List, [], ◌∷◌, ◌++◌, None, Result, Ok, Err, sym, ap, ◌∙◌, arith}
 use Rattle.jiff.specs.Names.{iso_datetime_text}
 use Rattle.jiff_core.specs.DateTime.{civil_nanos, civil_seconds}
 use Rattle.jiff_core.proofs.DateTimeLemmas.{civil_nanos-civil_seconds}
@@ -8,7 +8,8 @@ use Rattle.jiff_core.specs.declared.civil.datetime.DateTime.{DateTime}
 use Rattle.jiff_core.specs.declared.error.Error.{Error}
 use Rattle.jiff_fmt.specs.Temporal.{DateParts, TimeParts, date_parts, time_parts, datetime_view, parse_datetime}
 use Rattle.jiff_fmt.proofs.RoundTrip.{parse_datetime-datetime_text}
-use Rattle.files.specs.MomentText.{Spells}
+use Rattle.jiff_fmt.specs.Text.{date_text, time_text}
+use Rattle.files.specs.MomentText.{Spells, IsMomentText}
 
 text-parts : (a b : DateTime) → date_parts a.date ≡ date_parts b.date → time_parts a.time ≡ time_parts b.time → iso_datetime_text a ≡ iso_datetime_text b
 text-parts a b d t = rw (
@@ -61,3 +62,25 @@ whole_seconds moment seconds e =
     let parts = civil_nanos-civil_seconds moment in
     let small = moment.time.subsec_in in
     (omega (arith, signed_arith), omega (arith, signed_arith))
+
+-- a text spells one moment alone
+pub same_moment : (text : List ℕ) (a b : ℕ) → IsMomentText text a → IsMomentText text b → a ≡ b
+same_moment text a b h g =
+    let one = ap parse_datetime (sym h.1.is_text) ∙ parse_datetime-datetime_text h.0 in
+    let other = ap parse_datetime (sym g.1.is_text) ∙ parse_datetime-datetime_text g.0 in
+    let same = sym one ∙ other in
+    let pair : (date_parts h.0.date, time_parts h.0.time) ≡ (date_parts g.0.date, time_parts g.0.time) = cc in
+    let d : date_parts h.0.date ≡ date_parts g.0.date = ap (λ (p : DateParts × TimeParts). p.0) pair in
+    let t : time_parts h.0.time ≡ time_parts g.0.time = ap (λ (p : DateParts × TimeParts). p.1) pair in
+    same_pos a b (sym h.1.is_second ∙ seconds-parts h.0 g.0 d t ∙ g.1.is_second)
+  where
+    same_pos : (m n : ℕ) → pos m ≡ pos n → m ≡ n
+    same_pos m n e = cc
+
+not_empty : (xs ys : List ℕ) (y : ℕ) → xs ++ (y ∷ ys) ≡ [] → ⊥
+not_empty [] ys y e = cc
+not_empty (x ∷ xs) ys y e = cc
+
+-- and is not empty
+pub some_moment_text : (seconds : ℕ) → IsMomentText [] seconds → ⊥
+some_moment_text seconds h = not_empty (date_text h.0.date) (time_text None h.0.time) 84 h.1.is_text

@@ -84,3 +84,7 @@ signed-parsed {E} (c ∷ cs) r h number z e =
 pub is_number-signed : (z : ℤ) → FitsSigned w64 z → is_number (signed_decimal z) ≡ true
 is_number-signed (pos n) h = is_number-decimal n (omega arith)
 is_number-signed (negsuc n) h = positive-decimal (suc n) (omega arith) (omega arith)
+
+-- a number's spelling is not empty
+pub some_digits : (n : ℕ) → n < 2 ^ 64 → decimal n ≡ [] → ⊥
+some_digits n h e = let no : false ≡ true = sym (ap is_number e) ∙ is_number-decimal n h in cc

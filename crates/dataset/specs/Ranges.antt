@@ -1,0 +1,116 @@
+-- The ranges of the columns (clause 1.3.1): what the types of rows keep of every value.
+use Rattle.std.specs.Prelude.{◌≡◌, ◌<◌, ◌≤◌, ℕ, List, length, IfSome}
+use Rattle.std.specs.List.{AllByRecursion}
+use Rattle.std.specs.FinMap as table
+use Rattle.amounts.specs.Money.{IsMoney}
+use Rattle.rows.specs.Text.{IsText}
+use Rattle.rows.specs.declared.records.Address.{Address}
+use Rattle.rows.specs.declared.records.Item.{Item}
+use Rattle.rows.specs.declared.records.Warehouse.{Warehouse}
+use Rattle.rows.specs.declared.records.District.{District}
+use Rattle.rows.specs.declared.records.Stock.{Stock}
+use Rattle.rows.specs.declared.records.Customer.{Customer}
+use Rattle.rows.specs.declared.records.History.{History}
+use Rattle.rows.specs.declared.records.Order.{Order}
+use Rattle.rows.specs.declared.records.OrderLine.{OrderLine}
+use Rattle.schema.specs.Database.{Database}
+
+-- ---- of a column
+
+-- from low to high, both included
+abbrev pub IsFrom : ℕ → ℕ → ℕ → Type 0
+IsFrom low high number = (low ≤ number) × (number ≤ high)
+
+-- a count that only grows
+abbrev pub IsCounter : ℕ → Type 0
+IsCounter number = IsFrom 0 999999999 number
+
+-- a rate, in ten-thousandths
+abbrev pub IsRate : ℕ → Type 0
+IsRate number = number < 10000
+
+-- a date and time before the year 10000, in seconds after 1970 began
+abbrev pub IsMoment : ℕ → Type 0
+IsMoment seconds = seconds ≤ 253402300799
+
+-- ---- of a row
+
+pub record AddressInRange (a : Address) : Type 0 where
+  pub street_1 : IsText 20 a.street_1
+  pub street_2 : IsText 20 a.street_2
+  pub city : IsText 20 a.city
+  pub state : IsText 2 a.state
+  pub zip : IsText 9 a.zip
+
+pub record ItemInRange (row : Item) : Type 0 where
+  pub im_id : IsFrom 1 10000 row.im_id
+  pub name : IsText 24 row.name
+  pub price : IsFrom 1 99999 row.price
+  pub item_data : IsText 50 row.data
+
+pub record WarehouseInRange (row : Warehouse) : Type 0 where
+  pub name : IsText 10 row.name
+  pub address : AddressInRange row.address
+  pub tax : IsRate row.tax
+  pub ytd : IsMoney row.ytd
+
+pub record DistrictInRange (row : District) : Type 0 where
+  pub name : IsText 10 row.name
+  pub address : AddressInRange row.address
+  pub tax : IsRate row.tax
+  pub ytd : IsMoney row.ytd
+  pub next_o_id : IsFrom 1 10000000 row.next_o_id
+
+-- a row of STOCK has ten texts, S_DIST_01 to S_DIST_10
+pub record StockInRange (row : Stock) : Type 0 where
+  pub quantity : IsFrom 10 100 row.quantity
+  pub dists : length row.dist ≡ 10
+  pub dist : AllByRecursion (IsText 24) row.dist
+  pub ytd : IsCounter row.ytd
+  pub order_cnt : IsCounter row.order_cnt
+  pub remote_cnt : IsCounter row.remote_cnt
+  pub stock_data : IsText 50 row.data
+
+pub record CustomerInRange (row : Customer) : Type 0 where
+  pub first : IsText 16 row.first
+  pub middle : IsText 2 row.middle
+  pub last : IsText 16 row.last
+  pub address : AddressInRange row.address
+  pub phone : IsText 16 row.phone
+  pub since : IsMoment row.since
+  pub credit_lim : IsMoney row.credit_lim
+  pub discount : IsRate row.discount
+  pub balance : IsMoney row.balance
+  pub ytd_payment : IsMoney row.ytd_payment
+  pub payment_cnt : IsCounter row.payment_cnt
+  pub delivery_cnt : IsCounter row.delivery_cnt
+  pub customer_data : IsText 500 row.data
+
+pub record HistoryInRange (row : History) : Type 0 where
+  pub date : IsMoment row.date
+  pub amount : IsMoney row.amount
+  pub history_data : IsText 24 row.data
+
+pub record OrderInRange (row : Order) : Type 0 where
+  pub entry_d : IsMoment row.entry_d
+  pub carrier_id : IfSome row.carrier_id (IsFrom 1 10)
+  pub ol_cnt : IsFrom 1 15 row.ol_cnt
+
+pub record LineInRange (row : OrderLine) : Type 0 where
+  pub delivery_d : IfSome row.delivery_d IsMoment
+  pub quantity : IsFrom 1 10 row.quantity
+  pub amount : IsFrom 0 999999 row.amount
+  pub dist_info : IsText 24 row.dist_info
+
+-- ---- of all rows
+
+-- each row of each table; what rows refer to by number has its range by the scale
+pub record InRange (t : Database) : Type 0 where
+  pub items : AllByRecursion ItemInRange (table.values t.items)
+  pub warehouses : AllByRecursion WarehouseInRange (table.values t.warehouses)
+  pub districts : AllByRecursion DistrictInRange (table.values t.districts)
+  pub stocks : AllByRecursion StockInRange (table.values t.stocks)
+  pub customers : AllByRecursion CustomerInRange (table.values t.customers)
+  pub histories : AllByRecursion (AllByRecursion HistoryInRange) (table.values t.histories)
+  pub orders : AllByRecursion OrderInRange (table.values t.orders)
+  pub lines : AllByRecursion LineInRange (table.values t.lines)

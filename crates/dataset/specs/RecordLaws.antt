@@ -1,0 +1,11 @@
+-- What the records of tables tell.
+use Rattle.std.specs.Prelude.{◌≡◌, ℕ, List}
+use Rattle.schema.specs.Database.{Database, IsWithinScale}
+use Rattle.dataset.specs.Records.{AreRecords}
+use Rattle.dataset.specs.Ranges.{InRange}
+
+-- different tables have different records
+abbrev pub RecordsTellTables : Type 0
+RecordsTellTables =
+    (t u : Database) → IsWithinScale t → IsWithinScale u → InRange t → InRange u
+    → (rows : List (List (List ℕ))) → AreRecords t rows → AreRecords u rows → t ≡ u
