@@ -2,3 +2,4 @@ pub mod Groups
 pub mod Content
 pub mod Footprint
 pub mod Laws
+pub mod Wants

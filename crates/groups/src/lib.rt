@@ -1,10 +1,11 @@
-//! The groups of rows that are locked as one: which row belongs to which, what a group has, and which
-//! groups a request claims. Clauses named are those of TPC-C 5.11.
+//! The groups of rows that are locked as one: which row belongs to which, what a group has, which groups a
+//! request claims, and which claims conflict. Clauses named are those of TPC-C 5.11.
 #![tactic(auto)]
 
 mod content;
 mod grouping;
 mod laws;
+mod wants;
 mod wishes;
 
 pub use content::Content;
@@ -13,4 +14,8 @@ pub use laws::{
     contents_make_tables, each_put_changes_one_group, each_row_stands_in_one_group,
     footprints_ascend, groups_are_ordered, items_stand_in_no_group,
 };
+pub use wants::{Extent, Kind, Prefix, Want, kind_of, warehouse_of};
 pub use wishes::{Mode, Wish, footprint};
+
+#[cfg(test)]
+mod tests;

@@ -1,0 +1,111 @@
+use super::*;
+use requests::{Choice, Group, OrderStatus, Payment, Request};
+use schema::{DistrictKey, Moment};
+use std::test::Fail;
+
+fn district(w_id: u32, d_id: u32) -> DistrictKey {
+    DistrictKey { w_id, d_id }
+}
+
+fn wish(group: Group, mode: Mode) -> Wish {
+    Wish { group, mode }
+}
+
+#[test]
+fn a_payment_claims_what_it_changes(rt: HostRuntime) -> Result<(), Fail> {
+    let payment = Request::Payment(Payment {
+        home: district(1, 2),
+        customer_home: district(3, 4),
+        customer: Choice::Number(5),
+        amount: 100,
+        moment: Moment::new(0),
+    });
+    let claimed = [
+        wish(Group::Warehouse { w_id: 1 }, Mode::Exclusive),
+        wish(Group::District { w_id: 1, d_id: 2 }, Mode::Exclusive),
+        wish(Group::Customers { w_id: 3, d_id: 4 }, Mode::Exclusive),
+        wish(Group::History { w_id: 1, d_id: 2 }, Mode::Exclusive),
+    ];
+    let wishes = footprint(rt.alloc(), &payment)?;
+    assert_eq!(rt; wishes.as_slice(), claimed.as_slice());
+    Ok(())
+}
+
+#[test]
+fn a_status_claims_what_it_reads(rt: HostRuntime) -> Result<(), Fail> {
+    let status = Request::OrderStatus(OrderStatus {
+        home: district(1, 10),
+        customer: Choice::Number(5),
+    });
+    let claimed = [
+        wish(Group::Customers { w_id: 1, d_id: 10 }, Mode::Shared),
+        wish(Group::Orders { w_id: 1, d_id: 10 }, Mode::Shared),
+    ];
+    let wishes = footprint(rt.alloc(), &status)?;
+    assert_eq!(rt; wishes.as_slice(), claimed.as_slice());
+    Ok(())
+}
+
+const ORDERS: Extent = Extent::Every(Prefix {
+    kind: Kind::Orders,
+    w_id: 1,
+});
+
+#[test]
+fn a_prefix_covers_its_kind_and_warehouse(rt: HostRuntime) {
+    let want = Want {
+        extent: ORDERS,
+        mode: Mode::Shared,
+    };
+    for (group, is_covered) in [
+        (Group::Orders { w_id: 1, d_id: 1 }, true),
+        (Group::Orders { w_id: 1, d_id: 10 }, true),
+        (Group::Orders { w_id: 2, d_id: 1 }, false),
+        (Group::Customers { w_id: 1, d_id: 1 }, false),
+        (Group::History { w_id: 1, d_id: 1 }, false),
+        (Group::Warehouse { w_id: 1 }, false),
+    ] {
+        assert_eq!(rt; want.covers(group), is_covered, "at {group:?}");
+    }
+}
+
+#[test]
+fn an_exclusive_want_conflicts_where_they_overlap(rt: HostRuntime) {
+    let own = Extent::One(Group::Orders { w_id: 1, d_id: 1 });
+    let other = Extent::One(Group::Orders { w_id: 1, d_id: 2 });
+    let stock = Extent::Every(Prefix {
+        kind: Kind::Stock,
+        w_id: 1,
+    });
+    for (one, two, overlap) in [
+        (own, own, true),
+        (own, other, false),
+        (own, ORDERS, true),
+        (ORDERS, other, true),
+        (ORDERS, ORDERS, true),
+        (ORDERS, stock, false),
+        (stock, own, false),
+    ] {
+        for (one_mode, two_mode, is_exclusive) in [
+            (Mode::Shared, Mode::Shared, false),
+            (Mode::Shared, Mode::Exclusive, true),
+            (Mode::Exclusive, Mode::Shared, true),
+            (Mode::Exclusive, Mode::Exclusive, true),
+        ] {
+            let one = Want {
+                extent: one,
+                mode: one_mode,
+            };
+            let two = Want {
+                extent: two,
+                mode: two_mode,
+            };
+            assert_eq!(rt; one.overlaps(two), overlap, "{one:?} and {two:?}");
+            assert_eq!(rt;
+                one.conflicts(two),
+                overlap && is_exclusive,
+                "{one:?} and {two:?}"
+            );
+        }
+    }
+}
