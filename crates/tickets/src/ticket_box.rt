@@ -56,6 +56,13 @@ impl<J: Naming> TicketBox<J> {
         self.group
     }
 
+    /// `Exclusive` while an exclusive claim is out, and else `Shared`.
+    pub fn mode(&self) -> Mode
+        ensures { result ≡ self.now.mode }
+    {
+        self.mode
+    }
+
     /// A shared claim, unless an exclusive claim or eight shared ones are out.
     pub fn share(&mut self) -> Option<Claim<J>>
         ensures free { IfSome result (λ _. (self.old.mode ≡ Shared) × (self.old.shared < 8)) }
