@@ -5,7 +5,7 @@ ghost use Rattle.wait_die.specs.Verdicts.{IsOldest, IsVerdict};
 pub type Age = u64;
 
 /// An action that holds a claim: its transaction's age, and its place among the transaction's actions.
-#[derive(Clone, Copy, Debug, PartialEq, Eq)]
+#[derive(Clone, Copy, Debug, Default, PartialEq, Eq)]
 pub struct Holder {
     pub age: Age,
     pub place: u32,
