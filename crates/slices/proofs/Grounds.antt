@@ -10,8 +10,9 @@ use Rattle.schema.specs.declared.scale.Scale.{Scale}
 use Rattle.indexes.specs.NameLaws.{SameNames}
 use Rattle.requests.specs.declared.group.Group.{Group}
 use Rattle.groups.specs.Content.{Content, content}
+use Rattle.groups.specs.declared.wishes.Mode.{Mode}
 use Rattle.groups.specs.declared.wishes.Mode.TheVariants.{Shared, Exclusive}
-use Rattle.tickets.specs.Boxes.{Boxed, lent, with_left, taken_back}
+use Rattle.tickets.specs.Boxes.{Boxed, with_left, taken_back}
 use Rattle.tickets.specs.Places.{IsGroupOf, place_of}
 use Rattle.tickets.proofs.OnePlace.{place_injective, place_inside}
 use Rattle.slices.specs.declared.kept.Kept.{Kept}
@@ -113,15 +114,16 @@ undone t place ground next own box undo =
     } in
     subst (λ x. P x next.undo) (sym box) (subst (P (with_left b b.back)) (sym undo) h)
 
--- a claim goes out
-pub granted : (t : Database) (place : ℕ) (ground next : Grounded) → IsGroundOf t place ground → ground.ticket_box.mode ≡ Shared
-    → next.ticket_box ≡ lent ground.ticket_box.group ground.ticket_box.left → next.undo ≡ ground.undo → IsGroundOf t place next
-granted t place ground next own shared box undo =
+-- a claim goes out, of whatever kind, and so many shared ones are out now
+pub granted : (t : Database) (place : ℕ) (ground next : Grounded) (mode : Mode) (shared : ℕ) → IsGroundOf t place ground → ground.ticket_box.mode ≡ Shared
+    → next.ticket_box ≡ record { group = ground.ticket_box.group; mode = mode; shared = shared; left = ground.ticket_box.left; back = ground.ticket_box.left } → next.undo ≡ ground.undo → IsGroundOf t place next
+granted t place ground next mode shared own idle box undo =
     let b = ground.ticket_box in
-    let none : ground.undo ≡ [] = own.idle shared in
+    let given : Boxed = record { group = b.group; mode = mode; shared = shared; left = b.left; back = b.left } in
+    let none : ground.undo ≡ [] = own.idle idle in
     let P : Boxed → List Kept → Type 0 = λ b undo. IsGroundOf t place (grounded b undo next.room next.holder) in
-    let h : P (lent b.group b.left) [] = record { known = own.known; place = own.place; left = own.left; back = refl; kept = All-nil (IsKeptOf t b.group); idle = λ _. refl } in
-    subst (λ x. P x next.undo) (sym box) (subst (P (lent b.group b.left)) (sym (undo ∙ none)) h)
+    let h : P given [] = record { known = own.known; place = own.place; left = own.left; back = refl; kept = All-nil (IsKeptOf t b.group); idle = λ _. refl } in
+    subst (λ x. P x next.undo) (sym box) (subst (P given) (sym (undo ∙ none)) h)
 
 -- a claim comes back
 pub given_back : (t : Database) (place : ℕ) (ground next : Grounded) → IsGroundOf t place ground

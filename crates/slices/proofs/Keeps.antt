@@ -1,8 +1,12 @@
 -- What each call of a slice keeps.
-use Rattle.std.proofs.Common.{◌≡◌, ◌≢◌, ◌⊎◌, ℕ, ◌+◌, ◌-◌, ◌<◌, ◌≤◌, List, [], ◌∷◌, ◌++◌, length, get_or, set, map, refl, sym, ap, subst, ◌∙◌, arith, inl, inr, Result, Ok, Err, IfOk, IfErr, OnOk, OnErr}
+use Rattle.std.proofs.Common.{◌≡◌, ◌≢◌, ◌⊎◌, ℕ, ◌+◌, ◌-◌, ◌<◌, ◌≤◌, List, [], ◌∷◌, ◌++◌, length, get_or, set, map, refl, sym, ap, subst, ◌∙◌, arith, inl, inr, Some, Result, Ok, Err, IfOk, IfErr, OnOk, OnErr}
 use Rattle.std.proofs.lemmas.List.{get_or-map, map-set, length-map}
+use Rattle.schema.specs.Consistency.{greatest}
 use Rattle.schema.specs.Database.{Database}
+use Rattle.schema.specs.Scale.{customer_slot}
 use Rattle.schema.specs.declared.scale.Scale.{Scale}
+use Rattle.indexes.specs.LatestIndex.{FitsLatest}
+use Rattle.indexes.specs.LatestOrder.{Orders, order_numbers}
 use Rattle.indexes.specs.NameLaws.{SameNames}
 use Rattle.indexes.specs.NameOrder.{FitsNames}
 use Rattle.indexes.proofs.Names.{same_names_fit}
@@ -10,7 +14,7 @@ use Rattle.requests.specs.declared.group.Group.{Group}
 use Rattle.groups.specs.Content.{Content, content}
 use Rattle.groups.specs.declared.wishes.Mode.{Mode}
 use Rattle.groups.specs.declared.wishes.Mode.TheVariants.{Shared, Exclusive}
-use Rattle.tickets.specs.Boxes.{tickets_home, lent, with_left, taken_back}
+use Rattle.tickets.specs.Boxes.{tickets_home, lent, sharing, with_left, taken_back}
 use Rattle.tickets.specs.Claims.{Claiming, fresh, leaving}
 use Rattle.tickets.specs.Committed.{tickets_held, KeepsCommitted}
 use Rattle.tickets.specs.Laws.{IsGrant, IsWrite, IsGivenBack}
@@ -24,7 +28,7 @@ use Rattle.slices.specs.Undo.{all_put_back, all_put_back_in}
 use Rattle.slices.proofs.Homes.{free_here, free_set, free_elsewhere}
 use Rattle.slices.proofs.Grounds.{ground_at, one_ground, same_ground, same_homes, stepped, undone, granted, given_back}
 use Rattle.slices.proofs.Names.{same_names, all_names}
-use Rattle.slices.proofs.Steps.{IsStep, all_changes, all_scale, all_items}
+use Rattle.slices.proofs.Steps.{IsStep, all_changes, all_scale, all_items, all_orders}
 
 -- ---- a write
 
@@ -79,27 +83,32 @@ leave_keeps t new grounds place ground roomy next was now own kept change are kn
     (box ∙ (λ i. with_left (same_box i) (content new (same_group i))))
     (undo ∙ ap (λ u. u ++ kept ∷ []) same_undo)
 
+-- an index of latest orders fits on where no order changed
+pub same_orders_fit : (latest : List ℕ) (t new : Database) → new.scale ≡ t.scale → new.orders ≡ t.orders → FitsLatest latest t → FitsLatest latest new
+same_orders_fit latest t new scale orders fits customer slot at =
+    fits customer slot (ap (λ (s : Scale). customer_slot s customer) (sym scale) ∙ at) ∙ ap (λ (rows : Orders). Some (greatest (order_numbers rows customer))) (sym orders)
+
 -- what a slice always is
-abbrev pub IsSlice : ℕ → Database → List (List ℕ) → List Grounded → Type 0
-IsSlice warehouses t names grounds = (t.scale.warehouses ≡ warehouses) × AreGroundsOf t grounds × FitsNames names t
+abbrev pub IsSlice : ℕ → Database → List (List ℕ) → List ℕ → List Grounded → Type 0
+IsSlice warehouses t names latest grounds = (t.scale.warehouses ≡ warehouses) × AreGroundsOf t grounds × FitsNames names t × FitsLatest latest t
 
 -- what a row that is put in its place makes of the slice and of the claim
-pub record IsPut (warehouses : ℕ) (t new : Database) (names : List (List ℕ)) (grounds later : List Grounded) (was now : Claiming) (change : Content → Content) : Type 0 where
-  pub invariant : IsSlice warehouses new names later
+pub record IsPut (warehouses : ℕ) (t new : Database) (names : List (List ℕ)) (latest : List ℕ) (grounds later : List Grounded) (was now : Claiming) (change : Content → Content) : Type 0 where
+  pub invariant : IsSlice warehouses new names latest later
   pub claim : now ≡ leaving was (change was.left)
   pub keeps : SliceKeeps (was ∷ []) (sliced t grounds) (now ∷ []) (sliced new later)
 
-pub put_keeps : (warehouses : ℕ) (t new : Database) (names : List (List ℕ)) (grounds : List Grounded) (place : ℕ) (ground roomy next : Grounded) (was now : Claiming) (own group : Group) (kept : Kept) (change : Content → Content)
-    → IsSlice warehouses t names grounds → IsGroupOf warehouses was.group → place ≡ place_of was.group → was.group ≡ group → was.mode ≡ Exclusive
+pub put_keeps : (warehouses : ℕ) (t new : Database) (names : List (List ℕ)) (latest : List ℕ) (grounds : List Grounded) (place : ℕ) (ground roomy next : Grounded) (was now : Claiming) (own group : Group) (kept : Kept) (change : Content → Content)
+    → IsSlice warehouses t names latest grounds → IsGroupOf warehouses was.group → place ≡ place_of was.group → was.group ≡ group → was.mode ≡ Exclusive
     → (IsGroupOf t.scale.warehouses group → IsStep group kept change t new) → ground ≡ get_or grounds place ground → roomy.ticket_box ≡ ground.ticket_box → roomy.undo ≡ ground.undo → own ≡ was.group
     → was.left ≡ roomy.ticket_box.left → roomy.ticket_box.mode ≡ Exclusive → now ≡ leaving was (content new own) → next.ticket_box ≡ with_left roomy.ticket_box (content new own)
-    → next.undo ≡ roomy.undo ++ kept ∷ [] → IsPut warehouses t new names grounds (set grounds place next) was now change
-put_keeps warehouses t new names grounds place ground roomy next was now own group kept change invariant known at is_group exclusive steps is same_box same_undo same_group left out leaves box undo =
+    → next.undo ≡ roomy.undo ++ kept ∷ [] → IsPut warehouses t new names latest grounds (set grounds place next) was now change
+put_keeps warehouses t new names latest grounds place ground roomy next was now own group kept change invariant known at is_group exclusive steps is same_box same_undo same_group left out leaves box undo =
     let here : IsGroupOf t.scale.warehouses was.group = subst (λ n. IsGroupOf n was.group) (sym invariant.0) known in
     let step : IsStep was.group kept change t new = subst (λ (g : Group). IsStep g kept change t new) (sym is_group) (steps (subst (IsGroupOf t.scale.warehouses) is_group here)) in
     let all = leave_keeps t new grounds place ground roomy next was now own kept change invariant.1 here at is same_box same_undo step same_group exclusive out left leaves box undo in
     record {
-      invariant = (ap (λ s. s.warehouses) step.scale ∙ invariant.0, all.0, same_names_fit names t new step.names invariant.2);
+      invariant = (ap (λ s. s.warehouses) step.scale ∙ invariant.0, all.0, same_names_fit names t new step.names invariant.2, same_orders_fit latest t new step.scale step.orders invariant.3);
       claim = all.1;
       keeps = all.2;
     }
@@ -122,7 +131,7 @@ room_keeps t grounds group place ground roomy are known at is same_box same_undo
 pub undo_keeps : (t new : Database) (grounds : List Grounded) (place : ℕ) (ground next : Grounded) (was now : Claiming) → AreGroundsOf t grounds → IsGroupOf t.scale.warehouses was.group → place ≡ place_of was.group
     → ground ≡ get_or grounds place ground → new ≡ all_put_back ground.undo t → was.mode ≡ Exclusive → was.back ≡ ground.ticket_box.back → now ≡ leaving was was.back
     → next.ticket_box ≡ with_left ground.ticket_box ground.ticket_box.back → next.undo ≡ []
-    → AreGroundsOf new (set grounds place next) × SameNames t new × SliceKeeps (was ∷ []) (sliced t grounds) (now ∷ []) (sliced new (set grounds place next))
+    → AreGroundsOf new (set grounds place next) × SameNames t new × (new.orders ≡ t.orders) × SliceKeeps (was ∷ []) (sliced t grounds) (now ∷ []) (sliced new (set grounds place next))
 undo_keeps t new grounds place ground next was now are known at is made exclusive same leaves box undo =
     let found = ground_at t grounds was.group place ground are known at is in
     let b = ground.ticket_box in
@@ -136,6 +145,7 @@ undo_keeps t new grounds place ground next was now are known at is made exclusiv
     same ∙ found.2.back ∙ sym (changes.here ∙ ap (all_put_back_in ground.undo) (sym found.2.left)) ∙ ap (λ d. content d b.group) (sym made) ∙ ap (content new) (sym found.1) in (
       one_ground t new grounds place ground next are found.0 found.2 names elsewhere now_here,
       names,
+      ap (λ d. d.orders) made ∙ all_orders ground.undo t,
       wrote t new grounds place ground next was now was.back is (ap (λ x. tickets_home x.mode x.shared) box) exclusive leaves own
           (λ group apart. elsewhere group (λ e. apart (e ∙ sym found.1))) scale items,
     )
@@ -163,35 +173,50 @@ home_elsewhere t grounds group place next known at other apart =
     ap (λ f. free_of t.scale.warehouses f other) (map-set home grounds place next)
     ∙ free_elsewhere t.scale.warehouses (map home grounds) group place (home next) known at other apart
 
--- while a claim is out, not all tickets are at home
-pub some_out : (mode : Mode) (shared : ℕ) → (mode ≡ Exclusive) ⊎ (0 < shared) → tickets_home mode shared < 8
-some_out Shared shared (inl exclusive) = cc
-some_out Shared shared (inr some) = omega arith
-some_out Exclusive shared either = omega arith
+-- A claim of this mode goes out, and nothing else changes in the group.
+pub record IsLent (mode : Mode) (ground next : Grounded) : Type 0 where
+  pub tickets : home next + tickets_held mode ≡ home ground
+  pub still : (t : Database) (place : ℕ) → IsGroundOf t place ground → IsGroundOf t place next
+
+-- the exclusive claim does
+pub lends : {C E : Type 0} (ground next : Grounded) (result : Result C E) → OnOk result ((ground.ticket_box.mode ≡ Shared) × (ground.ticket_box.shared ≡ 0))
+    → OnOk result (next.ticket_box ≡ lent ground.ticket_box.group ground.ticket_box.left) → OnOk result (next.undo ≡ ground.undo) → OnOk result (IsLent Exclusive ground next)
+lends ground next (Ok claim) free box undo = record {
+  tickets = ap (λ x. tickets_home x.mode x.shared + 8) box ∙ sym (λ i. tickets_home (free.0 i) (free.1 i));
+  still = λ t place own. granted t place ground next Exclusive 0 own free.0 box undo;
+}
+lends ground next (Err e) free box undo = tt
+
+-- one more shared claim does
+pub shares : {C E : Type 0} (ground next : Grounded) (result : Result C E) → OnOk result ((ground.ticket_box.mode ≡ Shared) × (ground.ticket_box.shared < 8))
+    → OnOk result (next.ticket_box ≡ sharing ground.ticket_box.group ground.ticket_box.left (ground.ticket_box.shared + 1)) → OnOk result (next.undo ≡ ground.undo) → OnOk result (IsLent Shared ground next)
+shares ground next (Ok claim) free box undo =
+    let few : 8 - (ground.ticket_box.shared + 1) + 1 ≡ 8 - ground.ticket_box.shared = omega (arith, free.1) in
+    record {
+      tickets = ap (λ x. tickets_home x.mode x.shared + 1) box ∙ few ∙ sym (ap (λ mode. tickets_home mode ground.ticket_box.shared) free.0);
+      still = λ t place own. granted t place ground next Shared (ground.ticket_box.shared + 1) own free.0 box undo;
+    }
+shares ground next (Err e) free box undo = tt
 
 -- a claim is granted
-pub grant_keeps_slice : (t : Database) (grounds : List Grounded) (group : Group) (place : ℕ) (ground next : Grounded) (claim : Claiming) → AreGroundsOf t grounds → IsGroupOf t.scale.warehouses group
-    → place ≡ place_of group → ground ≡ get_or grounds place ground → ground.ticket_box.mode ≡ Shared → ground.ticket_box.shared ≡ 0 → claim ≡ fresh ground.ticket_box.group Exclusive ground.ticket_box.left
-    → next.ticket_box ≡ lent ground.ticket_box.group ground.ticket_box.left → next.undo ≡ ground.undo
-    → AreGroundsOf t (set grounds place next) × (claim ≡ fresh group Exclusive (content t group)) × SliceKeeps [] (sliced t grounds) (claim ∷ []) (sliced t (set grounds place next))
-grant_keeps_slice t grounds group place ground next claim are known at is shared none granting box undo =
+grant_keeps_slice : (mode : Mode) (t : Database) (grounds : List Grounded) (group : Group) (place : ℕ) (ground next : Grounded) (claim : Claiming) → AreGroundsOf t grounds → IsGroupOf t.scale.warehouses group
+    → place ≡ place_of group → ground ≡ get_or grounds place ground → IsLent mode ground next → claim ≡ fresh ground.ticket_box.group mode ground.ticket_box.left
+    → AreGroundsOf t (set grounds place next) × (claim ≡ fresh group mode (content t group)) × SliceKeeps [] (sliced t grounds) (claim ∷ []) (sliced t (set grounds place next))
+grant_keeps_slice mode t grounds group place ground next claim are known at is out granting =
     let found = ground_at t grounds group place ground are known at is in
-    let b = ground.ticket_box in
-    let left : b.left ≡ content t group = found.2.left ∙ ap (content t) (sym found.1) in
-    let given : Claiming = fresh group Exclusive (content t group) in
-    let same : claim ≡ given = granting ∙ (λ i. fresh (sym found.1 i) Exclusive (left i)) in
-    let out : home next ≡ 0 = ap (λ x. tickets_home x.mode x.shared) box in
-    let all : home ground ≡ 8 = λ i. tickets_home (shared i) (none i) in
+    let left : ground.ticket_box.left ≡ content t group = found.2.left ∙ ap (content t) (sym found.1) in
+    let given : Claiming = fresh group mode (content t group) in
+    let same : claim ≡ given = granting ∙ (λ i. fresh (sym found.1 i) mode (left i)) in
     let grants : IsGrant given (standing (sliced t grounds)) (standing (sliced t (set grounds place next))) = record {
       tickets =
-          ap (λ n. n + 8) (home_now t grounds group place next known at found.0 ∙ out)
-          ∙ sym (home_of t grounds group place ground known at found.0 is ∙ all);
+          ap (λ n. n + tickets_held mode) (home_now t grounds group place next known at found.0)
+          ∙ out.tickets ∙ sym (home_of t grounds group place ground known at found.0 is);
       told = refl;
       left = refl;
       rows = λ _. refl;
       others = home_elsewhere t grounds group place next known at;
     } in (
-      one_ground t t grounds place ground next are found.0 found.2 (same_names t) (λ _ _. refl) (granted t place ground next found.2 shared box undo),
+      one_ground t t grounds place ground next are found.0 found.2 (same_names t) (λ _ _. refl) (out.still t place found.2),
       same,
       record {
         committed = subst (λ (c : Claiming). KeepsCommitted everywhere [] (standing (sliced t grounds)) (c ∷ []) (standing (sliced t (set grounds place next)))) (sym same) (grant_keeps everywhere given (standing (sliced t grounds)) (standing (sliced t (set grounds place next))) grants);
@@ -201,28 +226,47 @@ grant_keeps_slice t grounds group place ground next claim are known at is shared
     )
 
 -- a claim is granted, or nothing changes
-pub grant_outcome : {E : Type 0} (t : Database) (grounds : List Grounded) (group : Group) (place : ℕ) (ground next : Grounded) (result : Result Claiming E) → AreGroundsOf t grounds
-    → IsGroupOf t.scale.warehouses group → place ≡ place_of group → ground ≡ get_or grounds place ground → OnOk result ((ground.ticket_box.mode ≡ Shared) × (ground.ticket_box.shared ≡ 0))
-    → IfOk result (λ claim. claim ≡ fresh ground.ticket_box.group Exclusive ground.ticket_box.left) → OnOk result (next.ticket_box ≡ lent ground.ticket_box.group ground.ticket_box.left)
-    → OnOk result (next.undo ≡ ground.undo) → OnErr result (next ≡ ground)
-    → AreGroundsOf t (set grounds place next) × IfOk result (λ claim. claim ≡ fresh group Exclusive (content t group)) × IfOk result (λ claim. SliceKeeps [] (sliced t grounds) (claim ∷ []) (sliced t (set grounds place next)))
-grant_outcome t grounds group place ground next (Ok claim) are known at is free granting box undo same =
-    grant_keeps_slice t grounds group place ground next claim are known at is free.0 free.1 granting box undo
-grant_outcome t grounds group place ground next (Err e) are known at is free granting box undo same =
+pub grant_outcome : {E : Type 0} (mode : Mode) (t : Database) (grounds : List Grounded) (group : Group) (place : ℕ) (ground next : Grounded) (result : Result Claiming E) → AreGroundsOf t grounds
+    → IsGroupOf t.scale.warehouses group → place ≡ place_of group → ground ≡ get_or grounds place ground → OnOk result (IsLent mode ground next)
+    → IfOk result (λ claim. claim ≡ fresh ground.ticket_box.group mode ground.ticket_box.left) → OnErr result (next ≡ ground)
+    → AreGroundsOf t (set grounds place next) × IfOk result (λ claim. claim ≡ fresh group mode (content t group)) × IfOk result (λ claim. SliceKeeps [] (sliced t grounds) (claim ∷ []) (sliced t (set grounds place next)))
+grant_outcome mode t grounds group place ground next (Ok claim) are known at is out granting same =
+    grant_keeps_slice mode t grounds group place ground next claim are known at is out granting
+grant_outcome mode t grounds group place ground next (Err e) are known at is out granting same =
     let found = ground_at t grounds group place ground are known at is in
     (same_ground t grounds place ground next are found.0 found.2 (ap (λ g. g.ticket_box) same) (ap (λ g. g.undo) same), tt, tt)
 
--- the group is held, and nothing changes
-pub busy_outcome : {C : Type 0} (t : Database) (grounds : List Grounded) (group : Group) (place : ℕ) (ground next : Grounded) (result : Result C Held) → AreGroundsOf t grounds
+-- while a claim is out, not all tickets are at home
+pub some_out : {C E : Type 0} (ground : Grounded) (result : Result C E) → OnErr result ((ground.ticket_box.mode ≡ Exclusive) ⊎ (0 < ground.ticket_box.shared)) → OnErr result (home ground < 8)
+some_out ground (Ok claim) busy = tt
+some_out ground (Err e) busy = each ground.ticket_box.mode ground.ticket_box.shared busy
+  where
+    each : (mode : Mode) (shared : ℕ) → (mode ≡ Exclusive) ⊎ (0 < shared) → tickets_home mode shared < 8
+    each Shared shared (inl exclusive) = cc
+    each Shared shared (inr some) = omega arith
+    each Exclusive shared either = omega arith
+
+-- while the exclusive claim or eight shared ones are out, none is
+pub all_out : {C E : Type 0} (ground : Grounded) (result : Result C E) → OnErr result ((ground.ticket_box.mode ≡ Exclusive) ⊎ (ground.ticket_box.shared ≡ 8)) → OnErr result (home ground ≡ 0)
+all_out ground (Ok claim) busy = tt
+all_out ground (Err e) busy = each ground.ticket_box.mode ground.ticket_box.shared busy
+  where
+    each : (mode : Mode) (shared : ℕ) → (mode ≡ Exclusive) ⊎ (shared ≡ 8) → tickets_home mode shared ≡ 0
+    each Shared shared (inl exclusive) = cc
+    each Shared shared (inr all) = omega (arith, all)
+    each Exclusive shared either = refl
+
+-- the group is held, so that this is known of its tickets at home, and nothing changes
+pub busy_outcome : {C : Type 0} (IsFew : ℕ → Type 0) (t : Database) (grounds : List Grounded) (group : Group) (place : ℕ) (ground next : Grounded) (result : Result C Held) → AreGroundsOf t grounds
     → IsGroupOf t.scale.warehouses group → place ≡ place_of group → ground ≡ get_or grounds place ground → IfErr result (λ held. (held.group ≡ ground.ticket_box.group) × (held.holder ≡ ground.holder))
-    → OnErr result ((ground.ticket_box.mode ≡ Exclusive) ⊎ (0 < ground.ticket_box.shared)) → OnErr result (next ≡ ground)
-    → IfErr result (λ held. (held.group ≡ group) × (sliced t (set grounds place next) ≡ sliced t grounds) × (free_of t.scale.warehouses (map home grounds) group < 8))
-busy_outcome t grounds group place ground next (Ok claim) are known at is group_held busy same = tt
-busy_outcome t grounds group place ground next (Err held) are known at is group_held busy same =
+    → OnErr result (IsFew (home ground)) → OnErr result (next ≡ ground)
+    → IfErr result (λ held. (held.group ≡ group) × (sliced t (set grounds place next) ≡ sliced t grounds) × IsFew (free_of t.scale.warehouses (map home grounds) group))
+busy_outcome IsFew t grounds group place ground next (Ok claim) are known at is group_held busy same = tt
+busy_outcome IsFew t grounds group place ground next (Err held) are known at is group_held busy same =
     let found = ground_at t grounds group place ground are known at is in (
       group_held.0 ∙ sym found.1,
       ap (λ free. record { tables = t; free = free }) (same_homes grounds place ground next is (ap home same)),
-      subst (λ n. n < 8) (sym (home_of t grounds group place ground known at found.0 is)) (some_out ground.ticket_box.mode ground.ticket_box.shared busy),
+      subst IsFew (sym (home_of t grounds group place ground known at found.0 is)) busy,
     )
 
 returned : (claim_mode mode : Mode) (shared : ℕ) → claim_mode ≡ mode → (claim_mode ≡ Shared → (0 < shared) × (shared ≤ 8)) → (claim_mode ≡ Exclusive → shared ≡ 0)

@@ -58,6 +58,12 @@ step_items (k.District key row) t = refl
 step_items (k.Customer key row) t = refl
 step_items (k.NoPayment key) t = refl
 
+step_orders : (kept : Kept) (t : Database) → (put_back kept t).orders ≡ t.orders
+step_orders (k.Warehouse w_id row) t = refl
+step_orders (k.District key row) t = refl
+step_orders (k.Customer key row) t = refl
+step_orders (k.NoPayment key) t = refl
+
 -- ---- all steps are
 
 pub all_put_back-more : (undo : List Kept) (kept : Kept) (t : Database) → all_put_back (undo ++ kept ∷ []) t ≡ all_put_back undo (put_back kept t)
@@ -75,6 +81,10 @@ all_scale (kept ∷ undo) t = step_scale kept (all_put_back undo t) ∙ all_scal
 pub all_items : (undo : List Kept) (t : Database) → (all_put_back undo t).items ≡ t.items
 all_items [] t = refl
 all_items (kept ∷ undo) t = step_items kept (all_put_back undo t) ∙ all_items undo t
+
+pub all_orders : (undo : List Kept) (t : Database) → (all_put_back undo t).orders ≡ t.orders
+all_orders [] t = refl
+all_orders (kept ∷ undo) t = step_orders kept (all_put_back undo t) ∙ all_orders undo t
 
 -- steps of one group, taken back, change what it has and no other group
 pub all_changes : (group : Group) (undo : List Kept) (t : Database) → All (IsKeptOf t group) undo → ChangesOneGroup group (all_put_back_in undo) t (all_put_back undo t)
@@ -99,6 +109,7 @@ pub record IsStep (group : Group) (kept : Kept) (change : Content → Content) (
   pub names : SameNames t new
   pub scale : new.scale ≡ t.scale
   pub items : new.items ≡ t.items
+  pub orders : new.orders ≡ t.orders
 
 -- a row is back where it stood
 restored : {K X : Type 0} {R : K → K → Ordering} → IsTotalOrder R → IsAntisymmetric R → (m : FinMap R X) (key : K) (old row : X) → map.get m key ≡ Some old → map.insert (map.insert m key row) key old ≡ m
@@ -123,6 +134,7 @@ warehouse_step t w_id old row is has = record {
   names = record { scale = refl; last = λ _. refl; first = λ _. refl };
   scale = refl;
   items = refl;
+  orders = refl;
 }
 
 pub district_step : (t : Database) (key : DistrictKey) (old row : district.District) → map.get t.districts key ≡ Some old → IsTrue (has_district t.scale key)
@@ -134,6 +146,7 @@ district_step t key old row is has = record {
   names = record { scale = refl; last = λ _. refl; first = λ _. refl };
   scale = refl;
   items = refl;
+  orders = refl;
 }
 
 pub customer_step : (t : Database) (key : CustomerKey) (old row : customer.Customer) → map.get t.customers key ≡ Some old → IsTrue (has_customer t.scale key) → AreNamesAt t key row
@@ -145,6 +158,7 @@ customer_step t key old row is has names = record {
   names = put_names t key row names;
   scale = refl;
   items = refl;
+  orders = refl;
 }
 
 without_last-more : (rows : List payment.History) (row : payment.History) → without_last (rows ++ row ∷ []) ≡ rows
@@ -178,4 +192,5 @@ payment_step t key row there has =
       names = record { scale = refl; last = λ _. refl; first = λ _. refl };
       scale = refl;
       items = refl;
+      orders = refl;
     }

@@ -9,8 +9,8 @@ use Rattle.slices.specs.declared.kept.Kept.{Kept}
 use Rattle.slices.specs.Sliced.{Sliced}
 use Rattle.slices.specs.Undo.{all_put_back_in, IsKeptOf}
 
--- the group's box, what takes back what was done under the claim on it, how much of that there is room for, and the age
--- of who was granted the last exclusive claim
+-- the group's box, what takes back what was done under the exclusive claim on it, how much of that there is room for, and
+-- the age of who was granted the last claim
 pub record Grounded : Type 0 where
   pub ticket_box : Boxed
   pub undo : List Kept

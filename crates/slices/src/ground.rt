@@ -1,7 +1,7 @@
 //! A group of a slice: its ticket box, and what takes back what was done in it.
-ghost use Rattle.std.specs.Prelude.{◌≡◌, ◌<◌, ◌≤◌, ◌⊎◌, ◌∷◌, ◌++◌, [], All, length, IfOk, IfErr, OnOk, OnErr};
+ghost use Rattle.std.specs.Prelude.{◌≡◌, ◌<◌, ◌≤◌, ◌+◌, ◌⊎◌, ◌∷◌, ◌++◌, [], All, length, IfOk, IfErr, OnOk, OnErr};
 ghost use Rattle.groups.specs.declared.wishes.Mode.TheVariants.{Shared, Exclusive};
-ghost use Rattle.tickets.specs.Boxes.{lent, taken_back, with_left};
+ghost use Rattle.tickets.specs.Boxes.{lent, sharing, taken_back, with_left};
 ghost use Rattle.tickets.specs.Claims.{fresh, leaving};
 ghost use Rattle.slices.specs.Undo.{all_put_back, IsKept};
 
@@ -14,7 +14,7 @@ use std::alloc::Global;
 use std::marker::Model;
 use tickets::{Claim, Naming, TicketBox};
 
-/// A group that is not free, and the age of who holds it.
+/// A group that is not free, and the age of who was granted the last claim on it.
 #[derive(Clone, Copy, Debug, PartialEq, Eq)]
 pub struct Held {
     pub group: Group,
@@ -22,7 +22,7 @@ pub struct Held {
 }
 
 /// A group's ticket box, what takes back what was done under the exclusive claim on it, and the age of who
-/// holds that claim.
+/// was granted the last claim on it, of either kind.
 #[derive(Drop)]
 pub(crate) struct Ground<J: Naming> {
     ticket_box: TicketBox<J>,
@@ -68,7 +68,36 @@ impl<J: Naming> Ground<J> {
         ensures busy { OnErr result ((self.old.ticket_box.mode ≡ Exclusive) ⊎ (0 < self.old.ticket_box.shared)) }
         ensures same { OnErr result (self.new ≡ self.old) }
     {
-        match self.ticket_box.grant() {
+        let claim = self.ticket_box.grant();
+        self.noted(age, claim)
+    }
+
+    /// A shared claim for a transaction of this age, unless an exclusive claim or eight shared ones are out.
+    pub(crate) fn share(&mut self, age: u64) -> Result<Claim<J>, Held>
+        ensures free { OnOk result ((self.old.ticket_box.mode ≡ Shared) × (self.old.ticket_box.shared < 8)) }
+        ensures claim { IfOk result (λ claim. claim ≡ fresh self.old.ticket_box.group Shared self.old.ticket_box.left) }
+        ensures out { OnOk result (self.new.ticket_box ≡ sharing self.old.ticket_box.group self.old.ticket_box.left (self.old.ticket_box.shared + 1)) }
+        ensures undo { OnOk result (self.new.undo ≡ self.old.undo) }
+        ensures holder { OnOk result (self.new.holder ≡ age) }
+        ensures held { IfErr result (λ held. (held.group ≡ self.old.ticket_box.group) × (held.holder ≡ self.old.holder)) }
+        ensures busy { OnErr result ((self.old.ticket_box.mode ≡ Exclusive) ⊎ (self.old.ticket_box.shared ≡ 8)) }
+        ensures same { OnErr result (self.new ≡ self.old) }
+    {
+        let claim = self.ticket_box.share();
+        self.noted(age, claim)
+    }
+
+    // Notes the age of who is granted this claim. With none, it tells of who was granted the last.
+    fn noted(&mut self, age: u64, claim: Option<Claim<J>>) -> Result<Claim<J>, Held>
+        ensures ticket_box { self.new.ticket_box ≡ self.old.ticket_box }
+        ensures undo { self.new.undo ≡ self.old.undo }
+        ensures claim { IfOk result (λ granted. claim ≡ Some granted) }
+        ensures holder { OnOk result (self.new.holder ≡ age) }
+        ensures none { OnErr result (claim ≡ None) }
+        ensures held { IfErr result (λ held. (held.group ≡ self.old.ticket_box.group) × (held.holder ≡ self.old.holder)) }
+        ensures same { OnErr result (self.new ≡ self.old) }
+    {
+        match claim {
             Some(claim) => {
                 self.holder = age;
                 Ok(claim)

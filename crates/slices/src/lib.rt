@@ -1,5 +1,5 @@
-//! A slice: the rows of its groups, and each group's ticket box. A transaction reads and changes the rows of
-//! a group under an exclusive claim on it, and all that it did in the group can be taken back.
+//! A slice: the rows of its groups, and each group's ticket box. A transaction reads the rows of a group under
+//! a claim on it, and changes them under an exclusive one; all that it did in the group can be taken back.
 //!
 //! What the slice's calls do is told by the claims that they take: what a claim left in its group, and what
 //! stands there again once that is taken back. Each call keeps what is committed.

@@ -3,9 +3,10 @@ ghost use Rattle.std.specs.FinMap as map;
 ghost use Rattle.schema.specs.Database.{with_payment};
 ghost use Rattle.requests.specs.declared.group.Group.{Group as AnyGroup};
 ghost use Rattle.requests.specs.declared.group.Group.TheVariants as group;
-ghost use Rattle.groups.specs.declared.wishes.Mode.TheVariants.{Exclusive};
+ghost use Rattle.groups.specs.declared.wishes.Mode.TheVariants.{Shared, Exclusive};
 ghost use Rattle.groups.specs.Content.{content};
 ghost use Rattle.groups.specs.Laws.{with_warehouse, with_district, with_customer};
+ghost use Rattle.indexes.specs.LatestIndex.{FitsLatest};
 ghost use Rattle.indexes.specs.NameOrder.{FitsNames};
 ghost use Rattle.tickets.specs.Claims.{fresh, leaving};
 ghost use Rattle.tickets.specs.Places.{IsGroupOf};
@@ -16,14 +17,15 @@ ghost use Rattle.slices.specs.Undo.{with_payment_more, AreNamesAt};
 use crate::changes::ContentOf;
 use crate::ground::{Ground, Held};
 use crate::kept::Kept;
-use indexes::NameIndex;
+use indexes::{LatestOrders, NameIndex};
 use requests::Group;
 use schema::{Customer, CustomerKey, District, DistrictKey, History, NoMemory, Tables, Warehouse};
 use std::alloc::Global;
 use std::marker::Model;
 use tickets::{Claim, Naming, TicketBox, place_of};
 
-/// The rows of all groups, who of the customers has which name, and the groups' ticket boxes.
+/// The rows of all groups, who of the customers has which name and which order is the customer's latest, and
+/// the groups' ticket boxes.
 ///
 /// Contracts see the rows as they stand, with what open transactions have done to them, and how many of
 /// each group's tickets are at home. A claim is always on one of the groups, so that no call asks that.
@@ -31,6 +33,7 @@ use tickets::{Claim, Naming, TicketBox, place_of};
 pub struct Slice<J: Naming> {
     tables: Tables,
     names: NameIndex,
+    latest: LatestOrders,
     grounds: Vec<Ground<J>>,
 }
 
@@ -44,17 +47,18 @@ impl<J: Naming> Model for Slice<J> {
     ghost coded = { Prim.hlevel (codes, tables_kind.the_row.coded) };
 
     ghost use Rattle.std.specs.Prelude.{◌≡◌};
+    ghost use Rattle.indexes.specs.LatestIndex.{FitsLatest};
     ghost use Rattle.indexes.specs.NameOrder.{FitsNames};
     ghost use Rattle.slices.specs.Grounds.{sliced, AreGroundsOf};
 
     ghost view = { λ s. sliced s.tables s.grounds.items };
 
-    ghost invariant = { λ s. (s.tables.scale.warehouses ≡ J.warehouses) × AreGroundsOf s.tables s.grounds.items × FitsNames s.names s.tables };
+    ghost invariant = { λ s. (s.tables.scale.warehouses ≡ J.warehouses) × AreGroundsOf s.tables s.grounds.items × FitsNames s.names s.tables × FitsLatest s.latest s.tables };
 }
 
 impl<J: Naming> Slice<J> {
-    /// The slice of these tables, with the boxes of their groups. It sorts the customers by last name.
-    /// Nothing is left after an error.
+    /// The slice of these tables, with the boxes of their groups. It sorts the customers by last name, and
+    /// finds the latest order of each. Nothing is left after an error.
     pub fn open(
         alloc: Global,
         tables: Tables,
@@ -65,6 +69,7 @@ impl<J: Naming> Slice<J> {
         ensures { IfOk result (λ slice. slice ≡ at_rest tables) }
     {
         let names = NameIndex::build(alloc, &tables)?;
+        let latest = LatestOrders::build(alloc, &tables)?;
         let mut grounds = Vec::with_capacity(alloc, boxes.len())?;
         for ticket_box in boxes {
             grounds.push(Ground::new(alloc, ticket_box))?;
@@ -72,6 +77,7 @@ impl<J: Naming> Slice<J> {
         Ok(Slice {
             tables,
             names,
+            latest,
             grounds,
         })
     }
@@ -98,6 +104,13 @@ impl<J: Naming> Slice<J> {
         &self.names
     }
 
+    /// Each customer's latest order, as the rows stand.
+    pub fn latest(&self) -> &LatestOrders
+        ensures { FitsLatest result.now self.now.tables }
+    {
+        &self.latest
+    }
+
     /// An exclusive claim on a group, for a transaction of this age, unless a claim on it is out.
     pub fn grant(&mut self, age: u64, group: Group) -> Result<Claim<J>, Held>
         requires known { IsGroupOf J.warehouses group }
@@ -109,6 +122,19 @@ impl<J: Naming> Slice<J> {
     {
         let ground = &mut self.grounds[place_of::<J>(group)];
         ground.grant(age)
+    }
+
+    /// A shared claim on a group, for a transaction of this age, unless an exclusive claim on it is out, or
+    /// eight shared ones are.
+    pub fn grant_shared(&mut self, age: u64, group: Group) -> Result<Claim<J>, Held>
+        requires known { IsGroupOf J.warehouses group }
+        ensures claim { IfOk result (λ claim. claim ≡ fresh group Shared (content self.old.tables group)) }
+        ensures kept { IfOk result (λ claim. SliceKeeps [] self.old (claim ∷ []) self.new) }
+        ensures rows { OnOk result (self.new.tables ≡ self.old.tables) }
+        ensures others { (other : AnyGroup) → other ≢ group → (standing self.new).free other ≡ (standing self.old).free other }
+        ensures busy { IfErr result (λ held. (held.group ≡ group) × (self.new ≡ self.old) × ((standing self.old).free group ≡ 0)) }
+    {
+        self.grounds[place_of::<J>(group)].share(age)
     }
 
     /// Learns that what a claim left stands in its group.
@@ -246,7 +272,7 @@ impl<J: Naming> Slice<J> {
         ground.undo(claim, &mut self.tables);
     }
 
-    /// Takes a claim back, once what it left is committed. It takes no memory.
+    /// Takes a claim back, once what it left is committed; a shared claim left nothing. It takes no memory.
     pub fn take_back(&mut self, claim: Claim<J>)
         requires committed { claim.mode ≡ Exclusive → claim.told ≡ claim.left }
         ensures kept { SliceKeeps (claim ∷ []) self.old [] self.new }

@@ -6,31 +6,34 @@ use Rattle.tickets.specs.Claims.{fresh}
 use Rattle.tickets.specs.Places.{IsGroupOf}
 use Rattle.slices.specs.Grounds.{sliced}
 use Rattle.slices.specs.Sliced.{Sliced, SliceKeeps, standing}
-use Rattle.slices.proofs.Keeps.{grant_outcome, busy_outcome, home_elsewhere}
+use Rattle.slices.proofs.Keeps.{lends, some_out, grant_outcome, busy_outcome, home_elsewhere}
 use Rattle.slices.proofs.slice.Slice.grant.Goals as goal
 
 pub invariant_of-self : goal.invariant_of-self
 invariant_of-self g c =
     let known = subst (λ n. IsGroupOf n c.args.group) (sym c.self.invariant.0) c.requires.known in
     let e = c.grant.ensures in
-    let keeps = grant_outcome c.self.inside.tables c.self.inside.grounds.items c.args.group c.place_of.result c.index_mut-ground.result.now c.grant.new.self c.grant.result c.self.invariant.1 known c.place_of.ensures
-    c.index_mut-ground.ensures.value e.free e.claim e.out e.undo e.same in
-    (c.self.invariant.0, keeps.0, c.self.invariant.2)
+    let out = lends c.index_mut-ground.result.now c.grant.new.self c.grant.result e.free e.out e.undo in
+    let keeps = grant_outcome Exclusive c.self.inside.tables c.self.inside.grounds.items c.args.group c.place_of.result c.index_mut-ground.result.now c.grant.new.self c.grant.result c.self.invariant.1 known c.place_of.ensures
+    c.index_mut-ground.ensures.value out e.claim e.same in
+    (c.self.invariant.0, keeps.0, c.self.invariant.2, c.self.invariant.3)
 
 pub returns-clause-claim : goal.returns-clause-claim
 returns-clause-claim g c =
     let known = subst (λ n. IsGroupOf n c.args.group) (sym c.self.invariant.0) c.requires.known in
     let e = c.grant.ensures in
-    let keeps = grant_outcome c.self.inside.tables c.self.inside.grounds.items c.args.group c.place_of.result c.index_mut-ground.result.now c.grant.new.self c.grant.result c.self.invariant.1 known c.place_of.ensures
-    c.index_mut-ground.ensures.value e.free e.claim e.out e.undo e.same in
+    let out = lends c.index_mut-ground.result.now c.grant.new.self c.grant.result e.free e.out e.undo in
+    let keeps = grant_outcome Exclusive c.self.inside.tables c.self.inside.grounds.items c.args.group c.place_of.result c.index_mut-ground.result.now c.grant.new.self c.grant.result c.self.invariant.1 known c.place_of.ensures
+    c.index_mut-ground.ensures.value out e.claim e.same in
     subst (λ (s : Sliced). IfOk c.grant.result (λ claim. claim ≡ fresh c.args.group Exclusive (content s.tables c.args.group))) c.self.view_is keeps.1
 
 pub returns-clause-kept : goal.returns-clause-kept
 returns-clause-kept g c =
     let known = subst (λ n. IsGroupOf n c.args.group) (sym c.self.invariant.0) c.requires.known in
     let e = c.grant.ensures in
-    let keeps = grant_outcome c.self.inside.tables c.self.inside.grounds.items c.args.group c.place_of.result c.index_mut-ground.result.now c.grant.new.self c.grant.result c.self.invariant.1 known c.place_of.ensures
-    c.index_mut-ground.ensures.value e.free e.claim e.out e.undo e.same in
+    let out = lends c.index_mut-ground.result.now c.grant.new.self c.grant.result e.free e.out e.undo in
+    let keeps = grant_outcome Exclusive c.self.inside.tables c.self.inside.grounds.items c.args.group c.place_of.result c.index_mut-ground.result.now c.grant.new.self c.grant.result c.self.invariant.1 known c.place_of.ensures
+    c.index_mut-ground.ensures.value out e.claim e.same in
     subst (λ (s : Sliced). IfOk c.grant.result (λ claim. SliceKeeps [] s (claim ∷ []) (sliced c.self.inside.tables (set c.self.inside.grounds.items c.place_of.result c.grant.new.self)))) c.self.view_is keeps.2
 
 pub returns-clause-busy : goal.returns-clause-busy
@@ -38,8 +41,8 @@ returns-clause-busy g c =
     let known = subst (λ n. IsGroupOf n c.args.group) (sym c.self.invariant.0) c.requires.known in
     let e = c.grant.ensures in
     subst (λ (s : Sliced). IfErr c.grant.result (λ held. (held.group ≡ c.args.group) × (sliced c.self.inside.tables (set c.self.inside.grounds.items c.place_of.result c.grant.new.self) ≡ s) × ((standing s).free c.args.group < 8))) c.self.view_is
-    (busy_outcome c.self.inside.tables c.self.inside.grounds.items c.args.group c.place_of.result c.index_mut-ground.result.now c.grant.new.self c.grant.result c.self.invariant.1 known c.place_of.ensures
-    c.index_mut-ground.ensures.value e.held e.busy e.same)
+    (busy_outcome (λ n. n < 8) c.self.inside.tables c.self.inside.grounds.items c.args.group c.place_of.result c.index_mut-ground.result.now c.grant.new.self c.grant.result c.self.invariant.1 known c.place_of.ensures
+    c.index_mut-ground.ensures.value e.held (some_out c.index_mut-ground.result.now c.grant.result e.busy) e.same)
 
 pub returns-clause-others : goal.returns-clause-others
 returns-clause-others g c =

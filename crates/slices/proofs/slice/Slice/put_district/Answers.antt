@@ -16,7 +16,7 @@ invariant_of-self g c =
     let known = subst (λ n. IsGroupOf n c.args.claim.now.group) (sym c.self.invariant.0) c.place.ensures.known in
     let room = room_keeps c.self.inside.tables c.self.inside.grounds.items c.args.claim.now.group c.place.result c.index_mut-ground.result.now c.make_room.new.self c.self.invariant.1 known c.place.ensures.place
     c.index_mut-ground.ensures.value c.make_room.ensures.ticket_box c.make_room.ensures.undo in
-    (c.self.invariant.0, room.0, c.self.invariant.2)
+    (c.self.invariant.0, room.0, c.self.invariant.2, c.self.invariant.3)
 
 pub returns-in_err-make_room-clause-err : goal.returns-in_err-make_room-clause-err
 returns-in_err-make_room-clause-err g c =
@@ -33,7 +33,7 @@ invariant_of-self-2 g c =
     let group = District c.args.key.w_id c.args.key.d_id in
     let kept = kept.District c.args.key old in
     let change = with_district c.args.row in
-    let put = put_keeps g.J.Naming.warehouses t c.replace_district.new.self c.self.inside.names c.self.inside.grounds.items c.place.result c.index_mut-ground.result.now c.make_room.new.self c.leave.new.self c.args.claim.now c.leave.new.claim c.group.result group kept change
+    let put = put_keeps g.J.Naming.warehouses t c.replace_district.new.self c.self.inside.names c.self.inside.latest c.self.inside.grounds.items c.place.result c.index_mut-ground.result.now c.make_room.new.self c.leave.new.self c.args.claim.now c.leave.new.claim c.group.result group kept change
     c.self.invariant c.place.ensures.known c.place.ensures.place c.requires.group c.requires.exclusive
     (λ (known : IsGroupOf t.scale.warehouses group). subst (IsStep group kept change t) (sym c.replace_district.ensures.tables) (district_step t c.args.key old c.args.row found (group_tells t.scale.warehouses group known)))
     c.index_mut-ground.ensures.value c.make_room.ensures.ticket_box c.make_room.ensures.undo c.group.ensures
@@ -48,7 +48,7 @@ returns-clause-claim g c =
     let group = District c.args.key.w_id c.args.key.d_id in
     let kept = kept.District c.args.key old in
     let change = with_district c.args.row in
-    let put = put_keeps g.J.Naming.warehouses t c.replace_district.new.self c.self.inside.names c.self.inside.grounds.items c.place.result c.index_mut-ground.result.now c.make_room.new.self c.leave.new.self c.args.claim.now c.leave.new.claim c.group.result group kept change
+    let put = put_keeps g.J.Naming.warehouses t c.replace_district.new.self c.self.inside.names c.self.inside.latest c.self.inside.grounds.items c.place.result c.index_mut-ground.result.now c.make_room.new.self c.leave.new.self c.args.claim.now c.leave.new.claim c.group.result group kept change
     c.self.invariant c.place.ensures.known c.place.ensures.place c.requires.group c.requires.exclusive
     (λ (known : IsGroupOf t.scale.warehouses group). subst (IsStep group kept change t) (sym c.replace_district.ensures.tables) (district_step t c.args.key old c.args.row found (group_tells t.scale.warehouses group known)))
     c.index_mut-ground.ensures.value c.make_room.ensures.ticket_box c.make_room.ensures.undo c.group.ensures
@@ -63,7 +63,7 @@ returns-clause-kept g c =
     let group = District c.args.key.w_id c.args.key.d_id in
     let kept = kept.District c.args.key old in
     let change = with_district c.args.row in
-    let put = put_keeps g.J.Naming.warehouses t c.replace_district.new.self c.self.inside.names c.self.inside.grounds.items c.place.result c.index_mut-ground.result.now c.make_room.new.self c.leave.new.self c.args.claim.now c.leave.new.claim c.group.result group kept change
+    let put = put_keeps g.J.Naming.warehouses t c.replace_district.new.self c.self.inside.names c.self.inside.latest c.self.inside.grounds.items c.place.result c.index_mut-ground.result.now c.make_room.new.self c.leave.new.self c.args.claim.now c.leave.new.claim c.group.result group kept change
     c.self.invariant c.place.ensures.known c.place.ensures.place c.requires.group c.requires.exclusive
     (λ (known : IsGroupOf t.scale.warehouses group). subst (IsStep group kept change t) (sym c.replace_district.ensures.tables) (district_step t c.args.key old c.args.row found (group_tells t.scale.warehouses group known)))
     c.index_mut-ground.ensures.value c.make_room.ensures.ticket_box c.make_room.ensures.undo c.group.ensures

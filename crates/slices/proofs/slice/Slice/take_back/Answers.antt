@@ -11,7 +11,7 @@ invariant_of-self g c =
     let known = subst (λ n. IsGroupOf n claim.group) (sym c.self.invariant.0) c.place.ensures.known in
     let keeps = back_keeps_slice c.self.inside.tables c.self.inside.grounds.items c.place.result c.index_mut-ground.result.now c.take_back.new.self claim c.self.invariant.1 known c.place.ensures.place
     c.index_mut-ground.ensures.value c.requires.committed c.take_back.ensures.mode c.take_back.ensures.some c.take_back.ensures.alone c.take_back.ensures.ticket_box c.take_back.ensures.undo in
-    (c.self.invariant.0, keeps.0, c.self.invariant.2)
+    (c.self.invariant.0, keeps.0, c.self.invariant.2, c.self.invariant.3)
 
 pub returns-clause-kept : goal.returns-clause-kept
 returns-clause-kept g c =
