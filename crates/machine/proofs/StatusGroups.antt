@@ -107,7 +107,7 @@ module _ (home : DistrictKey) where
         ∙ ap (λ rows. filter (λ (e : OrderLineKey × OrderLine). is_of_order (key_of_order (customer_key home 0) o_id) e.0) (table.entries (lines_of_content rows s.lines))) alike
         ∙ lines_of_group t.lines o_id)
 
-    same_shown : (c_id : ℕ) → latest_shown s (customer_key home c_id) ≡ latest_shown t (customer_key home c_id)
+    pub same_shown : (c_id : ℕ) → latest_shown s (customer_key home c_id) ≡ latest_shown t (customer_key home c_id)
     same_shown c_id =
         ap (option_and_then (order_shown s (customer_key home c_id))) (same_latest c_id)
         ∙ each (latest t.orders (customer_key home c_id))

@@ -14,7 +14,7 @@ pub use laws::{
     payment_keeps_sums, payment_reads_its_groups, requests_keep_consistency,
     transaction_keeps_consistency, transaction_keeps_other_groups, transaction_reads_its_groups,
 };
-pub use order_status::status_reply;
+pub use order_status::{latest_shown, status_reply};
 pub use payment::{
     customer_paid, district_paid, history_row, payment_reply, payment_row, warehouse_paid,
 };

@@ -7,30 +7,28 @@ use requests::{Lines, OrderStatusReply, StatusLine, StatusOrder};
 use schema::{Customer, CustomerKey, NoMemory, OrderKey, OrderLine, Tables};
 use std::alloc::Global;
 
-/// What Order-Status shows of a customer's row, and of the customer's last order. Its lines alone take
-/// memory; want of it leaves nothing behind.
+/// What Order-Status shows of a customer's row, with what it shows of the customer's last order. It takes no
+/// memory.
 pub fn status_reply(
-    alloc: Global,
-    tables: &Tables,
-    orders: &LatestOrders,
     key: CustomerKey,
     row: &Customer,
-) -> Result<OrderStatusReply, NoMemory>
-    requires { FitsLatest orders.now tables.now }
-    ensures { IfOk result (λ r. r ≡ spec.status_reply key row.now (spec.latest_shown tables.now key)) }
+    order: Option<StatusOrder>,
+) -> OrderStatusReply
+    ensures { result ≡ spec.status_reply key row.now order }
 {
-    Ok(OrderStatusReply {
+    OrderStatusReply {
         c_id: key.c_id,
         first: row.first.copy(),
         middle: row.middle.copy(),
         last: row.last.copy(),
         balance: row.balance,
-        order: latest_shown(alloc, tables, orders, key)?,
-    })
+        order,
+    }
 }
 
-// What is shown of the customer's last order, if there is one.
-fn latest_shown(
+/// What Order-Status shows of the customer's last order, `None` exactly where there is none. The order is
+/// looked up by the index. Its lines alone take memory; want of it leaves nothing behind.
+pub fn latest_shown(
     alloc: Global,
     tables: &Tables,
     orders: &LatestOrders,

@@ -7,7 +7,7 @@ ghost use Rattle.machine.specs.OrderStatus.{order_status};
 ghost use Rattle.indexes.specs.NameOrder.{FitsNames};
 
 use crate::choosing::chosen;
-use crate::order_status::status_reply;
+use crate::order_status::{latest_shown, status_reply};
 use crate::payment::{customer_paid, district_paid, payment_reply, payment_row, warehouse_paid};
 use amounts::Cents;
 use indexes::{LatestOrders, NameIndex};
@@ -91,8 +91,8 @@ impl Plain {
         let Some((key, row)) = chosen(&self.tables, &self.names, asked.home, &asked.customer) else {
             return Ok(Reply::RolledBack(Fault::NoCustomer));
         };
-        let shown = status_reply(self.alloc, &self.tables, &self.latest, key, row)?;
-        Ok(Reply::OrderStatus(shown))
+        let order = latest_shown(self.alloc, &self.tables, &self.latest, key)?;
+        Ok(Reply::OrderStatus(status_reply(key, row, order)))
     }
 }
 
