@@ -7,3 +7,5 @@ pub mod Done
 pub mod NextPayers
 pub mod Undone
 pub mod Accepted
+pub mod Shown
+pub mod StatusCarriedOut

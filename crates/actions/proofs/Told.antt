@@ -42,26 +42,30 @@ chosen_among customers home (LastName last) = ap middle (namesakes_among custome
 -- ---- what a claim tells
 
 -- the claim on a group tells what the tables have in it
-told_of : (t : Database) (own : Group) (claim : Claiming) (has : Content) → content t claim.group ≡ claim.told → IsExclusiveOn own claim → claim.told ≡ has → content t own ≡ has
-told_of t own claim has tells on is = ap (content t) (sym on.group) ∙ tells ∙ is
+told_of : (t : Database) (own : Group) (claim : Claiming) (has : Content) → content t claim.group ≡ claim.told → claim.group ≡ own → claim.told ≡ has → content t own ≡ has
+told_of t own claim has tells on is = ap (content t) (sym on) ∙ tells ∙ is
+
+-- who is chosen in a district is chosen among its customers alone
+pub chosen_told : (t : Database) (home : DistrictKey) (choice : Choice) (claim : Claiming) → content t claim.group ≡ claim.told → claim.group ≡ g.Customers home.w_id home.d_id
+    → (rows : Customers) → claim.told ≡ OfCustomers rows → chosen t.customers home choice ≡ chosen rows home choice
+chosen_told t home choice claim tells on rows is =
+    let has : OfCustomers (district_rows t.customers home) ≡ OfCustomers rows = told_of t _ claim _ tells on is in
+    let same : district_rows t.customers home ≡ rows = cc in
+    sym (chosen_among t.customers home choice) ∙ ap (λ r. chosen r home choice) same
 
 module _ (t : Database) (p : Payment) (claim : Claiming) (tells : content t claim.group ≡ claim.told) where
   pub warehouse_told : (row : Option Warehouse) → IsExclusiveOn (g.Warehouse p.home.w_id) claim → claim.told ≡ OfWarehouse row → map.get t.warehouses p.home.w_id ≡ row
-  warehouse_told row on is = let has : OfWarehouse (map.get t.warehouses p.home.w_id) ≡ OfWarehouse row = told_of t _ claim _ tells on is in cc
+  warehouse_told row on is = let has : OfWarehouse (map.get t.warehouses p.home.w_id) ≡ OfWarehouse row = told_of t _ claim _ tells on.group is in cc
 
   pub district_told : (row : Option District) → IsExclusiveOn (g.District p.home.w_id p.home.d_id) claim → claim.told ≡ OfDistrict row → map.get t.districts p.home ≡ row
-  district_told row on is = let has : OfDistrict (map.get t.districts p.home) ≡ OfDistrict row = told_of t _ claim _ tells on is in cc
+  district_told row on is = let has : OfDistrict (map.get t.districts p.home) ≡ OfDistrict row = told_of t _ claim _ tells on.group is in cc
 
   pub history_told : (rows : Option (List History)) → IsExclusiveOn (g.History p.home.w_id p.home.d_id) claim → claim.told ≡ OfHistory rows → map.get t.histories p.home ≡ rows
-  history_told rows on is = let has : OfHistory (map.get t.histories p.home) ≡ OfHistory rows = told_of t _ claim _ tells on is in cc
+  history_told rows on is = let has : OfHistory (map.get t.histories p.home) ≡ OfHistory rows = told_of t _ claim _ tells on.group is in cc
 
   module _ (on : IsExclusiveOn (g.Customers p.customer_home.w_id p.customer_home.d_id) claim) where
     pub customers_told : (rows : Customers) → claim.told ≡ OfCustomers rows → content t (g.Customers p.customer_home.w_id p.customer_home.d_id) ≡ OfCustomers rows
-    customers_told rows is = told_of t _ claim _ tells on is
+    customers_told rows is = told_of t _ claim _ tells on.group is
 
-    -- who is chosen is chosen among the customers of the district alone
     pub customer_told : (rows : Customers) → claim.told ≡ OfCustomers rows → chosen t.customers p.customer_home p.customer ≡ chosen rows p.customer_home p.customer
-    customer_told rows is =
-        let has : OfCustomers (district_rows t.customers p.customer_home) ≡ OfCustomers rows = customers_told rows is in
-        let same : district_rows t.customers p.customer_home ≡ rows = cc in
-        sym (chosen_among t.customers p.customer_home p.customer) ∙ ap (λ r. chosen r p.customer_home p.customer) same
+    customer_told = chosen_told t p.customer_home p.customer claim tells on.group

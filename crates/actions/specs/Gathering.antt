@@ -1,7 +1,13 @@
--- What becomes of a payment, by all that its first actions found.
+-- What becomes of a payment and of an Order-Status, by all that their actions found.
+use Rattle.std.specs.Prelude.{Option}
+use Rattle.rows.specs.declared.keys.CustomerKey.{CustomerKey}
 use Rattle.schema.specs.Scale.{customer_key}
 use Rattle.requests.specs.declared.request.Payment.{Payment}
 use Rattle.requests.specs.declared.reply.Fault.TheVariants.{NoCustomer, Range}
+use Rattle.requests.specs.declared.reply.OrderStatusReply.{OrderStatusReply}
+use Rattle.requests.specs.declared.reply.StatusOrder.{StatusOrder}
+use Rattle.requests.specs.declared.reply.Reply.{Reply}
+use Rattle.requests.specs.declared.reply.Reply.TheVariants.{OrderStatus, RolledBack}
 use Rattle.machine.specs.Payment.{history_row}
 use Rattle.actions.specs.declared.gathering.HomePaid.{HomePaid}
 use Rattle.actions.specs.declared.gathering.HomePaid.TheVariants as h
@@ -9,6 +15,9 @@ use Rattle.actions.specs.declared.gathering.CustomerPaid.{CustomerPaid}
 use Rattle.actions.specs.declared.gathering.CustomerPaid.TheVariants as c
 use Rattle.actions.specs.declared.gathering.Gathered.{Gathered}
 use Rattle.actions.specs.declared.gathering.Gathered.TheVariants.{Next, RollBack}
+use Rattle.actions.specs.declared.gathering.StatusCustomer.{StatusCustomer}
+use Rattle.actions.specs.declared.gathering.CustomerShown.{CustomerShown}
+use Rattle.actions.specs.declared.gathering.CustomerShown.TheVariants as s
 
 -- The row of HISTORY names the customer whom the reply shows. A row that isn't there comes before a sum out of its range.
 abbrev pub gathered : Payment → HomePaid → CustomerPaid → Gathered
@@ -17,3 +26,19 @@ gathered p h.Missing _ = RollBack NoCustomer
 gathered p h.OutOfRange c.Missing = RollBack NoCustomer
 gathered p (h.Paid warehouse district) c.Missing = RollBack NoCustomer
 gathered p _ _ = RollBack Range
+
+-- what is shown of the customer of that key, with the last order
+abbrev pub reply_shown : CustomerKey → StatusCustomer → Option StatusOrder → OrderStatusReply
+reply_shown key customer order = record {
+  c_id = key.c_id;
+  first = customer.first;
+  middle = customer.middle;
+  last = customer.last;
+  balance = customer.balance;
+  order = order;
+}
+
+-- An Order-Status whose customer isn't there is rolled back.
+abbrev pub status_gathered : CustomerShown → Option StatusOrder → Reply
+status_gathered (s.Shown key customer) order = OrderStatus (reply_shown key customer order)
+status_gathered s.Missing order = RolledBack NoCustomer

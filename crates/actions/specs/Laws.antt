@@ -1,14 +1,19 @@
--- The actions of a payment, together, are the payment.
-use Rattle.std.specs.Prelude.{◌≡◌, List, [], ◌∷◌, All, IsTrue, map}
+-- The actions of a payment, together, are the payment, and so are those of an Order-Status.
+use Rattle.std.specs.Prelude.{◌≡◌, List, Option, [], ◌∷◌, All, IsTrue, map}
+use Rattle.rows.specs.Keys.{district_of_customer}
+use Rattle.rows.specs.declared.keys.CustomerKey.{CustomerKey}
 use Rattle.rows.specs.declared.records.History.{History}
 use Rattle.schema.specs.declared.scale.Scale.{Scale}
 use Rattle.schema.specs.Scale.{has_customer, has_district}
 use Rattle.schema.specs.Database.{Database}
 use Rattle.requests.specs.declared.request.Payment.{Payment}
+use Rattle.requests.specs.declared.request.OrderStatus.{OrderStatus}
 use Rattle.requests.specs.declared.request.Request.{Request}
 use Rattle.requests.specs.declared.request.Request.TheVariants as request
 use Rattle.requests.specs.declared.reply.Fault.{Fault}
+use Rattle.requests.specs.declared.reply.Fault.TheVariants.{NoCustomer}
 use Rattle.requests.specs.declared.reply.PaymentReply.{PaymentReply}
+use Rattle.requests.specs.declared.reply.StatusOrder.{StatusOrder}
 use Rattle.requests.specs.declared.reply.Reply.TheVariants as reply
 use Rattle.requests.specs.Check.{IsAccepted}
 use Rattle.groups.specs.Footprint.{footprint, groups_of}
@@ -18,8 +23,11 @@ use Rattle.commit_log.specs.Claimed.{IsCarriedOut}
 use Rattle.actions.specs.declared.gathering.HomePaid.{HomePaid}
 use Rattle.actions.specs.declared.gathering.CustomerPaid.{CustomerPaid}
 use Rattle.actions.specs.declared.gathering.Gathered.TheVariants.{Next, RollBack}
+use Rattle.actions.specs.declared.gathering.StatusCustomer.{StatusCustomer}
+use Rattle.actions.specs.declared.gathering.CustomerShown.TheVariants.{Missing, Shown}
 use Rattle.actions.specs.Payments.{IsHomePaid, IsCustomerPaid, IsPayerKnown, IsPaymentAdded}
-use Rattle.actions.specs.Gathering.{gathered}
+use Rattle.actions.specs.OrderStatuses.{IsCustomerShown, IsOrderShown}
+use Rattle.actions.specs.Gathering.{gathered, reply_shown}
 
 -- Where its home rows and its customer's row were paid and its row was added to the list of payments, the payment was
 -- carried out under these claims with this reply.
@@ -40,6 +48,22 @@ RolledBackPaymentsAreCarriedOut =
     → gathered p home customer ≡ RollBack fault
     → IsCarriedOut opening (request.Payment p) (warehouse ∷ district ∷ customers ∷ []) (reply.RolledBack fault)
 
+-- Where its customer was shown, and the customer's last order, the Order-Status was carried out under these claims with
+-- both as its reply.
+abbrev pub OrderStatusesAreCarriedOut : Type 0
+OrderStatusesAreCarriedOut =
+    (opening : Database) (o : OrderStatus) (key : CustomerKey) (customer : StatusCustomer) (order : Option StatusOrder)
+    (customers orders : Claiming)
+    → IsCustomerShown o (Shown key customer) customers → IsOrderShown key order orders
+    → IsCarriedOut opening (request.OrderStatus o) (customers ∷ orders ∷ []) (reply.OrderStatus (reply_shown key customer order))
+
+-- Where its customer isn't there, it was carried out with that fault as its reply.
+abbrev pub RolledBackOrderStatusesAreCarriedOut : Type 0
+RolledBackOrderStatusesAreCarriedOut =
+    (opening : Database) (o : OrderStatus) (customers : Claiming)
+    → IsCustomerShown o Missing customers
+    → IsCarriedOut opening (request.OrderStatus o) (customers ∷ []) (reply.RolledBack NoCustomer)
+
 -- ---- what else those need who do the actions
 
 -- the claim once what was done under it is taken back
@@ -57,6 +81,12 @@ abbrev pub GatheredPayersAreKnown : Type 0
 GatheredPayersAreKnown =
     (scale : Scale) (p : Payment) (home : HomePaid) (customer : CustomerPaid) (row : History) (shown : PaymentReply)
     → gathered p home customer ≡ Next row shown → IsPayerKnown scale p customer → IsTrue (has_customer scale row.customer)
+
+-- The customer who is shown belongs to the district that was asked of.
+abbrev pub ShownCustomersAreAtHome : Type 0
+ShownCustomersAreAtHome =
+    (o : OrderStatus) (key : CustomerKey) (customer : StatusCustomer) (customers : Claiming)
+    → IsCustomerShown o (Shown key customer) customers → district_of_customer key ≡ o.home
 
 -- The groups that an accepted request claims are groups of the scale's warehouses.
 abbrev pub AcceptedRequestsHaveTheirGroups : Type 0

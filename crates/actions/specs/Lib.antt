@@ -1,3 +1,4 @@
 pub mod Payments
+pub mod OrderStatuses
 pub mod Gathering
 pub mod Laws

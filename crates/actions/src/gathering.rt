@@ -1,8 +1,9 @@
 ghost use Rattle.std.specs.Prelude.{◌≡◌};
-ghost use Rattle.actions.specs.Gathering.{gathered};
+ghost use Rattle.actions.specs.Gathering.{gathered, status_gathered};
 
+use amounts::Cents;
 use machine::history_row;
-use requests::{Fault, Payment, PaymentReply};
+use requests::{Fault, OrderStatusReply, Payment, PaymentReply, Reply, StatusOrder};
 use schema::{CustomerKey, History, Text};
 
 /// What a payment finds of its home warehouse and district.
@@ -28,6 +29,28 @@ pub enum CustomerPaid {
     OutOfRange,
     /// The customer's row is changed, and this is shown of it.
     Paid(PaymentReply),
+}
+
+/// What Order-Status shows of a customer's row (clause 2.6.3.4).
+#[derive(Clone, Debug, PartialEq, Eq, Drop)]
+pub struct StatusCustomer {
+    pub first: Text<16>,
+    pub middle: Text<2>,
+    pub last: Text<16>,
+    /// C_BALANCE, in cents: -10^15 to 10^15.
+    pub balance: Cents,
+}
+
+/// What an Order-Status finds of its customer.
+#[derive(Clone, Debug, PartialEq, Eq, Drop)]
+pub enum CustomerShown {
+    /// The district has no such customer.
+    Missing,
+    /// Who was chosen, and what is shown of the row.
+    Shown {
+        key: CustomerKey,
+        customer: StatusCustomer,
+    },
 }
 
 /// What becomes of a payment, by all that it found.
@@ -64,5 +87,23 @@ pub fn gather_paid(payment: &Payment, home: HomePaid, customer: CustomerPaid) ->
             Gathered::RollBack(Fault::NoCustomer)
         }
         (_, _) => Gathered::RollBack(Fault::Range),
+    }
+}
+
+/// The reply to an Order-Status that found this customer, with this as the last order. Where the customer
+/// isn't there, it is a rollback, whatever the order.
+pub fn gather_shown(found: CustomerShown, order: Option<StatusOrder>) -> Reply
+    ensures { result ≡ status_gathered found order }
+{
+    match found {
+        CustomerShown::Missing => Reply::RolledBack(Fault::NoCustomer),
+        CustomerShown::Shown { key, customer } => Reply::OrderStatus(OrderStatusReply {
+            c_id: key.c_id,
+            first: customer.first,
+            middle: customer.middle,
+            last: customer.last,
+            balance: customer.balance,
+            order,
+        }),
     }
 }

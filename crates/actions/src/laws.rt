@@ -1,5 +1,5 @@
-//! Laws of the actions of a payment: functions that do nothing, and are proved.
-ghost use Rattle.actions.specs.Laws.{AcceptedPaymentsHaveTheirDistrict, AcceptedRequestsHaveTheirGroups, GatheredPayersAreKnown, PaymentsAreCarriedOut, RolledBackClaimsCanBeUndone, RolledBackPaymentsAreCarriedOut};
+//! Laws of the actions: functions that do nothing, and are proved.
+ghost use Rattle.actions.specs.Laws.{AcceptedPaymentsHaveTheirDistrict, AcceptedRequestsHaveTheirGroups, GatheredPayersAreKnown, OrderStatusesAreCarriedOut, PaymentsAreCarriedOut, RolledBackClaimsCanBeUndone, RolledBackOrderStatusesAreCarriedOut, RolledBackPaymentsAreCarriedOut, ShownCustomersAreAtHome};
 
 /// Where each action did its part, the payment is carried out as the machine does it: the reply is the
 /// machine's, and the claims leave what the machine leaves.
@@ -12,6 +12,17 @@ pub fn rolled_back_payments_are_carried_out()
     ensures { RolledBackPaymentsAreCarriedOut }
 {}
 
+/// Where each action read its part, the Order-Status is carried out as the machine does it: the reply is the
+/// machine's, and nothing changes.
+pub fn order_statuses_are_carried_out()
+    ensures { OrderStatusesAreCarriedOut }
+{}
+
+/// Where the customer isn't there, the machine rolls the Order-Status back, with that fault.
+pub fn rolled_back_order_statuses_are_carried_out()
+    ensures { RolledBackOrderStatusesAreCarriedOut }
+{}
+
 /// What was carried out and rolled back, was so also once all that was done under its claims is taken back.
 pub fn rolled_back_claims_can_be_undone()
     ensures { RolledBackClaimsCanBeUndone }
@@ -20,6 +31,11 @@ pub fn rolled_back_claims_can_be_undone()
 /// The row that is added to the list of payments names a customer of the scale, since the customer was paid.
 pub fn gathered_payers_are_known()
     ensures { GatheredPayersAreKnown }
+{}
+
+/// The customer who is shown belongs to the district that was asked of, so the order is looked for there.
+pub fn shown_customers_are_at_home()
+    ensures { ShownCustomersAreAtHome }
 {}
 
 /// What an accepted request claims is there, and so is an accepted payment's home district.

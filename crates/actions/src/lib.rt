@@ -1,14 +1,21 @@
-//! The actions of a payment: one function for what it does in each place, and what they find together.
+//! The actions of a payment and of an Order-Status: one function for what each does in each place, and what
+//! they find together. A payment claims what it changes alone; an Order-Status shares what it reads.
 //! Clauses named are those of TPC-C 5.11.
 #![tactic(auto)]
 
 mod gathering;
 mod laws;
 mod paying;
+mod showing;
 
-pub use gathering::{CustomerPaid, Gathered, HomePaid, gather_paid};
+pub use gathering::{
+    CustomerPaid, CustomerShown, Gathered, HomePaid, StatusCustomer, gather_paid, gather_shown,
+};
 pub use laws::{
-    accepted_requests_have_their_groups, gathered_payers_are_known, payments_are_carried_out,
-    rolled_back_claims_can_be_undone, rolled_back_payments_are_carried_out,
+    accepted_requests_have_their_groups, gathered_payers_are_known, order_statuses_are_carried_out,
+    payments_are_carried_out, rolled_back_claims_can_be_undone,
+    rolled_back_order_statuses_are_carried_out, rolled_back_payments_are_carried_out,
+    shown_customers_are_at_home,
 };
 pub use paying::{add_payment, pay_customer, pay_home};
+pub use showing::{show_customer, show_order};
