@@ -23,9 +23,9 @@ done
 # log takes the next.
 with_refused serving::want_of_memory_is_answered 587
 
-# Two sets, a list of events and a world with its 64 sessions take 2,221 allocations to make. Then the submission of a
+# Two sets, a list of events and a world with its 64 sessions take 2,222 allocations to make. Then the submission of a
 # payment takes three, the actions of its first phase three, that of its second one, and its entry in the log one.
-for number in 2222 2225 2228 2229; do
+for number in 2223 2226 2229 2230; do
     with_refused worlds::want_of_memory_is_taken_back "$number"
 done
 

@@ -24,6 +24,7 @@ impl<T: Drop> Lines<T> {
         Lines { lines }
     }
 
+    /// The lines, in order.
     pub fn as_slice(&self) -> &[T]
         ensures { result.now ≡ self.now }
     {
