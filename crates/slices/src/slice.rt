@@ -137,7 +137,8 @@ impl<J: Naming> Slice<J> {
         self.grounds[place_of::<J>(group)].share(age)
     }
 
-    /// Learns that what a claim left stands in its group.
+    /// Learns that what a claim left stands in its group. A shared claim left what it tells
+    /// (`Claim::look_untouched`).
     pub fn look(&mut self, claim: &mut Claim<J>)
         ensures left { claim.old.left ≡ content self.old.tables claim.old.group }
         ensures same { (self.new ≡ self.old) × (claim.new ≡ claim.old) }
