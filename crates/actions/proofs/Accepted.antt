@@ -1,4 +1,4 @@
--- An accepted payment is one at a district of the scale, by a customer of one.
+-- An accepted request is one at a district of the scale, a payment by a customer of one.
 use Rattle.std.proofs.Common.{◌≡◌, true, false, Bool, cond, leb, List, [], ◌∷◌, Ok, refl}
 use Rattle.std.specs.Prelude.{ℕ, Some, find}
 use Rattle.std.proofs.lemmas.Bool.{and_parts, and_from, leb-true, not-false}
@@ -8,12 +8,13 @@ use Rattle.schema.specs.declared.scale.Scale.{Scale}
 use Rattle.schema.specs.Scale.{has_warehouse}
 use Rattle.requests.specs.declared.request.Request.TheVariants as request
 use Rattle.requests.specs.declared.request.Payment.{Payment}
+use Rattle.requests.specs.declared.request.OrderStatus.{OrderStatus}
 use Rattle.requests.specs.declared.refusal.Refusal.{Refusal}
 use Rattle.requests.specs.declared.refusal.Refusal.TheVariants.{BadWarehouse, BadDistrict, BadLines, BadQuantity, BadSupply, BadAmount, BadThreshold, BadCarrier}
 use Rattle.requests.specs.Check.{refused_by, applies, IsAccepted}
 use Rattle.groups.specs.Footprint.{payment_footprint, order_status_footprint, groups_of}
 use Rattle.tickets.specs.Places.{IsBetween, IsGroupOf}
-use Rattle.actions.specs.Laws.{AcceptedRequestsHaveTheirGroups, AcceptedPaymentsHaveTheirDistrict}
+use Rattle.actions.specs.Laws.{AcceptedRequestsHaveTheirGroups, AcceptedPaymentsHaveTheirDistrict, AcceptedStatusesHaveTheirDistrict}
 
 -- a first test that isn't passed
 not_first : (test : Refusal → Bool) (refusal : Refusal) (rest : List Refusal) → refused_by (find test (refusal ∷ rest)) ≡ Ok tt → (test refusal ≡ false) × (refused_by (find test rest) ≡ Ok tt)
@@ -41,6 +42,13 @@ in_scale scale p accepted =
     let districts = and_parts (is_between 1 10 p.home.d_id) (is_between 1 10 p.customer_home.d_id) (not-false _ second.0) in
     record { warehouse = warehouses.0; payers_warehouse = warehouses.1; district = districts.0; payers_district = districts.1 }
 
+status_in_scale : (scale : Scale) (o : OrderStatus) → IsAccepted scale (request.OrderStatus o) → (has_warehouse scale o.home.w_id ≡ true) × (is_between 1 10 o.home.d_id ≡ true)
+status_in_scale scale o accepted =
+    let others = BadLines ∷ BadQuantity ∷ BadSupply ∷ BadAmount ∷ BadThreshold ∷ BadCarrier ∷ [] in
+    let first = not_first (applies scale (request.OrderStatus o)) BadWarehouse (BadDistrict ∷ others) accepted in
+    let second = not_first (applies scale (request.OrderStatus o)) BadDistrict others first.1 in
+    (not-false _ first.0, not-false _ second.0)
+
 pub accepted_requests_have_their_groups : AcceptedRequestsHaveTheirGroups
 accepted_requests_have_their_groups scale (request.Payment p) accepted =
     let is = in_scale scale p accepted in
@@ -51,11 +59,9 @@ accepted_requests_have_their_groups scale (request.Payment p) accepted =
     All-from_recursion (IsGroupOf scale.warehouses) (groups_of (payment_footprint p))
     (warehouse, ((warehouse, district), ((payers_warehouse, payers_district), ((warehouse, district), tt))))
 accepted_requests_have_their_groups scale (request.OrderStatus o) accepted =
-    let others = BadLines ∷ BadQuantity ∷ BadSupply ∷ BadAmount ∷ BadThreshold ∷ BadCarrier ∷ [] in
-    let first = not_first (applies scale (request.OrderStatus o)) BadWarehouse (BadDistrict ∷ others) accepted in
-    let second = not_first (applies scale (request.OrderStatus o)) BadDistrict others first.1 in
-    let warehouse = between 1 scale.warehouses o.home.w_id (not-false _ first.0) in
-    let district = between 1 10 o.home.d_id (not-false _ second.0) in
+    let is = status_in_scale scale o accepted in
+    let warehouse = between 1 scale.warehouses o.home.w_id is.0 in
+    let district = between 1 10 o.home.d_id is.1 in
     All-from_recursion (IsGroupOf scale.warehouses) (groups_of (order_status_footprint o))
     ((warehouse, district), ((warehouse, district), tt))
 
@@ -63,3 +69,8 @@ pub accepted_payments_have_their_district : AcceptedPaymentsHaveTheirDistrict
 accepted_payments_have_their_district scale p accepted =
     let is = in_scale scale p accepted in
     and_from (has_warehouse scale p.home.w_id) (is_between 1 10 p.home.d_id) is.warehouse is.district
+
+pub accepted_statuses_have_their_district : AcceptedStatusesHaveTheirDistrict
+accepted_statuses_have_their_district scale o accepted =
+    let is = status_in_scale scale o accepted in
+    and_from (has_warehouse scale o.home.w_id) (is_between 1 10 o.home.d_id) is.0 is.1

@@ -9,3 +9,4 @@ pub mod Undone
 pub mod Accepted
 pub mod Shown
 pub mod StatusCarriedOut
+pub mod Granted

@@ -97,3 +97,8 @@ AcceptedRequestsHaveTheirGroups =
 abbrev pub AcceptedPaymentsHaveTheirDistrict : Type 0
 AcceptedPaymentsHaveTheirDistrict =
     (scale : Scale) (p : Payment) → IsAccepted scale (request.Payment p) → IsTrue (has_district scale p.home)
+
+-- And of an accepted Order-Status.
+abbrev pub AcceptedStatusesHaveTheirDistrict : Type 0
+AcceptedStatusesHaveTheirDistrict =
+    (scale : Scale) (o : OrderStatus) → IsAccepted scale (request.OrderStatus o) → IsTrue (has_district scale o.home)

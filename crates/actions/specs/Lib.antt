@@ -2,3 +2,4 @@ pub mod Payments
 pub mod OrderStatuses
 pub mod Gathering
 pub mod Laws
+pub mod Works

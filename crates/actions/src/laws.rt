@@ -1,5 +1,5 @@
 //! Laws of the actions: functions that do nothing, and are proved.
-ghost use Rattle.actions.specs.Laws.{AcceptedPaymentsHaveTheirDistrict, AcceptedRequestsHaveTheirGroups, GatheredPayersAreKnown, OrderStatusesAreCarriedOut, PaymentsAreCarriedOut, RolledBackClaimsCanBeUndone, RolledBackOrderStatusesAreCarriedOut, RolledBackPaymentsAreCarriedOut, ShownCustomersAreAtHome};
+ghost use Rattle.actions.specs.Laws.{AcceptedPaymentsHaveTheirDistrict, AcceptedRequestsHaveTheirGroups, AcceptedStatusesHaveTheirDistrict, GatheredPayersAreKnown, OrderStatusesAreCarriedOut, PaymentsAreCarriedOut, RolledBackClaimsCanBeUndone, RolledBackOrderStatusesAreCarriedOut, RolledBackPaymentsAreCarriedOut, ShownCustomersAreAtHome};
 
 /// Where each action did its part, the payment is carried out as the machine does it: the reply is the
 /// machine's, and the claims leave what the machine leaves.
@@ -38,8 +38,9 @@ pub fn shown_customers_are_at_home()
     ensures { ShownCustomersAreAtHome }
 {}
 
-/// What an accepted request claims is there, and so is an accepted payment's home district.
+/// What an accepted request claims is there, and so is its home district.
 pub fn accepted_requests_have_their_groups()
     ensures groups { AcceptedRequestsHaveTheirGroups }
     ensures district { AcceptedPaymentsHaveTheirDistrict }
+    ensures status { AcceptedStatusesHaveTheirDistrict }
 {}

@@ -7,6 +7,7 @@ mod gathering;
 mod laws;
 mod paying;
 mod showing;
+mod work;
 
 pub use gathering::{
     CustomerPaid, CustomerShown, Gathered, HomePaid, StatusCustomer, gather_paid, gather_shown,
@@ -19,3 +20,4 @@ pub use laws::{
 };
 pub use paying::{add_payment, pay_customer, pay_home};
 pub use showing::{show_customer, show_order};
+pub use work::{Found, Work, run};

@@ -1,0 +1,3 @@
+pub mod PaymentSteps
+pub mod OrderStatusSteps
+pub mod Gathering
