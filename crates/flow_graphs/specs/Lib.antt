@@ -5,3 +5,4 @@ pub mod PaymentLaws
 pub mod OrderStatusLaws
 pub mod Progresses
 pub mod ProgressLaws
+pub mod Laws

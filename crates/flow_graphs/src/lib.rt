@@ -10,10 +10,12 @@
 
 mod doing;
 mod graphs;
+mod laws;
 mod order_status;
 mod payment;
 
 pub use doing::Doing;
 pub use graphs::{Asked, Graphs, Progress};
+pub use laws::{actions_can_do_their_work, claims_are_of_the_footprint};
 pub use order_status::{OrderStatusGraph, ReadCustomer, ReadOrder, StatusAsked, StatusShown};
 pub use payment::{AddRow, Paid, PayRows, PaymentAsked, PaymentGraph};
