@@ -15,7 +15,7 @@ with_refused() {
 }
 
 # Two sets, each with an engine, take 358 allocations to make, and a payment on one of them takes the next.
-for number in 1 100 358 359 360; do
+for number in 1 359; do
     with_refused payments::want_of_memory_changes_nothing "$number"
 done
 
