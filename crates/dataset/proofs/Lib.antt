@@ -14,3 +14,4 @@ pub mod Parts
 pub mod PaymentTexts
 pub mod TableEntries
 pub mod Told
+pub mod ColumnRanges

@@ -1,14 +1,12 @@
 -- The record of a row tells the row and its key.
-use Rattle.std.proofs.Common.{◌≡◌, ◌<◌, ◌≤◌, ◌^◌, ℕ, Bool, true, false, List, [], ◌∷◌, ◌++◌, map, length, Option, Some, None, IfSome, get_or, codes, refl, sym, ap, ◌∙◌, arith}
+use Rattle.std.proofs.Common.{◌≡◌, ◌<◌, ◌^◌, ℕ, Bool, true, false, List, [], ◌∷◌, ◌++◌, map, length, Option, Some, None, IfSome, get_or, refl, ap, arith}
 use Rattle.std.specs.Prelude.{if◌then◌else◌}
 use Rattle.std.specs.List.{AllByRecursion, AllZip}
-use Rattle.amounts.specs.Money.{IsMoney}
 use Rattle.rows.specs.declared.keys.DistrictKey.{DistrictKey}
 use Rattle.rows.specs.declared.keys.StockKey.{StockKey}
 use Rattle.rows.specs.declared.keys.CustomerKey.{CustomerKey}
 use Rattle.rows.specs.declared.keys.OrderKey.{OrderKey}
 use Rattle.rows.specs.declared.keys.OrderLineKey.{OrderLineKey}
-use Rattle.rows.specs.declared.records.Address.{Address}
 use Rattle.rows.specs.declared.records.Credit.{Credit}
 use Rattle.rows.specs.declared.records.Credit.TheVariants.{Good, Bad}
 use Rattle.rows.specs.declared.records.Item.{Item}
@@ -21,8 +19,8 @@ use Rattle.rows.specs.declared.records.Order.{Order}
 use Rattle.rows.specs.declared.records.NewOrder.{NewOrder}
 use Rattle.rows.specs.declared.records.OrderLine.{OrderLine}
 use Rattle.files.specs.Word.{credit_text}
-use Rattle.dataset.specs.Records.{Field, Words, Number, Money, Date, Null, AreSpelt, item_fields, warehouse_fields, district_fields, stock_fields, customer_fields, history_fields, order_fields, new_order_fields, line_fields, carrier_field, delivery_field}
-use Rattle.dataset.specs.Ranges.{IsFrom, IsMoment, ItemInRange, WarehouseInRange, DistrictInRange, StockInRange, CustomerInRange, HistoryInRange, OrderInRange, LineInRange}
+use Rattle.dataset.specs.Records.{Field, Words, Number, AreSpelt, item_fields, warehouse_fields, district_fields, stock_fields, customer_fields, history_fields, order_fields, new_order_fields, line_fields, carrier_field, delivery_field}
+use Rattle.dataset.specs.Ranges.{IsFrom, ItemInRange, WarehouseInRange, DistrictInRange, StockInRange, CustomerInRange, HistoryInRange, OrderInRange, LineInRange}
 use Rattle.dataset.proofs.FieldTexts.{IsExact, Alike, same_fields}
 
 -- ---- keys whose numbers are spelt exactly

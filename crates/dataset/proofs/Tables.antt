@@ -23,7 +23,7 @@ use Rattle.dataset.specs.Writing.{count_fields}
 use Rattle.dataset.proofs.Keys.{sorted-item_ids, sorted-warehouse_ids, sorted-district_keys, sorted-stock_keys, sorted-customer_keys, keys_of-zip}
 
 -- the entries of a table whose rows stand in the order of its keys
-dense : {K X : Type 0} {R : K → K → Ordering} → IsTotalOrder R → (ks : List K) (xs : List X) → IsStrictlySortedBy R ks → length xs ≡ length ks → entries (from_entries {R = R} (zip ks xs)) ≡ zip ks xs
+pub dense : {K X : Type 0} {R : K → K → Ordering} → IsTotalOrder R → (ks : List K) (xs : List X) → IsStrictlySortedBy R ks → length xs ≡ length ks → entries (from_entries {R = R} (zip ks xs)) ≡ zip ks xs
 dense {R = R} o ks xs sorted even = entries-ordered o (zip ks xs) (subst (IsStrictlySortedBy R) (sym (keys_of-zip ks xs even)) sorted)
 
 length-zip : {K X : Type 0} (ks : List K) (xs : List X) → length xs ≡ length ks → length (zip ks xs) ≡ length xs

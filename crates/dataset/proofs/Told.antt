@@ -1,6 +1,6 @@
 -- Tables within their scale and the ranges of their columns are told by their records.
 use Rattle.std.proofs.Common.{◌≡◌, ◌<◌, ◌≤◌, ◌^◌, ℕ, Bool, true, false, ◌&&◌, List, [], ◌∷◌, ◌++◌, Option, Some, None, IsTrue, is_some, refl, sym, ap, subst, ◌∙◌, arith}
-use Rattle.std.specs.List.{AllByRecursion, AllZip, flat_map, list_all}
+use Rattle.std.specs.List.{AllByRecursion, AllZip, flat_map}
 use Rattle.std.specs.Map.{keys_of, values_of}
 use Rattle.std.specs.Cmp.{nat_cmp_total}
 use Rattle.std.specs.FinMap as map
@@ -12,14 +12,8 @@ use Rattle.rows.specs.declared.keys.StockKey.{StockKey}
 use Rattle.rows.specs.declared.keys.CustomerKey.{CustomerKey}
 use Rattle.rows.specs.declared.keys.OrderKey.{OrderKey}
 use Rattle.rows.specs.declared.keys.OrderLineKey.{OrderLineKey}
-use Rattle.rows.specs.declared.records.Item.{Item}
-use Rattle.rows.specs.declared.records.Warehouse.{Warehouse}
-use Rattle.rows.specs.declared.records.District.{District}
-use Rattle.rows.specs.declared.records.Stock.{Stock}
-use Rattle.rows.specs.declared.records.Customer.{Customer}
 use Rattle.rows.specs.declared.records.History.{History}
 use Rattle.rows.specs.declared.records.Order.{Order}
-use Rattle.rows.specs.declared.records.NewOrder.{NewOrder}
 use Rattle.rows.specs.declared.records.OrderLine.{OrderLine}
 use Rattle.rows.specs.Keys.{order_of_line}
 use Rattle.schema.specs.declared.scale.Scale.{Scale}
@@ -32,7 +26,7 @@ use Rattle.dataset.specs.Ranges.{InRange, ItemInRange, WarehouseInRange, Distric
 use Rattle.dataset.specs.RecordLaws.{RecordsTellTables}
 use Rattle.dataset.proofs.FieldTexts.{same_fields}
 use Rattle.dataset.proofs.RowTexts.{ExactDistrict, ExactStock, ExactCustomer, ExactOrder, ExactLine, item_told, warehouse_told, district_told, stock_told, customer_told, order_told, new_order_told, line_told}
-use Rattle.dataset.proofs.Parts.{PartsMarked, Shared, are_apart, parts_shared, flat-last, same_rows, marked-rows}
+use Rattle.dataset.proofs.Parts.{PartsMarked, are_apart, parts_shared, flat-last, same_rows, marked-rows}
 use Rattle.dataset.proofs.PaymentTexts.{FitsPayment, payments_told, marked-payments}
 use Rattle.dataset.proofs.TableEntries.{entries_ascend, rows_pass, keys_pass, all-true, all-both, all-of_values, all-of_keys, between_small, same_keys}
 

@@ -25,6 +25,7 @@ mod moments;
 mod new_orders;
 mod orders;
 mod place;
+mod ranges;
 mod reader;
 mod recorded;
 mod stocks;
@@ -32,7 +33,8 @@ mod warehouses;
 mod writer;
 
 pub use files::{FaultKind, FileError, FileFault};
-pub use laws::different_tables_have_different_records;
+pub use laws::{different_tables_have_different_records, records_tell_tables};
+pub use ranges::columns_are_in_range;
 pub use reader::read;
 pub use writer::write;
 

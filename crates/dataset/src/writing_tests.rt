@@ -15,6 +15,16 @@ fn written(alloc: Global, text: &str) -> Result<Vec<u8>, FileError> {
 }
 
 #[test]
+fn laws_hold_of_any_tables(rt: HostRuntime) -> Result<(), Fail> {
+    let text = dataset_with(rt.alloc(), &[])?;
+    let one = read(rt.alloc(), text.as_str().as_bytes())?;
+    let other = read(rt.alloc(), text.as_str().as_bytes())?;
+    different_tables_have_different_records();
+    records_tell_tables(&one, &other);
+    Ok(())
+}
+
+#[test]
 fn a_dataset_is_written_as_it_was_read(rt: HostRuntime) -> Result<(), Fail> {
     let twice = "H,1,10,1,3,1,9999-12-31T23:59:59,-5,second\nH,1,10,1,2,1,1970-01-01T00:00:00,0,";
     let edits: [&[(u64, &str)]; 5] = [
