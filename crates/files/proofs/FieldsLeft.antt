@@ -1,5 +1,5 @@
 -- The next field of those that are left.
-use Rattle.std.proofs.Common.{◌≡◌, ◌↔◌, ◌==◌, ℕ, zero, suc, ◌+◌, List, [], ◌∷◌, length, drop, IsTrue, Some, None, Option, Result, Ok, Err, IfOk, IfErr, refl, sym, subst, ◌∙◌, arith, rules}
+use Rattle.std.proofs.Common.{◌≡◌, ◌↔◌, ◌==◌, true, ℕ, zero, suc, ◌+◌, List, [], ◌∷◌, length, drop, IsTrue, Some, None, Option, Result, Ok, Err, IfOk, IfErr, refl, sym, subst, ◌∙◌, arith, rules}
 use Rattle.std.proofs.lemmas.List.{drop_all}
 use Rattle.csv.specs.Records.{field_at}
 use Rattle.files.specs.declared.fault.FaultKind.{FaultKind}
@@ -54,3 +54,8 @@ pub is_next : (bytes : List ℕ) (n : ℕ) (fields : List (List ℕ)) → Some b
     → IsTrue (length bytes == 0) ↔ ((rest : List (List ℕ)) × (drop n fields ≡ [] ∷ rest))
 is_next [] n fields there = (λ empty. (drop (n + 1) fields, first_of_left n fields [] there), λ left. refl)
 is_next (byte ∷ bytes) n fields there = (λ empty. let none : length (byte ∷ bytes) ≡ 0 = search (rules, empty) in absurd (omega (none, arith)), λ left. let clash : Some (byte ∷ bytes) ≡ Some [] = there ∙ next_is_there n fields [] left.0 left.1 in absurd cc)
+
+-- bytes of which there are none
+pub no_bytes : (bytes : List ℕ) → (length bytes == 0) ≡ true → bytes ≡ []
+no_bytes [] h = refl
+no_bytes (byte ∷ bytes) h = let none : length (byte ∷ bytes) ≡ 0 = search (rules, h) in absurd (omega (none, arith))

@@ -4,3 +4,4 @@ pub mod Moments
 pub mod FieldsLeft
 pub mod Progress
 pub mod Texts
+pub mod Ascii

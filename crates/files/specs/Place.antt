@@ -38,3 +38,17 @@ pub record HasRead {R : Type 0} (remaining : R → Option (List ℕ)) (text : Li
 abbrev pub HasReadOn : {R : Type 0} → (R → Option (List ℕ)) → List ℕ → List (List (List ℕ)) → Bool → Records R → Type 0
 HasReadOn remaining text rows true r = HasRead remaining text (rows ++ (record_fields r ∷ [])) r
 HasReadOn remaining text rows false r = IsCsv text rows
+
+-- these are all the records of what is left to read
+pub record HasLeft {R : Type 0} (remaining : R → Option (List ℕ)) (rows : List (List (List ℕ))) (r : Records R) : Type 0 where
+  pub left : List ℕ
+  pub source : source_of remaining r.reader ≡ Some left
+  pub are_left : AreRecords default_config (reader_state r.reader) left rows
+  pub config : reader_config r.reader ≡ default_config
+  pub whole_fields : reader_trim r.reader ≡ trim.None
+  pub is_ready : Ready r.reader
+
+-- the first of the records that were left was read, or there was none
+abbrev pub HasLeftAfter : {R : Type 0} → (R → Option (List ℕ)) → List (List (List ℕ)) → Bool → Records R → Type 0
+HasLeftAfter remaining [] found r = found ≡ false
+HasLeftAfter remaining (row ∷ rows) found r = (found ≡ true) × (record_fields r ≡ row) × HasLeft remaining rows r

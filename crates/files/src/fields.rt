@@ -1,6 +1,8 @@
-ghost use Rattle.std.specs.Prelude.{◌≡◌, ◌≢◌, ◌↔◌, ◌≤◌, ℕ, List, [], ◌∷◌, length, drop, IsTrue, None, Some, MatchOption, IfNone, IfSome, IfOk, IfErr, IsUtf8};
+ghost use Rattle.std.specs.Prelude.{◌≡◌, ◌≢◌, ◌↔◌, ◌<◌, ◌≤◌, ℕ, ℤ, List, [], ◌∷◌, length, drop, IsTrue, None, Some, MatchOption, IfNone, IfSome, IfOk, IfErr, IsUtf8};
 ghost use Rattle.std.specs.Fmt.{decimal, signed_decimal};
+ghost use Rattle.amounts.specs.Money.{IsMoney};
 ghost use Rattle.csv.specs.Records.{fields_of};
+ghost use Rattle.rows.specs.Text.{IsText};
 ghost use Rattle.files.specs.MomentText.{IsMomentText};
 ghost use Rattle.files.specs.Word.{credit_text};
 
@@ -139,6 +141,7 @@ impl<'r> Fields<'r> {
     /// The next field as a number of its column's range.
     pub fn ranged<const LOW: u32, const HIGH: u32>(&mut self) -> Ranged<LOW, HIGH>
         requires { LOW ≤ HIGH }
+        ensures reads { (number : ℕ) (rest : List (List ℕ)) → fields_left self.old ≡ decimal number ∷ rest → LOW ≤ number → number ≤ HIGH → (result ≡ number) × (fault_of self.new ≡ fault_of self.old) }
         ensures left { fields_left self.new ≡ drop 1 (fields_left self.old) }
         ensures taken { TakesWell self.old self.new (decimal result) }
     {
@@ -148,19 +151,28 @@ impl<'r> Fields<'r> {
 
     /// The same, and `None` where the field is empty.
     pub fn optional_ranged<const LOW: u32, const HIGH: u32>(&mut self) -> Option<Ranged<LOW, HIGH>>
-        ensures { MatchOption result (TakesWell self.old self.new []) (λ number. TakesWell self.old self.new (decimal number)) }
+        ensures reads { (number : ℕ) (rest : List (List ℕ)) → fields_left self.old ≡ decimal number ∷ rest → LOW ≤ number → number ≤ HIGH → (result ≡ Some number) × (fault_of self.new ≡ fault_of self.old) }
+        ensures reads_null { (rest : List (List ℕ)) → fields_left self.old ≡ [] ∷ rest → (result ≡ None) × (fault_of self.new ≡ fault_of self.old) }
+        ensures left { fields_left self.new ≡ drop 1 (fields_left self.old) }
+        ensures taken { MatchOption result (TakesWell self.old self.new []) (λ number. TakesWell self.old self.new (decimal number)) }
     {
         let word = self.word();
         if word.is_empty() {
             return None;
         }
-        let number = parse_ranged(word).map(Some);
-        self.or_note(number, None)
+        match parse_ranged(word) {
+            Ok(number) => Some(number),
+            Err(kind) => {
+                self.note(kind);
+                None
+            }
+        }
     }
 
     /// The next field as a text; the empty one after a fault.
     pub fn text<const WIDTH: usize>(&mut self) -> Text<WIDTH>
         ensures left { fields_left self.new ≡ drop 1 (fields_left self.old) }
+        ensures reads { (text : List ℕ) (rest : List (List ℕ)) → fields_left self.old ≡ text ∷ rest → IsText WIDTH text → (result ≡ text) × (fault_of self.new ≡ fault_of self.old) }
         ensures taken { TakesWell self.old self.new result }
     {
         let text = parse_text(self.word());
@@ -170,6 +182,7 @@ impl<'r> Fields<'r> {
     /// The next field as money; 0 after a fault.
     pub fn cents(&mut self) -> Cents
         ensures left { fields_left self.new ≡ drop 1 (fields_left self.old) }
+        ensures reads { (cents : ℤ) (rest : List (List ℕ)) → fields_left self.old ≡ signed_decimal cents ∷ rest → IsMoney cents → (result ≡ cents) × (fault_of self.new ≡ fault_of self.old) }
         ensures taken { TakesWell self.old self.new (signed_decimal result) }
     {
         let cents = parse_cents(self.word());
@@ -178,6 +191,7 @@ impl<'r> Fields<'r> {
 
     /// The next field as a rate; 0 after a fault.
     pub fn rate(&mut self) -> Rate
+        ensures reads { (number : ℕ) (rest : List (List ℕ)) → fields_left self.old ≡ decimal number ∷ rest → number < 10000 → (result ≡ number) × (fault_of self.new ≡ fault_of self.old) }
         ensures left { fields_left self.new ≡ drop 1 (fields_left self.old) }
         ensures taken { TakesWell self.old self.new (decimal result) }
     {
@@ -187,6 +201,7 @@ impl<'r> Fields<'r> {
 
     /// The next field as C_CREDIT; good after a fault.
     pub fn credit(&mut self) -> Credit
+        ensures reads { (credit : Credit) (rest : List (List ℕ)) → fields_left self.old ≡ credit_text credit ∷ rest → (result ≡ credit) × (fault_of self.new ≡ fault_of self.old) }
         ensures left { fields_left self.new ≡ drop 1 (fields_left self.old) }
         ensures taken { TakesWell self.old self.new (credit_text result) }
     {
@@ -206,6 +221,9 @@ impl<'r> Fields<'r> {
 
     /// The same, and `None` where the field is empty.
     pub fn optional_moment(&mut self) -> Option<Moment>
+        ensures reads { (text : List ℕ) (seconds : ℕ) (rest : List (List ℕ)) → fields_left self.old ≡ text ∷ rest → IsUtf8 text → IsMomentText text seconds → seconds ≤ 253402300799 → (result ≡ Some seconds) × (fault_of self.new ≡ fault_of self.old) }
+        ensures reads_null { (rest : List (List ℕ)) → fields_left self.old ≡ [] ∷ rest → (result ≡ None) × (fault_of self.new ≡ fault_of self.old) }
+        ensures left { fields_left self.new ≡ drop 1 (fields_left self.old) }
         ensures null { IfNone result (TakesWell self.old self.new []) }
         ensures moment { IfSome result (λ seconds. fault_of self.new ≡ None → (fault_of self.old ≡ None) × ((text : List ℕ) × IsMomentText text seconds × (fields_left self.old ≡ text ∷ fields_left self.new))) }
     {
@@ -224,6 +242,7 @@ impl<'r> Fields<'r> {
 
     /// Notes `WrongCount` where the next field is another number than `count`.
     pub fn expect_count(&mut self, count: u64)
+        ensures reads { (rest : List (List ℕ)) → fields_left self.old ≡ decimal count ∷ rest → fault_of self.new ≡ fault_of self.old }
         ensures left { fields_left self.new ≡ drop 1 (fields_left self.old) }
         ensures taken { TakesWell self.old self.new (decimal count) }
     {

@@ -16,12 +16,13 @@ pub struct Records<R> {
 }
 
 impl<R: Read> Records<R> {
-    ghost use Rattle.files.specs.Place.{record_number, record_fields, file_fault, HasRead, HasReadOn};
+    ghost use Rattle.files.specs.Place.{record_number, record_fields, file_fault, IsCsv, HasRead, HasReadOn, HasLeft, HasLeftAfter};
 
     /// The records that `source` gives, before the first.
     pub fn new(alloc: Global, source: R) -> Self
         ensures number { record_number result ≡ 0 }
         ensures none_read { (text : List ℕ) → R.remaining source ≡ Some text → HasRead R.remaining text [] result }
+        ensures all_left { (text : List ℕ) (rows : List (List (List ℕ))) → R.remaining source ≡ Some text → IsCsv text rows → HasLeft R.remaining rows result }
     {
         let reader = ReaderBuilder::new()
             .has_headers(false)
@@ -38,6 +39,7 @@ impl<R: Read> Records<R> {
     /// `Io` at the record under way; after it and after want of memory there are no more records.
     pub fn advance(&mut self) -> Result<bool, FileError>
         ensures reads { IfOk result (λ found. (text : List ℕ) (rows : List (List (List ℕ))) → HasRead R.remaining text rows self.old → HasReadOn R.remaining text rows found self.new) }
+        ensures reads_next { IfOk result (λ found. (rows : List (List (List ℕ))) → HasLeft R.remaining rows self.old → HasLeftAfter R.remaining rows found self.new) }
         ensures number { record_number self.old < 2 ^ 64 - 1 → record_number self.new ≡ record_number self.old + 1 }
         ensures faults { IfErr result (λ fault. (fault ≡ FileError.NoMemory) ⊎ (fault ≡ file_fault FaultKind.Io (record_number self.new))) }
     {
