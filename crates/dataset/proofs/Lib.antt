@@ -15,3 +15,6 @@ pub mod PaymentTexts
 pub mod TableEntries
 pub mod Told
 pub mod ColumnRanges
+pub mod Reading
+pub mod Bounds
+pub mod HeaderRead

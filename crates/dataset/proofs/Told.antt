@@ -176,7 +176,7 @@ module _ (t : Database) (w : IsWithinScale t) (h : InRange t) where
 
 -- ---- the scale
 
-same_scale : (s r : Scale) → s.warehouses ≡ r.warehouses → s.items ≡ r.items → s.customers ≡ r.customers → s ≡ r
+pub same_scale : (s r : Scale) → s.warehouses ≡ r.warehouses → s.items ≡ r.items → s.customers ≡ r.customers → s ≡ r
 same_scale s r w i c =
     let pairs : ◌≡◌ {A = (p : ℕ × (ℕ × ℕ)) × IsScale p.0 p.1.0 p.1.1} ((s.warehouses, (s.items, s.customers)), s.limits) ((r.warehouses, (r.items, r.customers)), r.limits) =
     Σ_prop_path (λ p. hlevel le_prop) (λ n. (w n, (i n, c n))) in

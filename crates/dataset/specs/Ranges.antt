@@ -1,5 +1,5 @@
 -- The ranges of the columns (clause 1.3.1): what the types of rows keep of every value.
-use Rattle.std.specs.Prelude.{◌≡◌, ◌<◌, ◌≤◌, ℕ, length, IfSome}
+use Rattle.std.specs.Prelude.{◌≡◌, ◌<◌, ◌≤◌, ℕ, length, IfSome, IsTrue, List}
 use Rattle.std.specs.List.{AllByRecursion}
 use Rattle.std.specs.FinMap as table
 use Rattle.amounts.specs.Money.{IsMoney}
@@ -13,7 +13,12 @@ use Rattle.rows.specs.declared.records.Customer.{Customer}
 use Rattle.rows.specs.declared.records.History.{History}
 use Rattle.rows.specs.declared.records.Order.{Order}
 use Rattle.rows.specs.declared.records.OrderLine.{OrderLine}
-use Rattle.schema.specs.Database.{Database}
+use Rattle.rows.specs.declared.keys.OrderKey.{OrderKey}
+use Rattle.rows.specs.declared.keys.OrderLineKey.{OrderLineKey}
+use Rattle.rows.specs.Keys.{district_of_order, order_of_line}
+use Rattle.schema.specs.declared.scale.Scale.{Scale}
+use Rattle.schema.specs.Scale.{has_item, has_warehouse, has_district, has_customer}
+use Rattle.schema.specs.Database.{Database, is_order_id, is_line_number}
 
 -- ---- of a column
 
@@ -61,11 +66,14 @@ pub record DistrictInRange (row : District) : Type 0 where
   pub ytd : IsMoney row.ytd
   pub next_o_id : IsFrom 1 10000000 row.next_o_id
 
--- a row of STOCK has ten texts, S_DIST_01 to S_DIST_10
+-- S_DIST_01 to S_DIST_10
+pub record AreDistrictInfos (infos : List (List ℕ)) : Type 0 where
+  pub ten : length infos ≡ 10
+  pub texts : AllByRecursion (IsText 24) infos
+
 pub record StockInRange (row : Stock) : Type 0 where
   pub quantity : IsFrom 10 100 row.quantity
-  pub dists : length row.dist ≡ 10
-  pub dist : AllByRecursion (IsText 24) row.dist
+  pub dist : AreDistrictInfos row.dist
   pub ytd : IsCounter row.ytd
   pub order_cnt : IsCounter row.order_cnt
   pub remote_cnt : IsCounter row.remote_cnt
@@ -114,3 +122,31 @@ pub record InRange (t : Database) : Type 0 where
   pub histories : AllByRecursion (AllByRecursion HistoryInRange) (table.values t.histories)
   pub orders : AllByRecursion OrderInRange (table.values t.orders)
   pub lines : AllByRecursion LineInRange (table.values t.lines)
+
+-- ---- of a row of a scale, with what it refers to by number
+
+-- a payment by a customer of the scale
+pub record IsPayment (scale : Scale) (row : History) : Type 0 where
+  pub payer : IsTrue (has_customer scale row.customer)
+  pub in_range : HistoryInRange row
+
+-- the key of an order of the scale
+pub record IsOrderKey (scale : Scale) (key : OrderKey) : Type 0 where
+  pub home : IsTrue (has_district scale (district_of_order key))
+  pub number : IsTrue (is_order_id key.o_id)
+
+-- an order by a customer of the scale
+pub record IsOrder (scale : Scale) (row : Order) : Type 0 where
+  pub c_id : IsFrom 1 scale.customers row.c_id
+  pub in_range : OrderInRange row
+
+-- the key of a line of an order of the scale
+pub record IsLineKey (scale : Scale) (key : OrderLineKey) : Type 0 where
+  pub order : IsOrderKey scale (order_of_line key)
+  pub number : IsTrue (is_line_number key.number)
+
+-- a line for an item of the scale, from a warehouse of it
+pub record IsLine (scale : Scale) (row : OrderLine) : Type 0 where
+  pub item : IsTrue (has_item scale row.i_id)
+  pub supplier : IsTrue (has_warehouse scale row.supply_w_id)
+  pub in_range : LineInRange row

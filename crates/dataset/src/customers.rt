@@ -2,8 +2,9 @@ ghost use Rattle.std.specs.Prelude.{◌≡◌, [], ◌∷◌, ◌++◌, None, Is
 ghost use Rattle.schema.specs.Scale.{has_customer, customer_keys};
 ghost use Rattle.files.specs.Taken.{fault_of, Takes};
 ghost use Rattle.dataset.specs.Records.{AreSpelt, customer_key_fields, customer_columns, customer_fields, account_fields};
-ghost use Rattle.dataset.specs.Taking.{Added};
+ghost use Rattle.dataset.specs.Taking.{Added, Reads, ReadsRow};
 ghost use Rattle.dataset.specs.Writing.{Adds};
+ghost use Rattle.dataset.specs.Ranges.{CustomerInRange};
 
 use crate::added;
 use crate::moments::put_moment;
@@ -17,6 +18,7 @@ use schema::{NoMemory, Scale};
 pub fn key(fields: &mut Fields, scale: Scale) -> CustomerKey
     ensures known { IsTrue (has_customer scale result) }
     ensures taken { Takes fields.old fields.new (AreSpelt (customer_key_fields result)) }
+    ensures reads { Reads customer_key_fields (λ key. IsTrue (has_customer scale key)) result fields.old fields.new }
 {
     CustomerKey {
         w_id: fields.whole(1, scale.warehouses),
@@ -27,14 +29,16 @@ pub fn key(fields: &mut Fields, scale: Scale) -> CustomerKey
 
 /// Takes the other fields of a record of CUSTOMER, and adds the row if the record has no fault.
 pub fn add(fields: &mut Fields, customers: &mut Vec<Customer>) -> Result<(), NoMemory>
-    ensures { OnOk result (fault_of fields.new ≡ None → Added customer_columns (λ row. customers.new.items ≡ customers.old.items ++ row ∷ []) fields.old) }
+    ensures added { OnOk result (fault_of fields.new ≡ None → Added customer_columns (λ row. customers.new.items ≡ customers.old.items ++ row ∷ []) fields.old) }
+    ensures reads { OnOk result (ReadsRow customer_columns CustomerInRange (λ row. customers.new.items ≡ customers.old.items ++ row ∷ []) fields.old fields.new) }
 {
     let row = parse(fields);
     added::push(fields, row, customers)
 }
 
 fn parse(fields: &mut Fields) -> Customer
-    ensures { Takes fields.old fields.new (AreSpelt (customer_columns result)) }
+    ensures taken { Takes fields.old fields.new (AreSpelt (customer_columns result)) }
+    ensures reads { Reads customer_columns CustomerInRange result fields.old fields.new }
 {
     Customer {
         first: fields.text(),

@@ -2,8 +2,9 @@ ghost use Rattle.std.specs.Prelude.{◌≡◌, [], ◌∷◌, ◌++◌, None, Is
 ghost use Rattle.schema.specs.Scale.{has_district, district_keys};
 ghost use Rattle.files.specs.Taken.{fault_of, Takes};
 ghost use Rattle.dataset.specs.Records.{AreSpelt, district_key_fields, district_columns, district_fields};
-ghost use Rattle.dataset.specs.Taking.{Added};
+ghost use Rattle.dataset.specs.Taking.{Added, Reads, ReadsRow};
 ghost use Rattle.dataset.specs.Writing.{Adds};
+ghost use Rattle.dataset.specs.Ranges.{DistrictInRange};
 
 use crate::added;
 use crate::recorded::{Dense, Recorded};
@@ -16,6 +17,7 @@ use schema::{NoMemory, Scale};
 pub fn key(fields: &mut Fields, scale: Scale) -> DistrictKey
     ensures known { IsTrue (has_district scale result) }
     ensures taken { Takes fields.old fields.new (AreSpelt (district_key_fields result)) }
+    ensures reads { Reads district_key_fields (λ key. IsTrue (has_district scale key)) result fields.old fields.new }
 {
     DistrictKey {
         w_id: fields.whole(1, scale.warehouses),
@@ -25,14 +27,16 @@ pub fn key(fields: &mut Fields, scale: Scale) -> DistrictKey
 
 /// Takes the other fields of a record of DISTRICT, and adds the row if the record has no fault.
 pub fn add(fields: &mut Fields, districts: &mut Vec<District>) -> Result<(), NoMemory>
-    ensures { OnOk result (fault_of fields.new ≡ None → Added district_columns (λ row. districts.new.items ≡ districts.old.items ++ row ∷ []) fields.old) }
+    ensures added { OnOk result (fault_of fields.new ≡ None → Added district_columns (λ row. districts.new.items ≡ districts.old.items ++ row ∷ []) fields.old) }
+    ensures reads { OnOk result (ReadsRow district_columns DistrictInRange (λ row. districts.new.items ≡ districts.old.items ++ row ∷ []) fields.old fields.new) }
 {
     let row = parse(fields);
     added::push(fields, row, districts)
 }
 
 fn parse(fields: &mut Fields) -> District
-    ensures { Takes fields.old fields.new (AreSpelt (district_columns result)) }
+    ensures taken { Takes fields.old fields.new (AreSpelt (district_columns result)) }
+    ensures reads { Reads district_columns DistrictInRange result fields.old fields.new }
 {
     District {
         name: fields.text(),

@@ -1,6 +1,7 @@
-ghost use Rattle.std.specs.Prelude.{[], ◌∷◌, length, map, sum, OnOk};
+ghost use Rattle.std.specs.Prelude.{[], ◌∷◌, ◌<◌, ◌^◌, List, length, map, sum, OnOk};
 ghost use Rattle.files.specs.Taken.{Takes};
-ghost use Rattle.dataset.specs.Records.{AreSpelt, Number};
+ghost use Rattle.dataset.specs.Records.{AreSpelt, Field, Number};
+ghost use Rattle.dataset.specs.Taking.{Awaits};
 ghost use Rattle.dataset.specs.Writing.{Adds, count_fields, row_counts};
 
 use crate::histories;
@@ -10,7 +11,8 @@ use schema::{HistoryList, NoMemory, TableRows};
 /// Takes the counts of an end record, from its second field on; `WrongCount` where one is not that of
 /// the rows read.
 pub fn check(fields: &mut Fields, rows: &TableRows)
-    ensures { Takes fields.old fields.new (AreSpelt (row_counts rows.now)) }
+    ensures taken { Takes fields.old fields.new (AreSpelt (row_counts rows.now)) }
+    ensures reads { sum (map length rows.now.histories.items) < 2 ^ 64 → Awaits (row_counts rows.now) fields.old → Awaits [] fields.new }
 {
     fields.expect_count(rows.items.len() as u64);
     fields.expect_count(rows.warehouses.len() as u64);
@@ -25,7 +27,8 @@ pub fn check(fields: &mut Fields, rows: &TableRows)
 
 // Takes the count of HISTORY. A field can't have the number of more payments than a `u64` counts.
 fn check_payments(fields: &mut Fields, lists: &[HistoryList])
-    ensures { Takes fields.old fields.new (AreSpelt (Number (sum (map length lists.now)) ∷ [])) }
+    ensures taken { Takes fields.old fields.new (AreSpelt (Number (sum (map length lists.now)) ∷ [])) }
+    ensures reads { (rest : List Field) → sum (map length lists.now) < 2 ^ 64 → Awaits (Number (sum (map length lists.now)) ∷ rest) fields.old → Awaits rest fields.new }
 {
     match u64::try_from(histories::count(lists)) {
         Ok(count) => fields.expect_count(count),

@@ -1,16 +1,19 @@
-ghost use Rattle.std.specs.Prelude.{IfOk, OnOk};
+ghost use Rattle.std.specs.Prelude.{◌≡◌, IfOk, OnOk};
 ghost use Rattle.files.specs.Taken.{fields_left};
 ghost use Rattle.dataset.specs.Records.{AreSpelt, header_fields};
+ghost use Rattle.dataset.specs.Taking.{Awaits};
 ghost use Rattle.dataset.specs.Writing.{Adds};
+ghost use Rattle.schema.specs.declared.scale.Scale.{Scale};
 
 use files::{FaultKind, Fields, NewRecord};
 use schema::{NoMemory, Scale};
 
 /// The scale of a header record: `NoHeader` where the record is none of this format.
 pub fn parse(fields: &mut Fields) -> Result<Scale, FaultKind>
-    ensures { IfOk result (λ scale. AreSpelt (header_fields scale) (fields_left fields.old)) }
+    ensures spelt { IfOk result (λ scale. AreSpelt (header_fields scale) (fields_left fields.old)) }
+    ensures reads { (scale : Scale) → Awaits (header_fields scale) fields.old → result ≡ Ok scale }
 {
-    if fields.count() != 5 || fields.word() != "TPCC" || fields.word() != "1" {
+    if fields.left() != 5 || fields.word() != "TPCC" || fields.word() != "1" {
         return Err(FaultKind::NoHeader);
     }
     let warehouses = fields.whole(1, 64);

@@ -5,8 +5,9 @@ ghost use Rattle.files.specs.Taken.{fields_left, fault_of, Takes};
 ghost use Rattle.files.specs.Written.{IsBetweenRecords};
 ghost use Rattle.dataset.specs.Payments.{Opens, Pays};
 ghost use Rattle.dataset.specs.Records.{AreSpelt, history_columns, history_fields, payment_records};
-ghost use Rattle.dataset.specs.Taking.{Added};
+ghost use Rattle.dataset.specs.Taking.{Added, Reads, ReadsRow};
 ghost use Rattle.dataset.specs.Writing.{Writes};
+ghost use Rattle.dataset.specs.Ranges.{IsPayment};
 
 use crate::moments::put_moment;
 use crate::recorded::{Dense, Recorded};
@@ -27,7 +28,8 @@ pub fn add(
     lists: &mut Vec<HistoryList>,
 ) -> Result<(), NoMemory>
     requires { IsTrue (has_district scale home) }
-    ensures { OnOk result (fault_of fields.new ≡ None → Added history_columns (λ row. Pays (district_slot scale home) row lists.old.items lists.new.items) fields.old) }
+    ensures added { OnOk result (fault_of fields.new ≡ None → Added history_columns (λ row. Pays (district_slot scale home) row lists.old.items lists.new.items) fields.old) }
+    ensures reads { OnOk result (ReadsRow history_columns (IsPayment scale) (λ row. Pays (district_slot scale home) row lists.old.items lists.new.items) fields.old fields.new) }
 {
     let row = parse(fields, scale);
     if fields.finish().is_some() {
@@ -40,7 +42,8 @@ pub fn add(
 }
 
 fn parse(fields: &mut Fields, scale: Scale) -> History
-    ensures { Takes fields.old fields.new (AreSpelt (history_columns result)) }
+    ensures taken { Takes fields.old fields.new (AreSpelt (history_columns result)) }
+    ensures reads { Reads history_columns (IsPayment scale) result fields.old fields.new }
 {
     History {
         customer: customers::key(fields, scale),

@@ -2,7 +2,8 @@ ghost use Rattle.std.specs.Prelude.{◌≡◌, [], ◌∷◌, ◌++◌, None, Is
 ghost use Rattle.schema.specs.Scale.{has_item, item_ids};
 ghost use Rattle.files.specs.Taken.{fault_of, Takes};
 ghost use Rattle.dataset.specs.Records.{AreSpelt, Number, item_columns, item_fields};
-ghost use Rattle.dataset.specs.Taking.{Added};
+ghost use Rattle.dataset.specs.Taking.{Added, Reads, ReadsRow};
+ghost use Rattle.dataset.specs.Ranges.{ItemInRange};
 
 use crate::added;
 use crate::recorded::{Dense, Recorded};
@@ -14,20 +15,23 @@ use schema::{NoMemory, Scale};
 pub fn key(fields: &mut Fields, scale: Scale) -> u32
     ensures known { IsTrue (has_item scale result) }
     ensures taken { Takes fields.old fields.new (AreSpelt (Number result ∷ [])) }
+    ensures reads { Reads (λ key. Number key ∷ []) (λ key. IsTrue (has_item scale key)) result fields.old fields.new }
 {
     fields.whole(1, scale.items)
 }
 
 /// Takes the other fields, and adds the row if the record has no fault.
 pub fn add(fields: &mut Fields, items: &mut Vec<Item>) -> Result<(), NoMemory>
-    ensures { OnOk result (fault_of fields.new ≡ None → Added item_columns (λ row. items.new.items ≡ items.old.items ++ row ∷ []) fields.old) }
+    ensures added { OnOk result (fault_of fields.new ≡ None → Added item_columns (λ row. items.new.items ≡ items.old.items ++ row ∷ []) fields.old) }
+    ensures reads { OnOk result (ReadsRow item_columns ItemInRange (λ row. items.new.items ≡ items.old.items ++ row ∷ []) fields.old fields.new) }
 {
     let row = parse(fields);
     added::push(fields, row, items)
 }
 
 fn parse(fields: &mut Fields) -> Item
-    ensures { Takes fields.old fields.new (AreSpelt (item_columns result)) }
+    ensures taken { Takes fields.old fields.new (AreSpelt (item_columns result)) }
+    ensures reads { Reads item_columns ItemInRange result fields.old fields.new }
 {
     Item {
         im_id: fields.ranged(),

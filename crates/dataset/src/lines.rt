@@ -1,12 +1,13 @@
-ghost use Rattle.std.specs.Prelude.{◌≡◌, [], ◌∷◌, None, IsTrue, OnOk};
+ghost use Rattle.std.specs.Prelude.{◌≡◌, [], ◌∷◌, None, IsTrue, OnOk, IfSome};
 ghost use Rattle.std.specs.BTreeMap.{insert_entry};
 ghost use Rattle.rows.specs.Keys.{line_cmp};
 ghost use Rattle.schema.specs.Scale.{has_district};
 ghost use Rattle.schema.specs.Database.{is_order_id, is_line_number};
 ghost use Rattle.files.specs.Taken.{fault_of, Takes};
 ghost use Rattle.dataset.specs.Records.{AreSpelt, Number, delivery_field, line_columns, line_fields};
-ghost use Rattle.dataset.specs.Taking.{Added};
+ghost use Rattle.dataset.specs.Taking.{Added, Reads, ReadsRow};
 ghost use Rattle.dataset.specs.Writing.{Adds};
+ghost use Rattle.dataset.specs.Ranges.{IsMoment, IsLine, IsLineKey};
 
 use crate::moments::put_moment;
 use crate::recorded::Recorded;
@@ -22,6 +23,7 @@ pub fn key(fields: &mut Fields, scale: Scale) -> OrderLineKey
     ensures order { IsTrue (is_order_id result.o_id) }
     ensures number { IsTrue (is_line_number result.number) }
     ensures taken { Takes fields.old fields.new (AreSpelt (Number result.w_id ∷ Number result.d_id ∷ Number result.o_id ∷ Number result.number ∷ [])) }
+    ensures reads { Reads (λ key. Number key.w_id ∷ Number key.d_id ∷ Number key.o_id ∷ Number key.number ∷ []) (IsLineKey scale) result fields.old fields.new }
 {
     OrderLineKey {
         w_id: fields.whole(1, scale.warehouses),
@@ -38,14 +40,16 @@ pub fn add(
     key: OrderLineKey,
     lines: &mut BTreeMap<OrderLineKey, OrderLine>,
 ) -> Result<(), NoMemory>
-    ensures { OnOk result (fault_of fields.new ≡ None → Added line_columns (λ row. lines.new.entries ≡ insert_entry line_cmp lines.old.entries key row) fields.old) }
+    ensures added { OnOk result (fault_of fields.new ≡ None → Added line_columns (λ row. lines.new.entries ≡ insert_entry line_cmp lines.old.entries key row) fields.old) }
+    ensures reads { OnOk result (ReadsRow line_columns (IsLine scale) (λ row. lines.new.entries ≡ insert_entry line_cmp lines.old.entries key row) fields.old fields.new) }
 {
     let row = parse(fields, scale);
     added::insert(fields, key, row, lines)
 }
 
 fn parse(fields: &mut Fields, scale: Scale) -> OrderLine
-    ensures { Takes fields.old fields.new (AreSpelt (line_columns result)) }
+    ensures taken { Takes fields.old fields.new (AreSpelt (line_columns result)) }
+    ensures reads { Reads line_columns (IsLine scale) result fields.old fields.new }
 {
     OrderLine {
         i_id: fields.whole(1, scale.items),
@@ -59,7 +63,8 @@ fn parse(fields: &mut Fields, scale: Scale) -> OrderLine
 
 // Takes OL_DELIVERY_D, which is null where the field is empty.
 fn delivery(fields: &mut Fields) -> Option<Moment>
-    ensures { Takes fields.old fields.new (AreSpelt (delivery_field result ∷ [])) }
+    ensures taken { Takes fields.old fields.new (AreSpelt (delivery_field result ∷ [])) }
+    ensures reads { Reads (λ moment. delivery_field moment ∷ []) (λ moment. IfSome moment IsMoment) result fields.old fields.new }
 {
     fields.optional_moment()
 }

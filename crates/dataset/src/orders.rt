@@ -1,12 +1,13 @@
-ghost use Rattle.std.specs.Prelude.{◌≡◌, [], ◌∷◌, None, IsTrue, OnOk, if◌then◌else◌};
+ghost use Rattle.std.specs.Prelude.{◌≡◌, [], ◌∷◌, None, IsTrue, OnOk, if◌then◌else◌, IfSome};
 ghost use Rattle.std.specs.BTreeMap.{insert_entry};
 ghost use Rattle.rows.specs.Keys.{order_cmp};
 ghost use Rattle.schema.specs.Scale.{has_district};
 ghost use Rattle.schema.specs.Database.{is_order_id};
 ghost use Rattle.files.specs.Taken.{fault_of, Takes};
 ghost use Rattle.dataset.specs.Records.{AreSpelt, Number, carrier_field, order_key_fields, order_columns, order_fields};
-ghost use Rattle.dataset.specs.Taking.{Added};
+ghost use Rattle.dataset.specs.Taking.{Added, Reads, ReadsRow};
 ghost use Rattle.dataset.specs.Writing.{Adds};
+ghost use Rattle.dataset.specs.Ranges.{IsFrom, IsOrder, IsOrderKey};
 
 use crate::moments::put_moment;
 use crate::recorded::Recorded;
@@ -20,6 +21,7 @@ pub fn key(fields: &mut Fields, scale: Scale) -> OrderKey
     ensures district { IsTrue (has_district scale (record { w_id = result.w_id; d_id = result.d_id })) }
     ensures number { IsTrue (is_order_id result.o_id) }
     ensures taken { Takes fields.old fields.new (AreSpelt (order_key_fields result)) }
+    ensures reads { Reads order_key_fields (IsOrderKey scale) result fields.old fields.new }
 {
     OrderKey {
         w_id: fields.whole(1, scale.warehouses),
@@ -35,7 +37,8 @@ pub fn add(
     key: OrderKey,
     orders: &mut BTreeMap<OrderKey, Order>,
 ) -> Result<(), NoMemory>
-    ensures { OnOk result (fault_of fields.new ≡ None → Added order_columns (λ row. orders.new.entries ≡ insert_entry order_cmp orders.old.entries key row) fields.old) }
+    ensures added { OnOk result (fault_of fields.new ≡ None → Added order_columns (λ row. orders.new.entries ≡ insert_entry order_cmp orders.old.entries key row) fields.old) }
+    ensures reads { OnOk result (ReadsRow order_columns (IsOrder scale) (λ row. orders.new.entries ≡ insert_entry order_cmp orders.old.entries key row) fields.old fields.new) }
 {
     let row = Order {
         c_id: fields.whole(1, scale.customers),
@@ -52,14 +55,16 @@ pub fn add(
 
 // Takes O_CARRIER_ID, which is null where the field is empty.
 fn carrier(fields: &mut Fields) -> Option<CarrierId>
-    ensures { Takes fields.old fields.new (AreSpelt (carrier_field result ∷ [])) }
+    ensures taken { Takes fields.old fields.new (AreSpelt (carrier_field result ∷ [])) }
+    ensures reads { Reads (λ carrier. carrier_field carrier ∷ []) (λ carrier. IfSome carrier (IsFrom 1 10)) result fields.old fields.new }
 {
     fields.optional_ranged()
 }
 
 // Takes O_ALL_LOCAL.
 fn is_all_local(fields: &mut Fields) -> bool
-    ensures { Takes fields.old fields.new (AreSpelt (Number (if result then 1 else 0) ∷ [])) }
+    ensures taken { Takes fields.old fields.new (AreSpelt (Number (if result then 1 else 0) ∷ [])) }
+    ensures reads { Reads (λ flag. Number (if flag then 1 else 0) ∷ []) (λ _. Unit {0}) result fields.old fields.new }
 {
     fields.whole(0, 1) == 1
 }

@@ -2,8 +2,9 @@ ghost use Rattle.std.specs.Prelude.{◌≡◌, [], ◌∷◌, ◌++◌, map, Non
 ghost use Rattle.schema.specs.Scale.{has_stock, stock_keys};
 ghost use Rattle.files.specs.Taken.{fault_of, Takes};
 ghost use Rattle.dataset.specs.Records.{AreSpelt, Words, Number, stock_columns, stock_fields};
-ghost use Rattle.dataset.specs.Taking.{Added};
+ghost use Rattle.dataset.specs.Taking.{Added, Reads, ReadsRow};
 ghost use Rattle.dataset.specs.Writing.{Adds};
+ghost use Rattle.dataset.specs.Ranges.{StockInRange, AreDistrictInfos};
 
 use crate::added;
 use crate::recorded::{Dense, Recorded};
@@ -15,6 +16,7 @@ use schema::{NoMemory, Scale};
 pub fn key(fields: &mut Fields, scale: Scale) -> StockKey
     ensures known { IsTrue (has_stock scale result) }
     ensures taken { Takes fields.old fields.new (AreSpelt (Number result.w_id ∷ Number result.i_id ∷ [])) }
+    ensures reads { Reads (λ key. Number key.w_id ∷ Number key.i_id ∷ []) (λ key. IsTrue (has_stock scale key)) result fields.old fields.new }
 {
     StockKey {
         w_id: fields.whole(1, scale.warehouses),
@@ -24,14 +26,16 @@ pub fn key(fields: &mut Fields, scale: Scale) -> StockKey
 
 /// Takes the other fields, and adds the row if the record has no fault.
 pub fn add(fields: &mut Fields, stocks: &mut Vec<Stock>) -> Result<(), NoMemory>
-    ensures { OnOk result (fault_of fields.new ≡ None → Added stock_columns (λ row. stocks.new.items ≡ stocks.old.items ++ row ∷ []) fields.old) }
+    ensures added { OnOk result (fault_of fields.new ≡ None → Added stock_columns (λ row. stocks.new.items ≡ stocks.old.items ++ row ∷ []) fields.old) }
+    ensures reads { OnOk result (ReadsRow stock_columns StockInRange (λ row. stocks.new.items ≡ stocks.old.items ++ row ∷ []) fields.old fields.new) }
 {
     let row = parse(fields);
     added::push(fields, row, stocks)
 }
 
 fn parse(fields: &mut Fields) -> Stock
-    ensures { Takes fields.old fields.new (AreSpelt (stock_columns result)) }
+    ensures taken { Takes fields.old fields.new (AreSpelt (stock_columns result)) }
+    ensures reads { Reads stock_columns StockInRange result fields.old fields.new }
 {
     Stock {
         quantity: fields.ranged(),
@@ -45,7 +49,8 @@ fn parse(fields: &mut Fields) -> Stock
 
 // Takes S_DIST_01 to S_DIST_10.
 fn district_infos(fields: &mut Fields) -> [Text<24>; 10]
-    ensures { Takes fields.old fields.new (AreSpelt (map (λ text. Words text) result)) }
+    ensures taken { Takes fields.old fields.new (AreSpelt (map (λ text. Words text) result)) }
+    ensures reads { Reads (λ infos. map (λ text. Words text) infos) AreDistrictInfos result fields.old fields.new }
 {
     [
         fields.text(),

@@ -2,8 +2,9 @@ ghost use Rattle.std.specs.Prelude.{◌≡◌, [], ◌∷◌, ◌++◌, None, Is
 ghost use Rattle.schema.specs.Scale.{has_warehouse, warehouse_ids};
 ghost use Rattle.files.specs.Taken.{fault_of, Takes};
 ghost use Rattle.dataset.specs.Records.{AreSpelt, Number, address_fields, warehouse_columns, warehouse_fields};
-ghost use Rattle.dataset.specs.Taking.{Added};
+ghost use Rattle.dataset.specs.Taking.{Added, Reads, ReadsRow};
 ghost use Rattle.dataset.specs.Writing.{Adds};
+ghost use Rattle.dataset.specs.Ranges.{WarehouseInRange, AddressInRange};
 
 use crate::added;
 use crate::recorded::{Dense, Recorded};
@@ -15,20 +16,23 @@ use schema::{NoMemory, Scale};
 pub fn key(fields: &mut Fields, scale: Scale) -> u32
     ensures known { IsTrue (has_warehouse scale result) }
     ensures taken { Takes fields.old fields.new (AreSpelt (Number result ∷ [])) }
+    ensures reads { Reads (λ key. Number key ∷ []) (λ key. IsTrue (has_warehouse scale key)) result fields.old fields.new }
 {
     fields.whole(1, scale.warehouses)
 }
 
 /// Takes the other fields, and adds the row if the record has no fault.
 pub fn add(fields: &mut Fields, warehouses: &mut Vec<Warehouse>) -> Result<(), NoMemory>
-    ensures { OnOk result (fault_of fields.new ≡ None → Added warehouse_columns (λ row. warehouses.new.items ≡ warehouses.old.items ++ row ∷ []) fields.old) }
+    ensures added { OnOk result (fault_of fields.new ≡ None → Added warehouse_columns (λ row. warehouses.new.items ≡ warehouses.old.items ++ row ∷ []) fields.old) }
+    ensures reads { OnOk result (ReadsRow warehouse_columns WarehouseInRange (λ row. warehouses.new.items ≡ warehouses.old.items ++ row ∷ []) fields.old fields.new) }
 {
     let row = parse(fields);
     added::push(fields, row, warehouses)
 }
 
 fn parse(fields: &mut Fields) -> Warehouse
-    ensures { Takes fields.old fields.new (AreSpelt (warehouse_columns result)) }
+    ensures taken { Takes fields.old fields.new (AreSpelt (warehouse_columns result)) }
+    ensures reads { Reads warehouse_columns WarehouseInRange result fields.old fields.new }
 {
     Warehouse {
         name: fields.text(),
@@ -40,7 +44,8 @@ fn parse(fields: &mut Fields) -> Warehouse
 
 /// Takes the five fields of an address.
 pub fn address(fields: &mut Fields) -> Address
-    ensures { Takes fields.old fields.new (AreSpelt (address_fields result)) }
+    ensures taken { Takes fields.old fields.new (AreSpelt (address_fields result)) }
+    ensures reads { Reads address_fields AddressInRange result fields.old fields.new }
 {
     Address {
         street_1: fields.text(),

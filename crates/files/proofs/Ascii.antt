@@ -102,3 +102,6 @@ text_is_read width text h =
     let printable : list_all is_printable_byte text ≡ true = h.printable in
     let fits : nat_le (length text) width ≡ true = let f = h.fits in grind (arith, nat_tests) in
     rw (printable, fits) refl
+
+pub utf8_words : (bytes : List ℕ) → IsTrue (list_all is_printable_byte bytes) → IsUtf8 bytes
+utf8_words bytes h = IsUtf8-from_ascii bytes (ascii_text bytes h)

@@ -1,6 +1,11 @@
 use Rattle.dataset.proofs.Taking.{takes-delivery}
+use Rattle.dataset.proofs.Reading.{reads-delivery}
 use Rattle.dataset.proofs.lines.delivery.Goals as goal
 
-pub returns : goal.returns
-returns c =
+pub returns-clause-taken : goal.returns-clause-taken
+returns-clause-taken c =
     (takes-delivery c.optional_moment.result c.optional_moment.ensures.null c.optional_moment.ensures.moment).well
+
+pub returns-clause-reads : goal.returns-clause-reads
+returns-clause-reads c = λ moment rest h awaits.
+    reads-delivery c.optional_moment.new.self c.optional_moment.result moment rest h c.optional_moment.ensures.reads c.optional_moment.ensures.reads_null c.optional_moment.ensures.left awaits

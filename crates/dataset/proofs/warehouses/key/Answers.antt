@@ -1,6 +1,15 @@
 use Rattle.dataset.proofs.Taking.{takes-number}
+use Rattle.std.proofs.Common.{arith}
+use Rattle.dataset.proofs.Bounds.{bounds, both}
+use Rattle.dataset.proofs.Reading.{reads-words, reads-number, reads-money, reads-date, reads-null}
 use Rattle.dataset.proofs.warehouses.key.Goals as goal
 
 pub returns-clause-taken : goal.returns-clause-taken
 returns-clause-taken c =
     (takes-number c.whole.result c.whole.new.self c.whole.ensures.taken).well
+
+pub returns-clause-reads : goal.returns-clause-reads
+returns-clause-reads c = λ key rest h awaits.
+    let w = bounds 1 c.args.scale.warehouses key h in
+    let w_id = reads-number c.whole.new.self c.whole.result key key (λ more next. c.whole.ensures.reads key more next w.0 w.1) c.whole.ensures.left awaits in
+    (λ i. w_id.0 i, w_id.1)

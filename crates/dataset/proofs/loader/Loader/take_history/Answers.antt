@@ -25,4 +25,4 @@ returns c =
     loads_row (codes "H") l _ history_columns (district_key_fields key) (IsTrue (follows (at.History key) l.last)) _ c.args.fields.now c.key-home.new.fields c.stand_at.new.fields c.add.new.fields
     c.key-home.ensures.taken c.stand_at.ensures.placed c.stand_at.ensures.left adds
     (λ row read texts h follow added spelt. load_history l (rows l) key row read texts h follow added spelt)))
-    c.add.ensures
+    c.add.ensures.added

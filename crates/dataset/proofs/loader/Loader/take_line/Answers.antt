@@ -25,4 +25,4 @@ returns c =
     loads_row (codes "L") l _ line_columns (Number key.w_id ∷ Number key.d_id ∷ Number key.o_id ∷ Number key.number ∷ []) (IsTrue (follows (at.Line key) l.last)) _ c.args.fields.now c.key-key.new.fields c.stand_at.new.fields c.add.new.fields
     c.key-key.ensures.taken c.stand_at.ensures.placed c.stand_at.ensures.left adds
     (λ row read texts h follow added spelt. load_line l (rows l) key row read texts h follow added spelt)))
-    c.add.ensures
+    c.add.ensures.added

@@ -25,4 +25,4 @@ returns c =
     loads_row (codes "O") l _ order_columns (order_key_fields key) (IsTrue (follows (at.Order key) l.last)) _ c.args.fields.now c.key-key.new.fields c.stand_at.new.fields c.add.new.fields
     c.key-key.ensures.taken c.stand_at.ensures.placed c.stand_at.ensures.left adds
     (λ row read texts h follow added spelt. load_order l (rows l) key row read texts h follow added spelt)))
-    c.add.ensures
+    c.add.ensures.added

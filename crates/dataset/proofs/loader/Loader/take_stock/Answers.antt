@@ -23,4 +23,4 @@ returns c =
     loads_row (codes "S") l _ stock_columns (Number key.w_id ∷ Number key.i_id ∷ []) (IsTrue (follows (at.Stock key) l.last)) _ c.args.fields.now c.key-key.new.fields c.stand_at.new.fields c.add.new.fields
     c.key-key.ensures.taken c.stand_at.ensures.placed c.stand_at.ensures.left adds
     (λ row read texts h follow added spelt. load_stock l (rows l) key row read texts h follow c.key-key.ensures.known added spelt)))
-    c.add.ensures
+    c.add.ensures.added

@@ -23,4 +23,4 @@ returns c =
     loads_row (codes "W") l _ warehouse_columns (Number key ∷ []) (IsTrue (follows (at.Warehouse key) l.last)) _ c.args.fields.now c.key-key.new.fields c.stand_at.new.fields c.add.new.fields
     c.key-key.ensures.taken c.stand_at.ensures.placed c.stand_at.ensures.left adds
     (λ row read texts h follow added spelt. load_warehouse l (rows l) key row read texts h follow c.key-key.ensures.known added spelt)))
-    c.add.ensures
+    c.add.ensures.added

@@ -1,0 +1,12 @@
+use Rattle.dataset.proofs.Reading.{awaits-whole}
+use Rattle.dataset.specs.Records.{item_columns}
+use Rattle.std.proofs.lemmas.Result.{on_ok_weaker}
+use Rattle.std.proofs.Common.{[], ◌∷◌, ◌++◌, ap, ◌∙◌}
+use Rattle.dataset.proofs.items.add.Goals as goal
+
+pub returns-clause-reads : goal.returns-clause-reads
+returns-clause-reads c =
+    on_ok_weaker c.push.result (λ pushes row h awaits.
+    let read = c.parse-row.ensures.reads row [] h (awaits-whole (item_columns row) awaits) in
+    let done = pushes read.1 in
+    (done.0, done.1 ∙ ap (λ x. c.args.items.now.items ++ (x ∷ [])) read.0)) c.push.ensures.reads

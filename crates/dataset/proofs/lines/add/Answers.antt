@@ -1,0 +1,14 @@
+use Rattle.dataset.proofs.Reading.{awaits-whole}
+use Rattle.dataset.specs.Records.{line_columns}
+use Rattle.rows.specs.Keys.{line_cmp}
+use Rattle.std.proofs.lemmas.Result.{on_ok_weaker}
+use Rattle.std.specs.BTreeMap.{insert_entry}
+use Rattle.std.proofs.Common.{[], ap, ◌∙◌}
+use Rattle.dataset.proofs.lines.add.Goals as goal
+
+pub returns-clause-reads : goal.returns-clause-reads
+returns-clause-reads c =
+    on_ok_weaker c.insert.result (λ inserts row h awaits.
+    let read = c.parse-row.ensures.reads row [] h (awaits-whole (line_columns row) awaits) in
+    let done = inserts read.1 in
+    (done.0, done.1 ∙ ap (λ x. insert_entry line_cmp c.args.lines.now.entries c.args.key x) read.0)) c.insert.ensures.reads
