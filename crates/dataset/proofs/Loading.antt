@@ -32,10 +32,10 @@ use Rattle.dataset.specs.declared.loader.Loader.{Loader}
 use Rattle.dataset.specs.declared.place.Place.{Place}
 use Rattle.dataset.specs.declared.place.Place.TheVariants as at
 use Rattle.dataset.specs.Order.{place_cmp, follows}
-use Rattle.dataset.specs.Taking.{Added}
+use Rattle.dataset.specs.Taking.{Added, Awaits, Reads, ReadsRow}
 use Rattle.dataset.specs.Payments.{Pays}
 use Rattle.dataset.specs.Records.{Field, Words, IsSpelt, AreSpelt, row_records, payment_records, header_fields, item_fields, warehouse_fields, district_fields, stock_fields, customer_fields, history_fields, order_fields, new_order_fields, line_fields}
-use Rattle.dataset.specs.Loading.{AreKeyed, HasLoaded, LoadsRow, entry_records, entry_places, places}
+use Rattle.dataset.specs.Loading.{AreKeyed, HasLoaded, LoadsRow, LoadsMore, entry_records, entry_places, places, records_loaded}
 use Rattle.dataset.proofs.Keys.{all-append, all-weaker, sorted-district_keys}
 use Rattle.dataset.proofs.Order.{place_below, place_follows, place_lt_le, place_reaches, turned, place_itself, item_below, warehouse_below, district_below, stock_below, customer_below, order_below, new_order_below, line_below}
 use Rattle.dataset.proofs.Texts.{all_zip-append}
@@ -132,10 +132,25 @@ loads_row letter l m columns key Placed IsAdded start keyed placed end takes sta
       (took.faultless, λ read h. load added.row read (letter ∷ fields_left start) h stood.1 added.is_added spelt);
 }
 
+-- a row's record that fits and follows is taken without a fault, and is one record more that was read
+pub reads_record : {K X : Type 0} (letter : List ℕ) (l m : Loader) (place : K → Place) (key : K → List Field) (columns : X → List Field) (Known : K → Type 0) (Fits IsAdded : X → Type 0) (result : K) (start keyed placed end : Fields)
+    → Reads key Known result start keyed → (IsTrue (follows (place result) l.last) → fault_of placed ≡ fault_of keyed) → fields_left placed ≡ fields_left keyed → ReadsRow columns Fits IsAdded placed end → m.last ≡ place result → m.scale ≡ l.scale
+    → ((row : X) (texts : List (List ℕ)) → IsTrue (follows (place result) l.last) → IsAdded row → AreSpelt (Words letter ∷ key result ++ columns row) texts → LoadsMore l m (Words letter ∷ key result ++ columns row) texts)
+    → (k : K) (row : X) → Known k → Fits row → IsTrue (follows (place k) l.last) → Awaits (key k ++ columns row) start
+    → (fault_of end ≡ None) × (m.last ≡ place k) × (m.scale ≡ l.scale) × LoadsMore l m (Words letter ∷ key k ++ columns row) (letter ∷ fields_left start)
+reads_record letter l m place key columns Known Fits IsAdded result start keyed placed end reads stands same adds last scale load k row known fits follow awaits =
+    let read = reads k (columns row) known awaits in
+    let followed = subst (λ j. IsTrue (follows (place j) l.last)) (sym read.0) follow in
+    let stood : Awaits (columns row) placed = record { faultless = stands followed ∙ read.1.faultless; are_spelt = subst (AreSpelt (columns row)) (sym same) read.1.are_spelt } in
+    let added = adds row fits stood in
+    let spelt : AreSpelt (Words letter ∷ key result ++ columns row) (letter ∷ fields_left start) = (refl, subst (λ j. AreSpelt (key j ++ columns row) (fields_left start)) (sym read.0) awaits.are_spelt) in
+    let more = load row (letter ∷ fields_left start) followed added.1 spelt in
+    (added.0, last ∙ ap place read.0, scale, subst (λ j. LoadsMore l m (Words letter ∷ key j ++ columns row) (letter ∷ fields_left start)) read.0 more)
+
 -- ---- each table
 
-pub load_item : (l : Loader) (new : TableRows) (key : ℕ) (row : Item) (read : List (List (List ℕ))) (texts : List (List ℕ)) → HasLoaded l read → IsTrue (follows (at.Item key) l.last) → IsTrue (has_item l.scale key) → new.items.items ≡ l.rows.items.items ++ (row ∷ []) → AreSpelt (item_fields key row) texts
-    → HasLoaded (record l { last = at.Item key; rows = record l.rows { items = new.items } }) (read ++ (texts ∷ []))
+pub load_item : (l : Loader) (new : TableRows) (key : ℕ) (row : Item) (read : List (List (List ℕ))) (texts : List (List ℕ)) → (h : HasLoaded l read) → IsTrue (follows (at.Item key) l.last) → IsTrue (has_item l.scale key) → new.items.items ≡ l.rows.items.items ++ (row ∷ []) → AreSpelt (item_fields key row) texts
+    → (after : HasLoaded (record l { last = at.Item key; rows = record l.rows { items = new.items } }) (read ++ (texts ∷ []))) × (records_loaded after ≡ records_loaded h ++ (item_fields key row ∷ []))
 load_item l new key row read texts h follow known added spelt =
     let e = h.entries in
     let p : Place = at.Item key in
@@ -143,7 +158,7 @@ load_item l new key row read texts h follow known added spelt =
     let reached = reached_all l.last p (place_lt_le (place_cmp l.last p) follow) (entry_places e) h.not_after in
     let below = keys_below at.Item nat_cmp p key (λ k. item_below k key) e.items before.0 in
     let flat = flat-push ([]) (row_records item_fields e.items) (row_records item_fields (e.items ++ ((key, row) ∷ []))) (row_records warehouse_fields e.warehouses ∷ row_records district_fields e.districts ∷ row_records stock_fields e.stocks ∷ row_records customer_fields e.customers ∷ payment_records e.histories ∷ row_records order_fields e.orders ∷ row_records new_order_fields e.new_orders ∷ row_records line_fields e.lines ∷ []) (item_fields key row) (records-push item_fields e.items key row) (ap (row_records warehouse_fields) (none at.Warehouse p (λ k h. cc) e.warehouses before.1.0), (ap (row_records district_fields) (none at.District p (λ k h. cc) e.districts before.1.1.0), (ap (row_records stock_fields) (none at.Stock p (λ k h. cc) e.stocks before.1.1.1.0), (ap (row_records customer_fields) (none at.Customer p (λ k h. cc) e.customers before.1.1.1.1.0), (ap (payment_records) (none at.History p (λ k h. cc) e.histories before.1.1.1.1.1.0), (ap (row_records order_fields) (none at.Order p (λ k h. cc) e.orders before.1.1.1.1.1.1.0), (ap (row_records new_order_fields) (none at.NewOrder p (λ k h. cc) e.new_orders before.1.1.1.1.1.1.1.0), (ap (row_records line_fields) (none at.Line p (λ k h. cc) e.lines before.1.1.1.1.1.1.1.1.0), tt)))))))) in
-    record {
+    (record {
       entries = record e { items = e.items ++ ((key, row) ∷ []) };
       items = keyed-push nat_cmp (has_item l.scale) l.rows.items.items new.items.items e.items key row h.items below known added;
       warehouses = h.warehouses;
@@ -160,10 +175,10 @@ load_item l new key row read texts h follow known added spelt =
       lines_ascend = h.lines_ascend;
       not_after = (places-push at.Item e.items key row reached.0, (reached.1.0, (reached.1.1.0, (reached.1.1.1.0, (reached.1.1.1.1.0, (reached.1.1.1.1.1.0, (reached.1.1.1.1.1.1.0, (reached.1.1.1.1.1.1.1.0, (reached.1.1.1.1.1.1.1.1.0, tt)))))))));
       are_spelt = spelt-push (header_fields l.scale) (flat_map (λ records. records) (entry_records e)) _ (item_fields key row) read texts flat h.are_spelt spelt;
-    }
+    }, flat)
 
-pub load_warehouse : (l : Loader) (new : TableRows) (key : ℕ) (row : Warehouse) (read : List (List (List ℕ))) (texts : List (List ℕ)) → HasLoaded l read → IsTrue (follows (at.Warehouse key) l.last) → IsTrue (has_warehouse l.scale key) → new.warehouses.items ≡ l.rows.warehouses.items ++ (row ∷ []) → AreSpelt (warehouse_fields key row) texts
-    → HasLoaded (record l { last = at.Warehouse key; rows = record l.rows { warehouses = new.warehouses } }) (read ++ (texts ∷ []))
+pub load_warehouse : (l : Loader) (new : TableRows) (key : ℕ) (row : Warehouse) (read : List (List (List ℕ))) (texts : List (List ℕ)) → (h : HasLoaded l read) → IsTrue (follows (at.Warehouse key) l.last) → IsTrue (has_warehouse l.scale key) → new.warehouses.items ≡ l.rows.warehouses.items ++ (row ∷ []) → AreSpelt (warehouse_fields key row) texts
+    → (after : HasLoaded (record l { last = at.Warehouse key; rows = record l.rows { warehouses = new.warehouses } }) (read ++ (texts ∷ []))) × (records_loaded after ≡ records_loaded h ++ (warehouse_fields key row ∷ []))
 load_warehouse l new key row read texts h follow known added spelt =
     let e = h.entries in
     let p : Place = at.Warehouse key in
@@ -171,7 +186,7 @@ load_warehouse l new key row read texts h follow known added spelt =
     let reached = reached_all l.last p (place_lt_le (place_cmp l.last p) follow) (entry_places e) h.not_after in
     let below = keys_below at.Warehouse nat_cmp p key (λ k. warehouse_below k key) e.warehouses before.1.0 in
     let flat = flat-push (row_records item_fields e.items ∷ []) (row_records warehouse_fields e.warehouses) (row_records warehouse_fields (e.warehouses ++ ((key, row) ∷ []))) (row_records district_fields e.districts ∷ row_records stock_fields e.stocks ∷ row_records customer_fields e.customers ∷ payment_records e.histories ∷ row_records order_fields e.orders ∷ row_records new_order_fields e.new_orders ∷ row_records line_fields e.lines ∷ []) (warehouse_fields key row) (records-push warehouse_fields e.warehouses key row) (ap (row_records district_fields) (none at.District p (λ k h. cc) e.districts before.1.1.0), (ap (row_records stock_fields) (none at.Stock p (λ k h. cc) e.stocks before.1.1.1.0), (ap (row_records customer_fields) (none at.Customer p (λ k h. cc) e.customers before.1.1.1.1.0), (ap (payment_records) (none at.History p (λ k h. cc) e.histories before.1.1.1.1.1.0), (ap (row_records order_fields) (none at.Order p (λ k h. cc) e.orders before.1.1.1.1.1.1.0), (ap (row_records new_order_fields) (none at.NewOrder p (λ k h. cc) e.new_orders before.1.1.1.1.1.1.1.0), (ap (row_records line_fields) (none at.Line p (λ k h. cc) e.lines before.1.1.1.1.1.1.1.1.0), tt))))))) in
-    record {
+    (record {
       entries = record e { warehouses = e.warehouses ++ ((key, row) ∷ []) };
       items = h.items;
       warehouses = keyed-push nat_cmp (has_warehouse l.scale) l.rows.warehouses.items new.warehouses.items e.warehouses key row h.warehouses below known added;
@@ -188,10 +203,10 @@ load_warehouse l new key row read texts h follow known added spelt =
       lines_ascend = h.lines_ascend;
       not_after = (reached.0, (places-push at.Warehouse e.warehouses key row reached.1.0, (reached.1.1.0, (reached.1.1.1.0, (reached.1.1.1.1.0, (reached.1.1.1.1.1.0, (reached.1.1.1.1.1.1.0, (reached.1.1.1.1.1.1.1.0, (reached.1.1.1.1.1.1.1.1.0, tt)))))))));
       are_spelt = spelt-push (header_fields l.scale) (flat_map (λ records. records) (entry_records e)) _ (warehouse_fields key row) read texts flat h.are_spelt spelt;
-    }
+    }, flat)
 
-pub load_district : (l : Loader) (new : TableRows) (key : DistrictKey) (row : District) (read : List (List (List ℕ))) (texts : List (List ℕ)) → HasLoaded l read → IsTrue (follows (at.District key) l.last) → IsTrue (has_district l.scale key) → new.districts.items ≡ l.rows.districts.items ++ (row ∷ []) → AreSpelt (district_fields key row) texts
-    → HasLoaded (record l { last = at.District key; rows = record l.rows { districts = new.districts } }) (read ++ (texts ∷ []))
+pub load_district : (l : Loader) (new : TableRows) (key : DistrictKey) (row : District) (read : List (List (List ℕ))) (texts : List (List ℕ)) → (h : HasLoaded l read) → IsTrue (follows (at.District key) l.last) → IsTrue (has_district l.scale key) → new.districts.items ≡ l.rows.districts.items ++ (row ∷ []) → AreSpelt (district_fields key row) texts
+    → (after : HasLoaded (record l { last = at.District key; rows = record l.rows { districts = new.districts } }) (read ++ (texts ∷ []))) × (records_loaded after ≡ records_loaded h ++ (district_fields key row ∷ []))
 load_district l new key row read texts h follow known added spelt =
     let e = h.entries in
     let p : Place = at.District key in
@@ -199,7 +214,7 @@ load_district l new key row read texts h follow known added spelt =
     let reached = reached_all l.last p (place_lt_le (place_cmp l.last p) follow) (entry_places e) h.not_after in
     let below = keys_below at.District district_cmp p key (λ k. district_below k key) e.districts before.1.1.0 in
     let flat = flat-push (row_records item_fields e.items ∷ row_records warehouse_fields e.warehouses ∷ []) (row_records district_fields e.districts) (row_records district_fields (e.districts ++ ((key, row) ∷ []))) (row_records stock_fields e.stocks ∷ row_records customer_fields e.customers ∷ payment_records e.histories ∷ row_records order_fields e.orders ∷ row_records new_order_fields e.new_orders ∷ row_records line_fields e.lines ∷ []) (district_fields key row) (records-push district_fields e.districts key row) (ap (row_records stock_fields) (none at.Stock p (λ k h. cc) e.stocks before.1.1.1.0), (ap (row_records customer_fields) (none at.Customer p (λ k h. cc) e.customers before.1.1.1.1.0), (ap (payment_records) (none at.History p (λ k h. cc) e.histories before.1.1.1.1.1.0), (ap (row_records order_fields) (none at.Order p (λ k h. cc) e.orders before.1.1.1.1.1.1.0), (ap (row_records new_order_fields) (none at.NewOrder p (λ k h. cc) e.new_orders before.1.1.1.1.1.1.1.0), (ap (row_records line_fields) (none at.Line p (λ k h. cc) e.lines before.1.1.1.1.1.1.1.1.0), tt)))))) in
-    record {
+    (record {
       entries = record e { districts = e.districts ++ ((key, row) ∷ []) };
       items = h.items;
       warehouses = h.warehouses;
@@ -216,10 +231,10 @@ load_district l new key row read texts h follow known added spelt =
       lines_ascend = h.lines_ascend;
       not_after = (reached.0, (reached.1.0, (places-push at.District e.districts key row reached.1.1.0, (reached.1.1.1.0, (reached.1.1.1.1.0, (reached.1.1.1.1.1.0, (reached.1.1.1.1.1.1.0, (reached.1.1.1.1.1.1.1.0, (reached.1.1.1.1.1.1.1.1.0, tt)))))))));
       are_spelt = spelt-push (header_fields l.scale) (flat_map (λ records. records) (entry_records e)) _ (district_fields key row) read texts flat h.are_spelt spelt;
-    }
+    }, flat)
 
-pub load_stock : (l : Loader) (new : TableRows) (key : StockKey) (row : Stock) (read : List (List (List ℕ))) (texts : List (List ℕ)) → HasLoaded l read → IsTrue (follows (at.Stock key) l.last) → IsTrue (has_stock l.scale key) → new.stocks.items ≡ l.rows.stocks.items ++ (row ∷ []) → AreSpelt (stock_fields key row) texts
-    → HasLoaded (record l { last = at.Stock key; rows = record l.rows { stocks = new.stocks } }) (read ++ (texts ∷ []))
+pub load_stock : (l : Loader) (new : TableRows) (key : StockKey) (row : Stock) (read : List (List (List ℕ))) (texts : List (List ℕ)) → (h : HasLoaded l read) → IsTrue (follows (at.Stock key) l.last) → IsTrue (has_stock l.scale key) → new.stocks.items ≡ l.rows.stocks.items ++ (row ∷ []) → AreSpelt (stock_fields key row) texts
+    → (after : HasLoaded (record l { last = at.Stock key; rows = record l.rows { stocks = new.stocks } }) (read ++ (texts ∷ []))) × (records_loaded after ≡ records_loaded h ++ (stock_fields key row ∷ []))
 load_stock l new key row read texts h follow known added spelt =
     let e = h.entries in
     let p : Place = at.Stock key in
@@ -227,7 +242,7 @@ load_stock l new key row read texts h follow known added spelt =
     let reached = reached_all l.last p (place_lt_le (place_cmp l.last p) follow) (entry_places e) h.not_after in
     let below = keys_below at.Stock stock_cmp p key (λ k. stock_below k key) e.stocks before.1.1.1.0 in
     let flat = flat-push (row_records item_fields e.items ∷ row_records warehouse_fields e.warehouses ∷ row_records district_fields e.districts ∷ []) (row_records stock_fields e.stocks) (row_records stock_fields (e.stocks ++ ((key, row) ∷ []))) (row_records customer_fields e.customers ∷ payment_records e.histories ∷ row_records order_fields e.orders ∷ row_records new_order_fields e.new_orders ∷ row_records line_fields e.lines ∷ []) (stock_fields key row) (records-push stock_fields e.stocks key row) (ap (row_records customer_fields) (none at.Customer p (λ k h. cc) e.customers before.1.1.1.1.0), (ap (payment_records) (none at.History p (λ k h. cc) e.histories before.1.1.1.1.1.0), (ap (row_records order_fields) (none at.Order p (λ k h. cc) e.orders before.1.1.1.1.1.1.0), (ap (row_records new_order_fields) (none at.NewOrder p (λ k h. cc) e.new_orders before.1.1.1.1.1.1.1.0), (ap (row_records line_fields) (none at.Line p (λ k h. cc) e.lines before.1.1.1.1.1.1.1.1.0), tt))))) in
-    record {
+    (record {
       entries = record e { stocks = e.stocks ++ ((key, row) ∷ []) };
       items = h.items;
       warehouses = h.warehouses;
@@ -244,10 +259,10 @@ load_stock l new key row read texts h follow known added spelt =
       lines_ascend = h.lines_ascend;
       not_after = (reached.0, (reached.1.0, (reached.1.1.0, (places-push at.Stock e.stocks key row reached.1.1.1.0, (reached.1.1.1.1.0, (reached.1.1.1.1.1.0, (reached.1.1.1.1.1.1.0, (reached.1.1.1.1.1.1.1.0, (reached.1.1.1.1.1.1.1.1.0, tt)))))))));
       are_spelt = spelt-push (header_fields l.scale) (flat_map (λ records. records) (entry_records e)) _ (stock_fields key row) read texts flat h.are_spelt spelt;
-    }
+    }, flat)
 
-pub load_customer : (l : Loader) (new : TableRows) (key : CustomerKey) (row : Customer) (read : List (List (List ℕ))) (texts : List (List ℕ)) → HasLoaded l read → IsTrue (follows (at.Customer key) l.last) → IsTrue (has_customer l.scale key) → new.customers.items ≡ l.rows.customers.items ++ (row ∷ []) → AreSpelt (customer_fields key row) texts
-    → HasLoaded (record l { last = at.Customer key; rows = record l.rows { customers = new.customers } }) (read ++ (texts ∷ []))
+pub load_customer : (l : Loader) (new : TableRows) (key : CustomerKey) (row : Customer) (read : List (List (List ℕ))) (texts : List (List ℕ)) → (h : HasLoaded l read) → IsTrue (follows (at.Customer key) l.last) → IsTrue (has_customer l.scale key) → new.customers.items ≡ l.rows.customers.items ++ (row ∷ []) → AreSpelt (customer_fields key row) texts
+    → (after : HasLoaded (record l { last = at.Customer key; rows = record l.rows { customers = new.customers } }) (read ++ (texts ∷ []))) × (records_loaded after ≡ records_loaded h ++ (customer_fields key row ∷ []))
 load_customer l new key row read texts h follow known added spelt =
     let e = h.entries in
     let p : Place = at.Customer key in
@@ -255,7 +270,7 @@ load_customer l new key row read texts h follow known added spelt =
     let reached = reached_all l.last p (place_lt_le (place_cmp l.last p) follow) (entry_places e) h.not_after in
     let below = keys_below at.Customer customer_cmp p key (λ k. customer_below k key) e.customers before.1.1.1.1.0 in
     let flat = flat-push (row_records item_fields e.items ∷ row_records warehouse_fields e.warehouses ∷ row_records district_fields e.districts ∷ row_records stock_fields e.stocks ∷ []) (row_records customer_fields e.customers) (row_records customer_fields (e.customers ++ ((key, row) ∷ []))) (payment_records e.histories ∷ row_records order_fields e.orders ∷ row_records new_order_fields e.new_orders ∷ row_records line_fields e.lines ∷ []) (customer_fields key row) (records-push customer_fields e.customers key row) (ap (payment_records) (none at.History p (λ k h. cc) e.histories before.1.1.1.1.1.0), (ap (row_records order_fields) (none at.Order p (λ k h. cc) e.orders before.1.1.1.1.1.1.0), (ap (row_records new_order_fields) (none at.NewOrder p (λ k h. cc) e.new_orders before.1.1.1.1.1.1.1.0), (ap (row_records line_fields) (none at.Line p (λ k h. cc) e.lines before.1.1.1.1.1.1.1.1.0), tt)))) in
-    record {
+    (record {
       entries = record e { customers = e.customers ++ ((key, row) ∷ []) };
       items = h.items;
       warehouses = h.warehouses;
@@ -272,10 +287,10 @@ load_customer l new key row read texts h follow known added spelt =
       lines_ascend = h.lines_ascend;
       not_after = (reached.0, (reached.1.0, (reached.1.1.0, (reached.1.1.1.0, (places-push at.Customer e.customers key row reached.1.1.1.1.0, (reached.1.1.1.1.1.0, (reached.1.1.1.1.1.1.0, (reached.1.1.1.1.1.1.1.0, (reached.1.1.1.1.1.1.1.1.0, tt)))))))));
       are_spelt = spelt-push (header_fields l.scale) (flat_map (λ records. records) (entry_records e)) _ (customer_fields key row) read texts flat h.are_spelt spelt;
-    }
+    }, flat)
 
-pub load_history : (l : Loader) (new : TableRows) (key : DistrictKey) (row : History) (read : List (List (List ℕ))) (texts : List (List ℕ)) → HasLoaded l read → IsTrue (follows (at.History key) l.last) → Pays (district_slot l.scale key) row l.rows.histories.items new.histories.items → AreSpelt (history_fields key row) texts
-    → HasLoaded (record l { last = at.History key; rows = record l.rows { histories = new.histories } }) (read ++ (texts ∷ []))
+pub load_history : (l : Loader) (new : TableRows) (key : DistrictKey) (row : History) (read : List (List (List ℕ))) (texts : List (List ℕ)) → (h : HasLoaded l read) → IsTrue (follows (at.History key) l.last) → Pays (district_slot l.scale key) row l.rows.histories.items new.histories.items → AreSpelt (history_fields key row) texts
+    → (after : HasLoaded (record l { last = at.History key; rows = record l.rows { histories = new.histories } }) (read ++ (texts ∷ []))) × (records_loaded after ≡ records_loaded h ++ (history_fields key row ∷ []))
 load_history l new key row read texts h follow pays spelt =
     let e = h.entries in
     let p : Place = at.History key in
@@ -288,7 +303,7 @@ load_history l new key row read texts h follow pays spelt =
     let paid : payment_records (zip (district_keys l.scale) new.histories.items) ≡ payment_records e.histories ++ (history_fields key row ∷ []) =
     lists_paid pays few (district_keys l.scale) key at_slot ∙ ap (λ es. payment_records es ++ (history_fields key row ∷ [])) (sym h.histories) in
     let flat = flat-push (row_records item_fields e.items ∷ row_records warehouse_fields e.warehouses ∷ row_records district_fields e.districts ∷ row_records stock_fields e.stocks ∷ row_records customer_fields e.customers ∷ []) (payment_records e.histories) (payment_records (zip (district_keys l.scale) new.histories.items)) (row_records order_fields e.orders ∷ row_records new_order_fields e.new_orders ∷ row_records line_fields e.lines ∷ []) (history_fields key row) paid (ap (row_records order_fields) (none_reached at.Order p (λ k h. cc) e.orders reached.1.1.1.1.1.1.0), (ap (row_records new_order_fields) (none_reached at.NewOrder p (λ k h. cc) e.new_orders reached.1.1.1.1.1.1.1.0), (ap (row_records line_fields) (none_reached at.Line p (λ k h. cc) e.lines reached.1.1.1.1.1.1.1.1.0), tt))) in
-    record {
+    (record {
       entries = record e { histories = zip (district_keys l.scale) new.histories.items };
       items = h.items;
       warehouses = h.warehouses;
@@ -305,10 +320,10 @@ load_history l new key row read texts h follow pays spelt =
       lines_ascend = h.lines_ascend;
       not_after = (reached.0, (reached.1.0, (reached.1.1.0, (reached.1.1.1.0, (reached.1.1.1.1.0, (all_reached (district_keys l.scale) new.histories.items pays.slot key (sorted-district_keys l.scale) at_slot many, (reached.1.1.1.1.1.1.0, (reached.1.1.1.1.1.1.1.0, (reached.1.1.1.1.1.1.1.1.0, tt)))))))));
       are_spelt = spelt-push (header_fields l.scale) (flat_map (λ records. records) (entry_records e)) _ (history_fields key row) read texts flat h.are_spelt spelt;
-    }
+    }, flat)
 
-pub load_order : (l : Loader) (new : TableRows) (key : OrderKey) (row : Order) (read : List (List (List ℕ))) (texts : List (List ℕ)) → HasLoaded l read → IsTrue (follows (at.Order key) l.last) → new.orders.entries ≡ insert_entry order_cmp l.rows.orders.entries key row → AreSpelt (order_fields key row) texts
-    → HasLoaded (record l { last = at.Order key; rows = record l.rows { orders = new.orders } }) (read ++ (texts ∷ []))
+pub load_order : (l : Loader) (new : TableRows) (key : OrderKey) (row : Order) (read : List (List (List ℕ))) (texts : List (List ℕ)) → (h : HasLoaded l read) → IsTrue (follows (at.Order key) l.last) → new.orders.entries ≡ insert_entry order_cmp l.rows.orders.entries key row → AreSpelt (order_fields key row) texts
+    → (after : HasLoaded (record l { last = at.Order key; rows = record l.rows { orders = new.orders } }) (read ++ (texts ∷ []))) × (records_loaded after ≡ records_loaded h ++ (order_fields key row ∷ []))
 load_order l new key row read texts h follow added spelt =
     let e = h.entries in
     let p : Place = at.Order key in
@@ -318,7 +333,7 @@ load_order l new key row read texts h follow added spelt =
     let flat = flat-push (row_records item_fields e.items ∷ row_records warehouse_fields e.warehouses ∷ row_records district_fields e.districts ∷ row_records stock_fields e.stocks ∷ row_records customer_fields e.customers ∷ payment_records e.histories ∷ []) (row_records order_fields e.orders) (row_records order_fields (e.orders ++ ((key, row) ∷ []))) (row_records new_order_fields e.new_orders ∷ row_records line_fields e.lines ∷ []) (order_fields key row) (records-push order_fields e.orders key row) (ap (row_records new_order_fields) (none at.NewOrder p (λ k h. cc) e.new_orders before.1.1.1.1.1.1.1.0), (ap (row_records line_fields) (none at.Line p (λ k h. cc) e.lines before.1.1.1.1.1.1.1.1.0), tt)) in
     let entered : new.orders.entries ≡ e.orders ++ ((key, row) ∷ []) =
     added ∙ ap (λ es. insert_entry order_cmp es key row) (sym h.orders) ∙ insert-last order_cmp (turned orders_total) e.orders key row below in
-    record {
+    (record {
       entries = record e { orders = e.orders ++ ((key, row) ∷ []) };
       items = h.items;
       warehouses = h.warehouses;
@@ -335,10 +350,10 @@ load_order l new key row read texts h follow added spelt =
       lines_ascend = h.lines_ascend;
       not_after = (reached.0, (reached.1.0, (reached.1.1.0, (reached.1.1.1.0, (reached.1.1.1.1.0, (reached.1.1.1.1.1.0, (places-push at.Order e.orders key row reached.1.1.1.1.1.1.0, (reached.1.1.1.1.1.1.1.0, (reached.1.1.1.1.1.1.1.1.0, tt)))))))));
       are_spelt = spelt-push (header_fields l.scale) (flat_map (λ records. records) (entry_records e)) _ (order_fields key row) read texts flat h.are_spelt spelt;
-    }
+    }, flat)
 
-pub load_new_order : (l : Loader) (new : TableRows) (key : OrderKey) (row : NewOrder) (read : List (List (List ℕ))) (texts : List (List ℕ)) → HasLoaded l read → IsTrue (follows (at.NewOrder key) l.last) → new.new_orders.entries ≡ insert_entry order_cmp l.rows.new_orders.entries key row → AreSpelt (new_order_fields key row) texts
-    → HasLoaded (record l { last = at.NewOrder key; rows = record l.rows { new_orders = new.new_orders } }) (read ++ (texts ∷ []))
+pub load_new_order : (l : Loader) (new : TableRows) (key : OrderKey) (row : NewOrder) (read : List (List (List ℕ))) (texts : List (List ℕ)) → (h : HasLoaded l read) → IsTrue (follows (at.NewOrder key) l.last) → new.new_orders.entries ≡ insert_entry order_cmp l.rows.new_orders.entries key row → AreSpelt (new_order_fields key row) texts
+    → (after : HasLoaded (record l { last = at.NewOrder key; rows = record l.rows { new_orders = new.new_orders } }) (read ++ (texts ∷ []))) × (records_loaded after ≡ records_loaded h ++ (new_order_fields key row ∷ []))
 load_new_order l new key row read texts h follow added spelt =
     let e = h.entries in
     let p : Place = at.NewOrder key in
@@ -348,7 +363,7 @@ load_new_order l new key row read texts h follow added spelt =
     let flat = flat-push (row_records item_fields e.items ∷ row_records warehouse_fields e.warehouses ∷ row_records district_fields e.districts ∷ row_records stock_fields e.stocks ∷ row_records customer_fields e.customers ∷ payment_records e.histories ∷ row_records order_fields e.orders ∷ []) (row_records new_order_fields e.new_orders) (row_records new_order_fields (e.new_orders ++ ((key, row) ∷ []))) (row_records line_fields e.lines ∷ []) (new_order_fields key row) (records-push new_order_fields e.new_orders key row) (ap (row_records line_fields) (none at.Line p (λ k h. cc) e.lines before.1.1.1.1.1.1.1.1.0), tt) in
     let entered : new.new_orders.entries ≡ e.new_orders ++ ((key, row) ∷ []) =
     added ∙ ap (λ es. insert_entry order_cmp es key row) (sym h.new_orders) ∙ insert-last order_cmp (turned orders_total) e.new_orders key row below in
-    record {
+    (record {
       entries = record e { new_orders = e.new_orders ++ ((key, row) ∷ []) };
       items = h.items;
       warehouses = h.warehouses;
@@ -365,10 +380,10 @@ load_new_order l new key row read texts h follow added spelt =
       lines_ascend = h.lines_ascend;
       not_after = (reached.0, (reached.1.0, (reached.1.1.0, (reached.1.1.1.0, (reached.1.1.1.1.0, (reached.1.1.1.1.1.0, (reached.1.1.1.1.1.1.0, (places-push at.NewOrder e.new_orders key row reached.1.1.1.1.1.1.1.0, (reached.1.1.1.1.1.1.1.1.0, tt)))))))));
       are_spelt = spelt-push (header_fields l.scale) (flat_map (λ records. records) (entry_records e)) _ (new_order_fields key row) read texts flat h.are_spelt spelt;
-    }
+    }, flat)
 
-pub load_line : (l : Loader) (new : TableRows) (key : OrderLineKey) (row : OrderLine) (read : List (List (List ℕ))) (texts : List (List ℕ)) → HasLoaded l read → IsTrue (follows (at.Line key) l.last) → new.lines.entries ≡ insert_entry line_cmp l.rows.lines.entries key row → AreSpelt (line_fields key row) texts
-    → HasLoaded (record l { last = at.Line key; rows = record l.rows { lines = new.lines } }) (read ++ (texts ∷ []))
+pub load_line : (l : Loader) (new : TableRows) (key : OrderLineKey) (row : OrderLine) (read : List (List (List ℕ))) (texts : List (List ℕ)) → (h : HasLoaded l read) → IsTrue (follows (at.Line key) l.last) → new.lines.entries ≡ insert_entry line_cmp l.rows.lines.entries key row → AreSpelt (line_fields key row) texts
+    → (after : HasLoaded (record l { last = at.Line key; rows = record l.rows { lines = new.lines } }) (read ++ (texts ∷ []))) × (records_loaded after ≡ records_loaded h ++ (line_fields key row ∷ []))
 load_line l new key row read texts h follow added spelt =
     let e = h.entries in
     let p : Place = at.Line key in
@@ -378,7 +393,7 @@ load_line l new key row read texts h follow added spelt =
     let flat = flat-push (row_records item_fields e.items ∷ row_records warehouse_fields e.warehouses ∷ row_records district_fields e.districts ∷ row_records stock_fields e.stocks ∷ row_records customer_fields e.customers ∷ payment_records e.histories ∷ row_records order_fields e.orders ∷ row_records new_order_fields e.new_orders ∷ []) (row_records line_fields e.lines) (row_records line_fields (e.lines ++ ((key, row) ∷ []))) ([]) (line_fields key row) (records-push line_fields e.lines key row) tt in
     let entered : new.lines.entries ≡ e.lines ++ ((key, row) ∷ []) =
     added ∙ ap (λ es. insert_entry line_cmp es key row) (sym h.lines) ∙ insert-last line_cmp (turned lines_total) e.lines key row below in
-    record {
+    (record {
       entries = record e { lines = e.lines ++ ((key, row) ∷ []) };
       items = h.items;
       warehouses = h.warehouses;
@@ -395,4 +410,4 @@ load_line l new key row read texts h follow added spelt =
       lines_ascend = ascend-push line_cmp e.lines key row h.lines_ascend below;
       not_after = (reached.0, (reached.1.0, (reached.1.1.0, (reached.1.1.1.0, (reached.1.1.1.1.0, (reached.1.1.1.1.1.0, (reached.1.1.1.1.1.1.0, (reached.1.1.1.1.1.1.1.0, (places-push at.Line e.lines key row reached.1.1.1.1.1.1.1.1.0, tt)))))))));
       are_spelt = spelt-push (header_fields l.scale) (flat_map (λ records. records) (entry_records e)) _ (line_fields key row) read texts flat h.are_spelt spelt;
-    }
+    }, flat)

@@ -6,3 +6,4 @@ pub mod Order
 pub mod Loading
 pub mod Ranges
 pub mod RecordLaws
+pub mod TableRow

@@ -1,5 +1,5 @@
 -- What was read of a dataset, as far as it was read.
-use Rattle.std.specs.Prelude.{◌≡◌, ◌≤◌, ℕ, List, [], ◌∷◌, ◌++◌, Bool, length, map, Option, None, IsTrue}
+use Rattle.std.specs.Prelude.{◌≡◌, ◌≤◌, ℕ, List, [], ◌∷◌, ◌++◌, Bool, length, map, Option, None, IsTrue, drop}
 use Rattle.std.specs.List.{AllByRecursion, AllZip, flat_map, zip}
 use Rattle.std.specs.List.Sorted.{IsStrictlySortedBy}
 use Rattle.std.specs.Map.{keys_of, values_of}
@@ -30,7 +30,9 @@ use Rattle.dataset.specs.declared.loader.Taken.{Taken}
 use Rattle.dataset.specs.declared.loader.Taken.TheVariants.{Row, End}
 use Rattle.dataset.specs.declared.place.Place.{Place}
 use Rattle.dataset.specs.declared.place.Place.TheVariants as at
-use Rattle.dataset.specs.Order.{place_cmp}
+use Rattle.dataset.specs.Order.{place_cmp, follows}
+use Rattle.dataset.specs.TableRow.{TableRow, RowFits, row_fields, row_letter, row_place}
+use Rattle.dataset.specs.Taking.{Awaits}
 use Rattle.dataset.specs.Records.{Field, AreSpelt, row_records, payment_records, header_fields, item_fields, warehouse_fields, district_fields, stock_fields, customer_fields, order_fields, new_order_fields, line_fields}
 use Rattle.dataset.specs.Writing.{count_fields}
 
@@ -91,6 +93,21 @@ pub record HasLoaded (l : Loader) (read : List (List (List ℕ))) : Type 0 where
   pub lines_ascend : IsStrictlySortedBy line_cmp (keys_of entries.lines)
   pub not_after : AllByRecursion (AllByRecursion (λ place. IsTrue (is_le (place_cmp place l.last)))) (entry_places entries)
   pub are_spelt : AllZip AreSpelt (header_fields l.scale ∷ flat_map (λ records. records) (entry_records entries)) read
+
+-- the records of the rows that were loaded
+abbrev pub records_loaded : {l : Loader} {read : List (List (List ℕ))} → HasLoaded l read → List (List Field)
+records_loaded h = flat_map (λ records. records) (entry_records h.entries)
+
+-- the loader has this record more, which the texts spell
+abbrev pub LoadsMore : Loader → Loader → List Field → List (List ℕ) → Type 0
+LoadsMore l m fields texts = (read : List (List (List ℕ))) (h : HasLoaded l read) → (after : HasLoaded m (read ++ (texts ∷ []))) × (records_loaded after ≡ records_loaded h ++ (fields ∷ []))
+
+-- where the row fits the scale and follows the last place, and its record awaits being taken behind its letter, there is
+-- no fault, and the loader has its record more
+abbrev pub ReadsRecord : TableRow → Loader → Loader → Fields → Fields → Type 0
+ReadsRecord row l m old new =
+    RowFits l.scale row → IsTrue (follows (row_place row) l.last) → Awaits (drop 1 (row_fields row)) old
+    → (fault_of new ≡ None) × (m.last ≡ row_place row) × (m.scale ≡ l.scale) × LoadsMore l m (row_fields row) (row_letter row ∷ fields_left old)
 
 -- where no fault is known after a row's record, none was known before, and the loader has the row
 pub record LoadsRow (letter : List ℕ) (l m : Loader) (old new : Fields) : Type 0 where

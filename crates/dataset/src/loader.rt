@@ -1,7 +1,22 @@
 ghost use Rattle.std.specs.Prelude.{◌≡◌, ℕ, List, [], ◌∷◌, ◌++◌, None, codes, IsTrue, IfOk, OnOk};
 ghost use Rattle.files.specs.Taken.{fields_left, fault_of};
 ghost use Rattle.dataset.specs.Order.{follows};
-ghost use Rattle.dataset.specs.Loading.{HasLoaded, LoadsRow, LoadsRecord};
+ghost use Rattle.dataset.specs.TableRow.{OfItem, OfWarehouse, OfDistrict, OfStock, OfCustomer, OfHistory, OfOrder, OfNewOrder, OfLine};
+ghost use Rattle.dataset.specs.Loading.{HasLoaded, LoadsRow, LoadsRecord, ReadsRecord};
+ghost use Rattle.rows.specs.declared.keys.DistrictKey.{DistrictKey};
+ghost use Rattle.rows.specs.declared.keys.StockKey.{StockKey};
+ghost use Rattle.rows.specs.declared.keys.CustomerKey.{CustomerKey};
+ghost use Rattle.rows.specs.declared.keys.OrderKey.{OrderKey};
+ghost use Rattle.rows.specs.declared.keys.OrderLineKey.{OrderLineKey};
+ghost use Rattle.rows.specs.declared.records.Item.{Item};
+ghost use Rattle.rows.specs.declared.records.Warehouse.{Warehouse};
+ghost use Rattle.rows.specs.declared.records.District.{District};
+ghost use Rattle.rows.specs.declared.records.Stock.{Stock};
+ghost use Rattle.rows.specs.declared.records.Customer.{Customer};
+ghost use Rattle.rows.specs.declared.records.History.{History};
+ghost use Rattle.rows.specs.declared.records.Order.{Order};
+ghost use Rattle.rows.specs.declared.records.NewOrder.{NewOrder};
+ghost use Rattle.rows.specs.declared.records.OrderLine.{OrderLine};
 ghost use Rattle.dataset.specs.Records.{AreRecords, AreSpelt, header_fields};
 ghost use Rattle.dataset.specs.Writing.{count_fields};
 
@@ -81,6 +96,7 @@ impl Loader {
     // Notes where the record stands, whose key was taken.
     fn stand_at(&mut self, place: Place, fields: &mut Fields)
         ensures placed { fault_of fields.new ≡ None → (fault_of fields.old ≡ None) × IsTrue (follows place self.old.last) }
+        ensures in_order { IsTrue (follows place self.old.last) → fault_of fields.new ≡ fault_of fields.old }
         ensures left { fields_left fields.new ≡ fields_left fields.old }
         ensures same { self.new ≡ record self.old { last = place } }
     {
@@ -91,7 +107,8 @@ impl Loader {
     }
 
     fn take_item(&mut self, fields: &mut Fields) -> Result<(), NoMemory>
-        ensures { OnOk result (LoadsRow (codes "I") self.old self.new fields.old fields.new) }
+        ensures loads { OnOk result (LoadsRow (codes "I") self.old self.new fields.old fields.new) }
+        ensures reads { OnOk result ((key : ℕ) (row : Item) → ReadsRecord (OfItem key row) self.old self.new fields.old fields.new) }
     {
         let key = items::key(fields, self.scale);
         self.stand_at(Place::Item(key), fields);
@@ -99,7 +116,8 @@ impl Loader {
     }
 
     fn take_warehouse(&mut self, fields: &mut Fields) -> Result<(), NoMemory>
-        ensures { OnOk result (LoadsRow (codes "W") self.old self.new fields.old fields.new) }
+        ensures loads { OnOk result (LoadsRow (codes "W") self.old self.new fields.old fields.new) }
+        ensures reads { OnOk result ((key : ℕ) (row : Warehouse) → ReadsRecord (OfWarehouse key row) self.old self.new fields.old fields.new) }
     {
         let key = warehouses::key(fields, self.scale);
         self.stand_at(Place::Warehouse(key), fields);
@@ -107,7 +125,8 @@ impl Loader {
     }
 
     fn take_district(&mut self, fields: &mut Fields) -> Result<(), NoMemory>
-        ensures { OnOk result (LoadsRow (codes "D") self.old self.new fields.old fields.new) }
+        ensures loads { OnOk result (LoadsRow (codes "D") self.old self.new fields.old fields.new) }
+        ensures reads { OnOk result ((key : DistrictKey) (row : District) → ReadsRecord (OfDistrict key row) self.old self.new fields.old fields.new) }
     {
         let key = districts::key(fields, self.scale);
         self.stand_at(Place::District(key), fields);
@@ -115,7 +134,8 @@ impl Loader {
     }
 
     fn take_stock(&mut self, fields: &mut Fields) -> Result<(), NoMemory>
-        ensures { OnOk result (LoadsRow (codes "S") self.old self.new fields.old fields.new) }
+        ensures loads { OnOk result (LoadsRow (codes "S") self.old self.new fields.old fields.new) }
+        ensures reads { OnOk result ((key : StockKey) (row : Stock) → ReadsRecord (OfStock key row) self.old self.new fields.old fields.new) }
     {
         let key = stocks::key(fields, self.scale);
         self.stand_at(Place::Stock(key), fields);
@@ -123,7 +143,8 @@ impl Loader {
     }
 
     fn take_customer(&mut self, fields: &mut Fields) -> Result<(), NoMemory>
-        ensures { OnOk result (LoadsRow (codes "C") self.old self.new fields.old fields.new) }
+        ensures loads { OnOk result (LoadsRow (codes "C") self.old self.new fields.old fields.new) }
+        ensures reads { OnOk result ((key : CustomerKey) (row : Customer) → ReadsRecord (OfCustomer key row) self.old self.new fields.old fields.new) }
     {
         let key = customers::key(fields, self.scale);
         self.stand_at(Place::Customer(key), fields);
@@ -131,7 +152,8 @@ impl Loader {
     }
 
     fn take_history(&mut self, fields: &mut Fields) -> Result<(), NoMemory>
-        ensures { OnOk result (LoadsRow (codes "H") self.old self.new fields.old fields.new) }
+        ensures loads { OnOk result (LoadsRow (codes "H") self.old self.new fields.old fields.new) }
+        ensures reads { OnOk result ((key : DistrictKey) (row : History) → ReadsRecord (OfHistory key row) self.old self.new fields.old fields.new) }
     {
         let home = districts::key(fields, self.scale);
         self.stand_at(Place::History(home), fields);
@@ -140,7 +162,8 @@ impl Loader {
     }
 
     fn take_order(&mut self, fields: &mut Fields) -> Result<(), NoMemory>
-        ensures { OnOk result (LoadsRow (codes "O") self.old self.new fields.old fields.new) }
+        ensures loads { OnOk result (LoadsRow (codes "O") self.old self.new fields.old fields.new) }
+        ensures reads { OnOk result ((key : OrderKey) (row : Order) → ReadsRecord (OfOrder key row) self.old self.new fields.old fields.new) }
     {
         let key = orders::key(fields, self.scale);
         self.stand_at(Place::Order(key), fields);
@@ -148,7 +171,8 @@ impl Loader {
     }
 
     fn take_new_order(&mut self, fields: &mut Fields) -> Result<(), NoMemory>
-        ensures { OnOk result (LoadsRow (codes "N") self.old self.new fields.old fields.new) }
+        ensures loads { OnOk result (LoadsRow (codes "N") self.old self.new fields.old fields.new) }
+        ensures reads { OnOk result ((key : OrderKey) (row : NewOrder) → ReadsRecord (OfNewOrder key row) self.old self.new fields.old fields.new) }
     {
         let key = orders::key(fields, self.scale);
         self.stand_at(Place::NewOrder(key), fields);
@@ -156,7 +180,8 @@ impl Loader {
     }
 
     fn take_line(&mut self, fields: &mut Fields) -> Result<(), NoMemory>
-        ensures { OnOk result (LoadsRow (codes "L") self.old self.new fields.old fields.new) }
+        ensures loads { OnOk result (LoadsRow (codes "L") self.old self.new fields.old fields.new) }
+        ensures reads { OnOk result ((key : OrderLineKey) (row : OrderLine) → ReadsRecord (OfLine key row) self.old self.new fields.old fields.new) }
     {
         let key = lines::key(fields, self.scale);
         self.stand_at(Place::Line(key), fields);

@@ -6,13 +6,20 @@ use Rattle.dataset.specs.declared.loader.Loader.{Loader}
 use Rattle.dataset.specs.declared.place.Place.TheVariants as at
 use Rattle.dataset.specs.Order.{follows}
 use Rattle.dataset.specs.Records.{district_key_fields, district_columns}
-use Rattle.dataset.specs.Taking.{Added}
-use Rattle.dataset.specs.Loading.{LoadsRow}
-use Rattle.dataset.proofs.Loading.{loads_row, load_district}
+use Rattle.dataset.specs.Taking.{Added, ReadsRow}
+use Rattle.dataset.specs.Loading.{LoadsRow, ReadsRecord}
+use Rattle.dataset.proofs.Loading.{loads_row, reads_record, load_district}
+use Rattle.rows.specs.declared.keys.DistrictKey.{DistrictKey}
+use Rattle.rows.specs.declared.records.District.{District}
+use Rattle.dataset.specs.Records.{Number, customer_key_fields, order_key_fields}
+use Rattle.dataset.specs.Ranges.{ItemInRange, WarehouseInRange, DistrictInRange, StockInRange, CustomerInRange, IsPayment, IsOrderKey, IsOrder, IsLineKey, IsLine}
+use Rattle.schema.specs.Scale.{has_item, has_warehouse, has_district, has_stock, has_customer}
+use Rattle.dataset.specs.TableRow.{OfDistrict}
+use Rattle.std.proofs.Common.{refl, ℕ}
 use Rattle.dataset.proofs.loader.Loader.take_district.Goals as goal
 
-pub returns : goal.returns
-returns c =
+pub returns-clause-loads : goal.returns-clause-loads
+returns-clause-loads c =
     let l = c.args.self.now in
     let key = c.key-key.result in
     let rows : Loader → TableRows = λ s. record s.rows { districts = c.add.new.districts } in
@@ -22,5 +29,20 @@ returns c =
     (on_ok_weaker c.add.result (λ adds.
     loads_row (codes "D") l _ district_columns (district_key_fields key) (IsTrue (follows (at.District key) l.last)) _ c.args.fields.now c.key-key.new.fields c.stand_at.new.fields c.add.new.fields
     c.key-key.ensures.taken c.stand_at.ensures.placed c.stand_at.ensures.left adds
-    (λ row read texts h follow added spelt. load_district l (rows l) key row read texts h follow c.key-key.ensures.known added spelt)))
+    (λ row read texts h follow added spelt. (load_district l (rows l) key row read texts h follow c.key-key.ensures.known added spelt).0)))
     c.add.ensures.added
+
+pub returns-clause-reads : goal.returns-clause-reads
+returns-clause-reads c =
+    let l = c.args.self.now in
+    let key = c.key-key.result in
+    let rows : Loader → TableRows = λ s. record s.rows { districts = c.add.new.districts } in
+    let IsAdded : Loader → District → Type 0 = λ s. (λ row. c.add.new.districts.items ≡ s.rows.districts.items ++ (row ∷ [])) in
+    let reads : Loader → Type 0 = λ s. OnOk c.add.result (ReadsRow district_columns (λ row. DistrictInRange row) (IsAdded s) c.stand_at.new.fields c.add.new.fields)
+    → OnOk c.add.result ((k : DistrictKey) (row : District) → ReadsRecord (OfDistrict k row) l (record s { rows = rows s }) c.args.fields.now c.add.new.fields) in
+    subst reads (sym c.stand_at.ensures.same)
+    (on_ok_weaker c.add.result (λ adds k row fits follow awaits.
+    reads_record (codes "D") l (record l { last = at.District c.key-key.result; rows = rows l }) (λ j. at.District j) district_key_fields district_columns (λ key. IsTrue (has_district l.scale key)) (λ row. DistrictInRange row) (IsAdded l) c.key-key.result c.args.fields.now c.key-key.new.fields c.stand_at.new.fields c.add.new.fields
+    c.key-key.ensures.reads c.stand_at.ensures.in_order c.stand_at.ensures.left adds refl refl
+    (λ row texts follow added spelt read h. load_district l (rows l) key row read texts h follow c.key-key.ensures.known added spelt) k row fits.0 fits.1 follow awaits))
+    c.add.ensures.reads

@@ -8,13 +8,20 @@ use Rattle.dataset.specs.declared.place.Place.TheVariants as at
 use Rattle.dataset.specs.Order.{follows}
 use Rattle.dataset.specs.Payments.{Pays}
 use Rattle.dataset.specs.Records.{district_key_fields, history_columns}
-use Rattle.dataset.specs.Taking.{Added}
-use Rattle.dataset.specs.Loading.{LoadsRow}
-use Rattle.dataset.proofs.Loading.{loads_row, load_history}
+use Rattle.dataset.specs.Taking.{Added, ReadsRow}
+use Rattle.dataset.specs.Loading.{LoadsRow, ReadsRecord}
+use Rattle.dataset.proofs.Loading.{loads_row, reads_record, load_history}
+use Rattle.rows.specs.declared.keys.DistrictKey.{DistrictKey}
+use Rattle.rows.specs.declared.records.History.{History}
+use Rattle.dataset.specs.Records.{Number, customer_key_fields, order_key_fields}
+use Rattle.dataset.specs.Ranges.{ItemInRange, WarehouseInRange, DistrictInRange, StockInRange, CustomerInRange, IsPayment, IsOrderKey, IsOrder, IsLineKey, IsLine}
+use Rattle.schema.specs.Scale.{has_item, has_warehouse, has_district, has_stock, has_customer}
+use Rattle.dataset.specs.TableRow.{OfHistory}
+use Rattle.std.proofs.Common.{refl, ℕ, ◌∷◌, []}
 use Rattle.dataset.proofs.loader.Loader.take_history.Goals as goal
 
-pub returns : goal.returns
-returns c =
+pub returns-clause-loads : goal.returns-clause-loads
+returns-clause-loads c =
     let l = c.args.self.now in
     let key = c.key-home.result in
     let rows : Loader → TableRows = λ s. record s.rows { histories = c.add.new.lists } in
@@ -24,5 +31,20 @@ returns c =
     (on_ok_weaker c.add.result (λ adds.
     loads_row (codes "H") l _ history_columns (district_key_fields key) (IsTrue (follows (at.History key) l.last)) _ c.args.fields.now c.key-home.new.fields c.stand_at.new.fields c.add.new.fields
     c.key-home.ensures.taken c.stand_at.ensures.placed c.stand_at.ensures.left adds
-    (λ row read texts h follow added spelt. load_history l (rows l) key row read texts h follow added spelt)))
+    (λ row read texts h follow added spelt. (load_history l (rows l) key row read texts h follow added spelt).0)))
     c.add.ensures.added
+
+pub returns-clause-reads : goal.returns-clause-reads
+returns-clause-reads c =
+    let l = c.args.self.now in
+    let key = c.key-home.result in
+    let rows : Loader → TableRows = λ s. record s.rows { histories = c.add.new.lists } in
+    let IsAdded : Loader → History → Type 0 = λ s. (λ row. Pays (district_slot s.scale key) row s.rows.histories.items c.add.new.lists.items) in
+    let reads : Loader → Type 0 = λ s. OnOk c.add.result (ReadsRow history_columns (λ row. IsPayment s.scale row) (IsAdded s) c.stand_at.new.fields c.add.new.fields)
+    → OnOk c.add.result ((k : DistrictKey) (row : History) → ReadsRecord (OfHistory k row) l (record s { rows = rows s }) c.args.fields.now c.add.new.fields) in
+    subst reads (sym c.stand_at.ensures.same)
+    (on_ok_weaker c.add.result (λ adds k row fits follow awaits.
+    reads_record (codes "H") l (record l { last = at.History c.key-home.result; rows = rows l }) (λ j. at.History j) district_key_fields history_columns (λ key. IsTrue (has_district l.scale key)) (λ row. IsPayment l.scale row) (IsAdded l) c.key-home.result c.args.fields.now c.key-home.new.fields c.stand_at.new.fields c.add.new.fields
+    c.key-home.ensures.reads c.stand_at.ensures.in_order c.stand_at.ensures.left adds refl refl
+    (λ row texts follow added spelt read h. load_history l (rows l) key row read texts h follow added spelt) k row fits.0 fits.1 follow awaits))
+    c.add.ensures.reads

@@ -6,13 +6,19 @@ use Rattle.dataset.specs.declared.loader.Loader.{Loader}
 use Rattle.dataset.specs.declared.place.Place.TheVariants as at
 use Rattle.dataset.specs.Order.{follows}
 use Rattle.dataset.specs.Records.{Number, item_columns}
-use Rattle.dataset.specs.Taking.{Added}
-use Rattle.dataset.specs.Loading.{LoadsRow}
-use Rattle.dataset.proofs.Loading.{loads_row, load_item}
+use Rattle.dataset.specs.Taking.{Added, ReadsRow}
+use Rattle.dataset.specs.Loading.{LoadsRow, ReadsRecord}
+use Rattle.dataset.proofs.Loading.{loads_row, reads_record, load_item}
+use Rattle.rows.specs.declared.records.Item.{Item}
+use Rattle.dataset.specs.Records.{district_key_fields, customer_key_fields, order_key_fields}
+use Rattle.dataset.specs.Ranges.{ItemInRange, WarehouseInRange, DistrictInRange, StockInRange, CustomerInRange, IsPayment, IsOrderKey, IsOrder, IsLineKey, IsLine}
+use Rattle.schema.specs.Scale.{has_item, has_warehouse, has_district, has_stock, has_customer}
+use Rattle.dataset.specs.TableRow.{OfItem}
+use Rattle.std.proofs.Common.{refl, ℕ}
 use Rattle.dataset.proofs.loader.Loader.take_item.Goals as goal
 
-pub returns : goal.returns
-returns c =
+pub returns-clause-loads : goal.returns-clause-loads
+returns-clause-loads c =
     let l = c.args.self.now in
     let key = c.key-key.result in
     let rows : Loader → TableRows = λ s. record s.rows { items = c.add.new.items } in
@@ -22,5 +28,20 @@ returns c =
     (on_ok_weaker c.add.result (λ adds.
     loads_row (codes "I") l _ item_columns (Number key ∷ []) (IsTrue (follows (at.Item key) l.last)) _ c.args.fields.now c.key-key.new.fields c.stand_at.new.fields c.add.new.fields
     c.key-key.ensures.taken c.stand_at.ensures.placed c.stand_at.ensures.left adds
-    (λ row read texts h follow added spelt. load_item l (rows l) key row read texts h follow c.key-key.ensures.known added spelt)))
+    (λ row read texts h follow added spelt. (load_item l (rows l) key row read texts h follow c.key-key.ensures.known added spelt).0)))
     c.add.ensures.added
+
+pub returns-clause-reads : goal.returns-clause-reads
+returns-clause-reads c =
+    let l = c.args.self.now in
+    let key = c.key-key.result in
+    let rows : Loader → TableRows = λ s. record s.rows { items = c.add.new.items } in
+    let IsAdded : Loader → Item → Type 0 = λ s. (λ row. c.add.new.items.items ≡ s.rows.items.items ++ (row ∷ [])) in
+    let reads : Loader → Type 0 = λ s. OnOk c.add.result (ReadsRow item_columns (λ row. ItemInRange row) (IsAdded s) c.stand_at.new.fields c.add.new.fields)
+    → OnOk c.add.result ((k : ℕ) (row : Item) → ReadsRecord (OfItem k row) l (record s { rows = rows s }) c.args.fields.now c.add.new.fields) in
+    subst reads (sym c.stand_at.ensures.same)
+    (on_ok_weaker c.add.result (λ adds k row fits follow awaits.
+    reads_record (codes "I") l (record l { last = at.Item c.key-key.result; rows = rows l }) (λ j. at.Item j) (λ k. Number k ∷ []) item_columns (λ key. IsTrue (has_item l.scale key)) (λ row. ItemInRange row) (IsAdded l) c.key-key.result c.args.fields.now c.key-key.new.fields c.stand_at.new.fields c.add.new.fields
+    c.key-key.ensures.reads c.stand_at.ensures.in_order c.stand_at.ensures.left adds refl refl
+    (λ row texts follow added spelt read h. load_item l (rows l) key row read texts h follow c.key-key.ensures.known added spelt) k row fits.0 fits.1 follow awaits))
+    c.add.ensures.reads

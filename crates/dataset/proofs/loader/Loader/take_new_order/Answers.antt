@@ -9,13 +9,19 @@ use Rattle.dataset.specs.declared.place.Place.TheVariants as at
 use Rattle.dataset.specs.Order.{follows}
 use Rattle.rows.specs.declared.records.NewOrder.{NewOrder}
 use Rattle.dataset.specs.Records.{Field, order_key_fields}
-use Rattle.dataset.specs.Taking.{Added}
-use Rattle.dataset.specs.Loading.{LoadsRow}
-use Rattle.dataset.proofs.Loading.{loads_row, load_new_order}
+use Rattle.dataset.specs.Taking.{Added, ReadsRow}
+use Rattle.dataset.specs.Loading.{LoadsRow, ReadsRecord}
+use Rattle.dataset.proofs.Loading.{loads_row, reads_record, load_new_order}
+use Rattle.rows.specs.declared.keys.OrderKey.{OrderKey}
+use Rattle.dataset.specs.Records.{Number, district_key_fields, customer_key_fields}
+use Rattle.dataset.specs.Ranges.{ItemInRange, WarehouseInRange, DistrictInRange, StockInRange, CustomerInRange, IsPayment, IsOrderKey, IsOrder, IsLineKey, IsLine}
+use Rattle.schema.specs.Scale.{has_item, has_warehouse, has_district, has_stock, has_customer}
+use Rattle.dataset.specs.TableRow.{OfNewOrder}
+use Rattle.std.proofs.Common.{refl, ℕ, ◌∷◌}
 use Rattle.dataset.proofs.loader.Loader.take_new_order.Goals as goal
 
-pub returns : goal.returns
-returns c =
+pub returns-clause-loads : goal.returns-clause-loads
+returns-clause-loads c =
     let l = c.args.self.now in
     let key = c.key-key.result in
     let none : NewOrder → List Field = λ _. [] in
@@ -26,5 +32,21 @@ returns c =
     (on_ok_weaker c.add.result (λ adds.
     loads_row (codes "N") l _ none (order_key_fields key) (IsTrue (follows (at.NewOrder key) l.last)) _ c.args.fields.now c.key-key.new.fields c.stand_at.new.fields c.add.new.fields
     c.key-key.ensures.taken c.stand_at.ensures.placed c.stand_at.ensures.left adds
-    (λ row read texts h follow added spelt. load_new_order l (rows l) key row read texts h follow added spelt)))
+    (λ row read texts h follow added spelt. (load_new_order l (rows l) key row read texts h follow added spelt).0)))
     c.add.ensures.added
+
+pub returns-clause-reads : goal.returns-clause-reads
+returns-clause-reads c =
+    let l = c.args.self.now in
+    let key = c.key-key.result in
+    let none : NewOrder → List Field = λ _. [] in
+    let rows : Loader → TableRows = λ s. record s.rows { new_orders = c.add.new.new_orders } in
+    let IsAdded : Loader → NewOrder → Type 0 = λ s. (λ row. c.add.new.new_orders.entries ≡ insert_entry order_cmp s.rows.new_orders.entries key row) in
+    let reads : Loader → Type 0 = λ s. OnOk c.add.result (ReadsRow none (λ row. Unit {0}) (IsAdded s) c.stand_at.new.fields c.add.new.fields)
+    → OnOk c.add.result ((k : OrderKey) (row : NewOrder) → ReadsRecord (OfNewOrder k row) l (record s { rows = rows s }) c.args.fields.now c.add.new.fields) in
+    subst reads (sym c.stand_at.ensures.same)
+    (on_ok_weaker c.add.result (λ adds k row fits follow awaits.
+    reads_record (codes "N") l (record l { last = at.NewOrder c.key-key.result; rows = rows l }) (λ j. at.NewOrder j) order_key_fields none (λ key. IsOrderKey l.scale key) (λ row. Unit {0}) (IsAdded l) c.key-key.result c.args.fields.now c.key-key.new.fields c.stand_at.new.fields c.add.new.fields
+    c.key-key.ensures.reads c.stand_at.ensures.in_order c.stand_at.ensures.left adds refl refl
+    (λ row texts follow added spelt read h. load_new_order l (rows l) key row read texts h follow added spelt) k row fits.0 fits.1 follow awaits))
+    c.add.ensures.reads
