@@ -18,3 +18,6 @@ pub mod ColumnRanges
 pub mod Reading
 pub mod Bounds
 pub mod HeaderRead
+pub mod Letters
+pub mod AllRows
+pub mod Counted

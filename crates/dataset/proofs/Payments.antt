@@ -91,7 +91,7 @@ payments-opened [] lists opened h = refl
 payments-opened (k ∷ ks) [] opened h = no_payments (k ∷ ks) opened h
 payments-opened (k ∷ ks) (list ∷ lists) opened h = ap (λ l. map (history_fields k) list ++ l) (payments-opened ks lists opened h)
 
-count-cons : (list : List History) (lists : List (List History)) → sum (map length (list ∷ lists)) ≡ length list + sum (map length lists)
+pub count-cons : (list : List History) (lists : List (List History)) → sum (map length (list ∷ lists)) ≡ length list + sum (map length lists)
 count-cons list lists = sum-map length (list ∷ lists) ∙ sum_by-cons length list lists ∙ ap (λ n. length list + n) (sym (sum-map length lists))
 
 -- nor payments to count

@@ -7,3 +7,4 @@ pub mod Loading
 pub mod Ranges
 pub mod RecordLaws
 pub mod TableRow
+pub mod Expecting

@@ -1,5 +1,5 @@
 -- What was read of a dataset, as far as it was read.
-use Rattle.std.specs.Prelude.{◌≡◌, ◌≤◌, ℕ, List, [], ◌∷◌, ◌++◌, Bool, length, map, Option, None, IsTrue, drop}
+use Rattle.std.specs.Prelude.{◌≡◌, ◌≤◌, ℕ, List, [], ◌∷◌, ◌++◌, Bool, length, map, Option, None, IsTrue, drop, sum, ◌<◌, ◌^◌}
 use Rattle.std.specs.List.{AllByRecursion, AllZip, flat_map, zip}
 use Rattle.std.specs.List.Sorted.{IsStrictlySortedBy}
 use Rattle.std.specs.Map.{keys_of, values_of}
@@ -108,6 +108,17 @@ abbrev pub ReadsRecord : TableRow → Loader → Loader → Fields → Fields �
 ReadsRecord row l m old new =
     RowFits l.scale row → IsTrue (follows (row_place row) l.last) → Awaits (drop 1 (row_fields row)) old
     → (fault_of new ≡ None) × (m.last ≡ row_place row) × (m.scale ≡ l.scale) × LoadsMore l m (row_fields row) (row_letter row ∷ fields_left old)
+
+-- where the record is that of a row that fits the scale and follows the last place, it is taken as one, there is no
+-- fault, and the loader has its record more
+abbrev pub TakesRow : Taken → Loader → Loader → Fields → Fields → Type 0
+TakesRow taken l m old new = (row : TableRow) → RowFits l.scale row → IsTrue (follows (row_place row) l.last) → Awaits (row_fields row) old
+    → (taken ≡ Row) × (fault_of new ≡ None) × (m.last ≡ row_place row) × (m.scale ≡ l.scale) × LoadsMore l m (row_fields row) (fields_left old)
+
+-- where the record is the end record of the loader's rows, it is taken as one, and there is no fault
+abbrev pub TakesEnd : Taken → Loader → Loader → Fields → Fields → Type 0
+TakesEnd taken l m old new = sum (map length l.rows.histories.items) < 2 ^ 64 → Awaits (count_fields l.rows) old
+    → (taken ≡ End) × (fault_of new ≡ None) × (m ≡ l)
 
 -- where no fault is known after a row's record, none was known before, and the loader has the row
 pub record LoadsRow (letter : List ℕ) (l m : Loader) (old new : Fields) : Type 0 where

@@ -2,7 +2,7 @@ ghost use Rattle.std.specs.Prelude.{◌≡◌, ℕ, List, [], ◌∷◌, ◌++�
 ghost use Rattle.files.specs.Taken.{fields_left, fault_of};
 ghost use Rattle.dataset.specs.Order.{follows};
 ghost use Rattle.dataset.specs.TableRow.{OfItem, OfWarehouse, OfDistrict, OfStock, OfCustomer, OfHistory, OfOrder, OfNewOrder, OfLine};
-ghost use Rattle.dataset.specs.Loading.{HasLoaded, LoadsRow, LoadsRecord, ReadsRecord};
+ghost use Rattle.dataset.specs.Loading.{HasLoaded, LoadsRow, LoadsRecord, ReadsRecord, TakesRow, TakesEnd};
 ghost use Rattle.rows.specs.declared.keys.DistrictKey.{DistrictKey};
 ghost use Rattle.rows.specs.declared.keys.StockKey.{StockKey};
 ghost use Rattle.rows.specs.declared.keys.CustomerKey.{CustomerKey};
@@ -60,7 +60,9 @@ impl Loader {
 
     /// Takes a record. Its fault, if it has one, is noted in `fields`.
     pub fn take(&mut self, fields: &mut Fields) -> Result<Taken, NoMemory>
-        ensures { IfOk result (λ taken. LoadsRecord taken self.old self.new fields.old fields.new) }
+        ensures loads { IfOk result (λ taken. LoadsRecord taken self.old self.new fields.old fields.new) }
+        ensures row { IfOk result (λ taken. TakesRow taken self.old self.new fields.old fields.new) }
+        ensures end { IfOk result (λ taken. TakesEnd taken self.old self.new fields.old fields.new) }
     {
         match fields.word() {
             "I" => self.take_item(fields)?,
