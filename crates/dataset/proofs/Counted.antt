@@ -29,17 +29,17 @@ one_mark a b [] h g = absurd h
 one_mark a b (Words words ∷ fields) h g = sym g ∙ h
 one_mark a b (f ∷ fields) h g = absurd h
 
-split_same : (mark : ℕ) (ps qs cs ds : List (List Field)) → AllByRecursion (Marked mark) ps → AllByRecursion (Marked mark) qs → AllByRecursion (Unmarked mark) cs → AllByRecursion (Unmarked mark) ds
+pub split_by : (P : List Field → Type 0) (ps qs cs ds : List (List Field)) → AllByRecursion P ps → AllByRecursion P qs → AllByRecursion (λ fields. P fields → ⊥) cs → AllByRecursion (λ fields. P fields → ⊥) ds
     → ps ++ cs ≡ qs ++ ds → (ps ≡ qs) × (cs ≡ ds)
-split_same mark [] [] cs ds hp hq hc hd e = (refl, e)
-split_same mark [] (q ∷ qs) [] ds hp hq hc hd e = absurd cc
-split_same mark [] (q ∷ qs) (c ∷ cs) ds hp hq hc hd e = let same : c ≡ q = cc in absurd (hc.0 (subst (Marked mark) (sym same) hq.0))
-split_same mark (p ∷ ps) [] cs [] hp hq hc hd e = absurd cc
-split_same mark (p ∷ ps) [] cs (d ∷ ds) hp hq hc hd e = let same : p ≡ d = cc in absurd (hd.0 (subst (Marked mark) same hp.0))
-split_same mark (p ∷ ps) (q ∷ qs) cs ds hp hq hc hd e =
+split_by P [] [] cs ds hp hq hc hd e = (refl, e)
+split_by P [] (q ∷ qs) [] ds hp hq hc hd e = absurd cc
+split_by P [] (q ∷ qs) (c ∷ cs) ds hp hq hc hd e = let same : c ≡ q = cc in absurd (hc.0 (subst P (sym same) hq.0))
+split_by P (p ∷ ps) [] cs [] hp hq hc hd e = absurd cc
+split_by P (p ∷ ps) [] cs (d ∷ ds) hp hq hc hd e = let same : p ≡ d = cc in absurd (hd.0 (subst P same hp.0))
+split_by P (p ∷ ps) (q ∷ qs) cs ds hp hq hc hd e =
     let first : p ≡ q = cc in
     let tails : ps ++ cs ≡ qs ++ ds = cc in
-    let rest = split_same mark ps qs cs ds hp.1 hq.1 hc hd tails in
+    let rest = split_by P ps qs cs ds hp.1 hq.1 hc hd tails in
     (λ i. first i ∷ rest.0 i, rest.1)
 
 differs : (other mark : ℕ) → IsTrue (not (other == mark)) → other ≡ mark → ⊥
@@ -61,7 +61,7 @@ parts_same (mark ∷ marks) [] qs apart mp mq e = absurd mp
 parts_same (mark ∷ marks) (p ∷ ps) [] apart mp mq e = absurd mq
 parts_same (mark ∷ marks) (p ∷ ps) (q ∷ qs) apart mp mq e =
     let tests = both _ _ apart in
-    let parts = split_same mark p q (flat_map (λ x. x) ps) (flat_map (λ x. x) qs) mp.0 mq.0 (unmarked-parts mark marks ps tests.0 mp.1) (unmarked-parts mark marks qs tests.0 mq.1) e in
+    let parts = split_by (Marked mark) p q (flat_map (λ x. x) ps) (flat_map (λ x. x) qs) mp.0 mq.0 (unmarked-parts mark marks ps tests.0 mp.1) (unmarked-parts mark marks qs tests.0 mq.1) e in
     let rest = parts_same marks ps qs tests.1 mp.1 mq.1 parts.1 in
     λ i. parts.0 i ∷ rest i
 

@@ -30,7 +30,7 @@ use Rattle.dataset.specs.declared.place.Place.TheVariants as at
 use Rattle.dataset.specs.Payments.{Opens}
 use Rattle.dataset.specs.Records.{Words, Number, AreSpelt, AreRecords, row_records, payment_records, header_fields, item_fields, warehouse_fields, district_fields, stock_fields, customer_fields, order_fields, new_order_fields, line_fields}
 use Rattle.dataset.specs.Writing.{count_fields}
-use Rattle.dataset.specs.Loading.{AreKeyed, HasLoaded, entry_records}
+use Rattle.dataset.specs.Loading.{AreKeyed, HasLoaded, entry_records, records_loaded}
 use Rattle.dataset.proofs.Keys.{all-weaker, sorted-item_ids, sorted-warehouse_ids, sorted-district_keys, sorted-stock_keys, sorted-customer_keys}
 use Rattle.dataset.proofs.Payments.{payments-opened, counts-opened}
 use Rattle.dataset.proofs.Tables.{rows_by_table, are-records}
@@ -102,7 +102,7 @@ module _ {K : Type 0} {c : K → K → Ordering} (o : IsTotalOrder c) where
       by later false test None rest h = absurd cc
       by later false test (Some m) rest h = inr (later (ap is_some rest))
 
-zip-split : {K X : Type 0} (es : List (K × X)) → es ≡ zip (keys_of es) (values_of es)
+pub zip-split : {K X : Type 0} (es : List (K × X)) → es ≡ zip (keys_of es) (values_of es)
 zip-split [] = refl
 zip-split (e ∷ es) = ap (λ l. e ∷ l) (zip-split es)
 
@@ -134,8 +134,8 @@ unfolding IsStrictlySortedBy
 none_ascend X c = tt
 
 -- the header alone
-pub none_loaded : (l : Loader) (texts : List (List ℕ)) → l.last ≡ at.Header → AreNoRows l.rows → AreSpelt (header_fields l.scale) texts → HasLoaded l (texts ∷ [])
-none_loaded l texts last none spelt = record {
+pub none_loaded : (l : Loader) (texts : List (List ℕ)) → l.last ≡ at.Header → AreNoRows l.rows → AreSpelt (header_fields l.scale) texts → (after : HasLoaded l (texts ∷ [])) × (records_loaded after ≡ [])
+none_loaded l texts last none spelt = (record {
   entries = record { items = []; warehouses = []; districts = []; stocks = []; customers = []; histories = []; orders = []; new_orders = []; lines = [] };
   items = no_keys nat_cmp (has_item l.scale) l.rows.items.items none.items;
   warehouses = no_keys nat_cmp (has_warehouse l.scale) l.rows.warehouses.items none.warehouses;
@@ -152,7 +152,7 @@ none_loaded l texts last none spelt = record {
   lines_ascend = none_ascend OrderLine line_cmp;
   not_after = (tt, (tt, (tt, (tt, (tt, (tt, (tt, (tt, (tt, tt)))))))));
   are_spelt = (spelt, tt);
-}
+}, refl)
 
 -- ---- in the end
 

@@ -21,3 +21,5 @@ pub mod HeaderRead
 pub mod Letters
 pub mod AllRows
 pub mod Counted
+pub mod Expecting
+pub mod Completed

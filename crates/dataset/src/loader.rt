@@ -1,7 +1,10 @@
-ghost use Rattle.std.specs.Prelude.{◌≡◌, ℕ, List, [], ◌∷◌, ◌++◌, None, codes, IsTrue, IfOk, OnOk};
+ghost use Rattle.std.specs.Prelude.{◌≡◌, ℕ, List, [], ◌∷◌, ◌++◌, None, codes, IsTrue, IfOk, OnOk, ◌<◌, ◌^◌, length, IsOk};
 ghost use Rattle.files.specs.Taken.{fields_left, fault_of};
 ghost use Rattle.dataset.specs.Order.{follows};
 ghost use Rattle.dataset.specs.TableRow.{OfItem, OfWarehouse, OfDistrict, OfStock, OfCustomer, OfHistory, OfOrder, OfNewOrder, OfLine};
+ghost use Rattle.schema.specs.Database.{Database, IsWithinScale};
+ghost use Rattle.dataset.specs.Expecting.{Expects, Completes};
+ghost use Rattle.dataset.specs.Ranges.{InRange};
 ghost use Rattle.dataset.specs.Loading.{HasLoaded, LoadsRow, LoadsRecord, ReadsRecord, TakesRow, TakesEnd};
 ghost use Rattle.rows.specs.declared.keys.DistrictKey.{DistrictKey};
 ghost use Rattle.rows.specs.declared.keys.StockKey.{StockKey};
@@ -48,7 +51,8 @@ pub struct Loader {
 impl Loader {
     /// No rows, after a header record of that scale.
     pub fn new(alloc: Global, scale: Scale) -> Self
-        ensures { (texts : List (List ℕ)) → AreSpelt (header_fields scale) texts → HasLoaded result (texts ∷ []) }
+        ensures loads { (texts : List (List ℕ)) → AreSpelt (header_fields scale) texts → HasLoaded result (texts ∷ []) }
+        ensures expects { (t : Database) (header : List (List ℕ)) (rows : List (List (List ℕ))) → IsWithinScale t → InRange t → length rows < 2 ^ 64 → scale ≡ t.scale → AreRecords t (header ∷ rows) → Expects t result rows }
     {
         Loader {
             alloc,
@@ -86,7 +90,8 @@ impl Loader {
 
     /// The tables of all rows; `Err` is a rule of the scale that they break.
     pub fn finish(mut self) -> Result<Result<Tables, ScaleFault>, NoMemory>
-        ensures { IfOk result (λ checked. IfOk checked (λ tables. (read : List (List (List ℕ))) (end : List (List ℕ))
+        ensures completes { IfOk result (λ checked. (t : Database) → IsWithinScale t → Completes t self → IsOk checked) }
+        ensures tables { IfOk result (λ checked. IfOk checked (λ tables. (read : List (List (List ℕ))) (end : List (List ℕ))
             → HasLoaded self read → AreSpelt (count_fields self.rows) end → AreRecords tables (read ++ end ∷ []))) }
     {
         let districts = self.scale.warehouses as usize * 10;

@@ -1,5 +1,9 @@
-ghost use Rattle.std.specs.Prelude.{◌≡◌, ℕ, List, [], ◌∷◌, Some, IfOk, OnOk};
-ghost use Rattle.files.specs.Place.{HasRead, IsCsv, record_fields};
+ghost use Rattle.std.specs.Prelude.{◌≡◌, ◌-◌, ◌^◌, ◌<◌, ℕ, List, [], ◌∷◌, length, Some, IfOk, IfErr, OnOk};
+ghost use Rattle.schema.specs.Database.{Database, IsWithinScale};
+ghost use Rattle.schema.specs.declared.scale.Scale.{Scale};
+ghost use Rattle.files.specs.Place.{HasRead, HasLeft, IsCsv, record_fields};
+ghost use Rattle.dataset.specs.Expecting.{Expects, Completes, GoesOn, IsFault};
+ghost use Rattle.dataset.specs.Ranges.{InRange};
 ghost use Rattle.dataset.specs.Loading.{HasLoaded, HasEnded, IsLoaded};
 ghost use Rattle.dataset.specs.Records.{AreRecords, AreSpelt, header_fields};
 
@@ -16,7 +20,9 @@ use std::io::Read;
 /// of its faults the least one; a broken rule of the scale is looked for after the whole file was read,
 /// and named at the end record. Memory is taken row by row, never by the numbers of the header.
 pub fn read<R: Read + Drop>(alloc: Global, source: R) -> Result<Tables, FileError>
-    ensures { IfOk result (λ tables. (text : List ℕ) → R.remaining source ≡ Some text → (rows : List (List (List ℕ))) × IsCsv text rows × AreRecords tables rows) }
+    ensures tables { IfOk result (λ tables. (text : List ℕ) → R.remaining source ≡ Some text → (rows : List (List (List ℕ))) × IsCsv text rows × AreRecords tables rows) }
+    ensures fault { IfErr result (λ error. IsFault error → (text : List ℕ) → R.remaining source ≡ Some text → (rows : List (List (List ℕ))) → IsCsv text rows → length rows < 2 ^ 64 - 1
+        → (t : Database) → IsWithinScale t → InRange t → AreRecords t rows → ⊥) }
 {
     let mut records = Records::new(alloc, source);
     let scale = read_header(&mut records)?;
@@ -27,8 +33,11 @@ pub fn read<R: Read + Drop>(alloc: Global, source: R) -> Result<Tables, FileErro
 
 // The scale of the first record, which is the header.
 fn read_header<R: Read + Drop>(records: &mut Records<R>) -> Result<Scale, FileError>
-    ensures { IfOk result (λ scale. (text : List ℕ) → HasRead R.remaining text [] records.old
+    ensures read { IfOk result (λ scale. (text : List ℕ) → HasRead R.remaining text [] records.old
         → (texts : List (List ℕ)) × AreSpelt (header_fields scale) texts × HasRead R.remaining text (texts ∷ []) records.new) }
+    ensures scale { IfOk result (λ scale. (s : Scale) (header : List (List ℕ)) (rows : List (List (List ℕ))) → AreSpelt (header_fields s) header → HasLeft R.remaining (header ∷ rows) records.old
+        → (scale ≡ s) × HasLeft R.remaining rows records.new) }
+    ensures fault { IfErr result (λ error. IsFault error → (s : Scale) (header : List (List ℕ)) (rows : List (List (List ℕ))) → AreSpelt (header_fields s) header → HasLeft R.remaining (header ∷ rows) records.old → ⊥) }
 {
     if !records.advance()? {
         return Err(records.fault(FaultKind::NoHeader));
@@ -41,8 +50,11 @@ fn read_header<R: Read + Drop>(records: &mut Records<R>) -> Result<Scale, FileEr
 
 // Takes the records up to the end record, which is then under way.
 fn read_rows<R: Read + Drop>(records: &mut Records<R>, loader: &mut Loader) -> Result<(), FileError>
-    ensures { OnOk result ((text : List ℕ) (read : List (List (List ℕ))) → HasRead R.remaining text read records.old → HasLoaded loader.old read
+    ensures read { OnOk result ((text : List ℕ) (read : List (List (List ℕ))) → HasRead R.remaining text read records.old → HasLoaded loader.old read
         → HasEnded R.remaining text loader.new records.new) }
+    ensures all { OnOk result ((t : Database) (rows : List (List (List ℕ))) → Expects t loader.old rows → HasLeft R.remaining rows records.old
+        → Completes t loader.new × HasLeft R.remaining [] records.new) }
+    ensures fault { IfErr result (λ error. IsFault error → (t : Database) (rows : List (List (List ℕ))) → length rows < 2 ^ 64 - 1 → Expects t loader.old rows → HasLeft R.remaining rows records.old → ⊥) }
 {
     for _ in 0..u64::MAX {
         if !records.advance()? {
@@ -61,7 +73,9 @@ fn read_record<R: Read + Drop>(
     records: &Records<R>,
     loader: &mut Loader,
 ) -> Result<Taken, FileError>
-    ensures { IfOk result (λ taken. IsLoaded taken loader.old loader.new (record_fields records.now)) }
+    ensures loaded { IfOk result (λ taken. IsLoaded taken loader.old loader.new (record_fields records.now)) }
+    ensures goes_on { IfOk result (λ taken. (t : Database) (rest : List (List (List ℕ))) → Expects t loader.old (record_fields records.now ∷ rest) → GoesOn taken t loader.new rest) }
+    ensures fault { IfErr result (λ error. IsFault error → (t : Database) (rest : List (List (List ℕ))) → Expects t loader.old (record_fields records.now ∷ rest) → ⊥) }
 {
     let mut fields = records.fields();
     let taken = loader.take(&mut fields)?;
@@ -73,7 +87,8 @@ fn read_record<R: Read + Drop>(
 
 // The tables, after the end record, which has to be the last.
 fn finish<R: Read + Drop>(mut records: Records<R>, loader: Loader) -> Result<Tables, FileError>
-    ensures { IfOk result (λ tables. (text : List ℕ) → HasEnded R.remaining text loader records → (rows : List (List (List ℕ))) × IsCsv text rows × AreRecords tables rows) }
+    ensures tables { IfOk result (λ tables. (text : List ℕ) → HasEnded R.remaining text loader records → (rows : List (List (List ℕ))) × IsCsv text rows × AreRecords tables rows) }
+    ensures fault { IfErr result (λ error. IsFault error → (t : Database) → IsWithinScale t → Completes t loader → HasLeft R.remaining [] records → ⊥) }
 {
     let end = records.number();
     if records.advance()? {

@@ -1,11 +1,35 @@
 use Rattle.std.proofs.Common.{◌≡◌, [], Bool, true, rules, subst}
 use Rattle.files.specs.Place.{HasReadOn, record_fields}
 use Rattle.dataset.specs.Records.{AreSpelt, header_fields}
+use Rattle.dataset.proofs.Expecting.{no_row, same_ok, ok_err}
+use Rattle.dataset.specs.Taking.{Awaits}
+use Rattle.std.proofs.Common.{◌∷◌, length, sym, ap, ◌∙◌, arith}
 use Rattle.dataset.proofs.reader.read_header.Goals as goal
 
-pub returns-in-Ok : goal.returns-in-Ok
-returns-in-Ok g c = λ text none_read.
+pub returns-in-Ok-clause-read : goal.returns-in-Ok-clause-read
+returns-in-Ok-clause-read g c = λ text none_read.
     let found : c.in_ok-advance.field-0 ≡ true = search rules in
     let P : Bool → Type 0 = λ b. HasReadOn g.R.Read.remaining text [] b c.advance.new.self in
     let spelt = subst (AreSpelt (header_fields c.in-Ok.scale)) c.fields.ensures.left c.in-Ok.ensures.spelt in
     (record_fields c.advance.new.self, spelt, subst P found (c.in_ok-advance.ensures.reads text [] none_read))
+
+pub returns-then-not-branch-clause-fault : goal.returns-then-not-branch-clause-fault
+returns-then-not-branch-clause-fault g c = λ fault s header rows spelt left.
+    let after = c.in_ok-advance.ensures.reads_next (header ∷ rows) left in
+    let none = no_row g.R.Read.remaining (header ∷ rows) c.in_ok-advance.field-0 c.advance.new.self c.if-not-branch.true after in
+    let many : length (header ∷ rows) ≡ 0 = ap length none in
+    omega arith
+
+pub returns-in-Ok-clause-scale : goal.returns-in-Ok-clause-scale
+returns-in-Ok-clause-scale g c = λ s header rows spelt left.
+    let after = c.in_ok-advance.ensures.reads_next (header ∷ rows) left in
+    let awaits : Awaits (header_fields s) c.fields.result = record { faultless = c.fields.ensures.fault; are_spelt = subst (AreSpelt (header_fields s)) (sym (c.fields.ensures.left ∙ after.1)) spelt } in
+    let read = c.parse.ensures.reads s awaits in
+    (same_ok c.parse.result c.in-Ok.scale s c.in-Ok.is read, after.2)
+
+pub returns-in-Err-clause-fault : goal.returns-in-Err-clause-fault
+returns-in-Err-clause-fault g c = λ fault s header rows spelt left.
+    let after = c.in_ok-advance.ensures.reads_next (header ∷ rows) left in
+    let awaits : Awaits (header_fields s) c.fields.result = record { faultless = c.fields.ensures.fault; are_spelt = subst (AreSpelt (header_fields s)) (sym (c.fields.ensures.left ∙ after.1)) spelt } in
+    let read = c.parse.ensures.reads s awaits in
+    ok_err c.parse.result s c.in-Err.kind read c.in-Err.is

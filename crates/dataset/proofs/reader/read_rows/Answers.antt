@@ -3,15 +3,21 @@ use Rattle.files.specs.Place.{HasReadOn, record_fields}
 use Rattle.dataset.specs.Records.{AreSpelt}
 use Rattle.dataset.specs.Writing.{count_fields}
 use Rattle.dataset.specs.Loading.{HasLoaded}
+use Rattle.dataset.proofs.reader.read_rows.Goals.{else-loop-test, then-loop-test+in_ok-advance+then-not-branch}
+use Rattle.dataset.proofs.Expecting.{next_row, no_row, expects_more}
+use Rattle.dataset.specs.Expecting.{Expects}
+use Rattle.files.specs.Place.{HasLeft}
+use Rattle.std.proofs.lemmas.Result.{err_from_is_err_and}
+use Rattle.std.proofs.Common.{◌+◌, length, ap, arith}
 use Rattle.dataset.proofs.reader.read_rows.Goals as goal
 
-pub returns-in-End : goal.returns-in-End
-returns-in-End g c = λ text read has_read loaded.
-    let inv = c.loop.invariant text read has_read loaded in
+pub returns-in-End-clause-read : goal.returns-in-End-clause-read
+returns-in-End-clause-read g c = λ text read has_read loaded.
+    let inv = c.loop.invariant.0 text read has_read loaded in
     let found : c.in_ok-advance.field-0 ≡ true = search rules in
     let P : Bool → Type 0 = λ b. HasReadOn g.R.Read.remaining text inv.0 b c.advance.new.self in
     let end = record_fields c.advance.new.self in
-    let ends = rw c.in-End.is at c.in_ok-read_record.ensures in
+    let ends = rw c.in-End.is at c.in_ok-read_record.ensures.loaded in
     record {
       read = inv.0;
       end = end;
@@ -21,9 +27,47 @@ returns-in-End g c = λ text read has_read loaded.
     }
 
 pub loop-preserved : goal.loop-preserved
-loop-preserved g c = λ text read has_read loaded.
-    let inv = c.loop.invariant text read has_read loaded in
+loop-preserved g c = (λ text read has_read loaded.
+    let inv = c.loop.invariant.0 text read has_read loaded in
     let found : c.in_ok-advance.field-0 ≡ true = search rules in
     let P : Bool → Type 0 = λ b. HasReadOn g.R.Read.remaining text inv.0 b c.advance.new.self in
-    let loads = rw c.in-Row.is at c.in_ok-read_record.ensures in
-    (inv.0 ++ (record_fields c.advance.new.self ∷ []), loads inv.0 inv.1, subst P found (c.in_ok-advance.ensures.reads text inv.0 inv.2))
+    let loads = rw c.in-Row.is at c.in_ok-read_record.ensures.loaded in
+    (inv.0 ++ (record_fields c.advance.new.self ∷ []), loads inv.0 inv.1, subst P found (c.in_ok-advance.ensures.reads text inv.0 inv.2)),
+    λ t rows expects left.
+    let inv = c.loop.invariant.1 t rows expects left in
+    let next = next_row g.R.Read.remaining inv.0 c.in_ok-advance.field-0 c.advance.new.self c.if-not-branch.false (c.in_ok-advance.ensures.reads_next inv.0 inv.3) in
+    let expected = subst (Expects t c.loop.loader) next.1 inv.2 in
+    let on = (rw c.in-Row.is at c.in_ok-read_record.ensures.goes_on) t next.0 expected in
+    let fewer : length inv.0 ≡ length next.0 + 1 = let e = ap length next.1 in omega (arith, e) in
+    let bound = inv.1 in
+    (next.0, omega (arith, fewer, bound), on, next.2))
+
+pub loop-init : goal.loop-init
+loop-init g c = (λ text read has_read loaded. (read, loaded, has_read), λ t rows expects left. (rows, omega arith, expects, left))
+
+pub returns-in_err-read_record-clause-fault : goal.returns-in_err-read_record-clause-fault
+returns-in_err-read_record-clause-fault g c =
+    let p = err_from_is_err_and c.from_residual-in_err-read_record.result c.from_residual-in_err-read_record.ensures.1 in
+    rw (p.1, p.2) (λ fault t rows few expects left.
+    let inv = c.loop.invariant.1 t rows expects left in
+    let next = next_row g.R.Read.remaining inv.0 c.in_ok-advance.field-0 c.advance.new.self c.if-not-branch.false (c.in_ok-advance.ensures.reads_next inv.0 inv.3) in
+    let expected = subst (Expects t c.loop.loader) next.1 inv.2 in
+    c.in_err-read_record.ensures.fault fault t next.0 expected)
+
+pub returns-in-End-clause-all : goal.returns-in-End-clause-all
+returns-in-End-clause-all g c = λ t rows expects left.
+    let inv = c.loop.invariant.1 t rows expects left in
+    let next = next_row g.R.Read.remaining inv.0 c.in_ok-advance.field-0 c.advance.new.self c.if-not-branch.false (c.in_ok-advance.ensures.reads_next inv.0 inv.3) in
+    let expected = subst (Expects t c.loop.loader) next.1 inv.2 in
+    let ends = (rw c.in-End.is at c.in_ok-read_record.ensures.goes_on) t next.0 expected in
+    (ends.1, subst (λ l. HasLeft g.R.Read.remaining l c.advance.new.self) ends.0 next.2)
+
+pub returns-clause-fault : goal.returns-clause-fault
+returns-clause-fault g c = λ fault t rows few expects left.
+    let inv = c.loop.invariant.1 t rows expects left in
+    elim c.loop-test.branch [
+      | else-loop-test w ↦ let bound = inv.1 in let past = w.loop-test.false in omega (arith, bound, past)
+      | then-loop-test+in_ok-advance+then-not-branch w ↦
+          let none = no_row g.R.Read.remaining inv.0 w.in_ok-advance.field-0 w.advance.new.self w.if-not-branch.true (w.in_ok-advance.ensures.reads_next inv.0 inv.3) in
+          expects_more t c.loop.loader (subst (Expects t c.loop.loader) none inv.2)
+    ]
