@@ -1,9 +1,9 @@
 -- The rows of all tables, table by table: their records, that they come in order, and that they fit.
-use Rattle.std.proofs.Common.{◌≡◌, ◌<◌, ℕ, Bool, true, false, ◌&&◌, nat_lt, List, [], ◌∷◌, ◌++◌, map, Option, Some, None, IsTrue, is_some, refl, sym, ap, subst, ◌∙◌, arith}
+use Rattle.std.proofs.Common.{◌≡◌, ◌<◌, ℕ, Bool, true, ◌&&◌, nat_lt, List, [], ◌∷◌, ◌++◌, map, Option, Some, None, IsTrue, is_some, refl, sym, ap, subst, ◌∙◌, arith}
 use Rattle.std.specs.List.{AllByRecursion, AllZip, flat_map, list_all}
 use Rattle.std.specs.List.Sorted.{IsStrictlySortedBy}
 use Rattle.std.specs.Map.{keys_of, values_of}
-use Rattle.std.specs.Ordering.{nat_cmp, is_le}
+use Rattle.std.specs.Ordering.{nat_cmp}
 use Rattle.std.specs.declared.cmp.Ordering.{Ordering}
 use Rattle.std.specs.declared.cmp.Ordering.TheVariants.{Less}
 use Rattle.std.specs.Cmp.{nat_cmp_total}
@@ -13,7 +13,6 @@ use Rattle.std.proofs.lemmas.List.{map-append}
 use Rattle.std.proofs.lemmas.Bool.Decides.{nat_tests}
 use Rattle.rows.specs.declared.keys.DistrictKey.{DistrictKey}
 use Rattle.rows.specs.declared.keys.OrderKey.{OrderKey}
-use Rattle.rows.specs.declared.keys.OrderLineKey.{OrderLineKey}
 use Rattle.rows.specs.declared.records.History.{History}
 use Rattle.rows.specs.declared.records.Order.{Order}
 use Rattle.rows.specs.Keys.{district_cmp, order_of_line}
@@ -23,7 +22,7 @@ use Rattle.schema.specs.Database.{Database, IsWithinScale, customer_of_order, ar
 use Rattle.schema.proofs.KeyOrders.{districts_total, districts_exact, stocks_total, stocks_exact, customers_total, customers_exact, orders_total, orders_exact, lines_total, lines_exact}
 use Rattle.dataset.specs.Order.{place_cmp, follows}
 use Rattle.dataset.specs.declared.place.Place.TheVariants as at
-use Rattle.dataset.specs.Ranges.{InRange, IsFrom, ItemInRange, WarehouseInRange, DistrictInRange, StockInRange, CustomerInRange, HistoryInRange, OrderInRange, LineInRange, IsPayment, IsOrder, IsOrderKey, IsLine, IsLineKey}
+use Rattle.dataset.specs.Ranges.{InRange, IsFrom, ItemInRange, WarehouseInRange, DistrictInRange, StockInRange, CustomerInRange, HistoryInRange, OrderInRange, LineInRange, IsOrderKey, IsLine, IsLineKey}
 use Rattle.dataset.specs.Records.{Field, records_by_table, row_records, payment_records, history_fields, item_fields, warehouse_fields, district_fields, stock_fields, customer_fields, order_fields, new_order_fields, line_fields}
 use Rattle.dataset.specs.TableRow.{TableRow, OfItem, OfWarehouse, OfDistrict, OfStock, OfCustomer, OfHistory, OfOrder, OfNewOrder, OfLine, RowFits, row_fields, row_place}
 use Rattle.dataset.specs.Expecting.{AreInOrder, all_records}
@@ -73,11 +72,11 @@ unfolding all_rows rows_by_table records_by_table
 records_of_rows t =
     map-flat row_fields (rows_by_table t)
     ∙ ap (flat_map (λ part. part)) (λ i.
-        fields_of_rows OfItem item_fields (λ k x. refl) (entries t.items) i ∷ fields_of_rows OfWarehouse warehouse_fields (λ k x. refl) (entries t.warehouses) i
-        ∷ fields_of_rows OfDistrict district_fields (λ k x. refl) (entries t.districts) i ∷ fields_of_rows OfStock stock_fields (λ k x. refl) (entries t.stocks) i
-        ∷ fields_of_rows OfCustomer customer_fields (λ k x. refl) (entries t.customers) i ∷ fields_paid (entries t.histories) i
-        ∷ fields_of_rows OfOrder order_fields (λ k x. refl) (entries t.orders) i ∷ fields_of_rows OfNewOrder new_order_fields (λ k x. refl) (entries t.new_orders) i
-        ∷ fields_of_rows OfLine line_fields (λ k x. refl) (entries t.lines) i ∷ [])
+    fields_of_rows OfItem item_fields (λ k x. refl) (entries t.items) i ∷ fields_of_rows OfWarehouse warehouse_fields (λ k x. refl) (entries t.warehouses) i
+    ∷ fields_of_rows OfDistrict district_fields (λ k x. refl) (entries t.districts) i ∷ fields_of_rows OfStock stock_fields (λ k x. refl) (entries t.stocks) i
+    ∷ fields_of_rows OfCustomer customer_fields (λ k x. refl) (entries t.customers) i ∷ fields_paid (entries t.histories) i
+    ∷ fields_of_rows OfOrder order_fields (λ k x. refl) (entries t.orders) i ∷ fields_of_rows OfNewOrder new_order_fields (λ k x. refl) (entries t.new_orders) i
+    ∷ fields_of_rows OfLine line_fields (λ k x. refl) (entries t.lines) i ∷ [])
 
 -- ---- their order
 
@@ -185,14 +184,28 @@ unfolding all_rows rows_by_table
 rows_in_order t =
     parts_in_order (1 ∷ 2 ∷ 3 ∷ 4 ∷ 5 ∷ 6 ∷ 7 ∷ 8 ∷ 9 ∷ []) (rows_by_table t) refl (
       table_part OfItem nat_cmp 1 (λ k x. refl) (λ j k x y. item_above j k) (entries t.items) (entries_ascend t.items),
-      (table_part OfWarehouse nat_cmp 2 (λ k x. refl) (λ j k x y. warehouse_above j k) (entries t.warehouses) (entries_ascend t.warehouses),
-      (table_part OfDistrict _ 3 (λ k x. refl) (λ j k x y. district_above j k) (entries t.districts) (entries_ascend t.districts),
-      (table_part OfStock _ 4 (λ k x. refl) (λ j k x y. stock_above j k) (entries t.stocks) (entries_ascend t.stocks),
-      (table_part OfCustomer _ 5 (λ k x. refl) (λ j k x y. customer_above j k) (entries t.customers) (entries_ascend t.customers),
-      (record { numbered = paid_numbered (entries t.histories); in_order = paid_in_order (entries t.histories) (entries_ascend t.histories) },
-      (table_part OfOrder _ 7 (λ k x. refl) (λ j k x y. order_above j k) (entries t.orders) (entries_ascend t.orders),
-      (table_part OfNewOrder _ 8 (λ k x. refl) (λ j k x y. new_order_above j k) (entries t.new_orders) (entries_ascend t.new_orders),
-      (table_part OfLine _ 9 (λ k x. refl) (λ j k x y. line_above j k) (entries t.lines) (entries_ascend t.lines), tt))))))))
+      (
+        table_part OfWarehouse nat_cmp 2 (λ k x. refl) (λ j k x y. warehouse_above j k) (entries t.warehouses) (entries_ascend t.warehouses),
+        (
+          table_part OfDistrict _ 3 (λ k x. refl) (λ j k x y. district_above j k) (entries t.districts) (entries_ascend t.districts),
+          (
+            table_part OfStock _ 4 (λ k x. refl) (λ j k x y. stock_above j k) (entries t.stocks) (entries_ascend t.stocks),
+            (
+              table_part OfCustomer _ 5 (λ k x. refl) (λ j k x y. customer_above j k) (entries t.customers) (entries_ascend t.customers),
+              (
+                record { numbered = paid_numbered (entries t.histories); in_order = paid_in_order (entries t.histories) (entries_ascend t.histories) },
+                (
+                  table_part OfOrder _ 7 (λ k x. refl) (λ j k x y. order_above j k) (entries t.orders) (entries_ascend t.orders),
+                  (
+                    table_part OfNewOrder _ 8 (λ k x. refl) (λ j k x y. new_order_above j k) (entries t.new_orders) (entries_ascend t.new_orders),
+                    (table_part OfLine _ 9 (λ k x. refl) (λ j k x y. line_above j k) (entries t.lines) (entries_ascend t.lines), tt),
+                  ),
+                ),
+              ),
+            ),
+          ),
+        ),
+      ),
     )
 
 -- ---- that they fit
@@ -255,20 +268,34 @@ module _ (t : Database) (w : IsWithinScale t) (h : InRange t) where
       all-flat (RowFits t.scale) (rows_by_table t) (
         all-rows t.scale OfItem items (all-both (λ e. IsTrue (has_item t.scale e.0)) (λ e. ItemInRange e.1) (λ e. RowFits t.scale (OfItem e.0 e.1)) (λ e k r. (k, r)) items
             (all-true _ items (rows_pass nat_cmp_total nat_cmp-IsAntisymmetric (λ key _. has_item t.scale key) t.items (keys_pass (has_item t.scale) t.items w.items))) (all-of_values ItemInRange items h.items)),
-        (all-rows t.scale OfWarehouse warehouses (all-both (λ e. IsTrue (has_warehouse t.scale e.0)) (λ e. WarehouseInRange e.1) (λ e. RowFits t.scale (OfWarehouse e.0 e.1)) (λ e k r. (k, r)) warehouses
-            (all-true _ warehouses (rows_pass nat_cmp_total nat_cmp-IsAntisymmetric (λ key _. has_warehouse t.scale key) t.warehouses (keys_pass (has_warehouse t.scale) t.warehouses w.warehouses))) (all-of_values WarehouseInRange warehouses h.warehouses)),
-        (all-rows t.scale OfDistrict districts (all-both (λ e. IsTrue (has_district t.scale e.0)) (λ e. DistrictInRange e.1) (λ e. RowFits t.scale (OfDistrict e.0 e.1)) (λ e k r. (k, r)) districts
-            (all-true _ districts (rows_pass districts_total districts_exact (λ key _. has_district t.scale key) t.districts (keys_pass (has_district t.scale) t.districts w.districts))) (all-of_values DistrictInRange districts h.districts)),
-        (all-rows t.scale OfStock stocks (all-both (λ e. IsTrue (has_stock t.scale e.0)) (λ e. StockInRange e.1) (λ e. RowFits t.scale (OfStock e.0 e.1)) (λ e k r. (k, r)) stocks
-            (all-true _ stocks (rows_pass stocks_total stocks_exact (λ key _. has_stock t.scale key) t.stocks (keys_pass (has_stock t.scale) t.stocks w.stocks))) (all-of_values StockInRange stocks h.stocks)),
-        (all-rows t.scale OfCustomer customers (all-both (λ e. IsTrue (has_customer t.scale e.0)) (λ e. CustomerInRange e.1) (λ e. RowFits t.scale (OfCustomer e.0 e.1)) (λ e k r. (k, r)) customers
-            (all-true _ customers (rows_pass customers_total customers_exact (λ key _. has_customer t.scale key) t.customers (keys_pass (has_customer t.scale) t.customers w.customers))) (all-of_values CustomerInRange customers h.customers)),
-        (fits_paid t.scale histories
-            (all-true _ histories (rows_pass districts_total districts_exact (λ key _. has_district t.scale key) t.histories (keys_pass (has_district t.scale) t.histories w.histories)))
-            (all-true _ histories (rows_pass districts_total districts_exact (λ _ rows. are_payers_known t.scale rows) t.histories w.payers_known)) h.histories,
-        (all-rows t.scale OfOrder orders (all-both (λ e. IsOrderKey t.scale e.0 × IsFrom 1 t.scale.customers e.1.c_id) (λ e. OrderInRange e.1) (λ e. RowFits t.scale (OfOrder e.0 e.1)) (λ e k r. (k.0, record { c_id = k.1; in_range = r })) orders keyed (all-of_values OrderInRange orders h.orders)),
-        (all-rows t.scale OfNewOrder new_orders (all-both (λ e. IsTrue (table.contains_key t.orders e.0)) (λ e. IsTrue (table.contains_key t.orders e.0)) (λ e. RowFits t.scale (OfNewOrder e.0 e.1)) (λ e k _. (known_order e.0 k, tt)) new_orders in_orders in_orders),
-        (all-rows t.scale OfLine lines (all-both (λ e. IsLineKey t.scale e.0) (λ e. IsLine t.scale e.1) (λ e. RowFits t.scale (OfLine e.0 e.1)) (λ e k r. (k, r)) lines line_keys line_rows), tt))))))))
+        (
+          all-rows t.scale OfWarehouse warehouses (all-both (λ e. IsTrue (has_warehouse t.scale e.0)) (λ e. WarehouseInRange e.1) (λ e. RowFits t.scale (OfWarehouse e.0 e.1)) (λ e k r. (k, r)) warehouses
+              (all-true _ warehouses (rows_pass nat_cmp_total nat_cmp-IsAntisymmetric (λ key _. has_warehouse t.scale key) t.warehouses (keys_pass (has_warehouse t.scale) t.warehouses w.warehouses))) (all-of_values WarehouseInRange warehouses h.warehouses)),
+          (
+            all-rows t.scale OfDistrict districts (all-both (λ e. IsTrue (has_district t.scale e.0)) (λ e. DistrictInRange e.1) (λ e. RowFits t.scale (OfDistrict e.0 e.1)) (λ e k r. (k, r)) districts
+                (all-true _ districts (rows_pass districts_total districts_exact (λ key _. has_district t.scale key) t.districts (keys_pass (has_district t.scale) t.districts w.districts))) (all-of_values DistrictInRange districts h.districts)),
+            (
+              all-rows t.scale OfStock stocks (all-both (λ e. IsTrue (has_stock t.scale e.0)) (λ e. StockInRange e.1) (λ e. RowFits t.scale (OfStock e.0 e.1)) (λ e k r. (k, r)) stocks
+                  (all-true _ stocks (rows_pass stocks_total stocks_exact (λ key _. has_stock t.scale key) t.stocks (keys_pass (has_stock t.scale) t.stocks w.stocks))) (all-of_values StockInRange stocks h.stocks)),
+              (
+                all-rows t.scale OfCustomer customers (all-both (λ e. IsTrue (has_customer t.scale e.0)) (λ e. CustomerInRange e.1) (λ e. RowFits t.scale (OfCustomer e.0 e.1)) (λ e k r. (k, r)) customers
+                    (all-true _ customers (rows_pass customers_total customers_exact (λ key _. has_customer t.scale key) t.customers (keys_pass (has_customer t.scale) t.customers w.customers))) (all-of_values CustomerInRange customers h.customers)),
+                (
+                  fits_paid t.scale histories
+                      (all-true _ histories (rows_pass districts_total districts_exact (λ key _. has_district t.scale key) t.histories (keys_pass (has_district t.scale) t.histories w.histories)))
+                      (all-true _ histories (rows_pass districts_total districts_exact (λ _ rows. are_payers_known t.scale rows) t.histories w.payers_known)) h.histories,
+                  (
+                    all-rows t.scale OfOrder orders (all-both (λ e. IsOrderKey t.scale e.0 × IsFrom 1 t.scale.customers e.1.c_id) (λ e. OrderInRange e.1) (λ e. RowFits t.scale (OfOrder e.0 e.1)) (λ e k r. (k.0, record { c_id = k.1; in_range = r })) orders keyed (all-of_values OrderInRange orders h.orders)),
+                    (
+                      all-rows t.scale OfNewOrder new_orders (all-both (λ e. IsTrue (table.contains_key t.orders e.0)) (λ e. IsTrue (table.contains_key t.orders e.0)) (λ e. RowFits t.scale (OfNewOrder e.0 e.1)) (λ e k _. (known_order e.0 k, tt)) new_orders in_orders in_orders),
+                      (all-rows t.scale OfLine lines (all-both (λ e. IsLineKey t.scale e.0) (λ e. IsLine t.scale e.1) (λ e. RowFits t.scale (OfLine e.0 e.1)) (λ e k r. (k, r)) lines line_keys line_rows), tt),
+                    ),
+                  ),
+                ),
+              ),
+            ),
+          ),
+        ),
       )
 
 -- every row follows the header

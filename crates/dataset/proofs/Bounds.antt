@@ -1,5 +1,5 @@
 -- What the test of a range says.
-use Rattle.std.proofs.Common.{◌≡◌, ◌≤◌, ◌&&◌, ℕ, Bool, true, false, IsTrue, refl, arith}
+use Rattle.std.proofs.Common.{◌≤◌, ◌&&◌, ℕ, Bool, true, false, IsTrue, refl, arith}
 use Rattle.std.proofs.lemmas.Bool.Decides.{nat_tests}
 use Rattle.rows.specs.Ranged.{is_between}
 

@@ -1,9 +1,9 @@
 -- All rows of tables were loaded: they make these tables.
-use Rattle.std.proofs.Common.{◌≡◌, ◌≤◌, ◌*◌, ℕ, Bool, true, false, cond, List, [], ◌∷◌, ◌++◌, map, length, get_or, Option, Some, None, is_some, IsTrue, refl, sym, ap, subst, ◌∙◌, arith}
-use Rattle.std.specs.List.{AllByRecursion, flat_map, zip}
+use Rattle.std.proofs.Common.{◌≡◌, ◌*◌, ℕ, Bool, true, false, cond, List, [], ◌∷◌, ◌++◌, map, length, get_or, Option, Some, None, is_some, refl, sym, ap, subst, ◌∙◌, arith}
+use Rattle.std.specs.List.{AllByRecursion, zip}
 use Rattle.std.specs.List.Sorted.{IsStrictlySortedBy}
 use Rattle.std.specs.Map.{keys_of, values_of}
-use Rattle.std.specs.Ordering.{nat_cmp, eq_by_cmp}
+use Rattle.std.specs.Ordering.{eq_by_cmp}
 use Rattle.std.specs.declared.cmp.Ordering.{Ordering}
 use Rattle.std.specs.declared.cmp.Ordering.TheVariants.{Less, Equal}
 use Rattle.std.specs.Cmp.{IsTotalOrder, nat_cmp_total}
@@ -12,7 +12,7 @@ use Rattle.std.proofs.lemmas.Cmp.{tied_itself}
 use Rattle.std.proofs.lemmas.List.{length-map}
 use Rattle.rows.specs.declared.keys.DistrictKey.{DistrictKey}
 use Rattle.rows.specs.declared.records.History.{History}
-use Rattle.rows.specs.Keys.{district_cmp, order_cmp, line_cmp}
+use Rattle.rows.specs.Keys.{district_cmp}
 use Rattle.schema.specs.declared.scale.Scale.{Scale}
 use Rattle.schema.specs.declared.table_rows.TableRows.{TableRows}
 use Rattle.schema.specs.Database.{Database, IsWithinScale}
@@ -33,7 +33,7 @@ use Rattle.dataset.proofs.Finished.{zip-split}
 use Rattle.dataset.proofs.Keys.{all-append, keys_of-zip, sorted-item_ids, sorted-warehouse_ids, sorted-district_keys, sorted-stock_keys, sorted-customer_keys}
 use Rattle.dataset.proofs.Payments.{payments-opened}
 use Rattle.dataset.proofs.RowTexts.{item_same, warehouse_same, district_same, stock_same, customer_same, payment_same, order_same, new_order_same, line_same}
-use Rattle.dataset.proofs.TableEntries.{entries_ascend, same_keys}
+use Rattle.dataset.proofs.TableEntries.{same_keys}
 use Rattle.dataset.proofs.Tables.{dense}
 
 -- ---- equal records

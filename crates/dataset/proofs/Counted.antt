@@ -1,15 +1,14 @@
 -- Records of two kinds that are the same: part by part, and how many each part has.
-use Rattle.std.proofs.Common.{◌≡◌, ◌≢◌, ◌<◌, ◌≤◌, ◌+◌, ◌^◌, ◌==◌, ℕ, Bool, true, false, not, List, [], ◌∷◌, ◌++◌, map, sum, length, get_or, codes, IsTrue, refl, sym, ap, subst, ◌∙◌, arith}
-use Rattle.std.specs.List.{AllByRecursion, AllZip, flat_map, list_all, zip}
-use Rattle.std.specs.Map.{keys_of, values_of}
+use Rattle.std.proofs.Common.{◌≡◌, ◌<◌, ◌≤◌, ◌+◌, ◌^◌, ◌==◌, ℕ, not, List, [], ◌∷◌, ◌++◌, map, sum, length, codes, IsTrue, refl, sym, ap, subst, ◌∙◌, arith}
+use Rattle.std.specs.List.{AllByRecursion, flat_map, list_all, zip}
+use Rattle.std.specs.Map.{values_of}
 use Rattle.std.specs.FinMap.{entries}
 use Rattle.std.proofs.lemmas.Bool.Decides.{nat_tests}
-use Rattle.std.proofs.lemmas.List.{length-append, length-map, append-nil}
+use Rattle.std.proofs.lemmas.List.{length-append, length-map}
 use Rattle.rows.specs.declared.keys.DistrictKey.{DistrictKey}
 use Rattle.rows.specs.declared.records.History.{History}
 use Rattle.schema.specs.Database.{Database}
 use Rattle.schema.specs.Scale.{district_keys}
-use Rattle.schema.specs.declared.table_rows.TableRows.{TableRows}
 use Rattle.dataset.specs.declared.loader.Loader.{Loader}
 use Rattle.dataset.specs.Records.{Field, Words, Number, records_by_table, end_fields, row_records, payment_records, history_fields, item_fields, warehouse_fields, district_fields, stock_fields, customer_fields, order_fields, new_order_fields, line_fields}
 use Rattle.dataset.specs.Writing.{count_fields}
@@ -78,28 +77,56 @@ entries_marked : (e : Entries) → PartsMarked marks (entry_records e)
 unfolding marks
 entries_marked e = (
   marked-rows 73 item_fields (λ k x. refl) e.items,
-  (marked-rows 87 warehouse_fields (λ k x. refl) e.warehouses,
-  (marked-rows 68 district_fields (λ k x. refl) e.districts,
-  (marked-rows 83 stock_fields (λ k x. refl) e.stocks,
-  (marked-rows 67 customer_fields (λ k x. refl) e.customers,
-  (marked-payments e.histories,
-  (marked-rows 79 order_fields (λ k x. refl) e.orders,
-  (marked-rows 78 new_order_fields (λ k x. refl) e.new_orders,
-  (marked-rows 76 line_fields (λ k x. refl) e.lines, tt)))))))),
+  (
+    marked-rows 87 warehouse_fields (λ k x. refl) e.warehouses,
+    (
+      marked-rows 68 district_fields (λ k x. refl) e.districts,
+      (
+        marked-rows 83 stock_fields (λ k x. refl) e.stocks,
+        (
+          marked-rows 67 customer_fields (λ k x. refl) e.customers,
+          (
+            marked-payments e.histories,
+            (
+              marked-rows 79 order_fields (λ k x. refl) e.orders,
+              (
+                marked-rows 78 new_order_fields (λ k x. refl) e.new_orders,
+                (marked-rows 76 line_fields (λ k x. refl) e.lines, tt),
+              ),
+            ),
+          ),
+        ),
+      ),
+    ),
+  ),
 )
 
 tables_marked : (t : Database) → PartsMarked marks (records_by_table t)
 unfolding marks records_by_table
 tables_marked t = (
   marked-rows 73 item_fields (λ k x. refl) (entries t.items),
-  (marked-rows 87 warehouse_fields (λ k x. refl) (entries t.warehouses),
-  (marked-rows 68 district_fields (λ k x. refl) (entries t.districts),
-  (marked-rows 83 stock_fields (λ k x. refl) (entries t.stocks),
-  (marked-rows 67 customer_fields (λ k x. refl) (entries t.customers),
-  (marked-payments (entries t.histories),
-  (marked-rows 79 order_fields (λ k x. refl) (entries t.orders),
-  (marked-rows 78 new_order_fields (λ k x. refl) (entries t.new_orders),
-  (marked-rows 76 line_fields (λ k x. refl) (entries t.lines), tt)))))))),
+  (
+    marked-rows 87 warehouse_fields (λ k x. refl) (entries t.warehouses),
+    (
+      marked-rows 68 district_fields (λ k x. refl) (entries t.districts),
+      (
+        marked-rows 83 stock_fields (λ k x. refl) (entries t.stocks),
+        (
+          marked-rows 67 customer_fields (λ k x. refl) (entries t.customers),
+          (
+            marked-payments (entries t.histories),
+            (
+              marked-rows 79 order_fields (λ k x. refl) (entries t.orders),
+              (
+                marked-rows 78 new_order_fields (λ k x. refl) (entries t.new_orders),
+                (marked-rows 76 line_fields (λ k x. refl) (entries t.lines), tt),
+              ),
+            ),
+          ),
+        ),
+      ),
+    ),
+  ),
 )
 
 -- what was loaded is, table by table, what the tables have

@@ -1,7 +1,7 @@
 -- How the reading of tables' records goes on.
 use Rattle.std.proofs.Common.{◌≡◌, ◌<◌, ◌^◌, ℕ, List, [], ◌∷◌, ◌++◌, map, length, None, Some, is_none, Option, Bool, true, false, IsTrue, refl, sym, ap, subst, ◌∙◌, arith}
 use Rattle.std.specs.Prelude.{◌⊎◌, Result, Ok, Err, IsOk}
-use Rattle.std.specs.List.{AllByRecursion, AllZip, flat_map}
+use Rattle.std.specs.List.{AllByRecursion, AllZip}
 use Rattle.std.proofs.Common.{inl, inr}
 use Rattle.std.proofs.lemmas.List.{append-nil, append_assoc, length-append}
 use Rattle.std.proofs.lemmas.Slice.Zip.{AllZip-long}
@@ -9,7 +9,7 @@ use Rattle.schema.specs.Database.{Database, IsWithinScale}
 use Rattle.schema.specs.Rows.{AreNoRows}
 use Rattle.files.specs.declared.fault.FaultKind.TheVariants.{Io}
 use Rattle.files.specs.declared.fault.FileError.{FileError}
-use Rattle.files.specs.declared.fault.FileError.TheVariants.{NoMemory, File}
+use Rattle.files.specs.declared.fault.FileError.TheVariants.{NoMemory}
 use Rattle.files.specs.declared.fields.Fields.{Fields}
 use Rattle.std.specs.Result.{is_ok}
 use Rattle.files.specs.declared.records.Records.{Records}

@@ -135,24 +135,27 @@ none_ascend X c = tt
 
 -- the header alone
 pub none_loaded : (l : Loader) (texts : List (List ℕ)) → l.last ≡ at.Header → AreNoRows l.rows → AreSpelt (header_fields l.scale) texts → (after : HasLoaded l (texts ∷ [])) × (records_loaded after ≡ [])
-none_loaded l texts last none spelt = (record {
-  entries = record { items = []; warehouses = []; districts = []; stocks = []; customers = []; histories = []; orders = []; new_orders = []; lines = [] };
-  items = no_keys nat_cmp (has_item l.scale) l.rows.items.items none.items;
-  warehouses = no_keys nat_cmp (has_warehouse l.scale) l.rows.warehouses.items none.warehouses;
-  districts = no_keys district_cmp (has_district l.scale) l.rows.districts.items none.districts;
-  stocks = no_keys stock_cmp (has_stock l.scale) l.rows.stocks.items none.stocks;
-  customers = no_keys customer_cmp (has_customer l.scale) l.rows.customers.items none.customers;
-  histories = sym (zip-none (district_keys l.scale) l.rows.histories.items none.histories);
-  few_lists = let count : length l.rows.histories.items ≡ 0 = ap length none.histories in omega arith;
-  orders = sym none.orders;
-  orders_ascend = none_ascend Order order_cmp;
-  new_orders = sym none.new_orders;
-  new_orders_ascend = none_ascend NewOrder order_cmp;
-  lines = sym none.lines;
-  lines_ascend = none_ascend OrderLine line_cmp;
-  not_after = (tt, (tt, (tt, (tt, (tt, (tt, (tt, (tt, (tt, tt)))))))));
-  are_spelt = (spelt, tt);
-}, refl)
+none_loaded l texts last none spelt = (
+  record {
+    entries = record { items = []; warehouses = []; districts = []; stocks = []; customers = []; histories = []; orders = []; new_orders = []; lines = [] };
+    items = no_keys nat_cmp (has_item l.scale) l.rows.items.items none.items;
+    warehouses = no_keys nat_cmp (has_warehouse l.scale) l.rows.warehouses.items none.warehouses;
+    districts = no_keys district_cmp (has_district l.scale) l.rows.districts.items none.districts;
+    stocks = no_keys stock_cmp (has_stock l.scale) l.rows.stocks.items none.stocks;
+    customers = no_keys customer_cmp (has_customer l.scale) l.rows.customers.items none.customers;
+    histories = sym (zip-none (district_keys l.scale) l.rows.histories.items none.histories);
+    few_lists = let count : length l.rows.histories.items ≡ 0 = ap length none.histories in omega arith;
+    orders = sym none.orders;
+    orders_ascend = none_ascend Order order_cmp;
+    new_orders = sym none.new_orders;
+    new_orders_ascend = none_ascend NewOrder order_cmp;
+    lines = sym none.lines;
+    lines_ascend = none_ascend OrderLine line_cmp;
+    not_after = (tt, (tt, (tt, (tt, (tt, (tt, (tt, (tt, (tt, tt)))))))));
+    are_spelt = (spelt, tt);
+  },
+  refl,
+)
 
 -- ---- in the end
 

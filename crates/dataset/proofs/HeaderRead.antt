@@ -1,5 +1,5 @@
 -- The header of a scale, read.
-use Rattle.std.proofs.Common.{◌≡◌, ◌==◌, ◌^◌, ◌<◌, ℕ, Bool, true, false, not, List, [], ◌∷◌, drop, Option, None, Some, IfSome, IsSome, Result, Ok, codes, IsUtf8, refl, sym, ap, subst, ◌∙◌, arith, lit<}
+use Rattle.std.proofs.Common.{◌≡◌, ◌==◌, ℕ, Bool, true, false, not, List, [], ◌∷◌, drop, Option, None, Some, IfSome, IsSome, Result, Ok, codes, IsUtf8, refl, sym, ap, ◌∙◌, arith, lit<}
 use Rattle.std.specs.Fmt.{decimal}
 use Rattle.std.specs.Option.{ok_or}
 use Rattle.std.specs.Cmp.Lexicographic.{pointwise, bytes_decides}

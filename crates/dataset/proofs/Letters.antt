@@ -1,5 +1,5 @@
 -- A row's record by its letter.
-use Rattle.std.proofs.Common.{◌≡◌, ◌==◌, ℕ, None, length, false, true, List, [], ◌∷◌, drop, codes, IsUtf8, IsTrue, refl, sym, ap, subst, ◌∙◌, arith}
+use Rattle.std.proofs.Common.{◌≡◌, ◌==◌, ℕ, None, length, false, List, [], ◌∷◌, drop, codes, IsUtf8, IsTrue, refl, sym, ap, subst, ◌∙◌, arith}
 use Rattle.std.proofs.lemmas.Bool.Decides.{nat_tests}
 use Rattle.rows.specs.declared.keys.DistrictKey.{DistrictKey}
 use Rattle.rows.specs.declared.keys.StockKey.{StockKey}
@@ -19,7 +19,7 @@ use Rattle.files.specs.declared.fields.Fields.{Fields}
 use Rattle.files.specs.Taken.{TakesWell, fault_of, fields_left}
 use Rattle.files.proofs.Ascii.{utf8_words}
 use Rattle.dataset.specs.declared.loader.Loader.{Loader}
-use Rattle.dataset.specs.Records.{Field, Words, AreSpelt}
+use Rattle.dataset.specs.Records.{Field, Words}
 use Rattle.dataset.specs.Taking.{Awaits}
 use Rattle.dataset.specs.Order.{follows}
 use Rattle.dataset.specs.TableRow.{TableRow, RowFits, row_place, OfItem, OfWarehouse, OfDistrict, OfStock, OfCustomer, OfHistory, OfOrder, OfNewOrder, OfLine, row_letter, row_fields}

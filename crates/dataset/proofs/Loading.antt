@@ -157,25 +157,27 @@ load_item l new key row read texts h follow known added spelt =
     let before = before_all l.last p (place_follows (place_cmp l.last p) follow) (entry_places e) h.not_after in
     let reached = reached_all l.last p (place_lt_le (place_cmp l.last p) follow) (entry_places e) h.not_after in
     let below = keys_below at.Item nat_cmp p key (λ k. item_below k key) e.items before.0 in
-    let flat = flat-push ([]) (row_records item_fields e.items) (row_records item_fields (e.items ++ ((key, row) ∷ []))) (row_records warehouse_fields e.warehouses ∷ row_records district_fields e.districts ∷ row_records stock_fields e.stocks ∷ row_records customer_fields e.customers ∷ payment_records e.histories ∷ row_records order_fields e.orders ∷ row_records new_order_fields e.new_orders ∷ row_records line_fields e.lines ∷ []) (item_fields key row) (records-push item_fields e.items key row) (ap (row_records warehouse_fields) (none at.Warehouse p (λ k h. cc) e.warehouses before.1.0), (ap (row_records district_fields) (none at.District p (λ k h. cc) e.districts before.1.1.0), (ap (row_records stock_fields) (none at.Stock p (λ k h. cc) e.stocks before.1.1.1.0), (ap (row_records customer_fields) (none at.Customer p (λ k h. cc) e.customers before.1.1.1.1.0), (ap (payment_records) (none at.History p (λ k h. cc) e.histories before.1.1.1.1.1.0), (ap (row_records order_fields) (none at.Order p (λ k h. cc) e.orders before.1.1.1.1.1.1.0), (ap (row_records new_order_fields) (none at.NewOrder p (λ k h. cc) e.new_orders before.1.1.1.1.1.1.1.0), (ap (row_records line_fields) (none at.Line p (λ k h. cc) e.lines before.1.1.1.1.1.1.1.1.0), tt)))))))) in
-    (record {
-      entries = record e { items = e.items ++ ((key, row) ∷ []) };
-      items = keyed-push nat_cmp (has_item l.scale) l.rows.items.items new.items.items e.items key row h.items below known added;
-      warehouses = h.warehouses;
-      districts = h.districts;
-      stocks = h.stocks;
-      customers = h.customers;
-      histories = h.histories;
-      few_lists = h.few_lists;
-      orders = h.orders;
-      orders_ascend = h.orders_ascend;
-      new_orders = h.new_orders;
-      new_orders_ascend = h.new_orders_ascend;
-      lines = h.lines;
-      lines_ascend = h.lines_ascend;
-      not_after = (places-push at.Item e.items key row reached.0, (reached.1.0, (reached.1.1.0, (reached.1.1.1.0, (reached.1.1.1.1.0, (reached.1.1.1.1.1.0, (reached.1.1.1.1.1.1.0, (reached.1.1.1.1.1.1.1.0, (reached.1.1.1.1.1.1.1.1.0, tt)))))))));
-      are_spelt = spelt-push (header_fields l.scale) (flat_map (λ records. records) (entry_records e)) _ (item_fields key row) read texts flat h.are_spelt spelt;
-    }, flat)
+    let flat = flat-push ([]) (row_records item_fields e.items) (row_records item_fields (e.items ++ ((key, row) ∷ []))) (row_records warehouse_fields e.warehouses ∷ row_records district_fields e.districts ∷ row_records stock_fields e.stocks ∷ row_records customer_fields e.customers ∷ payment_records e.histories ∷ row_records order_fields e.orders ∷ row_records new_order_fields e.new_orders ∷ row_records line_fields e.lines ∷ []) (item_fields key row) (records-push item_fields e.items key row) (ap (row_records warehouse_fields) (none at.Warehouse p (λ k h. cc) e.warehouses before.1.0), (ap (row_records district_fields) (none at.District p (λ k h. cc) e.districts before.1.1.0), (ap (row_records stock_fields) (none at.Stock p (λ k h. cc) e.stocks before.1.1.1.0), (ap (row_records customer_fields) (none at.Customer p (λ k h. cc) e.customers before.1.1.1.1.0), (ap (payment_records) (none at.History p (λ k h. cc) e.histories before.1.1.1.1.1.0), (ap (row_records order_fields) (none at.Order p (λ k h. cc) e.orders before.1.1.1.1.1.1.0), (ap (row_records new_order_fields) (none at.NewOrder p (λ k h. cc) e.new_orders before.1.1.1.1.1.1.1.0), (ap (row_records line_fields) (none at.Line p (λ k h. cc) e.lines before.1.1.1.1.1.1.1.1.0), tt)))))))) in (
+      record {
+        entries = record e { items = e.items ++ ((key, row) ∷ []) };
+        items = keyed-push nat_cmp (has_item l.scale) l.rows.items.items new.items.items e.items key row h.items below known added;
+        warehouses = h.warehouses;
+        districts = h.districts;
+        stocks = h.stocks;
+        customers = h.customers;
+        histories = h.histories;
+        few_lists = h.few_lists;
+        orders = h.orders;
+        orders_ascend = h.orders_ascend;
+        new_orders = h.new_orders;
+        new_orders_ascend = h.new_orders_ascend;
+        lines = h.lines;
+        lines_ascend = h.lines_ascend;
+        not_after = (places-push at.Item e.items key row reached.0, (reached.1.0, (reached.1.1.0, (reached.1.1.1.0, (reached.1.1.1.1.0, (reached.1.1.1.1.1.0, (reached.1.1.1.1.1.1.0, (reached.1.1.1.1.1.1.1.0, (reached.1.1.1.1.1.1.1.1.0, tt)))))))));
+        are_spelt = spelt-push (header_fields l.scale) (flat_map (λ records. records) (entry_records e)) _ (item_fields key row) read texts flat h.are_spelt spelt;
+      },
+      flat,
+    )
 
 pub load_warehouse : (l : Loader) (new : TableRows) (key : ℕ) (row : Warehouse) (read : List (List (List ℕ))) (texts : List (List ℕ)) → (h : HasLoaded l read) → IsTrue (follows (at.Warehouse key) l.last) → IsTrue (has_warehouse l.scale key) → new.warehouses.items ≡ l.rows.warehouses.items ++ (row ∷ []) → AreSpelt (warehouse_fields key row) texts
     → (after : HasLoaded (record l { last = at.Warehouse key; rows = record l.rows { warehouses = new.warehouses } }) (read ++ (texts ∷ []))) × (records_loaded after ≡ records_loaded h ++ (warehouse_fields key row ∷ []))
@@ -185,25 +187,27 @@ load_warehouse l new key row read texts h follow known added spelt =
     let before = before_all l.last p (place_follows (place_cmp l.last p) follow) (entry_places e) h.not_after in
     let reached = reached_all l.last p (place_lt_le (place_cmp l.last p) follow) (entry_places e) h.not_after in
     let below = keys_below at.Warehouse nat_cmp p key (λ k. warehouse_below k key) e.warehouses before.1.0 in
-    let flat = flat-push (row_records item_fields e.items ∷ []) (row_records warehouse_fields e.warehouses) (row_records warehouse_fields (e.warehouses ++ ((key, row) ∷ []))) (row_records district_fields e.districts ∷ row_records stock_fields e.stocks ∷ row_records customer_fields e.customers ∷ payment_records e.histories ∷ row_records order_fields e.orders ∷ row_records new_order_fields e.new_orders ∷ row_records line_fields e.lines ∷ []) (warehouse_fields key row) (records-push warehouse_fields e.warehouses key row) (ap (row_records district_fields) (none at.District p (λ k h. cc) e.districts before.1.1.0), (ap (row_records stock_fields) (none at.Stock p (λ k h. cc) e.stocks before.1.1.1.0), (ap (row_records customer_fields) (none at.Customer p (λ k h. cc) e.customers before.1.1.1.1.0), (ap (payment_records) (none at.History p (λ k h. cc) e.histories before.1.1.1.1.1.0), (ap (row_records order_fields) (none at.Order p (λ k h. cc) e.orders before.1.1.1.1.1.1.0), (ap (row_records new_order_fields) (none at.NewOrder p (λ k h. cc) e.new_orders before.1.1.1.1.1.1.1.0), (ap (row_records line_fields) (none at.Line p (λ k h. cc) e.lines before.1.1.1.1.1.1.1.1.0), tt))))))) in
-    (record {
-      entries = record e { warehouses = e.warehouses ++ ((key, row) ∷ []) };
-      items = h.items;
-      warehouses = keyed-push nat_cmp (has_warehouse l.scale) l.rows.warehouses.items new.warehouses.items e.warehouses key row h.warehouses below known added;
-      districts = h.districts;
-      stocks = h.stocks;
-      customers = h.customers;
-      histories = h.histories;
-      few_lists = h.few_lists;
-      orders = h.orders;
-      orders_ascend = h.orders_ascend;
-      new_orders = h.new_orders;
-      new_orders_ascend = h.new_orders_ascend;
-      lines = h.lines;
-      lines_ascend = h.lines_ascend;
-      not_after = (reached.0, (places-push at.Warehouse e.warehouses key row reached.1.0, (reached.1.1.0, (reached.1.1.1.0, (reached.1.1.1.1.0, (reached.1.1.1.1.1.0, (reached.1.1.1.1.1.1.0, (reached.1.1.1.1.1.1.1.0, (reached.1.1.1.1.1.1.1.1.0, tt)))))))));
-      are_spelt = spelt-push (header_fields l.scale) (flat_map (λ records. records) (entry_records e)) _ (warehouse_fields key row) read texts flat h.are_spelt spelt;
-    }, flat)
+    let flat = flat-push (row_records item_fields e.items ∷ []) (row_records warehouse_fields e.warehouses) (row_records warehouse_fields (e.warehouses ++ ((key, row) ∷ []))) (row_records district_fields e.districts ∷ row_records stock_fields e.stocks ∷ row_records customer_fields e.customers ∷ payment_records e.histories ∷ row_records order_fields e.orders ∷ row_records new_order_fields e.new_orders ∷ row_records line_fields e.lines ∷ []) (warehouse_fields key row) (records-push warehouse_fields e.warehouses key row) (ap (row_records district_fields) (none at.District p (λ k h. cc) e.districts before.1.1.0), (ap (row_records stock_fields) (none at.Stock p (λ k h. cc) e.stocks before.1.1.1.0), (ap (row_records customer_fields) (none at.Customer p (λ k h. cc) e.customers before.1.1.1.1.0), (ap (payment_records) (none at.History p (λ k h. cc) e.histories before.1.1.1.1.1.0), (ap (row_records order_fields) (none at.Order p (λ k h. cc) e.orders before.1.1.1.1.1.1.0), (ap (row_records new_order_fields) (none at.NewOrder p (λ k h. cc) e.new_orders before.1.1.1.1.1.1.1.0), (ap (row_records line_fields) (none at.Line p (λ k h. cc) e.lines before.1.1.1.1.1.1.1.1.0), tt))))))) in (
+      record {
+        entries = record e { warehouses = e.warehouses ++ ((key, row) ∷ []) };
+        items = h.items;
+        warehouses = keyed-push nat_cmp (has_warehouse l.scale) l.rows.warehouses.items new.warehouses.items e.warehouses key row h.warehouses below known added;
+        districts = h.districts;
+        stocks = h.stocks;
+        customers = h.customers;
+        histories = h.histories;
+        few_lists = h.few_lists;
+        orders = h.orders;
+        orders_ascend = h.orders_ascend;
+        new_orders = h.new_orders;
+        new_orders_ascend = h.new_orders_ascend;
+        lines = h.lines;
+        lines_ascend = h.lines_ascend;
+        not_after = (reached.0, (places-push at.Warehouse e.warehouses key row reached.1.0, (reached.1.1.0, (reached.1.1.1.0, (reached.1.1.1.1.0, (reached.1.1.1.1.1.0, (reached.1.1.1.1.1.1.0, (reached.1.1.1.1.1.1.1.0, (reached.1.1.1.1.1.1.1.1.0, tt)))))))));
+        are_spelt = spelt-push (header_fields l.scale) (flat_map (λ records. records) (entry_records e)) _ (warehouse_fields key row) read texts flat h.are_spelt spelt;
+      },
+      flat,
+    )
 
 pub load_district : (l : Loader) (new : TableRows) (key : DistrictKey) (row : District) (read : List (List (List ℕ))) (texts : List (List ℕ)) → (h : HasLoaded l read) → IsTrue (follows (at.District key) l.last) → IsTrue (has_district l.scale key) → new.districts.items ≡ l.rows.districts.items ++ (row ∷ []) → AreSpelt (district_fields key row) texts
     → (after : HasLoaded (record l { last = at.District key; rows = record l.rows { districts = new.districts } }) (read ++ (texts ∷ []))) × (records_loaded after ≡ records_loaded h ++ (district_fields key row ∷ []))
@@ -213,25 +217,27 @@ load_district l new key row read texts h follow known added spelt =
     let before = before_all l.last p (place_follows (place_cmp l.last p) follow) (entry_places e) h.not_after in
     let reached = reached_all l.last p (place_lt_le (place_cmp l.last p) follow) (entry_places e) h.not_after in
     let below = keys_below at.District district_cmp p key (λ k. district_below k key) e.districts before.1.1.0 in
-    let flat = flat-push (row_records item_fields e.items ∷ row_records warehouse_fields e.warehouses ∷ []) (row_records district_fields e.districts) (row_records district_fields (e.districts ++ ((key, row) ∷ []))) (row_records stock_fields e.stocks ∷ row_records customer_fields e.customers ∷ payment_records e.histories ∷ row_records order_fields e.orders ∷ row_records new_order_fields e.new_orders ∷ row_records line_fields e.lines ∷ []) (district_fields key row) (records-push district_fields e.districts key row) (ap (row_records stock_fields) (none at.Stock p (λ k h. cc) e.stocks before.1.1.1.0), (ap (row_records customer_fields) (none at.Customer p (λ k h. cc) e.customers before.1.1.1.1.0), (ap (payment_records) (none at.History p (λ k h. cc) e.histories before.1.1.1.1.1.0), (ap (row_records order_fields) (none at.Order p (λ k h. cc) e.orders before.1.1.1.1.1.1.0), (ap (row_records new_order_fields) (none at.NewOrder p (λ k h. cc) e.new_orders before.1.1.1.1.1.1.1.0), (ap (row_records line_fields) (none at.Line p (λ k h. cc) e.lines before.1.1.1.1.1.1.1.1.0), tt)))))) in
-    (record {
-      entries = record e { districts = e.districts ++ ((key, row) ∷ []) };
-      items = h.items;
-      warehouses = h.warehouses;
-      districts = keyed-push district_cmp (has_district l.scale) l.rows.districts.items new.districts.items e.districts key row h.districts below known added;
-      stocks = h.stocks;
-      customers = h.customers;
-      histories = h.histories;
-      few_lists = h.few_lists;
-      orders = h.orders;
-      orders_ascend = h.orders_ascend;
-      new_orders = h.new_orders;
-      new_orders_ascend = h.new_orders_ascend;
-      lines = h.lines;
-      lines_ascend = h.lines_ascend;
-      not_after = (reached.0, (reached.1.0, (places-push at.District e.districts key row reached.1.1.0, (reached.1.1.1.0, (reached.1.1.1.1.0, (reached.1.1.1.1.1.0, (reached.1.1.1.1.1.1.0, (reached.1.1.1.1.1.1.1.0, (reached.1.1.1.1.1.1.1.1.0, tt)))))))));
-      are_spelt = spelt-push (header_fields l.scale) (flat_map (λ records. records) (entry_records e)) _ (district_fields key row) read texts flat h.are_spelt spelt;
-    }, flat)
+    let flat = flat-push (row_records item_fields e.items ∷ row_records warehouse_fields e.warehouses ∷ []) (row_records district_fields e.districts) (row_records district_fields (e.districts ++ ((key, row) ∷ []))) (row_records stock_fields e.stocks ∷ row_records customer_fields e.customers ∷ payment_records e.histories ∷ row_records order_fields e.orders ∷ row_records new_order_fields e.new_orders ∷ row_records line_fields e.lines ∷ []) (district_fields key row) (records-push district_fields e.districts key row) (ap (row_records stock_fields) (none at.Stock p (λ k h. cc) e.stocks before.1.1.1.0), (ap (row_records customer_fields) (none at.Customer p (λ k h. cc) e.customers before.1.1.1.1.0), (ap (payment_records) (none at.History p (λ k h. cc) e.histories before.1.1.1.1.1.0), (ap (row_records order_fields) (none at.Order p (λ k h. cc) e.orders before.1.1.1.1.1.1.0), (ap (row_records new_order_fields) (none at.NewOrder p (λ k h. cc) e.new_orders before.1.1.1.1.1.1.1.0), (ap (row_records line_fields) (none at.Line p (λ k h. cc) e.lines before.1.1.1.1.1.1.1.1.0), tt)))))) in (
+      record {
+        entries = record e { districts = e.districts ++ ((key, row) ∷ []) };
+        items = h.items;
+        warehouses = h.warehouses;
+        districts = keyed-push district_cmp (has_district l.scale) l.rows.districts.items new.districts.items e.districts key row h.districts below known added;
+        stocks = h.stocks;
+        customers = h.customers;
+        histories = h.histories;
+        few_lists = h.few_lists;
+        orders = h.orders;
+        orders_ascend = h.orders_ascend;
+        new_orders = h.new_orders;
+        new_orders_ascend = h.new_orders_ascend;
+        lines = h.lines;
+        lines_ascend = h.lines_ascend;
+        not_after = (reached.0, (reached.1.0, (places-push at.District e.districts key row reached.1.1.0, (reached.1.1.1.0, (reached.1.1.1.1.0, (reached.1.1.1.1.1.0, (reached.1.1.1.1.1.1.0, (reached.1.1.1.1.1.1.1.0, (reached.1.1.1.1.1.1.1.1.0, tt)))))))));
+        are_spelt = spelt-push (header_fields l.scale) (flat_map (λ records. records) (entry_records e)) _ (district_fields key row) read texts flat h.are_spelt spelt;
+      },
+      flat,
+    )
 
 pub load_stock : (l : Loader) (new : TableRows) (key : StockKey) (row : Stock) (read : List (List (List ℕ))) (texts : List (List ℕ)) → (h : HasLoaded l read) → IsTrue (follows (at.Stock key) l.last) → IsTrue (has_stock l.scale key) → new.stocks.items ≡ l.rows.stocks.items ++ (row ∷ []) → AreSpelt (stock_fields key row) texts
     → (after : HasLoaded (record l { last = at.Stock key; rows = record l.rows { stocks = new.stocks } }) (read ++ (texts ∷ []))) × (records_loaded after ≡ records_loaded h ++ (stock_fields key row ∷ []))
@@ -241,25 +247,27 @@ load_stock l new key row read texts h follow known added spelt =
     let before = before_all l.last p (place_follows (place_cmp l.last p) follow) (entry_places e) h.not_after in
     let reached = reached_all l.last p (place_lt_le (place_cmp l.last p) follow) (entry_places e) h.not_after in
     let below = keys_below at.Stock stock_cmp p key (λ k. stock_below k key) e.stocks before.1.1.1.0 in
-    let flat = flat-push (row_records item_fields e.items ∷ row_records warehouse_fields e.warehouses ∷ row_records district_fields e.districts ∷ []) (row_records stock_fields e.stocks) (row_records stock_fields (e.stocks ++ ((key, row) ∷ []))) (row_records customer_fields e.customers ∷ payment_records e.histories ∷ row_records order_fields e.orders ∷ row_records new_order_fields e.new_orders ∷ row_records line_fields e.lines ∷ []) (stock_fields key row) (records-push stock_fields e.stocks key row) (ap (row_records customer_fields) (none at.Customer p (λ k h. cc) e.customers before.1.1.1.1.0), (ap (payment_records) (none at.History p (λ k h. cc) e.histories before.1.1.1.1.1.0), (ap (row_records order_fields) (none at.Order p (λ k h. cc) e.orders before.1.1.1.1.1.1.0), (ap (row_records new_order_fields) (none at.NewOrder p (λ k h. cc) e.new_orders before.1.1.1.1.1.1.1.0), (ap (row_records line_fields) (none at.Line p (λ k h. cc) e.lines before.1.1.1.1.1.1.1.1.0), tt))))) in
-    (record {
-      entries = record e { stocks = e.stocks ++ ((key, row) ∷ []) };
-      items = h.items;
-      warehouses = h.warehouses;
-      districts = h.districts;
-      stocks = keyed-push stock_cmp (has_stock l.scale) l.rows.stocks.items new.stocks.items e.stocks key row h.stocks below known added;
-      customers = h.customers;
-      histories = h.histories;
-      few_lists = h.few_lists;
-      orders = h.orders;
-      orders_ascend = h.orders_ascend;
-      new_orders = h.new_orders;
-      new_orders_ascend = h.new_orders_ascend;
-      lines = h.lines;
-      lines_ascend = h.lines_ascend;
-      not_after = (reached.0, (reached.1.0, (reached.1.1.0, (places-push at.Stock e.stocks key row reached.1.1.1.0, (reached.1.1.1.1.0, (reached.1.1.1.1.1.0, (reached.1.1.1.1.1.1.0, (reached.1.1.1.1.1.1.1.0, (reached.1.1.1.1.1.1.1.1.0, tt)))))))));
-      are_spelt = spelt-push (header_fields l.scale) (flat_map (λ records. records) (entry_records e)) _ (stock_fields key row) read texts flat h.are_spelt spelt;
-    }, flat)
+    let flat = flat-push (row_records item_fields e.items ∷ row_records warehouse_fields e.warehouses ∷ row_records district_fields e.districts ∷ []) (row_records stock_fields e.stocks) (row_records stock_fields (e.stocks ++ ((key, row) ∷ []))) (row_records customer_fields e.customers ∷ payment_records e.histories ∷ row_records order_fields e.orders ∷ row_records new_order_fields e.new_orders ∷ row_records line_fields e.lines ∷ []) (stock_fields key row) (records-push stock_fields e.stocks key row) (ap (row_records customer_fields) (none at.Customer p (λ k h. cc) e.customers before.1.1.1.1.0), (ap (payment_records) (none at.History p (λ k h. cc) e.histories before.1.1.1.1.1.0), (ap (row_records order_fields) (none at.Order p (λ k h. cc) e.orders before.1.1.1.1.1.1.0), (ap (row_records new_order_fields) (none at.NewOrder p (λ k h. cc) e.new_orders before.1.1.1.1.1.1.1.0), (ap (row_records line_fields) (none at.Line p (λ k h. cc) e.lines before.1.1.1.1.1.1.1.1.0), tt))))) in (
+      record {
+        entries = record e { stocks = e.stocks ++ ((key, row) ∷ []) };
+        items = h.items;
+        warehouses = h.warehouses;
+        districts = h.districts;
+        stocks = keyed-push stock_cmp (has_stock l.scale) l.rows.stocks.items new.stocks.items e.stocks key row h.stocks below known added;
+        customers = h.customers;
+        histories = h.histories;
+        few_lists = h.few_lists;
+        orders = h.orders;
+        orders_ascend = h.orders_ascend;
+        new_orders = h.new_orders;
+        new_orders_ascend = h.new_orders_ascend;
+        lines = h.lines;
+        lines_ascend = h.lines_ascend;
+        not_after = (reached.0, (reached.1.0, (reached.1.1.0, (places-push at.Stock e.stocks key row reached.1.1.1.0, (reached.1.1.1.1.0, (reached.1.1.1.1.1.0, (reached.1.1.1.1.1.1.0, (reached.1.1.1.1.1.1.1.0, (reached.1.1.1.1.1.1.1.1.0, tt)))))))));
+        are_spelt = spelt-push (header_fields l.scale) (flat_map (λ records. records) (entry_records e)) _ (stock_fields key row) read texts flat h.are_spelt spelt;
+      },
+      flat,
+    )
 
 pub load_customer : (l : Loader) (new : TableRows) (key : CustomerKey) (row : Customer) (read : List (List (List ℕ))) (texts : List (List ℕ)) → (h : HasLoaded l read) → IsTrue (follows (at.Customer key) l.last) → IsTrue (has_customer l.scale key) → new.customers.items ≡ l.rows.customers.items ++ (row ∷ []) → AreSpelt (customer_fields key row) texts
     → (after : HasLoaded (record l { last = at.Customer key; rows = record l.rows { customers = new.customers } }) (read ++ (texts ∷ []))) × (records_loaded after ≡ records_loaded h ++ (customer_fields key row ∷ []))
@@ -269,25 +277,27 @@ load_customer l new key row read texts h follow known added spelt =
     let before = before_all l.last p (place_follows (place_cmp l.last p) follow) (entry_places e) h.not_after in
     let reached = reached_all l.last p (place_lt_le (place_cmp l.last p) follow) (entry_places e) h.not_after in
     let below = keys_below at.Customer customer_cmp p key (λ k. customer_below k key) e.customers before.1.1.1.1.0 in
-    let flat = flat-push (row_records item_fields e.items ∷ row_records warehouse_fields e.warehouses ∷ row_records district_fields e.districts ∷ row_records stock_fields e.stocks ∷ []) (row_records customer_fields e.customers) (row_records customer_fields (e.customers ++ ((key, row) ∷ []))) (payment_records e.histories ∷ row_records order_fields e.orders ∷ row_records new_order_fields e.new_orders ∷ row_records line_fields e.lines ∷ []) (customer_fields key row) (records-push customer_fields e.customers key row) (ap (payment_records) (none at.History p (λ k h. cc) e.histories before.1.1.1.1.1.0), (ap (row_records order_fields) (none at.Order p (λ k h. cc) e.orders before.1.1.1.1.1.1.0), (ap (row_records new_order_fields) (none at.NewOrder p (λ k h. cc) e.new_orders before.1.1.1.1.1.1.1.0), (ap (row_records line_fields) (none at.Line p (λ k h. cc) e.lines before.1.1.1.1.1.1.1.1.0), tt)))) in
-    (record {
-      entries = record e { customers = e.customers ++ ((key, row) ∷ []) };
-      items = h.items;
-      warehouses = h.warehouses;
-      districts = h.districts;
-      stocks = h.stocks;
-      customers = keyed-push customer_cmp (has_customer l.scale) l.rows.customers.items new.customers.items e.customers key row h.customers below known added;
-      histories = h.histories;
-      few_lists = h.few_lists;
-      orders = h.orders;
-      orders_ascend = h.orders_ascend;
-      new_orders = h.new_orders;
-      new_orders_ascend = h.new_orders_ascend;
-      lines = h.lines;
-      lines_ascend = h.lines_ascend;
-      not_after = (reached.0, (reached.1.0, (reached.1.1.0, (reached.1.1.1.0, (places-push at.Customer e.customers key row reached.1.1.1.1.0, (reached.1.1.1.1.1.0, (reached.1.1.1.1.1.1.0, (reached.1.1.1.1.1.1.1.0, (reached.1.1.1.1.1.1.1.1.0, tt)))))))));
-      are_spelt = spelt-push (header_fields l.scale) (flat_map (λ records. records) (entry_records e)) _ (customer_fields key row) read texts flat h.are_spelt spelt;
-    }, flat)
+    let flat = flat-push (row_records item_fields e.items ∷ row_records warehouse_fields e.warehouses ∷ row_records district_fields e.districts ∷ row_records stock_fields e.stocks ∷ []) (row_records customer_fields e.customers) (row_records customer_fields (e.customers ++ ((key, row) ∷ []))) (payment_records e.histories ∷ row_records order_fields e.orders ∷ row_records new_order_fields e.new_orders ∷ row_records line_fields e.lines ∷ []) (customer_fields key row) (records-push customer_fields e.customers key row) (ap (payment_records) (none at.History p (λ k h. cc) e.histories before.1.1.1.1.1.0), (ap (row_records order_fields) (none at.Order p (λ k h. cc) e.orders before.1.1.1.1.1.1.0), (ap (row_records new_order_fields) (none at.NewOrder p (λ k h. cc) e.new_orders before.1.1.1.1.1.1.1.0), (ap (row_records line_fields) (none at.Line p (λ k h. cc) e.lines before.1.1.1.1.1.1.1.1.0), tt)))) in (
+      record {
+        entries = record e { customers = e.customers ++ ((key, row) ∷ []) };
+        items = h.items;
+        warehouses = h.warehouses;
+        districts = h.districts;
+        stocks = h.stocks;
+        customers = keyed-push customer_cmp (has_customer l.scale) l.rows.customers.items new.customers.items e.customers key row h.customers below known added;
+        histories = h.histories;
+        few_lists = h.few_lists;
+        orders = h.orders;
+        orders_ascend = h.orders_ascend;
+        new_orders = h.new_orders;
+        new_orders_ascend = h.new_orders_ascend;
+        lines = h.lines;
+        lines_ascend = h.lines_ascend;
+        not_after = (reached.0, (reached.1.0, (reached.1.1.0, (reached.1.1.1.0, (places-push at.Customer e.customers key row reached.1.1.1.1.0, (reached.1.1.1.1.1.0, (reached.1.1.1.1.1.1.0, (reached.1.1.1.1.1.1.1.0, (reached.1.1.1.1.1.1.1.1.0, tt)))))))));
+        are_spelt = spelt-push (header_fields l.scale) (flat_map (λ records. records) (entry_records e)) _ (customer_fields key row) read texts flat h.are_spelt spelt;
+      },
+      flat,
+    )
 
 pub load_history : (l : Loader) (new : TableRows) (key : DistrictKey) (row : History) (read : List (List (List ℕ))) (texts : List (List ℕ)) → (h : HasLoaded l read) → IsTrue (follows (at.History key) l.last) → Pays (district_slot l.scale key) row l.rows.histories.items new.histories.items → AreSpelt (history_fields key row) texts
     → (after : HasLoaded (record l { last = at.History key; rows = record l.rows { histories = new.histories } }) (read ++ (texts ∷ []))) × (records_loaded after ≡ records_loaded h ++ (history_fields key row ∷ []))
@@ -302,25 +312,27 @@ load_history l new key row read texts h follow pays spelt =
     let many : length new.histories.items ≡ pays.slot + 1 = slots_paid pays few in
     let paid : payment_records (zip (district_keys l.scale) new.histories.items) ≡ payment_records e.histories ++ (history_fields key row ∷ []) =
     lists_paid pays few (district_keys l.scale) key at_slot ∙ ap (λ es. payment_records es ++ (history_fields key row ∷ [])) (sym h.histories) in
-    let flat = flat-push (row_records item_fields e.items ∷ row_records warehouse_fields e.warehouses ∷ row_records district_fields e.districts ∷ row_records stock_fields e.stocks ∷ row_records customer_fields e.customers ∷ []) (payment_records e.histories) (payment_records (zip (district_keys l.scale) new.histories.items)) (row_records order_fields e.orders ∷ row_records new_order_fields e.new_orders ∷ row_records line_fields e.lines ∷ []) (history_fields key row) paid (ap (row_records order_fields) (none_reached at.Order p (λ k h. cc) e.orders reached.1.1.1.1.1.1.0), (ap (row_records new_order_fields) (none_reached at.NewOrder p (λ k h. cc) e.new_orders reached.1.1.1.1.1.1.1.0), (ap (row_records line_fields) (none_reached at.Line p (λ k h. cc) e.lines reached.1.1.1.1.1.1.1.1.0), tt))) in
-    (record {
-      entries = record e { histories = zip (district_keys l.scale) new.histories.items };
-      items = h.items;
-      warehouses = h.warehouses;
-      districts = h.districts;
-      stocks = h.stocks;
-      customers = h.customers;
-      histories = refl;
-      few_lists = few_paid l.scale key pays.slot pays.is_slot (length new.histories.items) many;
-      orders = h.orders;
-      orders_ascend = h.orders_ascend;
-      new_orders = h.new_orders;
-      new_orders_ascend = h.new_orders_ascend;
-      lines = h.lines;
-      lines_ascend = h.lines_ascend;
-      not_after = (reached.0, (reached.1.0, (reached.1.1.0, (reached.1.1.1.0, (reached.1.1.1.1.0, (all_reached (district_keys l.scale) new.histories.items pays.slot key (sorted-district_keys l.scale) at_slot many, (reached.1.1.1.1.1.1.0, (reached.1.1.1.1.1.1.1.0, (reached.1.1.1.1.1.1.1.1.0, tt)))))))));
-      are_spelt = spelt-push (header_fields l.scale) (flat_map (λ records. records) (entry_records e)) _ (history_fields key row) read texts flat h.are_spelt spelt;
-    }, flat)
+    let flat = flat-push (row_records item_fields e.items ∷ row_records warehouse_fields e.warehouses ∷ row_records district_fields e.districts ∷ row_records stock_fields e.stocks ∷ row_records customer_fields e.customers ∷ []) (payment_records e.histories) (payment_records (zip (district_keys l.scale) new.histories.items)) (row_records order_fields e.orders ∷ row_records new_order_fields e.new_orders ∷ row_records line_fields e.lines ∷ []) (history_fields key row) paid (ap (row_records order_fields) (none_reached at.Order p (λ k h. cc) e.orders reached.1.1.1.1.1.1.0), (ap (row_records new_order_fields) (none_reached at.NewOrder p (λ k h. cc) e.new_orders reached.1.1.1.1.1.1.1.0), (ap (row_records line_fields) (none_reached at.Line p (λ k h. cc) e.lines reached.1.1.1.1.1.1.1.1.0), tt))) in (
+      record {
+        entries = record e { histories = zip (district_keys l.scale) new.histories.items };
+        items = h.items;
+        warehouses = h.warehouses;
+        districts = h.districts;
+        stocks = h.stocks;
+        customers = h.customers;
+        histories = refl;
+        few_lists = few_paid l.scale key pays.slot pays.is_slot (length new.histories.items) many;
+        orders = h.orders;
+        orders_ascend = h.orders_ascend;
+        new_orders = h.new_orders;
+        new_orders_ascend = h.new_orders_ascend;
+        lines = h.lines;
+        lines_ascend = h.lines_ascend;
+        not_after = (reached.0, (reached.1.0, (reached.1.1.0, (reached.1.1.1.0, (reached.1.1.1.1.0, (all_reached (district_keys l.scale) new.histories.items pays.slot key (sorted-district_keys l.scale) at_slot many, (reached.1.1.1.1.1.1.0, (reached.1.1.1.1.1.1.1.0, (reached.1.1.1.1.1.1.1.1.0, tt)))))))));
+        are_spelt = spelt-push (header_fields l.scale) (flat_map (λ records. records) (entry_records e)) _ (history_fields key row) read texts flat h.are_spelt spelt;
+      },
+      flat,
+    )
 
 pub load_order : (l : Loader) (new : TableRows) (key : OrderKey) (row : Order) (read : List (List (List ℕ))) (texts : List (List ℕ)) → (h : HasLoaded l read) → IsTrue (follows (at.Order key) l.last) → new.orders.entries ≡ insert_entry order_cmp l.rows.orders.entries key row → AreSpelt (order_fields key row) texts
     → (after : HasLoaded (record l { last = at.Order key; rows = record l.rows { orders = new.orders } }) (read ++ (texts ∷ []))) × (records_loaded after ≡ records_loaded h ++ (order_fields key row ∷ []))
@@ -332,25 +344,27 @@ load_order l new key row read texts h follow added spelt =
     let below = keys_below at.Order order_cmp p key (λ k. order_below k key) e.orders before.1.1.1.1.1.1.0 in
     let flat = flat-push (row_records item_fields e.items ∷ row_records warehouse_fields e.warehouses ∷ row_records district_fields e.districts ∷ row_records stock_fields e.stocks ∷ row_records customer_fields e.customers ∷ payment_records e.histories ∷ []) (row_records order_fields e.orders) (row_records order_fields (e.orders ++ ((key, row) ∷ []))) (row_records new_order_fields e.new_orders ∷ row_records line_fields e.lines ∷ []) (order_fields key row) (records-push order_fields e.orders key row) (ap (row_records new_order_fields) (none at.NewOrder p (λ k h. cc) e.new_orders before.1.1.1.1.1.1.1.0), (ap (row_records line_fields) (none at.Line p (λ k h. cc) e.lines before.1.1.1.1.1.1.1.1.0), tt)) in
     let entered : new.orders.entries ≡ e.orders ++ ((key, row) ∷ []) =
-    added ∙ ap (λ es. insert_entry order_cmp es key row) (sym h.orders) ∙ insert-last order_cmp (turned orders_total) e.orders key row below in
-    (record {
-      entries = record e { orders = e.orders ++ ((key, row) ∷ []) };
-      items = h.items;
-      warehouses = h.warehouses;
-      districts = h.districts;
-      stocks = h.stocks;
-      customers = h.customers;
-      histories = h.histories;
-      few_lists = h.few_lists;
-      orders = sym entered;
-      orders_ascend = ascend-push order_cmp e.orders key row h.orders_ascend below;
-      new_orders = h.new_orders;
-      new_orders_ascend = h.new_orders_ascend;
-      lines = h.lines;
-      lines_ascend = h.lines_ascend;
-      not_after = (reached.0, (reached.1.0, (reached.1.1.0, (reached.1.1.1.0, (reached.1.1.1.1.0, (reached.1.1.1.1.1.0, (places-push at.Order e.orders key row reached.1.1.1.1.1.1.0, (reached.1.1.1.1.1.1.1.0, (reached.1.1.1.1.1.1.1.1.0, tt)))))))));
-      are_spelt = spelt-push (header_fields l.scale) (flat_map (λ records. records) (entry_records e)) _ (order_fields key row) read texts flat h.are_spelt spelt;
-    }, flat)
+    added ∙ ap (λ es. insert_entry order_cmp es key row) (sym h.orders) ∙ insert-last order_cmp (turned orders_total) e.orders key row below in (
+      record {
+        entries = record e { orders = e.orders ++ ((key, row) ∷ []) };
+        items = h.items;
+        warehouses = h.warehouses;
+        districts = h.districts;
+        stocks = h.stocks;
+        customers = h.customers;
+        histories = h.histories;
+        few_lists = h.few_lists;
+        orders = sym entered;
+        orders_ascend = ascend-push order_cmp e.orders key row h.orders_ascend below;
+        new_orders = h.new_orders;
+        new_orders_ascend = h.new_orders_ascend;
+        lines = h.lines;
+        lines_ascend = h.lines_ascend;
+        not_after = (reached.0, (reached.1.0, (reached.1.1.0, (reached.1.1.1.0, (reached.1.1.1.1.0, (reached.1.1.1.1.1.0, (places-push at.Order e.orders key row reached.1.1.1.1.1.1.0, (reached.1.1.1.1.1.1.1.0, (reached.1.1.1.1.1.1.1.1.0, tt)))))))));
+        are_spelt = spelt-push (header_fields l.scale) (flat_map (λ records. records) (entry_records e)) _ (order_fields key row) read texts flat h.are_spelt spelt;
+      },
+      flat,
+    )
 
 pub load_new_order : (l : Loader) (new : TableRows) (key : OrderKey) (row : NewOrder) (read : List (List (List ℕ))) (texts : List (List ℕ)) → (h : HasLoaded l read) → IsTrue (follows (at.NewOrder key) l.last) → new.new_orders.entries ≡ insert_entry order_cmp l.rows.new_orders.entries key row → AreSpelt (new_order_fields key row) texts
     → (after : HasLoaded (record l { last = at.NewOrder key; rows = record l.rows { new_orders = new.new_orders } }) (read ++ (texts ∷ []))) × (records_loaded after ≡ records_loaded h ++ (new_order_fields key row ∷ []))
@@ -362,25 +376,27 @@ load_new_order l new key row read texts h follow added spelt =
     let below = keys_below at.NewOrder order_cmp p key (λ k. new_order_below k key) e.new_orders before.1.1.1.1.1.1.1.0 in
     let flat = flat-push (row_records item_fields e.items ∷ row_records warehouse_fields e.warehouses ∷ row_records district_fields e.districts ∷ row_records stock_fields e.stocks ∷ row_records customer_fields e.customers ∷ payment_records e.histories ∷ row_records order_fields e.orders ∷ []) (row_records new_order_fields e.new_orders) (row_records new_order_fields (e.new_orders ++ ((key, row) ∷ []))) (row_records line_fields e.lines ∷ []) (new_order_fields key row) (records-push new_order_fields e.new_orders key row) (ap (row_records line_fields) (none at.Line p (λ k h. cc) e.lines before.1.1.1.1.1.1.1.1.0), tt) in
     let entered : new.new_orders.entries ≡ e.new_orders ++ ((key, row) ∷ []) =
-    added ∙ ap (λ es. insert_entry order_cmp es key row) (sym h.new_orders) ∙ insert-last order_cmp (turned orders_total) e.new_orders key row below in
-    (record {
-      entries = record e { new_orders = e.new_orders ++ ((key, row) ∷ []) };
-      items = h.items;
-      warehouses = h.warehouses;
-      districts = h.districts;
-      stocks = h.stocks;
-      customers = h.customers;
-      histories = h.histories;
-      few_lists = h.few_lists;
-      orders = h.orders;
-      orders_ascend = h.orders_ascend;
-      new_orders = sym entered;
-      new_orders_ascend = ascend-push order_cmp e.new_orders key row h.new_orders_ascend below;
-      lines = h.lines;
-      lines_ascend = h.lines_ascend;
-      not_after = (reached.0, (reached.1.0, (reached.1.1.0, (reached.1.1.1.0, (reached.1.1.1.1.0, (reached.1.1.1.1.1.0, (reached.1.1.1.1.1.1.0, (places-push at.NewOrder e.new_orders key row reached.1.1.1.1.1.1.1.0, (reached.1.1.1.1.1.1.1.1.0, tt)))))))));
-      are_spelt = spelt-push (header_fields l.scale) (flat_map (λ records. records) (entry_records e)) _ (new_order_fields key row) read texts flat h.are_spelt spelt;
-    }, flat)
+    added ∙ ap (λ es. insert_entry order_cmp es key row) (sym h.new_orders) ∙ insert-last order_cmp (turned orders_total) e.new_orders key row below in (
+      record {
+        entries = record e { new_orders = e.new_orders ++ ((key, row) ∷ []) };
+        items = h.items;
+        warehouses = h.warehouses;
+        districts = h.districts;
+        stocks = h.stocks;
+        customers = h.customers;
+        histories = h.histories;
+        few_lists = h.few_lists;
+        orders = h.orders;
+        orders_ascend = h.orders_ascend;
+        new_orders = sym entered;
+        new_orders_ascend = ascend-push order_cmp e.new_orders key row h.new_orders_ascend below;
+        lines = h.lines;
+        lines_ascend = h.lines_ascend;
+        not_after = (reached.0, (reached.1.0, (reached.1.1.0, (reached.1.1.1.0, (reached.1.1.1.1.0, (reached.1.1.1.1.1.0, (reached.1.1.1.1.1.1.0, (places-push at.NewOrder e.new_orders key row reached.1.1.1.1.1.1.1.0, (reached.1.1.1.1.1.1.1.1.0, tt)))))))));
+        are_spelt = spelt-push (header_fields l.scale) (flat_map (λ records. records) (entry_records e)) _ (new_order_fields key row) read texts flat h.are_spelt spelt;
+      },
+      flat,
+    )
 
 pub load_line : (l : Loader) (new : TableRows) (key : OrderLineKey) (row : OrderLine) (read : List (List (List ℕ))) (texts : List (List ℕ)) → (h : HasLoaded l read) → IsTrue (follows (at.Line key) l.last) → new.lines.entries ≡ insert_entry line_cmp l.rows.lines.entries key row → AreSpelt (line_fields key row) texts
     → (after : HasLoaded (record l { last = at.Line key; rows = record l.rows { lines = new.lines } }) (read ++ (texts ∷ []))) × (records_loaded after ≡ records_loaded h ++ (line_fields key row ∷ []))
@@ -392,22 +408,24 @@ load_line l new key row read texts h follow added spelt =
     let below = keys_below at.Line line_cmp p key (λ k. line_below k key) e.lines before.1.1.1.1.1.1.1.1.0 in
     let flat = flat-push (row_records item_fields e.items ∷ row_records warehouse_fields e.warehouses ∷ row_records district_fields e.districts ∷ row_records stock_fields e.stocks ∷ row_records customer_fields e.customers ∷ payment_records e.histories ∷ row_records order_fields e.orders ∷ row_records new_order_fields e.new_orders ∷ []) (row_records line_fields e.lines) (row_records line_fields (e.lines ++ ((key, row) ∷ []))) ([]) (line_fields key row) (records-push line_fields e.lines key row) tt in
     let entered : new.lines.entries ≡ e.lines ++ ((key, row) ∷ []) =
-    added ∙ ap (λ es. insert_entry line_cmp es key row) (sym h.lines) ∙ insert-last line_cmp (turned lines_total) e.lines key row below in
-    (record {
-      entries = record e { lines = e.lines ++ ((key, row) ∷ []) };
-      items = h.items;
-      warehouses = h.warehouses;
-      districts = h.districts;
-      stocks = h.stocks;
-      customers = h.customers;
-      histories = h.histories;
-      few_lists = h.few_lists;
-      orders = h.orders;
-      orders_ascend = h.orders_ascend;
-      new_orders = h.new_orders;
-      new_orders_ascend = h.new_orders_ascend;
-      lines = sym entered;
-      lines_ascend = ascend-push line_cmp e.lines key row h.lines_ascend below;
-      not_after = (reached.0, (reached.1.0, (reached.1.1.0, (reached.1.1.1.0, (reached.1.1.1.1.0, (reached.1.1.1.1.1.0, (reached.1.1.1.1.1.1.0, (reached.1.1.1.1.1.1.1.0, (places-push at.Line e.lines key row reached.1.1.1.1.1.1.1.1.0, tt)))))))));
-      are_spelt = spelt-push (header_fields l.scale) (flat_map (λ records. records) (entry_records e)) _ (line_fields key row) read texts flat h.are_spelt spelt;
-    }, flat)
+    added ∙ ap (λ es. insert_entry line_cmp es key row) (sym h.lines) ∙ insert-last line_cmp (turned lines_total) e.lines key row below in (
+      record {
+        entries = record e { lines = e.lines ++ ((key, row) ∷ []) };
+        items = h.items;
+        warehouses = h.warehouses;
+        districts = h.districts;
+        stocks = h.stocks;
+        customers = h.customers;
+        histories = h.histories;
+        few_lists = h.few_lists;
+        orders = h.orders;
+        orders_ascend = h.orders_ascend;
+        new_orders = h.new_orders;
+        new_orders_ascend = h.new_orders_ascend;
+        lines = sym entered;
+        lines_ascend = ascend-push line_cmp e.lines key row h.lines_ascend below;
+        not_after = (reached.0, (reached.1.0, (reached.1.1.0, (reached.1.1.1.0, (reached.1.1.1.1.0, (reached.1.1.1.1.1.0, (reached.1.1.1.1.1.1.0, (reached.1.1.1.1.1.1.1.0, (places-push at.Line e.lines key row reached.1.1.1.1.1.1.1.1.0, tt)))))))));
+        are_spelt = spelt-push (header_fields l.scale) (flat_map (λ records. records) (entry_records e)) _ (line_fields key row) read texts flat h.are_spelt spelt;
+      },
+      flat,
+    )

@@ -1,7 +1,7 @@
 -- The fields of a record that spells a value, read one after another.
-use Rattle.std.proofs.Common.{◌≡◌, ◌<◌, ◌≤◌, ◌+◌, zero, suc, get_or, arith, length, map, IfSome, IsUtf8, ℕ, ℤ, List, [], ◌∷◌, ◌++◌, drop, Option, None, Some, OnOk, Bool, true, false, refl, sym, ap, subst, ◌∙◌}
+use Rattle.std.proofs.Common.{◌≡◌, ◌<◌, ◌≤◌, ◌+◌, zero, suc, get_or, arith, length, map, IfSome, IsUtf8, ℕ, ℤ, List, [], ◌∷◌, ◌++◌, drop, Option, None, Some, refl, sym, ap, subst, ◌∙◌}
 use Rattle.std.specs.Fmt.{decimal, signed_decimal}
-use Rattle.std.specs.List.{AllByRecursion, AllZip}
+use Rattle.std.specs.List.{AllByRecursion}
 use Rattle.std.proofs.lemmas.List.{append-nil, append_assoc, drop_all}
 use Rattle.rows.specs.Text.{IsText}
 use Rattle.files.specs.declared.fields.Fields.{Fields}

@@ -1,7 +1,6 @@
 -- Tables whose records are read, as far as they were read.
 use Rattle.std.specs.Prelude.{◌≡◌, ◌≢◌, ◌<◌, ◌^◌, ℕ, List, [], ◌∷◌, ◌++◌, length, map, IsTrue}
 use Rattle.std.specs.List.{AllByRecursion, AllZip, flat_map}
-use Rattle.std.specs.FinMap as table
 use Rattle.schema.specs.Database.{Database}
 use Rattle.files.specs.declared.fault.FaultKind.TheVariants.{Io}
 use Rattle.files.specs.declared.fault.FileError.{FileError}
@@ -11,7 +10,7 @@ use Rattle.dataset.specs.declared.loader.Taken.{Taken}
 use Rattle.dataset.specs.declared.loader.Taken.TheVariants.{Row, End}
 use Rattle.dataset.specs.Order.{follows}
 use Rattle.dataset.specs.Records.{Field, AreSpelt, records_by_table, end_fields}
-use Rattle.dataset.specs.TableRow.{TableRow, OfItem, OfWarehouse, OfDistrict, OfStock, OfCustomer, OfHistory, OfOrder, OfNewOrder, OfLine, RowFits, row_fields, row_place}
+use Rattle.dataset.specs.TableRow.{TableRow, RowFits, row_fields, row_place}
 use Rattle.dataset.specs.Loading.{HasLoaded, records_loaded}
 
 -- an error that says that what was read is no dataset: it is not want of memory, and the reader did not fail

@@ -2,9 +2,9 @@ use Rattle.dataset.specs.Records.{address_fields}
 use Rattle.files.specs.Word.{credit_text}
 use Rattle.dataset.proofs.Taking.{takes-fields, takes-then, takes-words, takes-number, takes-money, takes-date}
 use Rattle.files.proofs.Ascii.{utf8_moment}
-use Rattle.std.proofs.Common.{[], ◌∷◌, ◌++◌}
-use Rattle.dataset.specs.Records.{Field, Words, Number, Money, Date, account_fields}
-use Rattle.dataset.proofs.Reading.{reads-words, reads-number, reads-money, reads-date, reads-null}
+use Rattle.std.proofs.Common.{◌∷◌, ◌++◌}
+use Rattle.dataset.specs.Records.{Words, Date, account_fields}
+use Rattle.dataset.proofs.Reading.{reads-words, reads-number, reads-money, reads-date}
 use Rattle.dataset.proofs.customers.parse.Goals as goal
 
 pub returns-clause-taken : goal.returns-clause-taken

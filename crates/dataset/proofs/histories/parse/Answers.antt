@@ -2,8 +2,8 @@ use Rattle.dataset.specs.Records.{customer_key_fields}
 use Rattle.dataset.proofs.Taking.{takes-fields, takes-then, takes-words, takes-money, takes-date}
 use Rattle.files.proofs.Ascii.{utf8_moment}
 use Rattle.std.proofs.Common.{[], ◌∷◌, ◌++◌}
-use Rattle.dataset.specs.Records.{Field, Words, Number, Money, Date}
-use Rattle.dataset.proofs.Reading.{reads-words, reads-number, reads-money, reads-date, reads-null}
+use Rattle.dataset.specs.Records.{Words, Money, Date}
+use Rattle.dataset.proofs.Reading.{reads-words, reads-money, reads-date}
 use Rattle.dataset.proofs.histories.parse.Goals as goal
 
 pub returns-clause-taken : goal.returns-clause-taken

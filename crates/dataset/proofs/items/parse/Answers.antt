@@ -1,5 +1,5 @@
 use Rattle.dataset.proofs.Taking.{takes-then, takes-words, takes-number}
-use Rattle.dataset.proofs.Reading.{reads-words, reads-number, reads-money, reads-date, reads-null}
+use Rattle.dataset.proofs.Reading.{reads-words, reads-number}
 use Rattle.dataset.proofs.items.parse.Goals as goal
 
 pub returns-clause-taken : goal.returns-clause-taken

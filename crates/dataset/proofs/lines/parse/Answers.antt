@@ -2,9 +2,9 @@ use Rattle.std.proofs.Common.{[], ◌∷◌}
 use Rattle.dataset.specs.Records.{delivery_field}
 use Rattle.dataset.proofs.Taking.{takes-fields, takes-then, takes-words, takes-number}
 use Rattle.std.proofs.Common.{[], ◌∷◌, ◌++◌}
-use Rattle.dataset.specs.Records.{Field, Words, Number, Money, Date}
-use Rattle.dataset.proofs.Bounds.{bounds, both}
-use Rattle.dataset.proofs.Reading.{reads-words, reads-number, reads-money, reads-date, reads-null}
+use Rattle.dataset.specs.Records.{Words, Number}
+use Rattle.dataset.proofs.Bounds.{bounds}
+use Rattle.dataset.proofs.Reading.{reads-words, reads-number}
 use Rattle.dataset.proofs.lines.parse.Goals as goal
 
 pub returns-clause-taken : goal.returns-clause-taken

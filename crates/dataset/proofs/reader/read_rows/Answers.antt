@@ -27,20 +27,22 @@ returns-in-End-clause-read g c = λ text read has_read loaded.
     }
 
 pub loop-preserved : goal.loop-preserved
-loop-preserved g c = (λ text read has_read loaded.
-    let inv = c.loop.invariant.0 text read has_read loaded in
-    let found : c.in_ok-advance.field-0 ≡ true = search rules in
-    let P : Bool → Type 0 = λ b. HasReadOn g.R.Read.remaining text inv.0 b c.advance.new.self in
-    let loads = rw c.in-Row.is at c.in_ok-read_record.ensures.loaded in
-    (inv.0 ++ (record_fields c.advance.new.self ∷ []), loads inv.0 inv.1, subst P found (c.in_ok-advance.ensures.reads text inv.0 inv.2)),
-    λ t rows expects left.
-    let inv = c.loop.invariant.1 t rows expects left in
-    let next = next_row g.R.Read.remaining inv.0 c.in_ok-advance.field-0 c.advance.new.self c.if-not-branch.false (c.in_ok-advance.ensures.reads_next inv.0 inv.3) in
-    let expected = subst (Expects t c.loop.loader) next.1 inv.2 in
-    let on = (rw c.in-Row.is at c.in_ok-read_record.ensures.goes_on) t next.0 expected in
-    let fewer : length inv.0 ≡ length next.0 + 1 = let e = ap length next.1 in omega (arith, e) in
-    let bound = inv.1 in
-    (next.0, omega (arith, fewer, bound), on, next.2))
+loop-preserved g c = (
+  λ text read has_read loaded.
+      let inv = c.loop.invariant.0 text read has_read loaded in
+      let found : c.in_ok-advance.field-0 ≡ true = search rules in
+      let P : Bool → Type 0 = λ b. HasReadOn g.R.Read.remaining text inv.0 b c.advance.new.self in
+      let loads = rw c.in-Row.is at c.in_ok-read_record.ensures.loaded in
+      (inv.0 ++ (record_fields c.advance.new.self ∷ []), loads inv.0 inv.1, subst P found (c.in_ok-advance.ensures.reads text inv.0 inv.2)),
+  λ t rows expects left.
+      let inv = c.loop.invariant.1 t rows expects left in
+      let next = next_row g.R.Read.remaining inv.0 c.in_ok-advance.field-0 c.advance.new.self c.if-not-branch.false (c.in_ok-advance.ensures.reads_next inv.0 inv.3) in
+      let expected = subst (Expects t c.loop.loader) next.1 inv.2 in
+      let on = (rw c.in-Row.is at c.in_ok-read_record.ensures.goes_on) t next.0 expected in
+      let fewer : length inv.0 ≡ length next.0 + 1 = let e = ap length next.1 in omega (arith, e) in
+      let bound = inv.1 in
+      (next.0, omega (arith, fewer, bound), on, next.2),
+)
 
 pub loop-init : goal.loop-init
 loop-init g c = (λ text read has_read loaded. (read, loaded, has_read), λ t rows expects left. (rows, omega arith, expects, left))

@@ -1,6 +1,6 @@
 use Rattle.dataset.proofs.Taking.{takes-then, takes-words}
 use Rattle.dataset.proofs.Reading.{reads-info, ten_infos}
-use Rattle.std.proofs.Common.{◌<◌, arith}
+use Rattle.std.proofs.Common.{arith}
 use Rattle.dataset.proofs.stocks.district_infos.Goals as goal
 
 pub returns-clause-taken : goal.returns-clause-taken

@@ -1,7 +1,6 @@
 use Rattle.dataset.proofs.Taking.{takes-then, takes-number}
-use Rattle.std.proofs.Common.{arith}
 use Rattle.dataset.proofs.Bounds.{bounds, both}
-use Rattle.dataset.proofs.Reading.{reads-words, reads-number, reads-money, reads-date, reads-null}
+use Rattle.dataset.proofs.Reading.{reads-number}
 use Rattle.dataset.proofs.stocks.key.Goals as goal
 
 pub returns-clause-taken : goal.returns-clause-taken

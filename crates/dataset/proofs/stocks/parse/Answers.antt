@@ -2,8 +2,8 @@ use Rattle.std.proofs.Common.{map}
 use Rattle.dataset.specs.Records.{Words}
 use Rattle.dataset.proofs.Taking.{takes-fields, takes-then, takes-words, takes-number}
 use Rattle.std.proofs.Common.{[], ◌∷◌, ◌++◌}
-use Rattle.dataset.specs.Records.{Field, Words, Number, Money, Date}
-use Rattle.dataset.proofs.Reading.{awaits-assoc, reads-words, reads-number, reads-money, reads-date, reads-null}
+use Rattle.dataset.specs.Records.{Words, Number}
+use Rattle.dataset.proofs.Reading.{awaits-assoc, reads-words, reads-number}
 use Rattle.dataset.proofs.stocks.parse.Goals as goal
 
 pub returns-clause-taken : goal.returns-clause-taken

@@ -1,5 +1,5 @@
 use Rattle.dataset.proofs.Taking.{takes-then, takes-words}
-use Rattle.dataset.proofs.Reading.{reads-words, reads-number, reads-money, reads-date, reads-null}
+use Rattle.dataset.proofs.Reading.{reads-words}
 use Rattle.dataset.proofs.warehouses.address.Goals as goal
 
 pub returns-clause-taken : goal.returns-clause-taken

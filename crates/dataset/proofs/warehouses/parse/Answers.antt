@@ -1,8 +1,8 @@
 use Rattle.dataset.specs.Records.{address_fields}
 use Rattle.dataset.proofs.Taking.{takes-fields, takes-then, takes-words, takes-number, takes-money}
 use Rattle.std.proofs.Common.{[], ◌∷◌, ◌++◌}
-use Rattle.dataset.specs.Records.{Field, Words, Number, Money, Date}
-use Rattle.dataset.proofs.Reading.{reads-words, reads-number, reads-money, reads-date, reads-null}
+use Rattle.dataset.specs.Records.{Number, Money}
+use Rattle.dataset.proofs.Reading.{reads-words, reads-number, reads-money}
 use Rattle.dataset.proofs.warehouses.parse.Goals as goal
 
 pub returns-clause-taken : goal.returns-clause-taken

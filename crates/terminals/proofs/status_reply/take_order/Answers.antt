@@ -27,7 +27,7 @@ loop-preserved c = λ none.
 pub returns : goal.returns
 returns c = λ none.
     let lines = c.loop.invariant none in
-    let carrier = number_was_taken c.moment-entry_d.new.self c.optional_ranged-carrier_id.new.self c.optional_ranged-carrier_id.result c.optional_ranged-carrier_id.ensures lines.faultless in
+    let carrier = number_was_taken c.moment-entry_d.new.self c.optional_ranged-carrier_id.new.self c.optional_ranged-carrier_id.result c.optional_ranged-carrier_id.ensures.taken lines.faultless in
     let entry = c.moment-entry_d.ensures.taken carrier.0 in
     let number = c.whole-o_id.ensures.taken entry.0 in
     let are : List StatusLine → Type 0 = λ l. AreStatusLines l lines.texts in

@@ -1,4 +1,4 @@
-use Rattle.std.proofs.Common.{◌≡◌, codes, refl, sym, ◌∙◌}
+use Rattle.std.proofs.Common.{codes, refl, ◌∙◌}
 use Rattle.files.proofs.Ascii.{utf8_words}
 use Rattle.dataset.specs.Writing.{row_counts}
 use Rattle.dataset.proofs.Reading.{awaits-none}

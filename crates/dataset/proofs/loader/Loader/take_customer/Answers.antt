@@ -11,11 +11,10 @@ use Rattle.dataset.specs.Loading.{LoadsRow, ReadsRecord}
 use Rattle.dataset.proofs.Loading.{loads_row, reads_record, load_customer}
 use Rattle.rows.specs.declared.keys.CustomerKey.{CustomerKey}
 use Rattle.rows.specs.declared.records.Customer.{Customer}
-use Rattle.dataset.specs.Records.{Number, district_key_fields, order_key_fields}
-use Rattle.dataset.specs.Ranges.{ItemInRange, WarehouseInRange, DistrictInRange, StockInRange, CustomerInRange, IsPayment, IsOrderKey, IsOrder, IsLineKey, IsLine}
-use Rattle.schema.specs.Scale.{has_item, has_warehouse, has_district, has_stock, has_customer}
+use Rattle.dataset.specs.Ranges.{CustomerInRange}
+use Rattle.schema.specs.Scale.{has_customer}
 use Rattle.dataset.specs.TableRow.{OfCustomer}
-use Rattle.std.proofs.Common.{refl, ℕ}
+use Rattle.std.proofs.Common.{refl}
 use Rattle.dataset.proofs.loader.Loader.take_customer.Goals as goal
 
 pub returns-clause-loads : goal.returns-clause-loads

@@ -10,9 +10,8 @@ use Rattle.dataset.specs.Taking.{Added, ReadsRow}
 use Rattle.dataset.specs.Loading.{LoadsRow, ReadsRecord}
 use Rattle.dataset.proofs.Loading.{loads_row, reads_record, load_item}
 use Rattle.rows.specs.declared.records.Item.{Item}
-use Rattle.dataset.specs.Records.{district_key_fields, customer_key_fields, order_key_fields}
-use Rattle.dataset.specs.Ranges.{ItemInRange, WarehouseInRange, DistrictInRange, StockInRange, CustomerInRange, IsPayment, IsOrderKey, IsOrder, IsLineKey, IsLine}
-use Rattle.schema.specs.Scale.{has_item, has_warehouse, has_district, has_stock, has_customer}
+use Rattle.dataset.specs.Ranges.{ItemInRange}
+use Rattle.schema.specs.Scale.{has_item}
 use Rattle.dataset.specs.TableRow.{OfItem}
 use Rattle.std.proofs.Common.{refl, ℕ}
 use Rattle.dataset.proofs.loader.Loader.take_item.Goals as goal

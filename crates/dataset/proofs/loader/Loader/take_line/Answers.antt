@@ -13,11 +13,9 @@ use Rattle.dataset.specs.Loading.{LoadsRow, ReadsRecord}
 use Rattle.dataset.proofs.Loading.{loads_row, reads_record, load_line}
 use Rattle.rows.specs.declared.keys.OrderLineKey.{OrderLineKey}
 use Rattle.rows.specs.declared.records.OrderLine.{OrderLine}
-use Rattle.dataset.specs.Records.{district_key_fields, customer_key_fields, order_key_fields}
-use Rattle.dataset.specs.Ranges.{ItemInRange, WarehouseInRange, DistrictInRange, StockInRange, CustomerInRange, IsPayment, IsOrderKey, IsOrder, IsLineKey, IsLine}
-use Rattle.schema.specs.Scale.{has_item, has_warehouse, has_district, has_stock, has_customer}
+use Rattle.dataset.specs.Ranges.{IsLineKey, IsLine}
 use Rattle.dataset.specs.TableRow.{OfLine}
-use Rattle.std.proofs.Common.{refl, ℕ}
+use Rattle.std.proofs.Common.{refl}
 use Rattle.dataset.proofs.loader.Loader.take_line.Goals as goal
 
 pub returns-clause-loads : goal.returns-clause-loads

@@ -13,11 +13,9 @@ use Rattle.dataset.specs.Taking.{Added, ReadsRow}
 use Rattle.dataset.specs.Loading.{LoadsRow, ReadsRecord}
 use Rattle.dataset.proofs.Loading.{loads_row, reads_record, load_new_order}
 use Rattle.rows.specs.declared.keys.OrderKey.{OrderKey}
-use Rattle.dataset.specs.Records.{Number, district_key_fields, customer_key_fields}
-use Rattle.dataset.specs.Ranges.{ItemInRange, WarehouseInRange, DistrictInRange, StockInRange, CustomerInRange, IsPayment, IsOrderKey, IsOrder, IsLineKey, IsLine}
-use Rattle.schema.specs.Scale.{has_item, has_warehouse, has_district, has_stock, has_customer}
+use Rattle.dataset.specs.Ranges.{IsOrderKey}
 use Rattle.dataset.specs.TableRow.{OfNewOrder}
-use Rattle.std.proofs.Common.{refl, ℕ, ◌∷◌}
+use Rattle.std.proofs.Common.{refl}
 use Rattle.dataset.proofs.loader.Loader.take_new_order.Goals as goal
 
 pub returns-clause-loads : goal.returns-clause-loads

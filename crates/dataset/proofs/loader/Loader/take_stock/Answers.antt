@@ -11,11 +11,10 @@ use Rattle.dataset.specs.Loading.{LoadsRow, ReadsRecord}
 use Rattle.dataset.proofs.Loading.{loads_row, reads_record, load_stock}
 use Rattle.rows.specs.declared.keys.StockKey.{StockKey}
 use Rattle.rows.specs.declared.records.Stock.{Stock}
-use Rattle.dataset.specs.Records.{district_key_fields, customer_key_fields, order_key_fields}
-use Rattle.dataset.specs.Ranges.{ItemInRange, WarehouseInRange, DistrictInRange, StockInRange, CustomerInRange, IsPayment, IsOrderKey, IsOrder, IsLineKey, IsLine}
-use Rattle.schema.specs.Scale.{has_item, has_warehouse, has_district, has_stock, has_customer}
+use Rattle.dataset.specs.Ranges.{StockInRange}
+use Rattle.schema.specs.Scale.{has_stock}
 use Rattle.dataset.specs.TableRow.{OfStock}
-use Rattle.std.proofs.Common.{refl, ℕ}
+use Rattle.std.proofs.Common.{refl}
 use Rattle.dataset.proofs.loader.Loader.take_stock.Goals as goal
 
 pub returns-clause-loads : goal.returns-clause-loads

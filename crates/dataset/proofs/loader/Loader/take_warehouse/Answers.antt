@@ -10,9 +10,8 @@ use Rattle.dataset.specs.Taking.{Added, ReadsRow}
 use Rattle.dataset.specs.Loading.{LoadsRow, ReadsRecord}
 use Rattle.dataset.proofs.Loading.{loads_row, reads_record, load_warehouse}
 use Rattle.rows.specs.declared.records.Warehouse.{Warehouse}
-use Rattle.dataset.specs.Records.{district_key_fields, customer_key_fields, order_key_fields}
-use Rattle.dataset.specs.Ranges.{ItemInRange, WarehouseInRange, DistrictInRange, StockInRange, CustomerInRange, IsPayment, IsOrderKey, IsOrder, IsLineKey, IsLine}
-use Rattle.schema.specs.Scale.{has_item, has_warehouse, has_district, has_stock, has_customer}
+use Rattle.dataset.specs.Ranges.{WarehouseInRange}
+use Rattle.schema.specs.Scale.{has_warehouse}
 use Rattle.dataset.specs.TableRow.{OfWarehouse}
 use Rattle.std.proofs.Common.{refl, ℕ}
 use Rattle.dataset.proofs.loader.Loader.take_warehouse.Goals as goal
