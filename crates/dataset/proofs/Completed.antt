@@ -5,10 +5,9 @@ use Rattle.std.specs.List.Sorted.{IsStrictlySortedBy}
 use Rattle.std.specs.Map.{keys_of, values_of}
 use Rattle.std.specs.Ordering.{eq_by_cmp}
 use Rattle.std.specs.declared.cmp.Ordering.{Ordering}
-use Rattle.std.specs.declared.cmp.Ordering.TheVariants.{Less, Equal}
+use Rattle.std.specs.declared.cmp.Ordering.TheVariants.{Less}
 use Rattle.std.specs.Cmp.{IsTotalOrder, nat_cmp_total}
 use Rattle.std.specs.FinMap.{FinMap, IsAntisymmetric, contains_key, entries, from_entries, same_entries_map, nat_cmp-IsAntisymmetric}
-use Rattle.std.proofs.lemmas.Cmp.{tied_itself}
 use Rattle.std.proofs.lemmas.List.{length-map}
 use Rattle.rows.specs.declared.keys.DistrictKey.{DistrictKey}
 use Rattle.rows.specs.declared.records.History.{History}
@@ -35,6 +34,7 @@ use Rattle.dataset.proofs.Payments.{payments-opened}
 use Rattle.dataset.proofs.RowTexts.{item_same, warehouse_same, district_same, stock_same, customer_same, payment_same, order_same, new_order_same, line_same}
 use Rattle.dataset.proofs.TableEntries.{same_keys}
 use Rattle.dataset.proofs.Tables.{dense}
+use Rattle.dataset.proofs.PaymentTexts.{not_less}
 
 -- ---- equal records
 
@@ -67,12 +67,6 @@ of_list : (home : DistrictKey) (rows : List History) → AllByRecursion (IsOf ho
 unfolding IsOf
 of_list home [] = tt
 of_list home (row ∷ rows) = ((row, refl), of_list home rows)
-
-not_less : (j k : DistrictKey) → j ≡ k → district_cmp j k ≡ Less → ⊥
-not_less j k e h =
-    let alike : district_cmp j k ≡ Equal = ap (district_cmp j) (sym e) ∙ tied_itself districts_total j in
-    let both : Less ≡ Equal = sym h ∙ alike in
-    cc
 
 not_of_list : (home other : DistrictKey) → district_cmp home other ≡ Less → (rows : List History) → AllByRecursion (λ fields. IsOf home fields → ⊥) (map (history_fields other) rows)
 unfolding IsOf

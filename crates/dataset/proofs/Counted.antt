@@ -3,7 +3,6 @@ use Rattle.std.proofs.Common.{◌≡◌, ◌<◌, ◌≤◌, ◌+◌, ◌^◌, �
 use Rattle.std.specs.List.{AllByRecursion, flat_map, list_all, zip}
 use Rattle.std.specs.Map.{values_of}
 use Rattle.std.specs.FinMap.{entries}
-use Rattle.std.proofs.lemmas.Bool.Decides.{nat_tests}
 use Rattle.std.proofs.lemmas.List.{length-append, length-map}
 use Rattle.rows.specs.declared.keys.DistrictKey.{DistrictKey}
 use Rattle.rows.specs.declared.records.History.{History}
@@ -16,7 +15,7 @@ use Rattle.dataset.specs.Loading.{HasLoaded, Entries, entry_records, records_loa
 use Rattle.dataset.specs.Expecting.{all_records}
 use Rattle.dataset.proofs.Bounds.{both}
 use Rattle.dataset.proofs.Keys.{all-append, all-weaker}
-use Rattle.dataset.proofs.Parts.{Marked, PartsMarked, are_apart, marked-rows}
+use Rattle.dataset.proofs.Parts.{Marked, PartsMarked, are_apart, marked-rows, differs}
 use Rattle.dataset.proofs.PaymentTexts.{marked-payments}
 use Rattle.dataset.proofs.Payments.{count-cons}
 
@@ -40,9 +39,6 @@ split_by P (p ∷ ps) (q ∷ qs) cs ds hp hq hc hd e =
     let tails : ps ++ cs ≡ qs ++ ds = cc in
     let rest = split_by P ps qs cs ds hp.1 hq.1 hc hd tails in
     (λ i. first i ∷ rest.0 i, rest.1)
-
-differs : (other mark : ℕ) → IsTrue (not (other == mark)) → other ≡ mark → ⊥
-differs other mark h e = grind (arith, nat_tests)
 
 unmarked-parts : (mark : ℕ) (marks : List ℕ) (parts : List (List (List Field))) → IsTrue (list_all (λ other. not (other == mark)) marks) → PartsMarked marks parts → AllByRecursion (Unmarked mark) (flat_map (λ part. part) parts)
 unmarked-parts mark [] [] apart marked = tt

@@ -1,11 +1,10 @@
 -- A field's text tells the field, where its kind is known and its spelling is exact.
-use Rattle.std.proofs.Common.{◌≡◌, ◌<◌, ◌^◌, ℕ, ℤ, pos, negsuc, List, [], ◌∷◌, sym, refl, ap, subst, ◌∙◌, arith}
-use Rattle.std.proofs.lemmas.Int.{ints}
+use Rattle.std.proofs.Common.{◌≡◌, ◌<◌, ◌^◌, ℕ, List, [], ◌∷◌, sym, refl, ap, subst, ◌∙◌}
 use Rattle.std.proofs.lemmas.Fmt.{decimal_injective, signed_decimal_injective}
 use Rattle.std.specs.List.{AllByRecursion, AllZip}
-use lib.Signed.{mag}
 use Rattle.amounts.specs.Money.{IsMoney}
 use Rattle.files.specs.MomentText.{IsMomentText}
+use Rattle.files.proofs.Ascii.{small_money}
 use Rattle.files.proofs.Moments.{same_moment, some_moment_text}
 use Rattle.files.proofs.Numerals.{some_digits}
 use Rattle.dataset.specs.Records.{Field, Words, Number, Money, Date, Null, IsSpelt, AreSpelt}
@@ -30,10 +29,6 @@ Alike Null (Number b) = Unit {0}
 Alike Null (Date b) = Unit {0}
 Alike Null Null = Unit {0}
 Alike f g = ⊥
-
-small_money : (z : ℤ) → IsMoney z → mag z < 2 ^ 63
-small_money (pos n) m = let high = m.high in omega (arith, ints)
-small_money (negsuc n) m = let low = m.low in omega (arith, ints)
 
 no_date : (seconds : ℕ) (text : List ℕ) → text ≡ [] → IsMomentText text seconds → ⊥
 no_date seconds text e h =

@@ -1,10 +1,11 @@
 -- Records of two kinds that the same texts spell: part by part, and row by row.
-use Rattle.std.proofs.Common.{◌≡◌, ◌==◌, ℕ, Bool, true, false, not, ◌&&◌, List, [], ◌∷◌, ◌++◌, get_or, IsTrue, refl, sym, ap, ◌∙◌, arith, append_assoc}
+use Rattle.std.proofs.Common.{◌≡◌, ◌==◌, ℕ, Bool, true, not, ◌&&◌, List, [], ◌∷◌, ◌++◌, get_or, IsTrue, refl, sym, ap, ◌∙◌, arith, append_assoc}
 use Rattle.std.specs.List.{AllByRecursion, AllZip, list_all, flat_map}
 use Rattle.std.proofs.lemmas.Bool.Decides.{nat_tests}
 use Rattle.std.proofs.lemmas.List.{append-nil}
 use Rattle.dataset.specs.Records.{Field, Words, AreSpelt, row_records}
 use Rattle.dataset.proofs.Keys.{all-append, all-weaker}
+use Rattle.dataset.proofs.Bounds.{both}
 
 -- ---- records that the texts tell from others
 
@@ -68,15 +69,7 @@ abbrev pub are_apart : List ℕ → Bool
 are_apart [] = true
 are_apart (mark ∷ marks) = list_all (λ other. not (other == mark)) marks && are_apart marks
 
-first : (b c : Bool) → IsTrue (b && c) → IsTrue b
-first true c h = refl
-first false c h = h
-
-second : (b c : Bool) → IsTrue (b && c) → IsTrue c
-second true c h = h
-second false c h = absurd cc
-
-differs : (other mark : ℕ) → IsTrue (not (other == mark)) → other ≡ mark → ⊥
+pub differs : (other mark : ℕ) → IsTrue (not (other == mark)) → other ≡ mark → ⊥
 differs other mark h e = grind (arith, nat_tests)
 
 denying-parts : (mark : ℕ) (marks : List ℕ) (parts : List (List (List Field))) → IsTrue (list_all (λ other. not (other == mark)) marks) → PartsMarked marks parts
@@ -85,8 +78,8 @@ denying-parts mark [] [] apart marked = tt
 denying-parts mark [] (part ∷ parts) apart marked = absurd marked
 denying-parts mark (other ∷ marks) [] apart marked = absurd marked
 denying-parts mark (other ∷ marks) (part ∷ parts) apart marked =
-    all-append _ part (flat_map (λ p. p) parts) (denying-marked mark other (differs other mark (first _ _ apart)) part marked.0)
-    (denying-parts mark marks parts (second _ _ apart) marked.1)
+    all-append _ part (flat_map (λ p. p) parts) (denying-marked mark other (differs other mark (both _ _ apart).0) part marked.0)
+    (denying-parts mark marks parts (both _ _ apart).1 marked.1)
 
 -- the same rows spell both
 pub record Shared (ps qs : List (List Field)) : Type 0 where
@@ -102,11 +95,11 @@ parts_shared [] (p ∷ ps) qs apart mp mq rows s r = absurd mp
 parts_shared (mark ∷ marks) [] qs apart mp mq rows s r = absurd mp
 parts_shared (mark ∷ marks) (p ∷ ps) [] apart mp mq rows s r = absurd mq
 parts_shared (mark ∷ marks) (p ∷ ps) (q ∷ qs) apart mp mq rows s r =
-    let others = first _ _ apart in
+    let others = (both _ _ apart).0 in
     let parts = split (λ texts. mark_of texts ≡ mark) p q (flat_map (λ part. part) ps) (flat_map (λ part. part) qs)
     (telling-marked mark p mp.0) (telling-marked mark q mq.0) (denying-parts mark marks ps others mp.1) (denying-parts mark marks qs others mq.1) rows s r in (
       record { rows = parts.first; one = parts.one; other = parts.other },
-      parts_shared marks ps qs (second _ _ apart) mp.1 mq.1 parts.rest parts.one_rest parts.other_rest,
+      parts_shared marks ps qs (both _ _ apart).1 mp.1 mq.1 parts.rest parts.one_rest parts.other_rest,
     )
 
 -- one part more, at the end

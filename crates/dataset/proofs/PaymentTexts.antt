@@ -46,7 +46,8 @@ telling-payments : (home : DistrictKey) (rows : List History) → Telling (IsOf 
 telling-payments home [] = tt
 telling-payments home (row ∷ rows) = (home_is_told home row, telling-payments home rows)
 
-not_less : (j k : DistrictKey) → j ≡ k → district_cmp j k ≡ Less → ⊥
+-- a key does not come before itself
+pub not_less : (j k : DistrictKey) → j ≡ k → district_cmp j k ≡ Less → ⊥
 not_less j k e h =
     let alike : district_cmp j k ≡ Equal = ap (district_cmp j) (sym e) ∙ tied_itself districts_total j in
     let both : Less ≡ Equal = sym h ∙ alike in

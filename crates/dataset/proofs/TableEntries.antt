@@ -13,6 +13,7 @@ use Rattle.std.proofs.lemmas.Bool.Decides.{nat_tests}
 use Rattle.rows.specs.Ranged.{is_between}
 use Rattle.schema.specs.EachRow.{EachRow}
 use Rattle.schema.proofs.EachRows.{EachRow-entries}
+use Rattle.dataset.proofs.Bounds.{both}
 
 first : (b c : Bool) → T (b && c) → T b
 first true c h = tt
@@ -55,11 +56,6 @@ pub keys_pass : {K X : Type 0} {R : K → K → Ordering} (has : K → Bool) (m 
 keys_pass has m h key row found = sym (h key) ∙ ap is_some found
 
 -- ---- of each of a list
-
-both : (b c : Bool) → IsTrue (b && c) → IsTrue b × IsTrue c
-both true true h = (refl, refl)
-both true false h = absurd cc
-both false c h = absurd cc
 
 pub all-true : {X : Type 0} (test : X → Bool) (xs : List X) → IsTrue (list_all test xs) → AllByRecursion (λ x. IsTrue (test x)) xs
 all-true test [] h = tt

@@ -1,5 +1,5 @@
 -- Tables within their scale and the ranges of their columns are told by their records.
-use Rattle.std.proofs.Common.{◌≡◌, ◌<◌, ◌≤◌, ◌^◌, ℕ, Bool, true, false, ◌&&◌, List, [], ◌∷◌, ◌++◌, Option, Some, None, IsTrue, is_some, refl, sym, ap, subst, ◌∙◌, arith}
+use Rattle.std.proofs.Common.{◌≡◌, ◌<◌, ◌≤◌, ◌^◌, ℕ, List, [], ◌∷◌, ◌++◌, Option, Some, None, IsTrue, is_some, refl, sym, ap, subst, ◌∙◌, arith}
 use Rattle.std.specs.List.{AllByRecursion, AllZip, flat_map}
 use Rattle.std.specs.Map.{keys_of, values_of}
 use Rattle.std.specs.Cmp.{nat_cmp_total}
@@ -29,13 +29,9 @@ use Rattle.dataset.proofs.RowTexts.{ExactDistrict, ExactStock, ExactCustomer, Ex
 use Rattle.dataset.proofs.Parts.{PartsMarked, are_apart, parts_shared, flat-last, same_rows, marked-rows}
 use Rattle.dataset.proofs.PaymentTexts.{FitsPayment, payments_told, marked-payments}
 use Rattle.dataset.proofs.TableEntries.{entries_ascend, rows_pass, keys_pass, all-true, all-both, all-of_values, all-of_keys, between_small, same_keys}
+use Rattle.dataset.proofs.Bounds.{both}
 
 -- ---- numbers within the scale are small
-
-both : (b c : Bool) → IsTrue (b && c) → IsTrue b × IsTrue c
-both true true h = (refl, refl)
-both true false h = absurd cc
-both false c h = absurd cc
 
 module _ (scale : Scale) where
   small_warehouse : (w_id : ℕ) → IsTrue (has_warehouse scale w_id) → w_id ≤ 64

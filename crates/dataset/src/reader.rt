@@ -17,8 +17,9 @@ use std::io::Read;
 /// The tables of the dataset that `source` gives.
 ///
 /// A fault comes with its record, and nothing else is given then; but for `Io`, it comes only where no
-/// tables have the records of the text. The first faulty record decides, and of its faults the least one; a broken rule of the scale is looked for after the whole file was read,
-/// and named at the end record. Memory is taken row by row, never by the numbers of the header.
+/// tables have the records of the text. The first faulty record decides, and of its faults the least
+/// one; a broken rule of the scale is looked for after the whole file was read, and named at the end
+/// record. Memory is taken row by row, never by the numbers of the header.
 pub fn read<R: Read + Drop>(alloc: Global, source: R) -> Result<Tables, FileError>
     ensures tables { IfOk result (λ tables. (text : List ℕ) → R.remaining source ≡ Some text → (rows : List (List (List ℕ))) × IsCsv text rows × AreRecords tables rows) }
     ensures fault { IfErr result (λ error. IsFault error → (text : List ℕ) → R.remaining source ≡ Some text → (rows : List (List (List ℕ))) → IsCsv text rows → length rows < 2 ^ 64 - 1

@@ -1,5 +1,5 @@
 -- What is spelt in a file is ASCII, and so it is text.
-use Rattle.std.proofs.Common.{Ok, length, suc, neg_ℤ, ◌≤ℤ◌, ◌≡◌, ◌<◌, ◌≤◌, ◌/◌, ◌%◌, ◌+◌, ◌&&◌, ◌^◌, ℕ, ℤ, pos, negsuc, Bool, true, false, nat_le, None, List, [], ◌∷◌, ◌++◌, IsTrue, IsUtf8, codes, refl, sym, ap, subst, arith}
+use Rattle.std.proofs.Common.{Ok, length, suc, neg_ℤ, ◌≤ℤ◌, ◌≡◌, ◌<◌, ◌/◌, ◌%◌, ◌+◌, ◌&&◌, ◌^◌, ℕ, ℤ, pos, negsuc, Bool, true, false, nat_le, None, List, [], ◌∷◌, ◌++◌, IsTrue, IsUtf8, codes, refl, sym, subst, arith}
 use Rattle.std.specs.Str.{IsAscii}
 use Rattle.std.specs.List.{list_all}
 use Rattle.std.specs.Fmt.{decimal, signed_decimal}
@@ -23,7 +23,8 @@ use Rattle.files.specs.Word.{credit_text, text_read}
 pub utf8_number : (n : ℕ) → n < 2 ^ 64 → IsUtf8 (decimal n)
 utf8_number n h = IsUtf8-from_ascii (decimal n) (IsAscii-decimal n h)
 
-small_money : (z : ℤ) → IsMoney z → mag z < 2 ^ 63
+-- std prints an amount whole
+pub small_money : (z : ℤ) → IsMoney z → mag z < 2 ^ 63
 small_money (pos n) m = let high = m.high in omega (arith, ints)
 small_money (negsuc n) m = let low = m.low in omega (arith, ints)
 

@@ -1,14 +1,14 @@
 -- How a reader goes on through its text.
-use Rattle.std.proofs.Common.{◌≡◌, ℕ, Bool, true, false, List, [], ◌∷◌, Option, Some, None, refl, sym, ap, subst, ◌∙◌}
+use Rattle.std.proofs.Common.{◌≡◌, ℕ, Bool, true, false, List, [], ◌∷◌, Option, Some, None, refl, sym, subst, ◌∙◌}
 use Rattle.csv.specs.Machine.{next_record}
-use Rattle.csv.specs.Reading.{AreRecords, NextIs, Reached, ReadRecord, ReadsNext, ReadsOn, Ready, default_config, pending_of, reader_state, reader_trim, source_of, strip_bom}
+use Rattle.csv.specs.Reading.{AreRecords, NextIs, Reached, ReadRecord, ReadsNext, ReadsOn, Ready, default_config, pending_of, reader_state, reader_trim, strip_bom}
 use Rattle.csv.specs.declared.parser.Config.{Config}
 use Rattle.csv.specs.declared.parser.State.{State}
 use Rattle.csv.specs.declared.parser.State.TheVariants as state
 use Rattle.csv.specs.declared.reader.Trim.TheVariants as trim
 use Rattle.csv.proofs.ReadFacts.{rows-more, rows-end}
 use Rattle.files.specs.declared.records.Records.{Records}
-use Rattle.files.specs.Place.{HasRead, HasReadOn, HasLeft, HasLeftAfter, IsCsv, record_fields}
+use Rattle.files.specs.Place.{HasRead, HasReadOn, HasLeft, HasLeftAfter, record_fields}
 
 pub read_on : {R : Type 0} (remaining : R → Option (List ℕ)) (text : List ℕ) (rows : List (List (List ℕ))) (found : Bool) (old new : Records R)
     → (reader_trim old.reader ≡ trim.None → Ready old.reader → ReadRecord remaining old.reader new.reader found (record_fields new))

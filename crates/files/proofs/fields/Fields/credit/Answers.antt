@@ -1,4 +1,4 @@
-use Rattle.std.proofs.Common.{◌≡◌, List, ℕ, Result, Ok, ap, ◌∙◌}
+use Rattle.std.proofs.Common.{◌≡◌, List, ℕ, Result, Ok, ◌∙◌}
 use Rattle.rows.specs.declared.records.Credit.{Credit}
 use Rattle.rows.specs.declared.records.Credit.TheVariants.{Good, Bad}
 use Rattle.files.specs.Word.{credit_text}

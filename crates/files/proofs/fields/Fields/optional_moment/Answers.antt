@@ -1,4 +1,4 @@
-use Rattle.std.proofs.Common.{◌≡◌, ◌==◌, ℕ, List, length, Some, sym, ap, subst, ◌∙◌}
+use Rattle.std.proofs.Common.{◌≡◌, Some, sym, ap, subst, ◌∙◌}
 use Rattle.files.specs.MomentText.{Spells, IsMomentText}
 use Rattle.files.proofs.FieldsLeft.{no_bytes}
 use Rattle.files.proofs.Moments.{some_moment_text}

@@ -1,4 +1,4 @@
-use Rattle.std.proofs.Common.{◌≡◌, ◌<◌, ◌^◌, ◌==◌, length, Some, decimal, sym, ap, ◌∙◌, arith}
+use Rattle.std.proofs.Common.{◌≡◌, ◌<◌, ◌^◌, Some, decimal, sym, ap, ◌∙◌, arith}
 use Rattle.files.proofs.Ascii.{utf8_number}
 use Rattle.files.proofs.FieldsLeft.{no_bytes}
 use Rattle.files.proofs.Numerals.{some_digits}

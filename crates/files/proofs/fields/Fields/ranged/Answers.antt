@@ -1,4 +1,4 @@
-use Rattle.std.proofs.Common.{◌≡◌, ◌<◌, ◌^◌, decimal, sym, ◌∙◌, arith}
+use Rattle.std.proofs.Common.{◌<◌, ◌^◌, decimal, sym, ◌∙◌, arith}
 use Rattle.files.proofs.Ascii.{utf8_number}
 use Rattle.files.proofs.fields.Fields.ranged.Goals as goal
 

@@ -1,4 +1,4 @@
-use Rattle.std.proofs.Common.{◌≡◌, List, ℕ, Result, Ok, ap, ◌∙◌}
+use Rattle.std.proofs.Common.{ap, ◌∙◌}
 use Rattle.files.specs.Word.{text_read}
 use Rattle.files.proofs.Ascii.{utf8_text, text_is_read}
 use Rattle.files.proofs.fields.Fields.text.Goals as goal
