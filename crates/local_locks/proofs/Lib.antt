@@ -1,0 +1,16 @@
+pub mod Members
+pub mod Spots
+pub mod Joins
+pub mod InPlace
+pub mod Grants
+pub mod Turns
+pub mod Covering
+pub mod Views
+pub mod Apartness
+pub mod Rising
+pub mod Asks
+pub mod Taken
+pub mod Returns
+pub mod Opened
+pub mod Left
+pub mod Named

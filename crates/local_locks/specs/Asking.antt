@@ -1,0 +1,106 @@
+-- What a lock table answers, and what it leaves.
+use Rattle.std.specs.Prelude.{◌≡◌, ◌⊎◌, ◌<◌, List, [], ◌∷◌, ◌++◌, All, map, if◌then◌else◌}
+use Rattle.std.specs.List.Sorted.{IsPermutation}
+use Rattle.requests.specs.declared.group.Group.{Group}
+use Rattle.groups.specs.Content.{Content}
+use Rattle.groups.specs.Groups.{is_same}
+use Rattle.groups.specs.declared.wishes.Mode.TheVariants.{Exclusive}
+use Rattle.groups.specs.declared.wishes.Wish.{Wish}
+use Rattle.groups.specs.declared.wants.Want.{Want}
+use Rattle.tickets.specs.Claims.{Claiming, fresh}
+use Rattle.wait_die.specs.declared.deciding.Holder.{Holder}
+use Rattle.local_locks.specs.declared.table.Asked.{Asked}
+use Rattle.local_locks.specs.declared.table.Asked.TheVariants as asked
+use Rattle.local_locks.specs.declared.table.Turn.{Turn}
+use Rattle.local_locks.specs.declared.table.Turn.TheVariants as turn
+use Rattle.local_locks.specs.Locking.{Holding, Waiting, Stand, Locking, left_in}
+use Rattle.local_locks.specs.Conflicts.{IsFree, MustWait, MustDie}
+use Rattle.local_locks.specs.Wishes.{wishes}
+
+-- ---- grants
+
+-- the claim that is granted for a wish: under it nothing was done yet, and it tells what stands in its group
+abbrev pub claim_for : List Stand → Wish → Claiming
+claim_for stands wish = fresh wish.group wish.mode (left_in stands wish.group)
+
+abbrev pub held_for : Holder → Wish → Holding
+held_for by wish = record { by = by; group = wish.group; mode = wish.mode }
+
+-- One who is free has a claim on each group that is wanted, and holds them. What stands in the groups stays.
+pub record Grants (by : Holder) (wants : List Want) (old : Locking) (granted : List Claiming) (new : Locking) : Type 0 where
+  pub free : IsFree old.holdings wants
+  pub claims : granted ≡ map (claim_for old.stands) (wishes wants)
+  pub holdings : IsPermutation new.holdings (map (held_for by) (wishes wants) ++ old.holdings)
+  pub stands : new.stands ≡ old.stands
+  pub w_id : new.w_id ≡ old.w_id
+
+-- ---- who comes back
+
+-- who holds this claim
+abbrev pub held_by : Holder → Claiming → Holding
+held_by by claim = record { by = by; group = claim.group; mode = claim.mode }
+
+-- these are claims of the table that this one holds
+abbrev pub AreHeld : List Holding → Holder → List Claiming → Type 0
+AreHeld holdings by claims = (others : List Holding) × IsPermutation holdings (map (held_by by) claims ++ others)
+
+-- what an exclusive claim left is committed
+abbrev pub IsSettled : Claiming → Type 0
+IsSettled claim = claim.mode ≡ Exclusive → claim.told ≡ claim.left
+
+-- what stands in a group once a claim is back: nothing of it is taken back any more
+abbrev pub kept_after : Claiming → Stand → Stand
+kept_after claim stand = record { group = stand.group; left = stand.left; back = if is_same stand.group claim.group then stand.left else stand.back }
+
+abbrev pub all_kept_after : List Claiming → List Stand → List Stand
+all_kept_after [] stands = stands
+all_kept_after (claim ∷ claims) stands = all_kept_after claims (map (kept_after claim) stands)
+
+-- ---- work under a claim
+
+-- what stands in a group, and is there again once all is taken back, once this is left in one of the groups
+abbrev pub left_after : Group → Content → Stand → Stand
+left_after group content stand = record { group = stand.group; left = if is_same stand.group group then content else stand.left; back = stand.back }
+
+-- the table once this is left in one of its groups
+abbrev pub leaving_in : Locking → Group → Content → Locking
+leaving_in table group content = record table { stands = map (left_after group content) table.stands }
+
+-- ---- whose turn it is
+
+abbrev pub waiting : Holder → List Want → Waiting
+waiting by wants = record { by = by; wants = wants }
+
+-- it is the older, or of the same age and of the lesser place
+abbrev pub IsBefore : Holder → Holder → Type 0
+IsBefore a b = (a.age < b.age) ⊎ ((a.age ≡ b.age) × (a.place < b.place))
+
+-- this one has to wait for others still
+abbrev pub StillWaits : List Holding → Waiting → Type 0
+StillWaits holdings waiting = MustWait holdings waiting.by.age waiting.wants
+
+abbrev pub WaitsIfBefore : List Holding → Holder → Waiting → Type 0
+WaitsIfBefore holdings by waiting = IsBefore waiting.by by → StillWaits holdings waiting
+
+-- Of those who wait it is one's turn, and all before that one have to wait still. All others go on waiting.
+pub record IsTurnOf (waiting : Waiting) (old new : Locking) : Type 0 where
+  pub waiters : IsPermutation old.waiters (waiting ∷ new.waiters)
+  pub first : All (WaitsIfBefore old.holdings waiting.by) old.waiters
+
+-- ---- what is answered
+
+module _ {J : Type 0} where
+  -- what is answered to one who asks, and what the table is then
+  abbrev pub Answers : Holder → List Want → Locking → Asked J → Locking → Type 0
+  Answers by wants old (asked.Granted claims) new = Grants by wants old claims.items new × (new.waiters ≡ old.waiters)
+  Answers by wants old asked.Waits new =
+      MustWait old.holdings by.age wants × (new ≡ record old { waiters = old.waiters ++ waiting by wants ∷ [] })
+  Answers by wants old (asked.Dies group holder) new = MustDie old.holdings by.age wants group holder × (new ≡ old)
+
+  -- whose turn it is and what is said to that one, and what the table is then
+  abbrev pub TakesTurn : Locking → Turn J → Locking → Type 0
+  TakesTurn old (turn.Granted by claims) new =
+      (wants : List Want) × IsTurnOf (waiting by wants) old new × Grants by wants old claims.items new
+  TakesTurn old (turn.Dies by group holder) new =
+      (wants : List Want) × IsTurnOf (waiting by wants) old new × MustDie old.holdings by.age wants group holder
+      × (new ≡ record old { waiters = new.waiters })

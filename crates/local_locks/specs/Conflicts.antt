@@ -1,0 +1,47 @@
+-- Who holds what others want, and what is said to them: they are free, they wait, or they die.
+use Rattle.std.specs.Prelude.{◌≡◌, ◌≢◌, ◌⊎◌, ◌&&◌, ℕ, ◌<◌, ◌≤◌, List, Bool, true, false, Any, Contains, count_by}
+use Rattle.std.specs.declared.cmp.Ordering.TheVariants.{Greater}
+use Rattle.requests.specs.declared.group.Group.{Group}
+use Rattle.groups.specs.Groups.{group_cmp, is_same}
+use Rattle.groups.specs.Wants.{Covers}
+use Rattle.groups.specs.declared.wishes.Mode.{Mode}
+use Rattle.groups.specs.declared.wishes.Mode.TheVariants.{Shared, Exclusive}
+use Rattle.groups.specs.declared.wants.Want.{Want}
+use Rattle.local_locks.specs.Locking.{Holding}
+
+abbrev pub is_shared : Mode → Bool
+is_shared Shared = true
+is_shared Exclusive = false
+
+-- how many shared claims on a group are out
+abbrev pub shared_on : Group → List Holding → ℕ
+shared_on group holdings = count_by (λ holding. is_same holding.group group && is_shared holding.mode) holdings
+
+-- Whoever holds a group that is wanted conflicts with that, if one of the two is exclusive, or if all eight shared claims
+-- on the group are out.
+pub record Conflicts (holdings : List Holding) (holding : Holding) (want : Want) : Type 0 where
+  pub covered : Covers want holding.group
+  pub apart : (want.mode ≡ Exclusive) ⊎ ((holding.mode ≡ Exclusive) ⊎ (8 ≤ shared_on holding.group holdings))
+
+-- this is one of those whose claims conflict with what is wanted
+abbrev pub Blocks : List Holding → List Want → Holding → Type 0
+Blocks holdings wants holding = Contains holdings holding × Any (Conflicts holdings holding) wants
+
+-- ---- what is said to one of this age who wants these
+
+-- nobody is in the way
+abbrev pub IsFree : List Holding → List Want → Type 0
+IsFree holdings wants = (holding : Holding) → Blocks holdings wants holding → ⊥
+
+-- somebody is in the way, and all who are are younger
+pub record MustWait (holdings : List Holding) (age : ℕ) (wants : List Want) : Type 0 where
+  pub some : (holding : Holding) × Blocks holdings wants holding
+  pub younger : (holding : Holding) → Blocks holdings wants holding → age < holding.by.age
+
+-- Somebody is in the way who is not younger: on this group first, in the order of groups, and there the oldest is of this
+-- age.
+pub record MustDie (holdings : List Holding) (age : ℕ) (wants : List Want) (group : Group) (oldest : ℕ) : Type 0 where
+  pub some : (holding : Holding) × Blocks holdings wants holding × (holding.group ≡ group) × (holding.by.age ≡ oldest)
+  pub older : oldest ≤ age
+  pub first : (holding : Holding) → Blocks holdings wants holding → holding.by.age ≤ age → group_cmp group holding.group ≢ Greater
+  pub oldest_there : (holding : Holding) → Blocks holdings wants holding → holding.group ≡ group → oldest ≤ holding.by.age

@@ -1,0 +1,37 @@
+-- How the groups that are wanted are granted, one by one.
+use Rattle.std.specs.Prelude.{◌≡◌, ◌≢◌, ℕ, List, [], ◌++◌, All, map, slice_index_or}
+use Rattle.std.specs.List.{flat_map}
+use Rattle.std.specs.List.Sorted.{IsPermutation}
+use Rattle.requests.specs.declared.group.Group.TheVariants.{Warehouse}
+use Rattle.tickets.specs.Claims.{Claiming, fresh}
+use Rattle.tickets.specs.Unset.{nothing}
+use Rattle.wait_die.specs.declared.deciding.Holder.{Holder}
+use Rattle.local_locks.specs.Locking.{Holding, Stand}
+use Rattle.local_locks.specs.Locks.{Locked, KeepsLocks, holding, holdings_of, stand_in}
+use Rattle.local_locks.specs.Rulings.{Spot, conflicting_at}
+
+-- nobody conflicts with a wish for the place
+abbrev pub IsOpen : List Locked → Spot → Type 0
+IsOpen locks spot = conflicting_at locks spot.mode spot.number ≡ []
+
+abbrev pub stand_at : List Stand → ℕ → Stand
+stand_at stands number = slice_index_or stands number (record { group = Warehouse 0; left = nothing; back = nothing })
+
+abbrev pub claim_at : List Stand → Spot → Claiming
+claim_at stands spot = fresh (stand_at stands spot.number).group spot.mode (stand_at stands spot.number).left
+
+abbrev pub held_at : Holder → List Stand → Spot → Holding
+held_at by stands spot = holding (stand_at stands spot.number).group spot.mode by
+
+abbrev pub AreElsewhere : Spot → Spot → Type 0
+AreElsewhere a b = a.number ≢ b.number
+
+abbrev pub IsNotAt : ℕ → Spot → Type 0
+IsNotAt number spot = spot.number ≢ number
+
+-- These places are granted to this one. What stands in the groups stays, and all other places are as they were.
+pub record AreGranted (warehouses : ℕ) (by : Holder) (granted : List Spot) (old new : List Locked) : Type 0 where
+  pub locks : KeepsLocks warehouses old new
+  pub holdings : IsPermutation (flat_map holdings_of new) (map (held_at by (map stand_in old)) granted ++ flat_map holdings_of old)
+  pub stands : map stand_in new ≡ map stand_in old
+  pub others : (number : ℕ) (d : Locked) → All (IsNotAt number) granted → slice_index_or new number d ≡ slice_index_or old number d

@@ -1,0 +1,10 @@
+pub mod Locking
+pub mod Conflicts
+pub mod Wishes
+pub mod Asking
+pub mod Locks
+pub mod Rulings
+pub mod Granting
+pub mod Turns
+pub mod Laws
+pub mod Trials

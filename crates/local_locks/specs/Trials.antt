@@ -1,0 +1,20 @@
+-- A table with all its claims that are out, as tests have it.
+use Rattle.std.specs.Prelude.{◌≡◌, List, All, map}
+use Rattle.std.specs.List.{flat_map}
+use Rattle.std.specs.List.Sorted.{IsPermutation}
+use Rattle.tickets.specs.Claims.{Claiming}
+use Rattle.wait_die.specs.declared.deciding.Holder.{Holder}
+use Rattle.local_locks.specs.Locking.{Holding, Locking}
+use Rattle.local_locks.specs.Asking.{held_by, IsSettled}
+
+abbrev pub held_of : Holder × List Claiming → List Holding
+held_of grant = map (held_by grant.0) grant.1
+
+abbrev pub AreSettled : Holder × List Claiming → Type 0
+AreSettled grant = All IsSettled grant.1
+
+-- these are all claims of the table of warehouse 1 that are out
+pub record AreOut (table : Locking) (out : List (Holder × List Claiming)) : Type 0 where
+  pub w_id : table.w_id ≡ 1
+  pub held : IsPermutation table.holdings (flat_map held_of out)
+  pub settled : All AreSettled out

@@ -1,0 +1,150 @@
+//! The lock of a group: its ticket box, and who holds the claims on it that are out.
+ghost use Rattle.std.specs.Prelude.{◌≡◌, [], ◌∷◌, ◌++◌, Contains, slice_index_or, length, ◌<◌};
+ghost use Rattle.std.specs.List.Sorted.{IsPermutation};
+ghost use Rattle.groups.specs.declared.wishes.Mode.TheVariants.{Shared, Exclusive};
+ghost use Rattle.tickets.specs.Boxes.{sharing, taken_back, with_left};
+ghost use Rattle.tickets.specs.Claims.{fresh, leaving};
+ghost use Rattle.local_locks.specs.Locks.{conflicting, given_out, locked, IsLocked};
+
+use agreement::Change;
+use arrayvec::ArrayVec;
+use groups::{Content, Mode};
+use requests::Group;
+use std::marker::Model;
+use tickets::{Claim, Naming, TicketBox};
+use wait_die::Holder;
+
+/// A group's ticket box, and who holds its claims that are out: an exclusive one, or up to eight shared
+/// ones.
+#[derive(Drop)]
+pub(crate) struct Lock<J: Naming> {
+    ticket_box: TicketBox<J>,
+    holders: ArrayVec<Holder, 8>,
+}
+
+impl<J: Naming> Model for Lock<J> {
+    ghost use Rattle.std.specs.Coded.{codes};
+    ghost use Rattle.groups.specs.contracts.content.Content as content;
+    ghost use Rattle.local_locks.specs.Locks.{Locked, locked, IsLocked};
+
+    ghost Value = { Locked };
+
+    ghost coded = { Prim.hlevel (codes, content.the_row.coded) };
+
+    ghost view = { λ l. locked l.ticket_box l.holders.items };
+
+    ghost invariant = { λ l. IsLocked (locked l.ticket_box l.holders.items) };
+}
+
+impl<J: Naming> Lock<J> {
+    /// The lock of a group of which no claim is out.
+    pub(crate) fn new(ticket_box: TicketBox<J>) -> Lock<J>
+        requires { ticket_box ≡ sharing ticket_box.group ticket_box.left 0 }
+        ensures { result ≡ locked ticket_box [] }
+    {
+        Lock {
+            ticket_box,
+            holders: ArrayVec::new(),
+        }
+    }
+
+    /// The group.
+    pub(crate) fn group(&self) -> Group
+        ensures { result ≡ self.now.ticket_box.group }
+    {
+        self.ticket_box.group()
+    }
+
+    /// The holders that conflict with a wish of this mode.
+    pub(crate) fn conflicting(&self, mode: Mode) -> &[Holder]
+        ensures { result.now ≡ conflicting mode self.now }
+    {
+        let is_taken = match (mode, self.ticket_box.mode()) {
+            (Mode::Shared, Mode::Shared) => self.holders.is_full(),
+            _ => true,
+        };
+        if is_taken {
+            self.holders.as_slice()
+        } else {
+            &[]
+        }
+    }
+
+    /// A claim of this mode, which this one holds.
+    pub(crate) fn grant(&mut self, mode: Mode, by: Holder) -> Claim<J>
+        requires { conflicting mode self.old ≡ [] }
+        ensures claim { result ≡ fresh self.old.ticket_box.group mode self.old.ticket_box.left }
+        ensures lock { self.new ≡ locked (given_out mode self.old.ticket_box) (self.old.holders ++ by ∷ []) }
+        ensures agree { IsLocked self.old × IsLocked self.new }
+    {
+        let granted = match mode {
+            Mode::Shared => self.ticket_box.share(),
+            Mode::Exclusive => self.ticket_box.grant(),
+        };
+        let Some(claim) = granted else { unreachable!() };
+        self.holders.push(by);
+        claim
+    }
+
+    /// Takes back a claim that this one holds, once what it left is committed.
+    pub(crate) fn take_back(&mut self, by: Holder, claim: Claim<J>)
+        requires group { claim.group ≡ self.old.ticket_box.group }
+        requires held { Contains self.old.holders by }
+        requires committed { claim.mode ≡ Exclusive → claim.told ≡ claim.left }
+        ensures mode { claim.mode ≡ self.old.ticket_box.mode }
+        ensures ticket_box { self.new.ticket_box ≡ taken_back self.old.ticket_box }
+        ensures holders { IsPermutation self.old.holders (by ∷ self.new.holders) }
+        ensures agree { IsLocked self.old × IsLocked self.new }
+    {
+        let index = index_of(self.holders.as_slice(), by);
+        self.holders.remove(index);
+        self.ticket_box.take_back(claim);
+    }
+
+    /// Learns that what a claim on the group left stands in it.
+    pub(crate) fn look(&mut self, claim: &mut Claim<J>)
+        requires group { claim.old.group ≡ self.old.ticket_box.group }
+        ensures mode { claim.old.mode ≡ self.old.ticket_box.mode }
+        ensures left { claim.old.left ≡ self.old.ticket_box.left }
+        ensures back { claim.old.back ≡ self.old.ticket_box.back }
+        ensures same { (self.new ≡ self.old) × (claim.new ≡ claim.old) }
+    {
+        self.ticket_box.look(claim);
+    }
+
+    /// Changes what an exclusive claim leaves in the group.
+    pub(crate) fn leave<C: Change<Content>>(&mut self, claim: &mut Claim<J>, change: &C)
+        requires group { claim.old.group ≡ self.old.ticket_box.group }
+        requires exclusive { claim.old.mode ≡ Exclusive }
+        ensures left { claim.old.left ≡ self.old.ticket_box.left }
+        ensures claim { claim.new ≡ leaving claim.old (C.changed change.now claim.old.left) }
+        ensures lock { self.new ≡ locked (with_left self.old.ticket_box (C.changed change.now self.old.ticket_box.left)) self.old.holders }
+        ensures agree { IsLocked self.new }
+    {
+        self.ticket_box.leave(claim, change);
+    }
+
+    /// Takes back all that was done under an exclusive claim.
+    pub(crate) fn undo(&mut self, claim: &mut Claim<J>)
+        requires group { claim.old.group ≡ self.old.ticket_box.group }
+        requires exclusive { claim.old.mode ≡ Exclusive }
+        ensures back { claim.old.back ≡ self.old.ticket_box.back }
+        ensures claim { claim.new ≡ leaving claim.old claim.old.back }
+        ensures lock { self.new ≡ locked (with_left self.old.ticket_box self.old.ticket_box.back) self.old.holders }
+        ensures agree { IsLocked self.new }
+    {
+        self.ticket_box.undo(claim);
+    }
+}
+
+// Where one of the holders stands.
+fn index_of(holders: &[Holder], by: Holder) -> usize
+    requires { Contains holders.now by }
+    ensures inside { result < length holders.now }
+    ensures is { slice_index_or holders.now result by ≡ by }
+{
+    let Some(index) = holders.iter().position(|holder| *holder == by) else {
+        unreachable!()
+    };
+    index
+}

@@ -1,0 +1,75 @@
+//! What is said to one who wants some groups.
+ghost use Rattle.std.specs.Prelude.{◌≡◌, ◌<◌, ◌≤◌, ◌+◌, ◌∷◌, [], All, length};
+ghost use Rattle.std.specs.List.{flat_map};
+ghost use Rattle.local_locks.specs.Rulings.{IsRuling, joined, spot, spots_of};
+ghost use Rattle.local_locks.specs.Wishes.{IsWanted};
+
+use crate::lock::Lock;
+use crate::places::places_of;
+use groups::{Mode, Want};
+use tickets::Naming;
+use wait_die::{Age, Decision, verdict};
+
+/// What is said to one who wants some groups.
+#[derive(Clone, Copy, Debug, PartialEq, Eq)]
+pub(crate) enum Ruling {
+    Free,
+    Waits,
+    /// Of the first place at which a holder that conflicts is not younger, and of the oldest one there.
+    Dies(usize, Age),
+}
+
+impl Ruling {
+    // What is said to one who wants both.
+    fn join(self, other: Ruling) -> Ruling
+        ensures { result ≡ joined self other }
+    {
+        match (self, other) {
+            (Ruling::Dies(number, _), Ruling::Dies(second, _)) => {
+                if second < number { other } else { self }
+            }
+            (Ruling::Dies(..), _) => self,
+            (Ruling::Waits, Ruling::Free) => self,
+            _ => other,
+        }
+    }
+}
+
+// What is said to a wish for the group at a place.
+fn ruling_at<J: Naming>(locks: &[Lock<J>], age: Age, number: usize, mode: Mode) -> Ruling
+    requires { number < length locks.now }
+    ensures { IsRuling age locks.now (spot number mode ∷ []) result }
+{
+    match verdict(age, locks[number].conflicting(mode)) {
+        Decision::Free => Ruling::Free,
+        Decision::Waits => Ruling::Waits,
+        Decision::Dies(holder) => Ruling::Dies(number, holder),
+    }
+}
+
+// What is said to a wish for each of these groups.
+fn ruling_on_want<J: Naming>(locks: &[Lock<J>], age: Age, want: Want) -> Ruling
+    requires there { IsWanted J.warehouses want }
+    requires places { 105 ≤ length locks.now }
+    ensures { IsRuling age locks.now (spots_of want) result }
+{
+    let (first, end) = places_of::<J>(want.extent);
+    let mut ruling = Ruling::Free;
+    for number in first..end {
+        ruling = ruling.join(ruling_at(locks, age, number, want.mode));
+    }
+    ruling
+}
+
+/// What is said to one of this age who wants groups of the warehouse.
+pub(crate) fn ruling_on<J: Naming>(locks: &[Lock<J>], age: Age, wants: &[Want]) -> Ruling
+    requires there { All (IsWanted J.warehouses) wants.now }
+    requires places { 105 ≤ length locks.now }
+    ensures { IsRuling age locks.now (flat_map spots_of wants.now) result }
+{
+    let mut ruling = Ruling::Free;
+    for want in wants {
+        ruling = ruling.join(ruling_on_want(locks, age, *want));
+    }
+    ruling
+}

@@ -1,0 +1,205 @@
+ghost use Rattle.std.specs.Prelude.{◌≡◌, ◌++◌, ◌∷◌, [], All, IfNone, IfOk, IfSome, IsOk, OnErr, map, slice_set, slice_index_or, ℕ};
+ghost use Rattle.std.specs.List.Sorted.{IsPermutation};
+ghost use Rattle.requests.specs.declared.group.Group.{Group as AnyGroup};
+ghost use Rattle.groups.specs.Groups.{warehouse_of};
+ghost use Rattle.groups.specs.declared.wishes.Mode.TheVariants.{Exclusive};
+ghost use Rattle.tickets.specs.Claims.{leaving};
+ghost use Rattle.local_locks.specs.Asking.{all_kept_after, held_by, AreHeld, Answers, IsSettled, StillWaits, TakesTurn, leaving_in};
+ghost use Rattle.local_locks.specs.Conflicts.{MustDie};
+ghost use Rattle.local_locks.specs.Laws.{NoneConflict, AreUntouched};
+ghost use Rattle.local_locks.specs.Locking.{back_in, left_in, opened, AreBoxesOf};
+ghost use Rattle.local_locks.specs.Wishes.{CanAsk};
+
+use crate::granting::{count_of, grant_all, take_all_back};
+use crate::lock::Lock;
+use crate::places::place_of_claim;
+use crate::rulings::{Ruling, ruling_on};
+use crate::waiting::{Next, Waiter, next_of};
+use agreement::Change;
+use groups::{Content, Want};
+use requests::Group;
+use schema::NoMemory;
+use std::alloc::Global;
+use std::marker::Model;
+use tickets::{Claim, Naming, TicketBox};
+use wait_die::{Age, Holder};
+
+/// What is answered to an action that asks for groups.
+#[derive(Drop)]
+pub enum Asked<J: Naming> {
+    /// A claim on each group, want by want, those of a prefix in the order of groups.
+    Granted(Vec<Claim<J>>),
+    /// It waits, for younger holders alone.
+    Waits,
+    /// It dies: of those who are in its way and not younger, the group is the first that one holds, and
+    /// `holder` the age of the oldest one there.
+    Dies { group: Group, holder: Age },
+}
+
+/// The turn of an action that waited.
+#[derive(Drop)]
+pub enum Turn<J: Naming> {
+    /// It has a claim on each group, want by want, those of a prefix in the order of groups.
+    Granted(Holder, Vec<Claim<J>>),
+    /// It dies, as `Asked::Dies` tells.
+    Dies {
+        by: Holder,
+        group: Group,
+        holder: Age,
+    },
+}
+
+/// Who holds which groups of a warehouse, and who waits for them.
+///
+/// Contracts see the warehouse, what stands in each group, all claims that are out, and all who wait.
+#[derive(Drop)]
+pub struct LockTable<J: Naming> {
+    w_id: u32,
+    locks: Vec<Lock<J>>,
+    waiters: Vec<Waiter<J>>,
+}
+
+impl<J: Naming> Model for LockTable<J> {
+    ghost use Rattle.std.specs.Prelude.{All};
+    ghost use Rattle.std.specs.Coded.{codes};
+    ghost use Rattle.groups.specs.contracts.content.Content as content;
+    ghost use Rattle.local_locks.specs.Locking.{Locking};
+    ghost use Rattle.local_locks.specs.Locks.{locking, AreLocksOf, IsParked};
+
+    ghost Value = { Locking };
+
+    ghost coded = { Prim.hlevel (codes, content.the_row.coded) };
+
+    ghost view = { λ t. locking t.w_id t.locks.items t.waiters.items };
+
+    ghost invariant = { λ t. AreLocksOf J.warehouses t.w_id t.locks.items × All (IsParked J.warehouses t.w_id) t.waiters.items };
+}
+
+impl<J: Naming> LockTable<J> {
+    /// The table of a warehouse with these boxes of its groups, in the order of groups. Nothing is left
+    /// after an error.
+    pub fn open(
+        alloc: Global,
+        w_id: u32,
+        boxes: Vec<TicketBox<J>>,
+    ) -> Result<LockTable<J>, NoMemory>
+        requires { AreBoxesOf J.warehouses w_id boxes.items }
+        ensures { IfOk result (λ table. table ≡ opened w_id boxes.items) }
+    {
+        let mut locks = Vec::with_capacity(alloc.clone()?, boxes.len())?;
+        for ticket_box in boxes {
+            locks.push(Lock::new(ticket_box))?;
+        }
+        Ok(LockTable {
+            w_id,
+            locks,
+            waiters: Vec::new(alloc),
+        })
+    }
+
+    /// An action asks for all its groups at once. It is granted all exactly where each is free, and else
+    /// none. Want of memory changes nothing.
+    pub fn ask(&mut self, alloc: Global, by: Holder, wants: &[Want]) -> Result<Asked<J>, NoMemory>
+        requires { CanAsk J.warehouses self.old.w_id wants.now }
+        ensures answers { IfOk result (λ asked. Answers by wants.now self.old asked self.new) }
+        ensures err { OnErr result (self.new ≡ self.old) }
+        ensures death_takes_none { OnErr result ((group : AnyGroup) (age : ℕ) → MustDie self.old.holdings by.age wants.now group age → ⊥) }
+        ensures nothing_takes_none { wants.now ≡ [] → IsOk result }
+    {
+        match ruling_on(&self.locks, by.age, wants) {
+            Ruling::Free => {
+                let mut claims = Vec::with_capacity(alloc, count_of::<J>(wants))?;
+                grant_all(&mut self.locks, wants, by, &mut claims);
+                Ok(Asked::Granted(claims))
+            }
+            Ruling::Waits => {
+                let waiter = Waiter::new(alloc, by, wants, count_of::<J>(wants))?;
+                self.waiters.push(waiter)?;
+                Ok(Asked::Waits)
+            }
+            Ruling::Dies(number, holder) => Ok(Asked::Dies {
+                group: self.locks[number].group(),
+                holder,
+            }),
+        }
+    }
+
+    /// Takes claims back that this one holds, once what they left is committed. It takes no memory.
+    pub fn give_back(&mut self, by: Holder, claims: Vec<Claim<J>>)
+        requires held { AreHeld self.old.holdings by claims.items }
+        requires committed { All IsSettled claims.items }
+        ensures holdings { IsPermutation self.old.holdings (map (held_by by) claims.items ++ self.new.holdings) }
+        ensures stands { self.new.stands ≡ all_kept_after claims.items self.old.stands }
+        ensures waiters { self.new.waiters ≡ self.old.waiters }
+        ensures warehouse { self.new.w_id ≡ self.old.w_id }
+    {
+        take_all_back(&mut self.locks, by, claims);
+    }
+
+    /// The turn of the oldest of those who need not wait any more, and of one age of the one of the least
+    /// place: it is granted or dies. `None` where all have to wait. It takes no memory.
+    pub fn next_grant(&mut self) -> Option<Turn<J>>
+        ensures turn { IfSome result (λ turn. TakesTurn self.old turn self.new) }
+        ensures none { IfNone result (All (StillWaits self.old.holdings) self.old.waiters) }
+        ensures same { IfNone result (self.new ≡ self.old) }
+    {
+        let Next { index, by, ruling } = next_of(&self.locks, &self.waiters)?;
+        let Waiter { by: _, wants, room } = self.waiters.remove(index);
+        match ruling {
+            Ruling::Free => {
+                let mut claims = room;
+                grant_all(&mut self.locks, &wants, by, &mut claims);
+                Some(Turn::Granted(by, claims))
+            }
+            Ruling::Dies(number, holder) => Some(Turn::Dies {
+                by,
+                group: self.locks[number].group(),
+                holder,
+            }),
+            Ruling::Waits => unreachable!(),
+        }
+    }
+
+    /// Learns that what a claim on one of the groups left stands in it.
+    pub fn look(&mut self, claim: &mut Claim<J>)
+        requires { warehouse_of claim.old.group ≡ self.old.w_id }
+        ensures left { claim.old.left ≡ left_in self.old.stands claim.old.group }
+        ensures back { claim.old.back ≡ back_in self.old.stands claim.old.group }
+        ensures same { (self.new ≡ self.old) × (claim.new ≡ claim.old) }
+    {
+        let place = place_of_claim(claim);
+        self.locks[place].look(claim);
+    }
+
+    /// Changes what an exclusive claim leaves in its group.
+    pub fn leave<C: Change<Content>>(&mut self, claim: &mut Claim<J>, change: &C)
+        requires here { warehouse_of claim.old.group ≡ self.old.w_id }
+        requires exclusive { claim.old.mode ≡ Exclusive }
+        ensures left { claim.old.left ≡ left_in self.old.stands claim.old.group }
+        ensures claim { claim.new ≡ leaving claim.old (C.changed change.now claim.old.left) }
+        ensures table { self.new ≡ leaving_in self.old claim.old.group (C.changed change.now claim.old.left) }
+    {
+        let place = place_of_claim(claim);
+        self.locks[place].leave(claim, change);
+    }
+
+    /// Takes back all that was done under an exclusive claim.
+    pub fn undo(&mut self, claim: &mut Claim<J>)
+        requires here { warehouse_of claim.old.group ≡ self.old.w_id }
+        requires exclusive { claim.old.mode ≡ Exclusive }
+        ensures back { claim.old.back ≡ back_in self.old.stands claim.old.group }
+        ensures claim { claim.new ≡ leaving claim.old claim.old.back }
+        ensures table { self.new ≡ leaving_in self.old claim.old.group claim.old.back }
+    {
+        let place = place_of_claim(claim);
+        self.locks[place].undo(claim);
+    }
+
+    /// No two claims that are out conflict. While none is out, nothing is left to be taken back in any group.
+    pub fn agree(&self)
+        ensures none_conflict { NoneConflict self.now.holdings }
+        ensures untouched { self.now.holdings ≡ [] → AreUntouched self.now.stands }
+    {
+        let _ = &self.locks;
+    }
+}

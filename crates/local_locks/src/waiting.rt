@@ -1,0 +1,92 @@
+//! Who waits, and whose turn it is.
+ghost use Rattle.std.specs.Prelude.{◌≡◌, ◌≤◌, All, IfOk, IfSome, IfNone, length};
+ghost use Rattle.local_locks.specs.Locks.{parked};
+ghost use Rattle.local_locks.specs.Turns as spec;
+ghost use Rattle.local_locks.specs.Turns.{IsNext, IsParkedThere, StaysParked};
+
+use crate::lock::Lock;
+use crate::rulings::{Ruling, ruling_on};
+use groups::Want;
+use schema::NoMemory;
+use std::alloc::Global;
+use std::marker::Model;
+use tickets::{Claim, Naming};
+use wait_die::Holder;
+
+/// One who waits, for what, and with room for the claims.
+#[derive(Drop)]
+pub(crate) struct Waiter<J: Naming> {
+    pub(crate) by: Holder,
+    pub(crate) wants: Vec<Want>,
+    pub(crate) room: Vec<Claim<J>>,
+}
+
+impl<J: Naming> Model for Waiter<J> {
+    ghost use Rattle.std.specs.Prelude.{◌≡◌, [], vec_capacity};
+    ghost use Rattle.std.specs.Coded.{codes};
+    ghost use Rattle.local_locks.specs.Locks.{Parked, parked};
+
+    ghost Value = { Parked };
+
+    ghost view = { λ w. parked w.by w.wants.items (vec_capacity w.room) };
+
+    ghost invariant = { λ w. w.room.items ≡ [] };
+}
+
+impl<J: Naming> Waiter<J> {
+    /// One who waits from now on, with room for so many claims.
+    pub(crate) fn new(
+        alloc: Global,
+        by: Holder,
+        wants: &[Want],
+        count: usize,
+    ) -> Result<Waiter<J>, NoMemory>
+        ensures { IfOk result (λ waiter. waiter ≡ parked by wants.now count) }
+    {
+        let wants = Vec::from_slice(alloc.clone()?, wants)?;
+        let room = Vec::with_capacity(alloc, count)?;
+        Ok(Waiter { by, wants, room })
+    }
+}
+
+/// Whose turn it is: where it stands among those who wait, who it is, and what is said to it.
+#[derive(Clone, Copy, Debug, PartialEq, Eq)]
+pub(crate) struct Next {
+    pub(crate) index: usize,
+    pub(crate) by: Holder,
+    pub(crate) ruling: Ruling,
+}
+
+/// The oldest of those who need not wait any more, and of one age the one of the least place.
+pub(crate) fn next_of<J: Naming>(locks: &[Lock<J>], waiters: &[Waiter<J>]) -> Option<Next>
+    requires there { All (IsParkedThere J.warehouses) waiters.now }
+    requires places { 105 ≤ length locks.now }
+    ensures none { IfNone result (All (StaysParked locks.now) waiters.now) }
+    ensures next { IfSome result (IsNext locks.now waiters.now) }
+{
+    let mut next = None;
+    for (index, waiter) in waiters.iter().enumerate() {
+        let by = waiter.by;
+        let ruling = ruling_on(locks, by.age, &waiter.wants);
+        next = sooner(next, Next { index, by, ruling });
+    }
+    next
+}
+
+// Whose turn it is: who was found so far, or this one.
+fn sooner(found: Option<Next>, this: Next) -> Option<Next>
+    ensures { result ≡ spec.sooner found this }
+{
+    match (found, this.ruling) {
+        (_, Ruling::Waits) => found,
+        (Some(other), _) if !is_before(this.by, other.by) => found,
+        _ => Some(this),
+    }
+}
+
+// The older goes first, and of one age the one of the lesser place.
+fn is_before(a: Holder, b: Holder) -> bool
+    ensures { result ≡ spec.is_before a b }
+{
+    a.age < b.age || a.age == b.age && a.place < b.place
+}
