@@ -37,6 +37,6 @@ Covers want group = IsIn want.extent group
 abbrev pub Overlap : Want → Want → Type 0
 Overlap a b = (group : Group) × Covers a group × Covers b group
 
--- some group is wanted by both, and by one of them alone
+-- some group is wanted by both, and one of the two wants it exclusively
 abbrev pub Conflict : Want → Want → Type 0
 Conflict a b = Overlap a b × ((a.mode ≡ Exclusive) ⊎ (b.mode ≡ Exclusive))

@@ -96,7 +96,7 @@ impl Want {
         }
     }
 
-    /// Whether some group is wanted by both, and by one of them alone.
+    /// Whether some group is wanted by both, and one of the two wants it exclusively.
     pub fn conflicts(self, other: Want) -> bool
         ensures { IsTrue result ↔ Conflict self other }
     {
