@@ -9,9 +9,9 @@ use Rattle.requests.specs.declared.request.OrderStatus.{OrderStatus}
 use Rattle.requests.specs.declared.reply.Fault.TheVariants.{NoCustomer}
 use Rattle.requests.specs.declared.reply.Reply.TheVariants as reply
 use Rattle.requests.specs.declared.reply.StatusOrder.{StatusOrder}
-use Rattle.tickets.specs.Claims.{Claiming}
+use Rattle.tickets.specs.Claims.{Claiming, all_claims}
 use Rattle.commit_log.specs.Claimed.{IsCarriedOut}
-use Rattle.phases.specs.Following.{HaveAllDone, all_claims}
+use Rattle.phases.specs.Following.{HaveAllDone}
 use Rattle.actions.specs.declared.work.Work.TheVariants.{ShowCustomer, ShowOrder}
 use Rattle.actions.specs.declared.work.Found.{Found}
 use Rattle.actions.specs.declared.work.Found.TheVariants.{Shown as Customer, Order}

@@ -9,9 +9,9 @@ use Rattle.requests.specs.declared.request.Payment.{Payment}
 use Rattle.requests.specs.declared.reply.Fault.{Fault}
 use Rattle.requests.specs.declared.reply.PaymentReply.{PaymentReply}
 use Rattle.requests.specs.declared.reply.Reply.TheVariants as reply
-use Rattle.tickets.specs.Claims.{Claiming}
+use Rattle.tickets.specs.Claims.{Claiming, all_claims}
 use Rattle.commit_log.specs.Claimed.{IsCarriedOut}
-use Rattle.phases.specs.Following.{HaveAllDone, all_claims}
+use Rattle.phases.specs.Following.{HaveAllDone}
 use Rattle.actions.specs.declared.work.Work.TheVariants.{PayHome, PayCustomer, AddPayment}
 use Rattle.actions.specs.declared.work.Found.{Found}
 use Rattle.actions.specs.declared.work.Found.TheVariants.{Home, Customer, Added, Shown, Order}

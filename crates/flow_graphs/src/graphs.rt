@@ -3,9 +3,9 @@ ghost use Rattle.std.specs.Prelude.{◌≡◌, ◌++◌, List, IfOk};
 ghost use Rattle.schema.specs.declared.scale.Scale.{Scale};
 ghost use Rattle.schema.specs.Database.{Database};
 ghost use Rattle.requests.specs.declared.request.Request.{Request as AnyRequest};
-ghost use Rattle.tickets.specs.Claims.{Claiming};
+ghost use Rattle.tickets.specs.Claims.{Claiming, all_claims};
 ghost use Rattle.commit_log.specs.Claimed.{IsCarriedOut};
-ghost use Rattle.phases.specs.Following.{Follows, HaveAllDone, all_claims};
+ghost use Rattle.phases.specs.Following.{Follows, HaveAllDone};
 ghost use Rattle.actions.specs.Works.{HasDone};
 ghost use Rattle.flow_graphs.specs.Progresses.{IsAsked, IsReached, works_of as all_works};
 

@@ -2,8 +2,8 @@
 ghost use Rattle.std.specs.Prelude.{◌≡◌, ◌++◌, [], ◌∷◌, List, IfOk, OnOk};
 ghost use Rattle.schema.specs.declared.scale.Scale.{Scale};
 ghost use Rattle.requests.specs.declared.request.Request.{Request};
-ghost use Rattle.tickets.specs.Claims.{Claiming};
-ghost use Rattle.phases.specs.Following.{Follows, HaveAllDone, all_claims};
+ghost use Rattle.tickets.specs.Claims.{Claiming, all_claims};
+ghost use Rattle.phases.specs.Following.{Follows, HaveAllDone};
 ghost use Rattle.phases.specs.declared.phase.Never.{Never as AnyNever};
 ghost use Rattle.schema.specs.Database.{Database};
 ghost use Rattle.commit_log.specs.Claimed.{IsCarriedOut};

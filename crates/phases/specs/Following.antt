@@ -13,11 +13,6 @@ HaveAllDone HasDone [] [] [] = Unit {0}
 HaveAllDone HasDone (work ∷ works) (one ∷ found) (held ∷ claims) = HasDone work one held × HaveAllDone HasDone works found claims
 HaveAllDone HasDone works found claims = ⊥
 
--- the claims of all actions, by place
-abbrev pub all_claims : List (List Claiming) → List Claiming
-all_claims [] = []
-all_claims (held ∷ claims) = held ++ all_claims claims
-
 -- Next is what is known to follow, or the request was carried out with this reply, or with this rollback.
 abbrev pub Follows : {G : Type 0} → (G → List Claiming → Type 0) → (List Claiming → Reply → Type 0) → List Claiming → Gathered G → Type 0
 Follows IsKnown IsCarriedOut claims (Next given) = IsKnown given claims

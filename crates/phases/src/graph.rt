@@ -3,8 +3,8 @@ ghost use Rattle.std.specs.Prelude.{◌≡◌, ◌++◌, List, All, IfOk, map};
 ghost use Rattle.schema.specs.declared.scale.Scale.{Scale};
 ghost use Rattle.requests.specs.declared.request.Request.{Request};
 ghost use Rattle.groups.specs.Footprint.{footprint};
-ghost use Rattle.tickets.specs.Claims.{Claiming};
-ghost use Rattle.phases.specs.Following.{Follows, HaveAllDone, AreSomeOf, all_claims, all_wishes, wish_of};
+ghost use Rattle.tickets.specs.Claims.{Claiming, all_claims};
+ghost use Rattle.phases.specs.Following.{Follows, HaveAllDone, AreSomeOf, all_wishes, wish_of};
 ghost use Rattle.phases.specs.Stages.{is_reached_in, works_in};
 
 use crate::phase::{Deeds, Gathered, Known, Never, Phase};

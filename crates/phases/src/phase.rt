@@ -5,8 +5,8 @@ ghost use Rattle.requests.specs.declared.request.Request.{Request};
 ghost use Rattle.requests.specs.declared.reply.Reply.{Reply as AnyReply};
 ghost use Rattle.groups.specs.declared.wishes.Wish.{Wish};
 ghost use Rattle.groups.specs.Footprint.{footprint};
-ghost use Rattle.tickets.specs.Claims.{Claiming};
-ghost use Rattle.phases.specs.Following.{Follows, HaveAllDone, AreSomeOf, all_claims, all_wishes, wish_of};
+ghost use Rattle.tickets.specs.Claims.{Claiming, all_claims};
+ghost use Rattle.phases.specs.Following.{Follows, HaveAllDone, AreSomeOf, all_wishes, wish_of};
 
 use requests::{Fault, Reply};
 use schema::NoMemory;

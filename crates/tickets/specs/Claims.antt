@@ -1,5 +1,5 @@
 -- What a contract sees of a claim, and what it holds.
-use Rattle.std.specs.Prelude.{◌≡◌}
+use Rattle.std.specs.Prelude.{◌≡◌, List, [], ◌∷◌, ◌++◌}
 use Rattle.atomic_table.specs.Seated.{TableId}
 use Rattle.agreement.specs.Telling.{Telling}
 use Rattle.requests.specs.declared.group.Group.{Group}
@@ -51,3 +51,10 @@ HoldsClaim committed done mode tickets work =
     (tickets ≡ committed_seat committed tickets.value.content (told_shares mode))
     × (work ≡ work_seat done work.value (work_shares mode))
     × IsUntouched mode tickets.value.content work.value
+
+-- ---- the claims of several actions
+
+-- the claims of all actions, by place
+abbrev pub all_claims : List (List Claiming) → List Claiming
+all_claims [] = []
+all_claims (held ∷ claims) = held ++ all_claims claims

@@ -10,6 +10,7 @@
 #![tactic(auto)]
 
 mod claim;
+mod claims;
 mod laws;
 mod log_seat;
 mod log_seats;
@@ -20,6 +21,7 @@ mod ticket_box;
 mod work;
 
 pub use claim::Claim;
+pub use claims::Claims;
 pub use laws::{
     claims_elsewhere_say_nothing, claims_given_back_keep_committed, claims_tell_what_is_committed,
     commits_make_the_next_tables, exclusive_claims_are_alone, grants_keep_committed,

@@ -1,5 +1,6 @@
+use Rattle.tickets.specs.Claims.{all_claims}
 use Rattle.std.proofs.Common.{◌++◌, subst}
-use Rattle.phases.specs.Following.{HaveAllDone, all_claims}
+use Rattle.phases.specs.Following.{HaveAllDone}
 use Rattle.phases.specs.Stages.{is_reached_in}
 use Rattle.actions.specs.Works.{HasDone}
 use Rattle.flow_graphs.specs.declared.graphs.Progress.{Progress}

@@ -1,8 +1,8 @@
+use Rattle.tickets.specs.Claims.{all_claims}
 use Rattle.std.proofs.Common.{◌++◌, subst, sym}
 use Rattle.schema.specs.Database.{Database}
 use Rattle.requests.specs.declared.reply.Reply.{Reply}
 use Rattle.commit_log.specs.Claimed.{IsCarriedOut}
-use Rattle.phases.specs.Following.{all_claims}
 use Rattle.flow_graphs.proofs.OrderStatusSteps.{order_finished}
 use Rattle.flow_graphs.proofs.order_status.ReadOrderPhaseDoingStatusShownNever.gather.Goals as goal
 

@@ -1,0 +1,48 @@
+ghost use Rattle.std.specs.Prelude.{◌≡◌, length};
+
+use crate::{Claim, Naming};
+use std::marker::Model;
+
+/// The claims of one action.
+///
+/// Contracts see them in order.
+#[derive(Drop)]
+pub struct Claims<J: Naming> {
+    pub(crate) claims: Vec<Claim<J>>,
+}
+
+impl<J: Naming> Model for Claims<J> {
+    ghost use Rattle.std.specs.Coded.{codes};
+    ghost use Rattle.std.specs.Prelude.{List};
+    ghost use Rattle.groups.specs.contracts.content.Content as content;
+    ghost use Rattle.tickets.specs.Claims.{Claiming};
+
+    ghost Value = { List Claiming };
+
+    ghost coded = { Prim.hlevel (codes, content.the_row.coded) };
+
+    ghost view = { λ c. c.claims.items };
+}
+
+impl<J: Naming> Claims<J> {
+    /// These claims, as those of one action.
+    pub fn new(claims: Vec<Claim<J>>) -> Claims<J>
+        ensures { result ≡ claims.items }
+    {
+        Claims { claims }
+    }
+
+    /// The claims, one by one.
+    pub fn into_vec(self) -> Vec<Claim<J>>
+        ensures { result.items ≡ self }
+    {
+        self.claims
+    }
+
+    /// How many there are.
+    pub fn len(&self) -> usize
+        ensures { result ≡ length self.now }
+    {
+        self.claims.len()
+    }
+}
