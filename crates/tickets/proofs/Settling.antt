@@ -1,14 +1,14 @@
 -- The log's seats and claims are gone through one after another.
-use Rattle.std.proofs.Common.{◌≡◌, ℕ, ◌+◌, ◌-◌, ◌<◌, ◌≤◌, List, [], ◌∷◌, ◌++◌, length, get_or, set, map, take, drop, refl, sym, ap, ◌∙◌, subst, arith}
-use Rattle.std.proofs.lemmas.List.{get_or-append_right, get_or-drop, get_or_default, length-map, length-take-le, take_more}
+use Rattle.std.proofs.Common.{◌≡◌, ℕ, ◌+◌, ◌-◌, ◌<◌, ◌≤◌, List, [], ◌∷◌, ◌++◌, length, get_or, set, map, take, drop, refl, sym, ap, ◌∙◌, subst, append_assoc, arith}
+use Rattle.std.proofs.lemmas.List.{append-nil, get_or-append_right, get_or-drop, get_or_default, length-map, length-take-le, take_more}
 use Rattle.std.proofs.lemmas.List.Edits.{map_over_more}
-use Rattle.std.proofs.lemmas.List.Elements.{All-contains, All-map}
+use Rattle.std.proofs.lemmas.List.Elements.{All-nil, All-head, All-tail, All-append, All-contains, All-map}
 use Rattle.std.proofs.lemmas.Simd.{map-map}
 use Rattle.std.specs.List.{HoldsAt, All}
 use Rattle.requests.specs.declared.group.Group.{Group}
 use Rattle.groups.specs.Content.{Content}
-use Rattle.tickets.specs.Claims.{Claiming, settled}
-use Rattle.tickets.specs.Committed.{content_after, contents_after, after_claims, Tells}
+use Rattle.tickets.specs.Claims.{Claiming, settled, all_claims}
+use Rattle.tickets.specs.Committed.{content_after, contents_after, after_claims, all_settled, Tells}
 use Rattle.tickets.specs.LogSeats.{Committed, committed, with_content, after_one, after_all, IsToldIn, SeatsTell}
 
 -- a claim that was looked at is told in the seats
@@ -17,21 +17,21 @@ told_at seats now claims looked k x same_seats same_claims here told = λ d.
     subst (λ s. IsToldIn s (get_or claims k d)) same_seats
     (subst (IsToldIn now) (ap (λ cs. get_or cs k x) same_claims ∙ get_or_default claims k x d here) told)
 
--- the next claim is as it was before the loop
-at_turn : (claims now : List Claiming) (k : ℕ) (d : Claiming) → k ≤ length claims → now ≡ map settled (take k claims) ++ drop k claims → get_or now k d ≡ get_or claims k d
-at_turn claims now k d small is =
-    let long : length (map settled (take k claims)) ≡ k = length-map (take k claims) settled ∙ length-take-le k claims small in
+-- the next of these is as it was before the loop, which made f of each of the others so far
+at_turn : {X : Type 0} (f : X → X) (xs now : List X) (k : ℕ) (d : X) → k ≤ length xs → now ≡ map f (take k xs) ++ drop k xs → get_or now k d ≡ get_or xs k d
+at_turn f xs now k d small is =
+    let long : length (map f (take k xs)) ≡ k = length-map (take k xs) f ∙ length-take-le k xs small in
     let at : k + (k - k) ≡ k = omega arith in
-    ap (λ l. get_or l k d) is ∙ get_or-append_right (map settled (take k claims)) (drop k claims) k k d long (omega arith) ∙ get_or-drop k claims (k - k) d ∙ ap (λ n. get_or claims n d) at
+    ap (λ l. get_or l k d) is ∙ get_or-append_right (map f (take k xs)) (drop k xs) k k d long (omega arith) ∙ get_or-drop k xs (k - k) d ∙ ap (λ n. get_or xs n d) at
 
-contents_after-append : (group : Group) (content : Content) (claims : List Claiming) (claim : Claiming) → contents_after group content (claims ++ claim ∷ []) ≡ content_after group (contents_after group content claims) claim
-contents_after-append group content [] claim = refl
-contents_after-append group content (c ∷ cs) claim = contents_after-append group (content_after group content c) cs claim
+contents_after-append : (group : Group) (content : Content) (claims more : List Claiming) → contents_after group content (claims ++ more) ≡ contents_after group (contents_after group content claims) more
+contents_after-append group content [] more = refl
+contents_after-append group content (c ∷ cs) more = contents_after-append group (content_after group content c) cs more
 
-seats_more : (seats : List Committed) (claims : List Claiming) (claim : Claiming) → map (after_one claim) (map (after_all claims) seats) ≡ map (after_all (claims ++ claim ∷ [])) seats
-seats_more seats claims claim =
-    map-map (after_one claim) (after_all claims) seats
-    ∙ (λ i. map (λ (seat : Committed). with_content seat (sym (contents_after-append seat.group seat.content claims claim) i)) seats)
+seats_more : (seats : List Committed) (claims more : List Claiming) → map (after_all more) (map (after_all claims) seats) ≡ map (after_all (claims ++ more)) seats
+seats_more seats claims more =
+    map-map (after_all more) (after_all claims) seats
+    ∙ (λ i. map (λ (seat : Committed). with_content seat (sym (contents_after-append seat.group seat.content claims more) i)) seats)
 
 pub no_claims : (seats : List Committed) → seats ≡ map (after_all []) seats
 no_claims [] = refl
@@ -42,10 +42,39 @@ pub settle_turn : (seats now new : List Committed) (claims before : List Claimin
     → new ≡ map (after_one claim) now → after ≡ settled claim
     → (new ≡ map (after_all (take (k + 1) claims)) seats) × (set before k after ≡ map settled (take (k + 1) claims) ++ drop (k + 1) claims)
 settle_turn seats now new claims before claim after k here are_now are_before at are_new is_after =
-    let found : claim ≡ get_or claims k claim = at ∙ at_turn claims before k claim (omega arith) are_before in (
-      are_new ∙ ap (map (after_one claim)) are_now ∙ seats_more seats (take k claims) claim
+    let found : claim ≡ get_or claims k claim = at ∙ at_turn settled claims before k claim (omega arith) are_before in (
+      are_new ∙ ap (map (after_one claim)) are_now ∙ seats_more seats (take k claims) (claim ∷ [])
           ∙ ap (λ cs. map (after_all cs) seats) (ap (λ c. take k claims ++ c ∷ []) found ∙ sym (take_more claims k claim here)),
       ap (set before k) is_after ∙ map_over_more settled claims before k claim here are_before at,
+    )
+
+-- ---- the claims of several actions
+
+-- the claims of an action that were looked at are told in the seats
+pub action_told : (seats now : List Committed) (held looked : List (List Claiming)) (k : ℕ) (x : List Claiming) → now ≡ seats → looked ≡ held → k < length held → All (IsToldIn now) (get_or looked k x) → HoldsAt (All (IsToldIn seats)) held k
+action_told seats now held looked k x same_seats same_held here told = λ d.
+    subst (λ s. All (IsToldIn s) (get_or held k d)) same_seats
+    (subst (All (IsToldIn now)) (ap (λ cs. get_or cs k x) same_held ∙ get_or_default held k x d here) told)
+
+-- what holds of each action's claims, holds of all
+pub all_told : (P : Claiming → Type 0) (held : List (List Claiming)) → All (All P) held → All P (all_claims held)
+all_told P [] each = All-nil P
+all_told P (claims ∷ held) each = All-append P claims (all_claims held) (All-head (All P) claims held each) (all_told P held (All-tail (All P) claims held each))
+
+all_claims-append : (held : List (List Claiming)) (claims : List Claiming) → all_claims (held ++ claims ∷ []) ≡ all_claims held ++ claims
+all_claims-append [] claims = append-nil claims
+all_claims-append (own ∷ held) claims = ap (λ rest. own ++ rest) (all_claims-append held claims) ∙ sym (append_assoc own (all_claims held) claims)
+
+-- the claims of one action more are settled
+pub settle_action_turn : (seats now new : List Committed) (held before : List (List Claiming)) (claims after : List Claiming) (k : ℕ) → k < length held → now ≡ map (after_all (all_claims (take k held))) seats → before ≡ map all_settled (take k held) ++ drop k held → claims ≡ get_or before k claims
+    → new ≡ map (after_all claims) now → after ≡ all_settled claims
+    → (new ≡ map (after_all (all_claims (take (k + 1) held))) seats) × (set before k after ≡ map all_settled (take (k + 1) held) ++ drop (k + 1) held)
+settle_action_turn seats now new held before claims after k here are_now are_before at are_new are_after =
+    let found : claims ≡ get_or held k claims = at ∙ at_turn all_settled held before k claims (omega arith) are_before in
+    let more : all_claims (take k held) ++ claims ≡ all_claims (take (k + 1) held) =
+    sym (all_claims-append (take k held) claims) ∙ ap all_claims (ap (λ cs. take k held ++ cs ∷ []) found ∙ sym (take_more held k claims here)) in (
+      are_new ∙ ap (map (after_all claims)) are_now ∙ seats_more seats (all_claims (take k held)) claims ∙ ap (λ cs. map (after_all cs) seats) more,
+      ap (set before k) are_after ∙ map_over_more all_settled held before k claims here are_before at,
     )
 
 -- ---- what the seats tell

@@ -1,12 +1,12 @@
 //! The log's seats of all groups.
 ghost use Rattle.std.specs.Prelude.{◌≡◌, ℕ, ◌+◌, ◌-◌, ◌*◌, ◌<◌, ◌≤◌, All, map};
-ghost use Rattle.tickets.specs.Claims.{settled};
+ghost use Rattle.tickets.specs.Claims.{settled, all_claims};
 ghost use Rattle.tickets.specs.Committed.{all_settled};
 ghost use Rattle.tickets.specs.LogSeats.{after_all, after_one, IsToldIn};
 ghost use Rattle.tickets.specs.Places as spec;
 
 use crate::places::place_of;
-use crate::{Claim, LogSeat, Naming};
+use crate::{Claim, Claims, LogSeat, Naming};
 use std::marker::Model;
 
 /// The log's seats of all groups there are.
@@ -82,5 +82,40 @@ impl<J: Naming> LogSeats<J> {
         for k in 0..count {
             self.settle(&mut claims[k]);
         }
+    }
+
+    /// Learns that the claims of these actions tell what is committed in their groups.
+    pub fn look_each(&mut self, held: &mut [Claims<J>])
+        ensures told { All (IsToldIn self.old) (all_claims held.old) }
+        ensures same { (self.new ≡ self.old) × (held.new ≡ held.old) }
+    {
+        for k in 0..held.len() {
+            self.look_action(&mut held[k]);
+        }
+    }
+
+    /// What the exclusive ones among the claims of these actions left in their groups is committed from now on.
+    pub fn settle_each(&mut self, held: &mut [Claims<J>])
+        ensures contents { self.new ≡ map (after_all (all_claims held.old)) self.old }
+        ensures claims { held.new ≡ map all_settled held.old }
+    {
+        let actions = held.len();
+        for k in 0..actions {
+            self.settle_action(&mut held[k]);
+        }
+    }
+
+    fn look_action(&mut self, action: &mut Claims<J>)
+        ensures told { All (IsToldIn self.old) action.old }
+        ensures same { (self.new ≡ self.old) × (action.new ≡ action.old) }
+    {
+        self.look_all(action.claims.as_mut_slice());
+    }
+
+    fn settle_action(&mut self, action: &mut Claims<J>)
+        ensures contents { self.new ≡ map (after_all action.old) self.old }
+        ensures claims { action.new ≡ all_settled action.old }
+    {
+        self.settle_all(action.claims.as_mut_slice());
     }
 }
