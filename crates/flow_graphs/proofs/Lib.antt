@@ -1,3 +1,5 @@
 pub mod PaymentSteps
 pub mod OrderStatusSteps
 pub mod Gathering
+pub mod Counts
+pub mod Accepted

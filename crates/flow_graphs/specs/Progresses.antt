@@ -1,5 +1,5 @@
 -- How far a transaction of any kind has come.
-use Rattle.std.specs.Prelude.{◌≡◌, List, []}
+use Rattle.std.specs.Prelude.{◌≡◌, ◌≤◌, List, [], length}
 use Rattle.schema.specs.declared.scale.Scale.{Scale}
 use Rattle.requests.specs.declared.request.Request.{Request}
 use Rattle.requests.specs.Check.{IsAccepted}
@@ -26,3 +26,7 @@ IsReached scale asked (OrderStatus stage) held = is_reached_in IsStatusAsked IsS
 abbrev pub works_of : Progress → List Work
 works_of (Payment stage) = works_in rows_paid row_added stage
 works_of (OrderStatus stage) = works_in customer_read order_read stage
+
+-- an action that claimed a group at least
+abbrev pub HoldsSome : List Claiming → Type 0
+HoldsSome claims = 1 ≤ length claims

@@ -16,6 +16,9 @@ mod payment;
 
 pub use doing::Doing;
 pub use graphs::{Asked, Graphs, Progress};
-pub use laws::{actions_can_do_their_work, claims_are_of_the_footprint};
+pub use laws::{
+    MOST_ACTIONS, actions_can_do_their_work, claims_are_of_the_footprint, phases_have_actions,
+    reached_requests_are_accepted, transactions_have_few_actions,
+};
 pub use order_status::{OrderStatusGraph, ReadCustomer, ReadOrder, StatusAsked, StatusShown};
 pub use payment::{AddRow, Paid, PayRows, PaymentAsked, PaymentGraph};
