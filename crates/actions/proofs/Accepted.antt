@@ -1,4 +1,4 @@
--- An accepted request is one at a district of the scale, a payment by a customer of one.
+-- An accepted request is one at a district of the scale, a payment by a customer of one. So are its actions.
 use Rattle.std.proofs.Common.{◌≡◌, true, false, Bool, cond, leb, List, [], ◌∷◌, Ok, refl}
 use Rattle.std.specs.Prelude.{ℕ, Some, find}
 use Rattle.std.proofs.lemmas.Bool.{and_parts, and_from, leb-true, not-false}
@@ -14,7 +14,9 @@ use Rattle.requests.specs.declared.refusal.Refusal.TheVariants.{BadWarehouse, Ba
 use Rattle.requests.specs.Check.{refused_by, applies, IsAccepted}
 use Rattle.groups.specs.Footprint.{payment_footprint, order_status_footprint, groups_of}
 use Rattle.tickets.specs.Places.{IsBetween, IsGroupOf}
-use Rattle.actions.specs.Laws.{AcceptedRequestsHaveTheirGroups, AcceptedPaymentsHaveTheirDistrict, AcceptedStatusesHaveTheirDistrict}
+use Rattle.actions.specs.declared.work.Work.TheVariants.{PayHome, PayCustomer, AddPayment, ShowCustomer, ShowOrder}
+use Rattle.actions.specs.Works.{wishes_of}
+use Rattle.actions.specs.Laws.{AcceptedRequestsHaveTheirGroups, AcceptedPaymentsHaveTheirDistrict, AcceptedStatusesHaveTheirDistrict, WorksHaveTheirGroups}
 
 -- a first test that isn't passed
 not_first : (test : Refusal → Bool) (refusal : Refusal) (rest : List Refusal) → refused_by (find test (refusal ∷ rest)) ≡ Ok tt → (test refusal ≡ false) × (refused_by (find test rest) ≡ Ok tt)
@@ -74,3 +76,30 @@ pub accepted_statuses_have_their_district : AcceptedStatusesHaveTheirDistrict
 accepted_statuses_have_their_district scale o accepted =
     let is = status_in_scale scale o accepted in
     and_from (has_warehouse scale o.home.w_id) (is_between 1 10 o.home.d_id) is.0 is.1
+
+pub works_have_their_groups : WorksHaveTheirGroups
+works_have_their_groups scale (PayHome p) accepted =
+    let is = in_scale scale p accepted in
+    let warehouse = between 1 scale.warehouses p.home.w_id is.warehouse in
+    let district = between 1 10 p.home.d_id is.district in
+    All-from_recursion (IsGroupOf scale.warehouses) (groups_of (wishes_of (PayHome p))) (warehouse, ((warehouse, district), tt))
+works_have_their_groups scale (PayCustomer p) accepted =
+    let is = in_scale scale p accepted in
+    let warehouse = between 1 scale.warehouses p.customer_home.w_id is.payers_warehouse in
+    let district = between 1 10 p.customer_home.d_id is.payers_district in
+    All-from_recursion (IsGroupOf scale.warehouses) (groups_of (wishes_of (PayCustomer p))) ((warehouse, district), tt)
+works_have_their_groups scale (AddPayment p row) can =
+    let is = in_scale scale p can.0 in
+    let warehouse = between 1 scale.warehouses p.home.w_id is.warehouse in
+    let district = between 1 10 p.home.d_id is.district in
+    All-from_recursion (IsGroupOf scale.warehouses) (groups_of (wishes_of (AddPayment p row))) ((warehouse, district), tt)
+works_have_their_groups scale (ShowCustomer o) accepted =
+    let is = status_in_scale scale o accepted in
+    let warehouse = between 1 scale.warehouses o.home.w_id is.0 in
+    let district = between 1 10 o.home.d_id is.1 in
+    All-from_recursion (IsGroupOf scale.warehouses) (groups_of (wishes_of (ShowCustomer o))) ((warehouse, district), tt)
+works_have_their_groups scale (ShowOrder key) has =
+    let is = and_parts (has_warehouse scale key.w_id) (is_between 1 10 key.d_id) has in
+    let warehouse = between 1 scale.warehouses key.w_id is.0 in
+    let district = between 1 10 key.d_id is.1 in
+    All-from_recursion (IsGroupOf scale.warehouses) (groups_of (wishes_of (ShowOrder key))) ((warehouse, district), tt)

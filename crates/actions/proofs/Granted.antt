@@ -1,5 +1,6 @@
 -- Claims that were granted for wishes, taken one by one.
-use Rattle.std.proofs.Common.{◌≡◌, List, [], ◌∷◌, ◌++◌, take, drop, slice_index_or, slice_set, subst, sym}
+use Rattle.std.proofs.Common.{◌≡◌, ℕ, List, [], ◌∷◌, ◌++◌, length, take, drop, slice_index_or, slice_set, ap, subst, sym, ◌∙◌}
+use Rattle.std.proofs.Math.Seq.{take-append_seam}
 use Rattle.groups.specs.declared.wishes.Wish.{Wish}
 use Rattle.tickets.specs.Claims.{Claiming}
 use Rattle.slices.specs.Sliced.{Sliced, SliceKeeps}
@@ -25,3 +26,7 @@ two_kept wish other (claim ∷ next ∷ []) first rest any some new_first new_re
     (subst (λ ys. SliceKeeps (claim ∷ slice_index_or ys 0 some ∷ []) old (new_first ∷ new_rest ∷ []) slice) back
     (subst (λ xs. SliceKeeps (slice_index_or xs 0 any ∷ slice_index_or rest 0 some ∷ []) old (new_first ∷ new_rest ∷ []) slice) front kept)))
 two_kept wish other (claim ∷ next ∷ more ∷ claims) first rest any some new_first new_rest old slice granted front back kept = absurd granted.1.1
+
+-- a vector of so many claims, all of which were lent, has what was made of them
+pub written_back : (new old : List Claiming) (count : ℕ) → count ≡ length new → take count (new ++ drop (length new) old) ≡ new
+written_back new old count same = ap (λ n. take n (new ++ drop (length new) old)) same ∙ take-append_seam new (drop (length new) old)

@@ -1,7 +1,9 @@
--- What is committed is kept: by doing nothing, by one call, and by two calls under two claims.
-use Rattle.std.proofs.Common.{◌≡◌, [], ◌∷◌, List, Result, Ok, Err, OnOk, OnErr, refl, sym, subst, ◌∙◌}
-use Rattle.std.proofs.lemmas.List.Sorted.{IsPermutation-to_front}
+-- What is committed is kept: by doing nothing, by one call, by calls beside other claims, and claim by claim.
+use Rattle.std.proofs.Common.{◌≡◌, [], ◌∷◌, ◌++◌, List, Result, Ok, Err, OnOk, OnErr, append_assoc, refl, sym, subst, ◌∙◌}
+use Rattle.std.proofs.lemmas.List.{append-nil}
+use Rattle.std.proofs.lemmas.List.Sorted.{IsPermutation-append_comm}
 use Rattle.tickets.specs.Claims.{Claiming}
+use Rattle.tickets.specs.Committed.{AreCommitted}
 use Rattle.tickets.proofs.Committed.{keeps_permuted}
 use Rattle.slices.specs.Sliced.{Sliced, SliceKeeps, standing, everywhere}
 
@@ -27,16 +29,42 @@ pub by_call : {T E : Type 0} (result : Result T E) (was now : Claiming) (old new
 by_call (Ok x) was now old new kept same = kept
 by_call (Err fault) was now old new kept same = unchanged (was ∷ []) (now ∷ []) old new (λ i. same.1 i ∷ []) same.0
 
--- beside another claim, which comes after it or before it
-pub beside : (was now other : Claiming) (old new : Sliced) → SliceKeeps (was ∷ []) old (now ∷ []) new → SliceKeeps (was ∷ other ∷ []) old (now ∷ other ∷ []) new
-beside was now other old new kept = record { committed = λ tables others h. kept.committed tables (other ∷ others) h; scale = kept.scale; items = kept.items }
+-- beside more claims, which come after its own or before them
+pub with_more : (before after more : List Claiming) (old new : Sliced) → SliceKeeps before old after new → SliceKeeps (before ++ more) old (after ++ more) new
+with_more before after more old new kept = record {
+  committed = λ tables others h.
+      subst (λ claims. AreCommitted everywhere tables (standing new) claims) (sym (append_assoc after more others))
+      (kept.committed tables (more ++ others) (subst (λ claims. AreCommitted everywhere tables (standing old) claims) (append_assoc before more others) h));
+  scale = kept.scale;
+  items = kept.items;
+}
 
-pub behind : (was now other : Claiming) (old new : Sliced) → SliceKeeps (was ∷ []) old (now ∷ []) new → SliceKeeps (other ∷ was ∷ []) old (other ∷ now ∷ []) new
-behind was now other old new kept =
-    let more = beside was now other old new kept in
+pub after_more : (more before after : List Claiming) (old new : Sliced) → SliceKeeps before old after new → SliceKeeps (more ++ before) old (more ++ after) new
+after_more more before after old new kept =
+    let wide = with_more before after more old new kept in
     record {
-      committed = keeps_permuted everywhere (was ∷ other ∷ []) (other ∷ was ∷ []) (now ∷ other ∷ []) (other ∷ now ∷ []) (standing old) (standing new)
-          (IsPermutation-to_front (other ∷ []) was) (IsPermutation-to_front (now ∷ []) other) more.committed;
+      committed = keeps_permuted everywhere (before ++ more) (more ++ before) (after ++ more) (more ++ after) (standing old) (standing new)
+          (IsPermutation-append_comm more before) (IsPermutation-append_comm after more) wide.committed;
       scale = kept.scale;
       items = kept.items;
     }
+
+-- beside another claim, which comes after it or before it
+pub beside : (was now other : Claiming) (old new : Sliced) → SliceKeeps (was ∷ []) old (now ∷ []) new → SliceKeeps (was ∷ other ∷ []) old (now ∷ other ∷ []) new
+beside was now other = with_more (was ∷ []) (now ∷ []) (other ∷ [])
+
+pub behind : (was now other : Claiming) (old new : Sliced) → SliceKeeps (was ∷ []) old (now ∷ []) new → SliceKeeps (other ∷ was ∷ []) old (other ∷ now ∷ []) new
+behind was now other = after_more (other ∷ []) (was ∷ []) (now ∷ [])
+
+-- a claim is granted after those that are out, or the last of them is given back
+pub one_more : (claims : List Claiming) (claim : Claiming) (first : List Claiming) (start old new : Sliced)
+    → SliceKeeps first start claims old → SliceKeeps [] old (claim ∷ []) new → SliceKeeps first start (claims ++ claim ∷ []) new
+one_more claims claim first start old new kept granted =
+    then first claims (claims ++ claim ∷ []) start old new kept
+    (subst (λ before. SliceKeeps before old (claims ++ claim ∷ []) new) (append-nil claims) (after_more claims [] (claim ∷ []) old new granted))
+
+pub one_fewer : (claims : List Claiming) (claim : Claiming) (first : List Claiming) (start old new : Sliced)
+    → SliceKeeps first start (claims ++ claim ∷ []) old → SliceKeeps (claim ∷ []) old [] new → SliceKeeps first start claims new
+one_fewer claims claim first start old new kept returned =
+    then first (claims ++ claim ∷ []) claims start old new kept
+    (subst (λ after. SliceKeeps (claims ++ claim ∷ []) old after new) (append-nil claims) (after_more claims (claim ∷ []) [] old new returned))

@@ -10,3 +10,4 @@ pub mod Accepted
 pub mod Shown
 pub mod StatusCarriedOut
 pub mod Granted
+pub mod Wished

@@ -1,5 +1,5 @@
 -- The actions of a payment, together, are the payment, and so are those of an Order-Status.
-use Rattle.std.specs.Prelude.{◌≡◌, List, Option, [], ◌∷◌, All, IsTrue, map}
+use Rattle.std.specs.Prelude.{◌≡◌, ◌≤◌, List, Option, [], ◌∷◌, All, IsTrue, length, map}
 use Rattle.rows.specs.Keys.{district_of_customer}
 use Rattle.rows.specs.declared.keys.CustomerKey.{CustomerKey}
 use Rattle.rows.specs.declared.records.History.{History}
@@ -28,6 +28,9 @@ use Rattle.actions.specs.declared.gathering.CustomerShown.TheVariants.{Missing, 
 use Rattle.actions.specs.Payments.{IsHomePaid, IsCustomerPaid, IsPayerKnown, IsPaymentAdded}
 use Rattle.actions.specs.OrderStatuses.{IsCustomerShown, IsOrderShown}
 use Rattle.actions.specs.Gathering.{gathered, reply_shown}
+use Rattle.actions.specs.declared.work.Work.{Work}
+use Rattle.actions.specs.declared.work.Found.{Found}
+use Rattle.actions.specs.Works.{wishes_of, CanDo, HasDone}
 
 -- Where its home rows and its customer's row were paid and its row was added to the list of payments, the payment was
 -- carried out under these claims with this reply.
@@ -102,3 +105,20 @@ AcceptedPaymentsHaveTheirDistrict =
 abbrev pub AcceptedStatusesHaveTheirDistrict : Type 0
 AcceptedStatusesHaveTheirDistrict =
     (scale : Scale) (o : OrderStatus) → IsAccepted scale (request.OrderStatus o) → IsTrue (has_district scale o.home)
+
+-- ---- what an action claims
+
+-- The groups that an action claims for work that it can do are groups of the scale's warehouses.
+abbrev pub WorksHaveTheirGroups : Type 0
+WorksHaveTheirGroups =
+    (scale : Scale) (work : Work) → CanDo scale work → All (IsGroupOf scale.warehouses) (groups_of (wishes_of work))
+
+-- Each work claims some group.
+abbrev pub WorksHaveWishes : Type 0
+WorksHaveWishes = (work : Work) → 1 ≤ length (wishes_of work)
+
+-- The claims under which work was done are as many as its wishes.
+abbrev pub WorksHaveAClaimForEachWish : Type 0
+WorksHaveAClaimForEachWish =
+    (scale : Scale) (work : Work) (found : Found) (claims : List Claiming)
+    → HasDone scale work found claims → length claims ≡ length (wishes_of work)

@@ -3,3 +3,4 @@ pub mod OrderStatuses
 pub mod Gathering
 pub mod Laws
 pub mod Works
+pub mod Acting

@@ -1,5 +1,5 @@
 //! Laws of the actions: functions that do nothing, and are proved.
-ghost use Rattle.actions.specs.Laws.{AcceptedPaymentsHaveTheirDistrict, AcceptedRequestsHaveTheirGroups, AcceptedStatusesHaveTheirDistrict, GatheredPayersAreKnown, OrderStatusesAreCarriedOut, PaymentsAreCarriedOut, RolledBackClaimsCanBeUndone, RolledBackOrderStatusesAreCarriedOut, RolledBackPaymentsAreCarriedOut, ShownCustomersAreAtHome};
+ghost use Rattle.actions.specs.Laws.{AcceptedPaymentsHaveTheirDistrict, AcceptedRequestsHaveTheirGroups, AcceptedStatusesHaveTheirDistrict, GatheredPayersAreKnown, OrderStatusesAreCarriedOut, PaymentsAreCarriedOut, RolledBackClaimsCanBeUndone, RolledBackOrderStatusesAreCarriedOut, RolledBackPaymentsAreCarriedOut, ShownCustomersAreAtHome, WorksHaveAClaimForEachWish, WorksHaveTheirGroups, WorksHaveWishes};
 
 /// Where each action did its part, the payment is carried out as the machine does it: the reply is the
 /// machine's, and the claims leave what the machine leaves.
@@ -43,4 +43,15 @@ pub fn accepted_requests_have_their_groups()
     ensures groups { AcceptedRequestsHaveTheirGroups }
     ensures district { AcceptedPaymentsHaveTheirDistrict }
     ensures status { AcceptedStatusesHaveTheirDistrict }
+{}
+
+/// What an action claims for work that it can do is there.
+pub fn works_have_their_groups()
+    ensures { WorksHaveTheirGroups }
+{}
+
+/// Each work claims some group, and is done under one claim for each of its wishes.
+pub fn works_have_wishes()
+    ensures some { WorksHaveWishes }
+    ensures claims { WorksHaveAClaimForEachWish }
 {}

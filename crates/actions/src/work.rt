@@ -1,5 +1,6 @@
 //! What the actions of all transactions do, each with all that it needs.
-ghost use Rattle.std.specs.Prelude.{◌≡◌, [], ◌∷◌, List, IfOk, OnErr};
+ghost use Rattle.std.specs.Prelude.{◌≡◌, [], ◌∷◌, List, length, option_to_list, slice_get, IfOk, OnErr};
+ghost use Rattle.groups.specs.Footprint as footprint;
 ghost use Rattle.slices.specs.Sliced.{SliceKeeps};
 ghost use Rattle.actions.specs.Works.{AreGrantedFor, AreLeft, CanDo, HasDone, wishes_of};
 
@@ -7,8 +8,9 @@ use crate::{
     CustomerPaid, CustomerShown, HomePaid, add_payment, pay_customer, pay_home, show_customer,
     show_order,
 };
-use requests::{OrderStatus, Payment, StatusOrder};
-use schema::{CustomerKey, History, NoMemory};
+use groups::{Mode, Wish};
+use requests::{Group, OrderStatus, Payment, StatusOrder};
+use schema::{CustomerKey, DistrictKey, History, NoMemory};
 use slices::Slice;
 use std::alloc::Global;
 use tickets::{Claim, Naming};
@@ -26,6 +28,83 @@ pub enum Work {
     ShowCustomer(OrderStatus),
     /// The customer's last order is read.
     ShowOrder(CustomerKey),
+}
+
+impl Work {
+    /// How many groups the action claims for its work: one or two.
+    pub fn wish_count(&self) -> usize
+        ensures { result ≡ length (wishes_of self.now) }
+    {
+        match self.wishes() {
+            (_, None) => 1,
+            (_, Some(_)) => 2,
+        }
+    }
+
+    /// The wish of this number, from 0, of those that the action has for its work: a group, and how it is
+    /// claimed. They are in the order of groups, and are no more than `wish_count`. It takes no memory.
+    pub fn wish(&self, number: usize) -> Option<Wish>
+        ensures { result ≡ slice_get (wishes_of self.now) number }
+    {
+        let (first, second) = self.wishes();
+        match number {
+            0 => Some(first),
+            1 => second,
+            _ => None,
+        }
+    }
+
+    // All that it wishes for.
+    fn wishes(&self) -> (Wish, Option<Wish>)
+        ensures { wishes_of self.now ≡ result.0 ∷ option_to_list result.1 }
+    {
+        match self {
+            Work::PayHome(payment) => {
+                let DistrictKey { w_id, d_id } = payment.home;
+                let district = exclusively(Group::District { w_id, d_id });
+                (exclusively(Group::Warehouse { w_id }), Some(district))
+            }
+            Work::PayCustomer(payment) => {
+                let DistrictKey { w_id, d_id } = payment.customer_home;
+                (exclusively(Group::Customers { w_id, d_id }), None)
+            }
+            Work::AddPayment(payment, _) => {
+                let DistrictKey { w_id, d_id } = payment.home;
+                (exclusively(Group::History { w_id, d_id }), None)
+            }
+            Work::ShowCustomer(asked) => {
+                let DistrictKey { w_id, d_id } = asked.home;
+                (shared(Group::Customers { w_id, d_id }), None)
+            }
+            Work::ShowOrder(CustomerKey { w_id, d_id, .. }) => {
+                let group = Group::Orders {
+                    w_id: *w_id,
+                    d_id: *d_id,
+                };
+                (shared(group), None)
+            }
+        }
+    }
+}
+
+// A wish to change the group.
+fn exclusively(group: Group) -> Wish
+    ensures { result ≡ footprint.exclusively group }
+{
+    Wish {
+        group,
+        mode: Mode::Exclusive,
+    }
+}
+
+// A wish to read the group.
+fn shared(group: Group) -> Wish
+    ensures { result ≡ footprint.shared group }
+{
+    Wish {
+        group,
+        mode: Mode::Shared,
+    }
 }
 
 /// What an action found.
