@@ -1,9 +1,10 @@
 -- A transaction that was carried out under claims leaves a log kept.
-use Rattle.std.proofs.Common.{◌≡◌, ℕ, List, [], ◌∷◌, ◌++◌, sym, ap, subst, ◌∙◌}
+use Rattle.std.proofs.Common.{◌≡◌, ℕ, List, [], ◌∷◌, ◌++◌, map, refl, sym, ap, subst, ◌∙◌}
 use Rattle.std.specs.List.{All}
 use Rattle.std.proofs.lemmas.List.Elements.{All-push, All-weaker}
 use Rattle.schema.specs.Database.{Database}
 use Rattle.requests.specs.declared.group.Group.{Group}
+use Rattle.requests.specs.declared.reply.Fault.{Fault}
 use Rattle.requests.specs.declared.reply.Reply.{Reply}
 use Rattle.requests.specs.declared.reply.Reply.TheVariants.{Payment, OrderStatus, RolledBack}
 use Rattle.requests.specs.Check.{IsAccepted}
@@ -16,7 +17,7 @@ use Rattle.tickets.proofs.Settling.{told_tells, settled_tell}
 use Rattle.commit_log.specs.declared.entry.Entry.{Entry}
 use Rattle.commit_log.specs.Log.{requests_of}
 use Rattle.commit_log.specs.Items.{entry_of}
-use Rattle.commit_log.specs.Claimed.{contents_logged, seats_logged, IsCarriedOut, IsKept}
+use Rattle.commit_log.specs.Claimed.{contents_logged, claims_logged, seats_logged, IsCarriedOut, IsKept}
 use Rattle.commit_log.proofs.Legal.{replies-append, tables_after-append, map_push}
 
 -- the seats tell what is committed then
@@ -60,3 +61,8 @@ kept_logged opening before now after seats new_seats claims entry session h told
     ∙ ap (λ (s : ℕ). before ++ entry_of s entry.number entry.request entry.reply ∷ []) same_session in
     subst (λ (l : List Entry). IsKept opening l new_seats) (sym entries_are)
     (subst (IsKept opening (before ++ entry ∷ [])) (sym seats_are) (kept_after opening before seats claims entry h told accepted carried_out))
+
+-- the claims of a transaction that was rolled back are as they were
+pub all_stay : (fault : Fault) (held : List (List Claiming)) → map (claims_logged (RolledBack fault)) held ≡ held
+all_stay fault [] = refl
+all_stay fault (claims ∷ held) = ap (λ rest. claims ∷ rest) (all_stay fault held)

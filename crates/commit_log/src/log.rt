@@ -1,7 +1,8 @@
-ghost use Rattle.std.specs.Prelude.{◌≡◌, ◌≤◌, ◌<◌, ◌↔◌, [], ◌∷◌, ◌++◌, length, All, IfOk, IfErr, IsErrAnd};
+ghost use Rattle.std.specs.Prelude.{◌≡◌, ◌≤◌, ◌<◌, ◌↔◌, [], ◌∷◌, ◌++◌, length, map, All, IfOk, IfErr, IsErrAnd};
 ghost use Rattle.requests.specs.Check.{IsAccepted};
 ghost use Rattle.groups.specs.Content.{content};
 ghost use Rattle.machine.specs.Machine.{replies};
+ghost use Rattle.tickets.specs.Claims.{all_claims};
 ghost use Rattle.tickets.specs.LogSeats.{IsToldIn, SeatsTell};
 ghost use Rattle.commit_log.specs.Claimed.{claims_logged, seats_logged, IsCarriedOut};
 ghost use Rattle.commit_log.specs.Items.{item};
@@ -11,7 +12,7 @@ ghost use Rattle.commit_log.specs.Passing.{after_item, after_refusal};
 use crate::{AppendFault, Entry, LogBook, MOST_ENTRIES, Naming, Pass};
 use requests::Reply;
 use std::marker::Model;
-use tickets::{Claim, LogSeats};
+use tickets::{Claims, LogSeats};
 
 /// A log of transactions that were carried out under claims, in any hands. It has no tables: its seats
 /// tell what is committed in each group.
@@ -66,13 +67,13 @@ impl<J: Naming + tickets::Naming> Log<J> {
         self.book.into_entries()
     }
 
-    /// Logs a request that was carried out under these claims: the log has this entry more, at the place
-    /// that is given, behind all that the pass has seen. What the claims left is committed from then on,
-    /// unless the transaction was rolled back. An error changes nothing but that, where the log is full,
-    /// the pass's mark knows its length.
+    /// Logs a request that was carried out by actions under these claims, those of each action together:
+    /// the log has this entry more, at the place that is given, behind all that the pass has seen. What the
+    /// claims left is committed from then on, unless the transaction was rolled back. An error changes
+    /// nothing but that, where the log is full, the pass's mark knows its length.
     pub fn append(
         &mut self,
-        claims: &mut [Claim<J>],
+        held: &mut [Claims<J>],
         mut pass: Pass<J>,
         entry: Entry,
     ) -> Result<(u32, Pass<J>), (AppendFault, Pass<J>)>
@@ -80,21 +81,21 @@ impl<J: Naming + tickets::Naming> Log<J> {
         requires number { pass.asks.number ≡ entry.number }
         requires request { pass.asks.request ≡ entry.request }
         requires accepted { IsAccepted J.opening.scale entry.request }
-        requires carried_out { IsCarriedOut J.opening entry.request claims.old entry.reply }
+        requires carried_out { IsCarriedOut J.opening entry.request (all_claims held.old) entry.reply }
         ensures entry { IfOk result (λ _. self.new ≡ self.old ++ entry ∷ []) }
         ensures place { IfOk result (λ done. done.0 ≡ length self.old) }
         ensures later { IfOk result (λ done. pass.seen ≤ done.0) }
         ensures pass { IfOk result (λ done. done.1 ≡ after_item pass (item done.0 entry.number entry.request entry.reply)) }
-        ensures claims { IfOk result (λ _. claims.new ≡ claims_logged entry.reply claims.old) }
+        ensures claims { IfOk result (λ _. held.new ≡ map (claims_logged entry.reply) held.old) }
         ensures full { IsErrAnd result (λ refused. refused.0 ≡ AppendFault.LogFull) ↔ (MOST_ENTRIES ≤ length self.old) }
-        ensures err { IfErr result (λ refused. (self.new ≡ self.old) × (claims.new ≡ claims.old)) }
+        ensures err { IfErr result (λ refused. (self.new ≡ self.old) × (held.new ≡ held.old)) }
         ensures refused { IfErr result (λ refused. refused.1 ≡ after_refusal refused.0 (length self.old) pass) }
     {
         let place = match self.book.make_room(&mut pass) {
             Ok(place) => place,
             Err(fault) => return Err((fault, pass)),
         };
-        commit(&mut self.seats, claims, &entry.reply);
+        commit(&mut self.seats, held, &entry.reply);
         let Entry {
             session: _,
             number,
@@ -110,16 +111,16 @@ impl<J: Naming + tickets::Naming> Log<J> {
 // rolled back.
 fn commit<J: Naming + tickets::Naming>(
     seats: &mut LogSeats<J>,
-    claims: &mut [Claim<J>],
+    held: &mut [Claims<J>],
     reply: &Reply,
 )
-    ensures told { All (IsToldIn seats.old) claims.old }
-    ensures seats { seats.new ≡ seats_logged reply.now claims.old seats.old }
-    ensures claims { claims.new ≡ claims_logged reply.now claims.old }
+    ensures told { All (IsToldIn seats.old) (all_claims held.old) }
+    ensures seats { seats.new ≡ seats_logged reply.now (all_claims held.old) seats.old }
+    ensures claims { held.new ≡ map (claims_logged reply.now) held.old }
 {
-    seats.look_all(claims);
+    seats.look_each(held);
     match reply {
         Reply::RolledBack(_) => {}
-        Reply::Payment(_) | Reply::OrderStatus(_) => seats.settle_all(claims),
+        Reply::Payment(_) | Reply::OrderStatus(_) => seats.settle_each(held),
     }
 }

@@ -1,9 +1,9 @@
 -- The numbers of those that are awaited, and what has been reported.
-use Rattle.std.proofs.Common.{◌≡◌, ◌↔◌, ◌<◌, ◌≤◌, ◌+◌, ◌-◌, ℕ, zero, suc, List, [], ◌∷◌, ◌++◌, Option, Some, None, IsSome, length, map, replicate, refl, sym, ap, ◌∙◌, subst, arith, slice_get, slice_set, option_to_list, ⊎_elim}
+use Rattle.std.proofs.Common.{◌≡◌, ◌↔◌, ◌<◌, ◌≤◌, ◌+◌, ◌-◌, ℕ, zero, suc, List, [], ◌∷◌, ◌++◌, Option, Some, None, IsSome, length, map, replicate, refl, sym, ap, ◌∙◌, subst, arith, slice_get, slice_set, option_to_list, reverse, ⊎_elim}
 use Rattle.std.specs.List.{Contains, range_with_len}
 use Rattle.std.specs.Option.{option_flatten}
 use Rattle.std.specs.List.Sorted.{IsPermutation}
-use Rattle.std.proofs.lemmas.List.{append-nil, length-map, length-append, map_push, same_from_push}
+use Rattle.std.proofs.lemmas.List.{append-nil, length-map, reverse-append}
 use Rattle.std.proofs.lemmas.List.Elements.{Contains-append_right, Contains-append_cases}
 use Rattle.std.proofs.lemmas.List.FromFn.{length-range_with_len}
 use Rattle.std.proofs.lemmas.List.Sorted.{IsPermutation-refl, IsPermutation-cons, IsPermutation-middle, IsPermutation-trans, length_permutation}
@@ -84,46 +84,40 @@ place_awaited n number (None ∷ xs) at =
     later found = (suc found.0, omega (arith, found.1), found.2)
 place_awaited n number (Some r ∷ xs) at = let found = place_awaited (n + 1) number xs at in (suc found.0, omega (arith, found.1), found.2)
 
--- ---- the last of the results goes
-
-pub reported_append : {R : Type 0} (xs ys : List (Option R)) → reported (xs ++ ys) ≡ reported xs ++ reported ys
-reported_append [] ys = refl
-reported_append (None ∷ xs) ys = reported_append xs ys
-reported_append (Some r ∷ xs) ys = ap (λ rest. r ∷ rest) (reported_append xs ys)
+-- ---- the first of the results goes
 
 pub reported_at_most : {R : Type 0} (xs : List (Option R)) → length (reported xs) ≤ length xs
 reported_at_most [] = omega arith
 reported_at_most (None ∷ xs) = omega (arith, reported_at_most xs)
 reported_at_most (Some r ∷ xs) = omega (arith, reported_at_most xs)
 
--- of places that all have reported the last one has
-pub last_reported : {R : Type 0} (old new : List (Option R)) → map Some (reported old) ≡ old → old ≡ new ++ None ∷ [] → ⊥
-last_reported old new all is =
-    let given : reported old ≡ reported new = ap reported is ∙ reported_append new (None ∷ []) ∙ append-nil (reported new) in
-    let count : length (reported new) ≡ length new + 1 =
-    ap length (sym given) ∙ sym (length-map (reported old) Some) ∙ ap length all ∙ ap length is ∙ length-append new (None ∷ []) in
+-- of places that all have reported the first one has
+pub first_reported : {R : Type 0} (new : List (Option R)) → map Some (reported (None ∷ new)) ≡ None ∷ new → ⊥
+first_reported new all =
+    let count : length (reported new) ≡ length (None ∷ new) = sym (length-map (reported new) Some) ∙ ap length all in
     omega (arith, reported_at_most new)
 
--- after the last place of all that have reported is gone, all that are left have reported
-pub rest_reported : {R : Type 0} (old new : List (Option R)) (last : Option (Option R)) → map Some (reported old) ≡ old → old ≡ new ++ option_to_list last
-    → (map Some (reported new) ≡ new) × (reported old ≡ reported new ++ option_to_list (option_flatten last))
-rest_reported old new None all is =
-    let same : old ≡ new = is ∙ append-nil new in
-    (subst (λ xs. map Some (reported xs) ≡ xs) same all, ap reported same ∙ sym (append-nil (reported new)))
-rest_reported old new (Some None) all is = absurd (last_reported old new all is)
+-- after the first place of all that have reported is gone, all that are left have reported
+pub rest_reported : {R : Type 0} (old new : List (Option R)) (first : Option (Option R)) → map Some (reported old) ≡ old → old ≡ option_to_list first ++ new
+    → (map Some (reported new) ≡ new) × (reported old ≡ option_to_list (option_flatten first) ++ reported new)
+rest_reported old new None all is = (subst (λ xs. map Some (reported xs) ≡ xs) is all, ap reported is)
+rest_reported old new (Some None) all is = absurd (first_reported new (subst (λ xs. map Some (reported xs) ≡ xs) is all))
 rest_reported old new (Some (Some r)) all is =
-    let given : reported old ≡ reported new ++ r ∷ [] = ap reported is ∙ reported_append new (Some r ∷ []) in
-    let both : map Some (reported new) ++ Some r ∷ [] ≡ new ++ Some r ∷ [] = sym (map_push Some (reported new) r) ∙ ap (map Some) (sym given) ∙ all ∙ is in
-    ((same_from_push (map Some (reported new)) new (Some r) (Some r) both).0, given)
+    let both : Some r ∷ map Some (reported new) ≡ Some r ∷ new = subst (λ xs. map Some (reported xs) ≡ xs) is all in
+    (cc, ap reported is)
 
--- there is a last one exactly where there is any
-pub last_of_some : {R : Type 0} (old new : List (Option R)) (last : Option (Option R)) → map Some (reported old) ≡ old → old ≡ new ++ option_to_list last → (0 < length old → IsSome last)
-    → IsSome (option_flatten last) ↔ (0 < length (reported old))
-last_of_some old new None all is some =
+-- there is a first one exactly where there is any
+pub first_of_some : {R : Type 0} (old new : List (Option R)) (first : Option (Option R)) → map Some (reported old) ≡ old → old ≡ option_to_list first ++ new → (0 < length old → IsSome first)
+    → IsSome (option_flatten first) ↔ (0 < length (reported old))
+first_of_some old new None all is some =
     let count : length old ≡ length (reported old) = ap length (sym all) ∙ length-map (reported old) Some in
     (λ never. absurd (cc), λ any. some (omega arith))
-last_of_some old new (Some None) all is some = absurd (last_reported old new all is)
-last_of_some old new (Some (Some r)) all is some =
-    let count : length old ≡ length (reported old) = ap length (sym all) ∙ length-map (reported old) Some in
-    let more : length old ≡ length new + 1 = ap length is ∙ length-append new (Some r ∷ []) in
-    (λ _. omega arith, λ _. refl)
+first_of_some old new (Some None) all is some = absurd (first_reported new (subst (λ xs. map Some (reported xs) ≡ xs) is all))
+first_of_some old new (Some (Some r)) all is some =
+    let given : reported old ≡ r ∷ reported new = ap reported is in
+    (λ _. rw given (omega arith), λ _. refl)
+
+-- where the last of a list goes, the first of its reverse does
+pub turned : {X : Type 0} (old new : List X) (last : Option X) → old ≡ new ++ option_to_list last → reverse old ≡ option_to_list last ++ reverse new
+turned old new None is = ap reverse (is ∙ append-nil new)
+turned old new (Some x) is = ap reverse is ∙ reverse-append new (x ∷ [])

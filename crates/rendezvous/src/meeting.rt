@@ -83,8 +83,8 @@ impl<R> Meeting<R> {
             return Reported::NotLast;
         }
         let empty = Vec::new(*self.reports.allocator());
-        Reported::Last(Results {
-            reports: mem::replace(&mut self.reports, empty),
-        })
+        let mut reports = mem::replace(&mut self.reports, empty);
+        reports.reverse();
+        Reported::Last(Results { reports })
     }
 }

@@ -7,7 +7,7 @@ use std::marker::Model;
 /// Contracts see the results by place.
 #[derive(Drop)]
 pub struct Results<R> {
-    // Each place has a result.
+    // Each place has a result. The first place's lies last, and so is the next to go.
     pub(crate) reports: Vec<Option<R>>,
 }
 
@@ -19,12 +19,12 @@ impl<R> Model for Results<R> {
 
     ghost coded = { coded_list R.code };
 
-    ghost use Rattle.std.specs.Prelude.{◌≡◌, map, Some};
+    ghost use Rattle.std.specs.Prelude.{◌≡◌, map, reverse, Some};
     ghost use Rattle.rendezvous.specs.Awaited.{reported};
 
-    ghost view = { λ r. reported r.reports.items };
+    ghost view = { λ r. reported (reverse r.reports.items) };
 
-    ghost invariant = { λ r. map Some (reported r.reports.items) ≡ r.reports.items };
+    ghost invariant = { λ r. map Some (reported (reverse r.reports.items)) ≡ reverse r.reports.items };
 }
 
 impl<R> Results<R> {
@@ -35,9 +35,9 @@ impl<R> Results<R> {
         self.reports.len()
     }
 
-    /// The result of the last place of which there is one left. It takes no memory.
-    pub fn pop(&mut self) -> Option<R>
-        ensures results { self.old ≡ self.new ++ option_to_list result }
+    /// The result of the first place of which there is one left. It takes no memory.
+    pub fn next(&mut self) -> Option<R>
+        ensures results { self.old ≡ option_to_list result ++ self.new }
         ensures some { IsSome result ↔ (0 < length self.old) }
     {
         self.reports.pop().flatten()

@@ -21,13 +21,13 @@ fn the_last_of_three_gets_all_by_place(rt: HostRuntime) -> Result<(), Fail> {
         panic!(rt; "all have reported")
     };
     assert_eq!(rt; results.len(), 3);
-    for wanted in [30, 20, 10] {
-        let Some(found) = results.pop() else {
+    for wanted in [10, 20, 30] {
+        let Some(found) = results.next() else {
             panic!(rt; "{wanted} is missing")
         };
         assert_eq!(rt; found.number, wanted);
     }
-    assert!(rt; results.pop().is_none());
+    assert!(rt; results.next().is_none());
     assert!(rt; !meeting.awaits(1));
     Ok(())
 }
@@ -40,7 +40,7 @@ fn one_alone_is_the_last(rt: HostRuntime) -> Result<(), Fail> {
         panic!(rt; "all have reported")
     };
     assert_eq!(rt; results.len(), 1);
-    let Some(found) = results.pop() else {
+    let Some(found) = results.next() else {
         panic!(rt; "7 is missing")
     };
     assert_eq!(rt; found.number, 7);

@@ -1,22 +1,23 @@
 -- What the admission of a request does.
-use Rattle.std.proofs.Common.{◌≡◌, ◌+◌, ℕ, List, [], ◌∷◌, ◌++◌, get_or, refl, sym, ap, ◌∙◌, subst, Some, None}
-use Rattle.std.specs.Prelude.{true, Option, IfSome, is_some, slice_get, slice_set}
+use Rattle.std.proofs.Common.{◌≡◌, ◌+◌, ℕ, List, [], ◌∷◌, ◌++◌, get_or, length, replicate, refl, sym, ap, ◌∙◌, subst, Some, None}
+use Rattle.std.specs.Prelude.{true, Option, IfSome, Vec, is_some, slice_get, slice_set}
+use Rattle.std.specs.declared.alloc.Global.{Global}
 use Rattle.std.proofs.lemmas.Option.{get_or_from_slice_get}
+use Rattle.schema.specs.declared.scale.Scale.{Scale}
 use Rattle.commit_log.specs.Asks.{asking}
 use Rattle.commit_log.specs.Passing.{Passing, Seating, seating, with_asks}
-use Rattle.requests.specs.declared.request.Payment.{Payment}
 use Rattle.requests.specs.declared.request.Request.{Request}
-use Rattle.requests.specs.declared.request.Request.TheVariants as request
-use Rattle.world.specs.declared.desk.Active.{Active}
+use Rattle.requests.specs.Check.{IsAccepted}
+use Rattle.actions.specs.declared.work.Work.{Work}
+use Rattle.flow_graphs.specs.Progresses.{IsReached, works_of}
+use Rattle.world.specs.declared.desk.Active.TheVariants.{Acting}
 use Rattle.world.specs.declared.desk.SessionDesk.{SessionDesk}
 use Rattle.world.specs.declared.flight.Message.TheVariants.{Start}
+use Rattle.world.specs.declared.flight.Report.{Report}
+use Rattle.world.specs.declared.flight.Flow.{Flow}
 use Rattle.world.specs.declared.world.Parts.{Parts}
 use Rattle.world.specs.Sound.{IsPassOf, IsSessionOf}
-use Rattle.world.specs.Worlds.{Admits, CanAsk, admitted_now}
-
--- both payments are the one that is asked
-same_payment : (asked : Request) (one other : Payment) → asked ≡ request.Payment one → asked ≡ request.Payment other → other ≡ one
-same_payment asked one other is also = cc
+use Rattle.world.specs.Worlds.{Admits, CanAsk}
 
 -- a pass at the desk is of the session whose seat is there
 own_pass : (pass : Option Passing) (number session : ℕ) → session ≡ number → IsPassOf number pass → IfSome pass (λ p. p.session ≡ session)
@@ -24,7 +25,7 @@ own_pass None number session is own = tt
 own_pass (Some pass) number session is own = own ∙ sym is
 
 -- the session's pass goes with its request
-pub asked_with : (old : Option Passing) (told : Passing → Passing) (pass : Passing) → is_some old ≡ true → IfSome old (λ was. pass ≡ told was)
+asked_with : (old : Option Passing) (told : Passing → Passing) (pass : Passing) → is_some old ≡ true → IfSome old (λ was. pass ≡ told was)
     → (was : Passing) × ((old ≡ Some was) × (pass ≡ told was))
 asked_with None told pass there is = absurd (cc)
 asked_with (Some was) told pass there is = (was, (refl, is))
@@ -50,7 +51,7 @@ module _ {J : Type 0} where
       own_pass read.pass place read.seat.session known.0 known.1
 
   -- what is left of the desk of a session that asked
-  pub left_at : (desk : SessionDesk J) (session : ℕ) (pass : Passing) → desk.seat ≡ seating session pass.asks → desk.pass ≡ None
+  left_at : (desk : SessionDesk J) (session : ℕ) (pass : Passing) → desk.seat ≡ seating session pass.asks → desk.pass ≡ None
       → desk ≡ record { seat = seating session pass.asks; pass = None }
   left_at desk session pass seat away =
       let seated : Seating → SessionDesk J = λ s. record { seat = s; pass = desk.pass } in
@@ -58,31 +59,36 @@ module _ {J : Type 0} where
       ap seated seat ∙ ap with_pass away
 
   -- what is true of a world to which a request was admitted
-  pub admits : (session number : ℕ) (asked : Request) (desk left : SessionDesk J) (old new : Parts J) (payment second : Payment) (pass : Passing) (active : Active J)
-      → is_some desk.pass ≡ true → asked ≡ request.Payment payment → asked ≡ request.Payment second
-      → IfSome desk.pass (λ was. pass ≡ with_asks was (asking number asked was.seen was.mine))
-      → left.seat ≡ seating desk.seat.session pass.asks → left.pass ≡ None
-      → new.slice ≡ old.slice → new.inbox ≡ old.inbox ++ Start (record { age = old.desk.admitted; number = number; payment = payment; pass = pass }) second ∷ []
+  pub admits : (session number : ℕ) (asked : Request) (desk left : SessionDesk J) (old new : Parts J) (flow : Flow J) (works : Vec Work Global) (meeting : List (Option (Report J)))
+      → is_some desk.pass ≡ true
+      → flow.transaction.age ≡ old.desk.admitted → flow.transaction.number ≡ number → flow.transaction.request ≡ asked → flow.transaction.held ≡ []
+      → ((scale : Scale) → IsAccepted scale asked → IsReached scale asked flow.progress [])
+      → IfSome desk.pass (λ was. flow.transaction.pass ≡ with_asks was (asking number asked was.seen was.mine))
+      → works.items ≡ works_of flow.progress → meeting ≡ replicate (length works.items) None
+      → left.seat ≡ seating desk.seat.session flow.transaction.pass.asks → left.pass ≡ None
+      → new.slice ≡ old.slice → new.inbox ≡ old.inbox ++ Start flow works ∷ []
       → new.outbox ≡ old.outbox → new.log ≡ old.log → new.desk.admitted ≡ old.desk.admitted + 1
-      → active ≡ admitted_now → new.desk.active ≡ Some active → new.desk.sessions.items ≡ slice_set old.desk.sessions.items session left
+      → new.desk.active ≡ Some (Acting meeting) → new.desk.sessions.items ≡ slice_set old.desk.sessions.items session left
       → Admits session number asked desk old new
-  admits session number asked desk left old new payment second pass active there first also told seat away slice inbox outbox log admitted now is_active sessions =
-      let with_pass = asked_with desk.pass (λ was. with_asks was (asking number asked was.seen was.mine)) pass there told in
+  admits session number asked desk left old new flow works meeting there age same request held begins told works_are first seat away slice inbox outbox log admitted active sessions =
+      let with_pass = asked_with desk.pass (λ was. with_asks was (asking number asked was.seen was.mine)) flow.transaction.pass there told in
       record {
-        flow = record { age = old.desk.admitted; number = number; payment = payment; pass = pass };
-        payment = second;
+        flow = flow;
+        works = works;
         pass = with_pass.0;
-        age = refl;
-        number_is = refl;
-        asks = first;
-        same = same_payment asked payment second first also;
+        age = age;
+        number_is = same;
+        request = request;
+        held = held;
+        begins = begins;
         here = with_pass.1.0;
         pass_is = with_pass.1.1;
+        works_are = works_are;
         slice = slice;
         inbox = inbox;
         outbox = outbox;
         log = log;
         admitted = admitted;
-        active = is_active ∙ ap (λ (a : Active J). Some a) now;
-        sessions = sessions ∙ ap (slice_set old.desk.sessions.items session) (left_at left desk.seat.session pass seat away);
+        active = active ∙ ap (λ (slots : List (Option (Report J))). Some (Acting slots)) first;
+        sessions = sessions ∙ ap (slice_set old.desk.sessions.items session) (left_at left desk.seat.session flow.transaction.pass seat away);
       }

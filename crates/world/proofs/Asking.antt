@@ -1,15 +1,14 @@
 -- A session asks, and its transaction is admitted.
-use Rattle.std.proofs.Common.{◌≡◌, ℕ, ◌+◌, ◌<◌, ◌≤◌, true, List, [], ◌∷◌, ◌++◌, length, Option, Some, None, Result, Ok, Err, refl, sym, ◌∙◌, ap, subst, arith}
-use Rattle.std.specs.Prelude.{All, slice_set, is_some}
+use Rattle.std.proofs.Common.{◌≡◌, ℕ, ◌+◌, ◌<◌, ◌≤◌, zero, suc, true, List, [], ◌∷◌, ◌++◌, length, Option, Some, None, Result, Ok, Err, replicate, refl, sym, ◌∙◌, ap, subst, arith}
+use Rattle.std.specs.Prelude.{All, map, slice_set, is_some}
 use Rattle.std.specs.List.{slice_get, sum_by}
-use Rattle.std.proofs.lemmas.List.{length-set}
+use Rattle.std.proofs.lemmas.List.{length-set, length-replicate}
 use Rattle.std.proofs.lemmas.Option.{slice_get_within}
 use Rattle.std.proofs.lemmas.List.Elements.{All-nil, All-cons, All-head, All-tail}
 use Rattle.std.proofs.lemmas.List.Sums.{sum_by-cons, sum_by-append}
 use Rattle.schema.specs.declared.scale.Scale.{Scale}
 use Rattle.schema.specs.Database.{Database}
 use Rattle.requests.specs.declared.request.Request.{Request}
-use Rattle.requests.specs.declared.request.Payment.{Payment}
 use Rattle.requests.specs.declared.refusal.Refusal.{Refusal}
 use Rattle.requests.specs.Check.{check_of}
 use Rattle.commit_log.specs.declared.entry.Entry.{Entry}
@@ -19,18 +18,31 @@ use Rattle.history.specs.declared.event.EventAnswer.TheVariants.{Accepted}
 use Rattle.history.specs.History.{Step, step, Unanswered}
 use Rattle.history.specs.Fits.{Fits as HistoryFits}
 use Rattle.history.specs.Laws.{new_one}
+use Rattle.groups.specs.Content.{content}
+use Rattle.tickets.specs.Claims.{Claiming, all_claims}
+use Rattle.tickets.specs.Committed.{AreCommitted}
+use Rattle.slices.specs.Sliced.{everywhere, standing}
+use Rattle.actions.specs.declared.work.Work.{Work}
+use Rattle.actions.specs.Acting.{CanBeUndone}
+use Rattle.actions.specs.Works.{CanDo}
+use Rattle.flow_graphs.specs.declared.graphs.Progress.{Progress}
+use Rattle.flow_graphs.specs.Progresses.{HoldsSome, IsReached, works_of}
+use Rattle.flow_graphs.specs.ProgressLaws.{can_all, within}
+use Rattle.rendezvous.specs.Awaited.{awaited_from, reported}
+use Rattle.flow_graphs.proofs.Counts.{few_actions, some_actions}
 use Rattle.world.specs.declared.desk.Active.{Active}
+use Rattle.world.specs.declared.desk.Active.TheVariants as active
 use Rattle.world.specs.declared.desk.SessionDesk.{SessionDesk}
-use Rattle.world.specs.declared.flight.Action.TheVariants as action
 use Rattle.world.specs.declared.flight.Message.{Message}
 use Rattle.world.specs.declared.flight.Message.TheVariants.{Start, Act, Settle, Undo}
+use Rattle.world.specs.declared.flight.Report.{Report}
 use Rattle.world.specs.declared.flight.Item.{Item}
 use Rattle.world.specs.declared.flight.Item.TheVariants as item
 use Rattle.world.specs.declared.world.Parts.{Parts}
-use Rattle.world.specs.Flights.{Token, Acting, nothing, join, parts, part_message, part_item, part_met, unanswered_flow}
-use Rattle.world.specs.Sound.{IsSoundWith, IsSoundFlow, IsSoundMessage, IsSoundItem, IsBalanced, IsPassOf, WeighAlike, awaited, flight, is_here, reported_to}
-use Rattle.world.specs.Worlds.{FitsPart, Fits, Admits, admitted_now, refuses, tables_now}
-use Rattle.world.proofs.Joins.{same-sym}
+use Rattle.world.specs.Flights.{Token, Acting, Part, nothing, join, parts, part_message, part_item, part_met, acting_from, unanswered_transaction}
+use Rattle.world.specs.Sound.{IsSoundWith, IsSoundStart, IsSoundPhase, IsSoundMessage, IsSoundItem, IsBalanced, IsPassOf, UnderWay, WeighAlike, awaited, flight, is_here, reported_to}
+use Rattle.world.specs.Worlds.{FitsPart, Fits, Admits, refuses, tables_now}
+use Rattle.world.proofs.Joins.{IsSame, same-sym}
 use Rattle.world.proofs.Balances.{fly, in_inbox, in_outbox, message_put, balanced_same}
 use Rattle.world.proofs.Fitting.{fits_same, fits_admission}
 use Rattle.world.proofs.Puts.{lots}
@@ -40,38 +52,74 @@ use Rattle.world.proofs.Sessions.{AreInPlace, AreAlone, AreMany, asks_first, ask
 abbrev pub one_each : Token → ℕ
 one_each t = 1
 
+-- ---- the actions of a phase
+
+-- a transaction has no more than four, those of the phases before and those of the phase
+pub few_at : (scale : Scale) (asked : Request) (progress : Progress) (held : List (List Claiming)) → IsReached scale asked progress (all_claims held) → All HoldsSome held
+    → length held + length (works_of progress) ≤ 4
+few_at scale asked progress held reached some = few_actions asked (works_of progress) held (within scale asked progress (all_claims held) reached) some
+
+-- each has its token
+acting_tokens : (place : ℕ) (works : List Work) → sum_by one_each (acting_from place works) ≡ length works
+acting_tokens place [] = refl
+acting_tokens place (work ∷ works) = omega (arith, sum_by-cons one_each (Acting place) (acting_from (place + 1) works), acting_tokens (place + 1) works)
+
+-- all of them are awaited
+pub all_acting : (R : Type 0) (place : ℕ) (works : List Work) → map Acting (awaited_from {R = R} place (replicate (length works) None)) ≡ acting_from place works
+all_acting R place [] = refl
+all_acting R place (work ∷ works) = ap (λ (ts : List Token). Acting place ∷ ts) (all_acting R (place + 1) works)
+
+as_many_awaited : (R : Type 0) (place count : ℕ) → length (awaited_from {R = R} place (replicate count None)) ≡ count
+as_many_awaited R place zero = refl
+as_many_awaited R place (suc count) = omega (arith, as_many_awaited R (place + 1) count)
+
+-- none of them has reported
+none_reported : (R : Type 0) (count : ℕ) → reported {R = R} (replicate count None) ≡ []
+none_reported R zero = refl
+none_reported R (suc count) = none_reported R count
+
+no_report_at : (R : Type 0) (count place : ℕ) (r : R) → slice_get (replicate count None) place ≡ Some (Some r) → ⊥
+no_report_at R zero place r is = absurd (cc)
+no_report_at R (suc count) zero r is = absurd (cc)
+no_report_at R (suc count) (suc place) r is = no_report_at R count place r is
+
 module _ {J : Type 0} where
   -- ---- while nothing is active
 
-  pub some_token : (message : Message J) → 1 ≤ sum_by one_each (part_message message).tokens
-  some_token (Start flow payment) = omega arith
-  some_token (Act (action.Home flow)) = omega arith
-  some_token (Act (action.Customer age payment)) = omega arith
-  some_token (Act (action.History paid row)) = omega arith
-  some_token (Settle claims) = omega arith
-  some_token (Undo claims) = omega arith
+  pub some_token : (scale : Scale) (u : UnderWay) (message : Message J) → IsSoundMessage scale u message → 1 ≤ sum_by one_each (part_message message).tokens
+  some_token scale u (Start flow works) h =
+      omega (arith, acting_tokens 0 works.items, ap (λ (ws : List Work). length ws) h.works_are, some_actions u.progress)
+  some_token scale u (Act act) h = omega arith
+  some_token scale u (Settle claims) h = omega arith
+  some_token scale u (Undo claims) h = omega arith
 
-  pub no_message : (messages : List (Message J)) → sum_by one_each (parts part_message messages).tokens ≡ 0 → messages ≡ []
-  no_message [] none = refl
-  no_message (message ∷ messages) none =
-      absurd (omega (arith, none, some_token message, sum_by-append one_each (part_message message).tokens (parts part_message messages).tokens))
+  pub no_message : (scale : Scale) (u : UnderWay) (messages : List (Message J)) → All (IsSoundMessage scale u) messages
+      → sum_by one_each (parts part_message messages).tokens ≡ 0 → messages ≡ []
+  no_message scale u [] h none = refl
+  no_message scale u (message ∷ messages) h none =
+      absurd (omega (
+        arith,
+        none,
+        some_token scale u message (All-head (IsSoundMessage scale u) message messages h),
+        sum_by-append one_each (part_message message).tokens (parts part_message messages).tokens,
+      ))
 
-  -- an item without tokens is sound whatever payment is under way
-  other_payment : (scale : Scale) (log : List Entry) (p q : Payment) (i : Item J) → sum_by one_each (part_item i).tokens ≡ 0 → IsSoundItem scale log p i → IsSoundItem scale log q i
-  other_payment scale log p q (item.Push message) none h = absurd (omega (arith, none, some_token message))
-  other_payment scale log p q (item.Report r) none h = absurd (omega (arith, none))
-  other_payment scale log p q (item.Ended place) none h = absurd (omega (arith, none))
-  other_payment scale log p q (item.Commit commit) none h = absurd (omega (arith, none))
-  other_payment scale log p q (item.Reply told) none h = h
+  -- an item without tokens is sound whatever transaction is under way
+  other_item : (scale : Scale) (log : List Entry) (u v : UnderWay) (i : Item J) → sum_by one_each (part_item i).tokens ≡ 0 → IsSoundItem scale log u i → IsSoundItem scale log v i
+  other_item scale log u v (item.Push message) none h = absurd (omega (arith, none, some_token scale u message h))
+  other_item scale log u v (item.Report r) none h = absurd (omega (arith, none))
+  other_item scale log u v item.Ended none h = absurd (omega (arith, none))
+  other_item scale log u v (item.Commit commit) none h = absurd (omega (arith, none))
+  other_item scale log u v (item.Reply told) none h = h
 
-  other_payments : (scale : Scale) (log : List Entry) (p q : Payment) (items : List (Item J)) → sum_by one_each (parts part_item items).tokens ≡ 0
-      → All (IsSoundItem scale log p) items → All (IsSoundItem scale log q) items
-  other_payments scale log p q [] none h = All-nil (IsSoundItem scale log q)
-  other_payments scale log p q (i ∷ items) none h =
+  pub other_under_way : (scale : Scale) (log : List Entry) (u v : UnderWay) (items : List (Item J)) → sum_by one_each (parts part_item items).tokens ≡ 0
+      → All (IsSoundItem scale log u) items → All (IsSoundItem scale log v) items
+  other_under_way scale log u v [] none h = All-nil (IsSoundItem scale log v)
+  other_under_way scale log u v (i ∷ items) none h =
       let both = sum_by-append one_each (part_item i).tokens (parts part_item items).tokens in
-      All-cons (IsSoundItem scale log q) i items
-      (other_payment scale log p q i (omega (arith, none, both)) (All-head (IsSoundItem scale log p) i items h))
-      (other_payments scale log p q items (omega (arith, none, both)) (All-tail (IsSoundItem scale log p) i items h))
+      All-cons (IsSoundItem scale log v) i items
+      (other_item scale log u v i (omega (arith, none, both)) (All-head (IsSoundItem scale log u) i items h))
+      (other_under_way scale log u v items (omega (arith, none, both)) (All-tail (IsSoundItem scale log u) i items h))
 
   -- a request that the desk doesn't refuse
   pub not_refused : (pass : Option Passing) (checked : Result (Unit {0}) Refusal) (active : Option (Active J)) → refuses pass checked (is_some active) ≡ None
@@ -86,7 +134,7 @@ module _ {J : Type 0} where
   module _ (scale : Scale) (w : Parts J) (h : IsSoundWith scale nothing w) (place number : ℕ) (asked : Request) (desk : SessionDesk J)
       (is : slice_get w.desk.sessions.items place ≡ Some desk) (none : w.desk.active ≡ None) (accepted : check_of scale asked ≡ Ok tt)
       (new : Parts J) (a : Admits place number asked desk w new) where
-    whose : a.flow.pass.session ≡ place
+    whose : a.flow.transaction.pass.session ≡ place
     whose = ap (λ (x : Passing). x.session) a.pass_is ∙ subst (λ (o : Option Passing). IsPassOf place o) a.here (h.sessions place desk is).1
 
     here : is_here desk ≡ true
@@ -99,19 +147,59 @@ module _ {J : Type 0} where
     at_rest : WeighAlike (lots w).tokens []
     at_rest weight = bare.tokens weight ∙ ap (λ (o : Option (Active J)). sum_by weight (awaited o)) none
 
-    sound_flow : IsSoundFlow scale a.flow.payment a.flow
-    sound_flow = record {
-      payment = refl;
-      accepted = subst (λ q. check_of scale q ≡ Ok tt) a.asks accepted;
-      session = subst (λ n. n < 64) (sym whose) (subst (λ n. place < n) h.seats (slice_get_within w.desk.sessions.items place desk is));
-      number = ap (λ (x : Passing). x.asks.number) a.pass_is ∙ sym a.number_is;
-      request = ap (λ (x : Passing). x.asks.request) a.pass_is ∙ a.asks;
+    -- ---- the phase that begins
+
+    abbrev u : UnderWay
+    u = record { request = asked; progress = a.flow.progress; held = [] }
+
+    abbrev slots : List (Option (Report J))
+    slots = replicate (length a.works.items) None
+
+    reached : IsReached scale asked a.flow.progress []
+    reached = a.begins scale accepted
+
+    sound_start : IsSoundStart scale u a.flow a.works.items
+    sound_start = record {
+      flow_is = record {
+        asked = record {
+          session = subst (λ n. n < 64) (sym whose) (subst (λ n. place < n) h.seats (slice_get_within w.desk.sessions.items place desk is));
+          number = ap (λ (x : Passing). x.asks.number) a.pass_is ∙ sym a.number_is;
+          request = ap (λ (x : Passing). x.asks.request) a.pass_is ∙ sym a.request;
+        };
+        request = a.request;
+        held = a.held;
+        progress = refl;
+      };
+      works_are = a.works_are;
+      can = subst (λ ws. All (CanDo scale) ws) (sym a.works_are) (can_all scale asked a.flow.progress [] reached);
+      few = omega (
+        arith,
+        ap (λ (ws : List Work). length ws) a.works_are,
+        few_at scale asked a.flow.progress [] reached (All-nil HoldsSome),
+      );
     }
 
-    abbrev with_desk : Parts J
-    with_desk = record w { desk = record { admitted = new.desk.admitted; sessions = new.desk.sessions; active = Some admitted_now } }
+    sound_phase : IsSoundPhase scale u slots
+    sound_phase = record {
+      reached = reached;
+      hold = All-nil HoldsSome;
+      undo = All-nil (λ claims. All CanBeUndone claims);
+      many = length-replicate (length a.works.items) None ∙ ap (λ (ws : List Work). length ws) a.works_are;
+      reports = λ at r is. absurd (no_report_at (Report J) (length a.works.items) at r is);
+      awaits = omega (
+        arith,
+        as_many_awaited (Report J) 0 (length a.works.items),
+        ap (λ (ws : List Work). length ws) a.works_are,
+        some_actions a.flow.progress,
+      );
+    }
 
-    new_is : new ≡ record with_desk { inbox = w.inbox ++ Start a.flow a.payment ∷ [] }
+    -- ---- the world with it
+
+    abbrev with_desk : Parts J
+    with_desk = record w { desk = record { admitted = new.desk.admitted; sessions = new.desk.sessions; active = Some (active.Acting slots) } }
+
+    new_is : new ≡ record with_desk { inbox = w.inbox ++ Start a.flow a.works ∷ [] }
     new_is = λ i. record {
       slice = a.slice i;
       inbox = a.inbox i;
@@ -120,49 +208,64 @@ module _ {J : Type 0} where
       log = a.log i;
     }
 
+    abbrev next : Parts J
+    next = record with_desk { inbox = with_desk.inbox ++ Start a.flow a.works ∷ [] }
+
+    -- the message is what is under way more
+    one_more : IsSame (join (part_message (Start a.flow a.works)) (lots w)) (flight next)
+    one_more =
+        let message : Message J = Start a.flow a.works in
+        let nothing_met : flight with_desk ≡ lots w =
+        ap (λ (rs : List (Report J)). fly (in_inbox w) (in_outbox w) (parts part_met rs)) (none_reported (Report J) (length a.works.items)) in
+        subst (λ (p : Part). IsSame (join (part_message message) p) (flight next)) nothing_met (same-sym _ _ (message_put with_desk message))
+
     pub admits_sound : IsSoundWith scale nothing new
     admits_sound =
-        let p = a.flow.payment in
-        let message : Message J = Start a.flow a.payment in
-        let u = unanswered_flow a.flow in
-        let session : SessionDesk J = record { seat = seating desk.seat.session a.flow.pass.asks; pass = None } in
+        let message : Message J = Start a.flow a.works in
+        let t = unanswered_transaction a.flow.transaction in
+        let session : SessionDesk J = record { seat = seating desk.seat.session a.flow.transaction.pass.asks; pass = None } in
         let all = slice_set w.desk.sessions.items place session in
         let rest = lots w in
-        let zero = at_rest one_each in
+        let zero_all = at_rest one_each in
         let front = sum_by-append one_each (in_inbox w).tokens ((in_outbox w).tokens ++ []) in
         let back = sum_by-append one_each (in_outbox w).tokens [] in
-        let empty : w.inbox ≡ [] = no_message w.inbox (omega (arith, zero, front, back)) in
-        let outbox = other_payments scale w.log h.payment p w.outbox (omega (arith, zero, front, back)) h.outbox in
-        let alone : AreAlone all (u ∷ rest.pending) = asked_alone w.desk.sessions.items u rest.pending desk session place is whose here refl bare.alone bare.many in
-        let many : AreMany all (u ∷ rest.pending) = asked_many w.desk.sessions.items u rest.pending desk session place is whose here refl bare.alone bare.many in
+        let empty : w.inbox ≡ [] = no_message scale h.under_way w.inbox h.inbox (omega (arith, zero_all, front, back)) in
+        let outbox = other_under_way scale w.log h.under_way u w.outbox (omega (arith, zero_all, front, back)) h.outbox in
+        let alone : AreAlone all (t ∷ rest.pending) = asked_alone w.desk.sessions.items t rest.pending desk session place is whose here refl bare.alone bare.many in
+        let many : AreMany all (t ∷ rest.pending) = asked_many w.desk.sessions.items t rest.pending desk session place is whose here refl bare.alone bare.many in
         let placed : AreInPlace all = still_in_place w.desk.sessions.items place desk session is ((h.sessions place desk is).0, tt) h.sessions in
         let balance : IsBalanced with_desk.desk (join (part_message message) rest) = record {
-          tokens = λ weight. omega (arith, at_rest weight, sum_by-cons weight (Acting 0) (Acting 1 ∷ rest.tokens), sum_by-cons weight (Acting 1) rest.tokens);
-          alone = subst (λ l. AreAlone l (u ∷ rest.pending)) (sym a.sessions) alone;
-          many = subst (λ l. AreMany l (u ∷ rest.pending)) (sym a.sessions) many;
+          tokens = λ weight. omega (
+            arith,
+            at_rest weight,
+            sum_by-append weight (acting_from 0 a.works.items) rest.tokens,
+            ap (λ (ts : List Token). sum_by weight ts) (all_acting (Report J) 0 a.works.items),
+          );
+          alone = subst (λ l. AreAlone l (t ∷ rest.pending)) (sym a.sessions) alone;
+          many = subst (λ l. AreMany l (t ∷ rest.pending)) (sym a.sessions) many;
         } in
-        let sound : IsSoundWith scale nothing (record with_desk { inbox = w.inbox ++ message ∷ [] }) = record {
+        let sound : IsSoundWith scale nothing next = record {
           scale_is = h.scale_is;
-          payment = p;
-          inbox = subst (λ ms. All (IsSoundMessage scale p) (ms ++ message ∷ [])) (sym empty) (All-cons (IsSoundMessage scale p) message [] (sound_flow, a.same) (All-nil (IsSoundMessage scale p)));
+          under_way = u;
+          inbox = subst (λ ms. All (IsSoundMessage scale u) (ms ++ message ∷ [])) (sym empty) (All-cons (IsSoundMessage scale u) message [] sound_start (All-nil (IsSoundMessage scale u)));
           outbox = outbox;
-          active = ((tt, tt), (refl, refl));
+          active = sound_phase;
           seats = ap (λ (l : List (SessionDesk J)). length l) a.sessions ∙ length-set w.desk.sessions.items place session ∙ h.seats;
           sessions = subst (λ l. AreInPlace l) (sym a.sessions) placed;
-          balance = balanced_same with_desk.desk (join (part_message message) rest) (flight (record with_desk { inbox = with_desk.inbox ++ message ∷ [] })) (same-sym _ _ (message_put with_desk message)) balance;
+          balance = balanced_same with_desk.desk (join (part_message message) rest) (flight next) one_more balance;
         } in
         subst (λ v. IsSoundWith scale nothing v) (sym new_is) sound
 
     pub admits_fits : (opening : Database) (history : List Step) → Fits opening history w
         → Fits opening (history ++ step (Submit place number asked) (Accepted w.desk.admitted) ∷ []) new
     admits_fits opening history f =
-        let message : Message J = Start a.flow a.payment in
-        let u = unanswered_flow a.flow in
+        let message : Message J = Start a.flow a.works in
+        let t = unanswered_transaction a.flow.transaction in
         let rest = lots w in
         let first = subst (λ (o : Option (Active J)). FitsPart opening history w.log w.slice w.desk.admitted (fly (in_inbox w) (in_outbox w) (parts part_met (reported_to o)))) none f in
-        let free = asks_first w.desk.sessions.items u rest.pending desk (record { seat = seating desk.seat.session a.flow.pass.asks; pass = None }) place is whose here refl bare.alone bare.many in
+        let free = asks_first w.desk.sessions.items t rest.pending desk (record { seat = seating desk.seat.session a.flow.transaction.pass.asks; pass = None }) place is whose here refl bare.alone bare.many in
         let after = fits_admission opening history w.log w.slice w.desk.admitted rest place number asked free first in
-        let is_u : u ≡ new_one w.desk.admitted place number asked = λ i. record {
+        let is_t : t ≡ new_one w.desk.admitted place number asked = λ i. record {
           age = a.age i;
           session = whose i;
           number = (a.pass_is i).asks.number;
@@ -170,8 +273,13 @@ module _ {J : Type 0} where
           entry = None;
         } in
         let steps = history ++ step (Submit place number asked) (Accepted w.desk.admitted) ∷ [] in
-        let with_u : FitsPart opening steps w.log w.slice (w.desk.admitted + 1) (join (part_message message) rest) =
-        record { told = subst (λ (x : Unanswered). HistoryFits opening steps w.log (tables_now opening w.log) (w.desk.admitted + 1) (x ∷ rest.pending)) (sym is_u) after.told; committed = after.committed; scale = after.scale; items = after.items } in
+        let none_held : all_claims a.flow.transaction.held ≡ [] = ap all_claims a.held in
+        let with_t : FitsPart opening steps w.log w.slice (w.desk.admitted + 1) (join (part_message message) rest) = record {
+          told = subst (λ (x : Unanswered). HistoryFits opening steps w.log (tables_now opening w.log) (w.desk.admitted + 1) (x ∷ rest.pending)) (sym is_t) after.told;
+          committed = subst (λ (cs : List Claiming). AreCommitted everywhere (content (tables_now opening w.log)) (standing w.slice) (cs ++ rest.claims)) (sym none_held) after.committed;
+          scale = after.scale;
+          items = after.items;
+        } in
         subst (λ v. Fits opening steps v) (sym new_is)
-        (fits_same opening steps w.log w.slice new.desk.admitted (join (part_message message) rest) (flight (record with_desk { inbox = with_desk.inbox ++ message ∷ [] })) (same-sym _ _ (message_put with_desk message))
-        (subst (λ n. FitsPart opening steps w.log w.slice n (join (part_message message) rest)) (sym a.admitted) with_u))
+        (fits_same opening steps w.log w.slice new.desk.admitted (join (part_message message) rest) (flight next) one_more
+        (subst (λ n. FitsPart opening steps w.log w.slice n (join (part_message message) rest)) (sym a.admitted) with_t))

@@ -20,9 +20,8 @@ use Rattle.world.specs.declared.world.Parts.{Parts}
 use Rattle.world.specs.Flights.{nothing}
 use Rattle.world.specs.Sound.{IsSoundWith, flight}
 use Rattle.world.specs.Worlds.{Happens, IsBusyExactly, SubmitsAt, SubmitsUnless, SubmitsInto, can_admit, refuses}
-use Rattle.world.proofs.Endings.{IsFalse}
 use Rattle.world.proofs.Ready.{stands_at}
-use Rattle.world.proofs.Tokens.{by_bool}
+use Rattle.world.proofs.Tokens.{IsFalse, by_bool}
 
 -- what is found passes the test
 found_passes : {X : Type 0} (test : X → Bool) (xs : List X) (x : X) → find test xs ≡ Some x → test x ≡ true
@@ -59,7 +58,7 @@ module _ {J : Type 0} where
           let same : why ≡ SessionBusy = cc in
           never_busy scale asked (at ∙ ap Err same)
       by_check (Ok u) true at said = let e = said.0 in absurd (cc)
-      by_check (Ok u) false at said = into (can_admit asked old) said
+      by_check (Ok u) false at said = into (can_admit old) said
 
   busy_of : (scale : Scale) (old new : Parts J) (h : IsSoundWith scale nothing old) (session number : ℕ) (asked : Request) (answer : EventAnswer) (desk : SessionDesk J) (pass : Option Passing) → desk.pass ≡ pass
       → slice_get old.desk.sessions.items session ≡ Some desk

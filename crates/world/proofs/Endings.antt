@@ -1,89 +1,51 @@
--- A place has given back what it held.
-use Rattle.std.proofs.Common.{◌≡◌, ℕ, ◌+◌, Bool, true, false, List, [], ◌∷◌, length, Option, Some, None, refl, sym, ◌∙◌, ap, subst, arith, zero-add}
-use Rattle.std.specs.Prelude.{map, slice_set, is_some}
-use Rattle.std.specs.List.{list_all, sum_by}
-use Rattle.std.specs.List.Sorted.{IsPermutation}
-use Rattle.std.proofs.lemmas.List.{length-set}
-use Rattle.std.proofs.lemmas.List.Sorted.{IsPermutation-refl, IsPermutation-map, sum_by-IsPermutation}
-use Rattle.std.proofs.lemmas.List.Sums.{sum_by-cons}
+-- An action has given back what it held.
+use Rattle.std.proofs.Common.{◌≡◌, ℕ, ◌-◌, ◌≤◌, zero, suc, [], ◌∷◌, Option, Some, refl, sym, ◌∙◌, ap, subst, arith}
+use Rattle.std.specs.Prelude.{replicate}
+use Rattle.std.proofs.lemmas.List.Sorted.{IsPermutation-refl}
 use Rattle.schema.specs.declared.scale.Scale.{Scale}
-use Rattle.requests.specs.declared.request.Payment.{Payment}
-use Rattle.rendezvous.specs.Awaited.{awaited_from, reported}
-use Rattle.rendezvous.proofs.Awaiting.{report_takes_one_number}
 use Rattle.world.specs.declared.desk.Active.{Active}
+use Rattle.world.specs.declared.desk.Active.TheVariants as active
 use Rattle.world.specs.declared.desk.Desk.{Desk}
 use Rattle.world.specs.declared.world.Parts.{Parts}
-use Rattle.world.specs.Flights.{Token, Ending, Part, part, parts, part_met}
-use Rattle.world.specs.Sound.{IsSoundWith, IsSoundActive, IsBalanced, WeighAlike, awaited, awaited_in, flight, reported_to}
-use Rattle.world.specs.Events.{ending_with, have_ended, with_active}
+use Rattle.world.specs.Flights.{Ending, Part, part, parts, part_met}
+use Rattle.world.specs.Sound.{IsSoundWith, IsSoundActive, IsBalanced, WeighAlike, awaited}
+use Rattle.world.specs.Following.{ending, with_active}
 use Rattle.world.specs.Worlds.{FitsPart}
 use Rattle.world.proofs.Balances.{fly, in_inbox, in_outbox}
 use Rattle.world.proofs.Fitting.{fits_like}
-use Rattle.world.proofs.Tokens.{is_awaited, weigh_ending, one_weighs, ending_of}
-use Rattle.world.proofs.Puts.{lots}
-use Rattle.world.proofs.Reporting.{beside, beside_now, first_met}
-use Rattle.world.proofs.Meetings.{GoesOn}
+use Rattle.world.proofs.Tokens.{one_less}
+use Rattle.world.proofs.Puts.{lots, GoesOn}
+use Rattle.world.proofs.Releases.{ending_awaits, ending_sound, nothing_met}
+use Rattle.world.proofs.Reporting.{beside, beside_now, ending_met}
 
--- what the two answers of a test are told apart by
-abbrev pub IsFalse : Bool → Type 0
-IsFalse true = ⊥
-IsFalse false = Unit {0}
+-- what is in hand of an action that has given back what it held
+abbrev pub part_ended : Part
+part_ended = part [] [] (Ending ∷ [])
 
--- where all places have ended none is awaited
-none_to_end : (n : ℕ) (places : List (Option (Unit {0}))) → list_all is_some places ≡ true → awaited_from n places ≡ []
-none_to_end n [] all = refl
-none_to_end n (None ∷ places) all = absurd (subst (λ b. IsFalse b) all tt)
-none_to_end n (Some u ∷ places) all = none_to_end (n + 1) places all
+-- of a number that is not zero, one less
+one_less_than : (left : ℕ) → 1 ≤ left → (n : ℕ) × ((left ≡ suc n) × (n ≡ left - 1))
+one_less_than zero some = absurd (omega (arith, some))
+one_less_than (suc n) some = (n, (refl, omega arith))
 
--- what a place has in hand that has given back what it held
-abbrev pub part_ended : ℕ → Part
-part_ended place = part [] [] (Ending place ∷ [])
-
-module _ {J : Type 0} where
-  -- what is awaited then
-  ended_awaits : (a : Active J) (places : List (Option (Unit {0}))) (over : Bool) → have_ended places ≡ over → (weight : Token → ℕ)
-      → sum_by weight (awaited (ending_with a places over)) ≡ sum_by weight (map Ending (awaited_from 0 places))
-  ended_awaits a places true is weight = sym (ap (λ ns. sum_by weight (map Ending ns)) (none_to_end 0 places is))
-  ended_awaits a places false is weight = refl
-
-  ended_active : (scale : Scale) (p : Payment) (a : Active J) (places : List (Option (Unit {0}))) (over : Bool) → a.first ≡ [] → length places ≡ 3 → have_ended places ≡ over → IsSoundActive scale p (ending_with a places over)
-  ended_active scale p a places true none three is = tt
-  ended_active scale p a places false none three is = (none, (three, is))
-
-  ended_met : (a : Active J) (places : List (Option (Unit {0}))) (over : Bool) → a.first ≡ [] → reported_to (ending_with a places over) ≡ []
-  ended_met a places true none = refl
-  ended_met a places false none = ap reported none
-
-  pub ended_goes_on : (scale : Scale) (w : Parts J) (place : ℕ) (h : IsSoundWith scale (part_ended place) w) (a : Active J) → w.desk.active ≡ Some a
-      → (let places = slice_set a.ending place (Some tt) in GoesOn scale (part_ended place) w (with_active (ending_with a places (have_ended places)) w))
-  ended_goes_on scale w place h a active =
-      let p = h.payment in
-      let at = ending_of scale p place w.desk.active a active h.active (is_awaited (weigh_ending place) (Ending place) (flight w).tokens (awaited w.desk.active) (one_weighs place) h.balance.tokens) in
-      let places = slice_set a.ending place (Some tt) in
-      let over = have_ended places in
-      let next = ending_with a places over in
+module _ {J : Type 0} (scale : Scale) (w : Parts J) (h : IsSoundWith scale part_ended w) where
+  -- of one more, so many are left
+  ended : (n : ℕ) → w.desk.active ≡ Some (active.Ending (suc n)) → GoesOn scale part_ended w (with_active (ending n) w)
+  ended n is =
+      let next : Option (Active J) = ending n in
       let desk : Desk J = record w.desk { active = next } in
-      let met = first_met w a [] active at.1.0.0 in
-      let awaits : awaited w.desk.active ≡ map Ending (awaited_from 0 a.ending) = ap awaited active ∙ ap (λ s. awaited_in s a) at.0 in
-      let b = beside_now (part_ended place) w [] (map Ending (awaited_from 0 a.ending)) h.balance met awaits in
-      let fewer = IsPermutation-map Ending (awaited_from 0 a.ending) (place ∷ awaited_from 0 places) (subst (λ (n : ℕ). IsPermutation (awaited_from 0 a.ending) (n ∷ awaited_from 0 places)) (zero-add place) (report_takes_one_number 0 place a.ending tt at.1.1)) in
-      let tokens : WeighAlike (lots w).tokens (awaited next) = λ weight.
-      omega (
-        arith,
-        b.tokens weight,
-        sum_by-IsPermutation weight (map Ending (awaited_from 0 a.ending)) (map Ending (place ∷ awaited_from 0 places)) fewer,
-        sum_by-cons weight (Ending place) (lots w).tokens,
-        sum_by-cons weight (Ending place) (map Ending (awaited_from 0 places)),
-        ended_awaits a places over refl weight,
-      ) in
-      let none = ended_met a places over at.1.0.0 in
+      let met = ending_met w (suc n) is in
+      let b = beside_now part_ended w [] (Ending ∷ replicate n Ending) h.balance met (ap awaited is) in
+      let sound : IsSoundActive {J = J} scale h.under_way (Some (active.Ending (suc n))) = subst (λ o. IsSoundActive scale h.under_way o) is h.active in
+      let tokens : WeighAlike (lots w).tokens (awaited next) =
+      subst (λ ts. WeighAlike (lots w).tokens ts) (sym (ending_awaits J n)) (one_less Ending (lots w).tokens (replicate n Ending) b.tokens) in
+      let none = nothing_met J n in
       record {
         sound = record {
           scale_is = h.scale_is;
-          payment = p;
+          under_way = h.under_way;
           inbox = h.inbox;
           outbox = h.outbox;
-          active = ended_active scale p a places over at.1.0.0 (length-set a.ending place (Some tt) ∙ at.1.0.1.0) refl;
+          active = ending_sound J scale h.under_way n (omega (arith, sound.1));
           seats = h.seats;
           sessions = h.sessions;
           balance = subst (λ rs. IsBalanced desk (fly (in_inbox w) (in_outbox w) (parts part_met rs))) (sym none)
@@ -91,6 +53,13 @@ module _ {J : Type 0} where
         };
         fits = λ opening history f.
             subst (λ rs. FitsPart opening history w.log w.slice w.desk.admitted (fly (in_inbox w) (in_outbox w) (parts part_met rs))) (sym none)
-            (fits_like opening history w.log w.slice w.desk.admitted (beside (part_ended place) w []) (lots w) (IsPermutation-refl (lots w).claims) (IsPermutation-refl (lots w).pending)
-            (subst (λ rs. FitsPart opening history w.log w.slice w.desk.admitted (beside (part_ended place) w rs)) met f));
+            (fits_like opening history w.log w.slice w.desk.admitted (beside part_ended w []) (lots w) (IsPermutation-refl (lots w).claims) (IsPermutation-refl (lots w).pending)
+            (subst (λ rs. FitsPart opening history w.log w.slice w.desk.admitted (beside part_ended w rs)) met f));
       }
+
+  pub ended_goes_on : (left : ℕ) → w.desk.active ≡ Some (active.Ending left) → GoesOn scale part_ended w (with_active (ending (left - 1)) w)
+  ended_goes_on left is =
+      let sound : IsSoundActive {J = J} scale h.under_way (Some (active.Ending left)) = subst (λ o. IsSoundActive scale h.under_way o) is h.active in
+      let less = one_less_than left sound.0 in
+      subst (λ n. GoesOn scale part_ended w (with_active (ending n) w)) less.1.1
+      (ended less.0 (is ∙ ap (λ n. Some (active.Ending n)) less.1.0))

@@ -12,19 +12,13 @@ use Rattle.history.specs.declared.event.EventAnswer.{EventAnswer}
 use Rattle.history.specs.declared.event.EventAnswer.TheVariants.{Answered, Nothing}
 use Rattle.history.specs.History.{step}
 use Rattle.history.specs.Laws.{IsQuiet}
-use Rattle.actions.proofs.CarriedOut.{payments_are_carried_out}
-use Rattle.actions.proofs.RolledBack.{rolled_back_payments_are_carried_out}
 use Rattle.world.specs.declared.desk.SessionDesk.{SessionDesk}
 use Rattle.world.specs.declared.world.Parts.{Parts}
 use Rattle.world.specs.Flights.{nothing}
 use Rattle.world.specs.Sound.{IsSoundWith, flight}
 use Rattle.world.specs.Worlds.{Fits, Advances, SubmitsAt, SubmitsUnless, SubmitsInto, StaysAt, refusal_at, can_admit}
 use Rattle.world.proofs.Fitting.{fits_quiet}
-use Rattle.world.proofs.Following.{TheLaws}
 use Rattle.world.proofs.Asking.{not_refused, admits_sound, admits_fits}
-
-pub the_laws : TheLaws
-the_laws = record { done = payments_are_carried_out; rolled_back = rolled_back_payments_are_carried_out }
 
 module _ {J : Type 0} where
   -- nothing changes, and nothing is told of a transaction
@@ -57,7 +51,7 @@ module _ {J : Type 0} where
       → IsSoundWith scale nothing new × Advances old (step (Submit session number asked) answer ∷ []) new
   submits_unless scale old new h session number asked desk answer there (Some why) is said =
       (subst (λ w. IsSoundWith scale nothing w) (sym said.1) h, stays old new (Submit session number asked) (Answered session number (Refused why)) answer tt said)
-  submits_unless scale old new h session number asked desk answer there None is said = submits_into scale old new h session number asked desk answer there is (can_admit asked old) said
+  submits_unless scale old new h session number asked desk answer there None is said = submits_into scale old new h session number asked desk answer there is (can_admit old) said
 
   pub submits_on : (scale : Scale) (old new : Parts J) (h : IsSoundWith scale nothing old) (session number : ℕ) (asked : Request) (answer : EventAnswer)
       → (found : Option (SessionDesk J)) → slice_get old.desk.sessions.items session ≡ found → SubmitsAt found session number asked old answer new

@@ -1,27 +1,29 @@
 -- An item is sent.
-use Rattle.std.proofs.Common.{◌≡◌, ℕ, Bool, true, false, List, [], ◌∷◌, ◌++◌, length, Some, refl, sym, subst, nat_lt}
+use Rattle.std.proofs.Common.{◌≡◌, ℕ, Bool, true, false, List, [], ◌∷◌, ◌++◌, length, Option, Some, None, refl, sym, subst, nat_lt}
+use Rattle.std.specs.List.{slice_get}
 use Rattle.schema.specs.declared.scale.Scale.{Scale}
 use Rattle.schema.specs.Database.{Database}
 use Rattle.history.specs.declared.event.Event.TheVariants.{Send}
 use Rattle.history.specs.declared.event.EventAnswer.{EventAnswer}
 use Rattle.history.specs.declared.event.EventAnswer.TheVariants.{Accepted, Took, Sent, Full, Logged, Answered, Nothing}
 use Rattle.history.specs.History.{Step, step}
-use Rattle.world.specs.declared.desk.Active.{Active}
+use Rattle.world.specs.declared.desk.Active.TheVariants as active
 use Rattle.world.specs.declared.flight.CommitItem.{CommitItem}
 use Rattle.world.specs.declared.flight.Message.{Message}
 use Rattle.world.specs.declared.flight.Item.{Item}
 use Rattle.world.specs.declared.flight.Item.TheVariants as item
 use Rattle.world.specs.declared.world.Parts.{Parts}
-use Rattle.world.specs.Flights.{Part, nothing, join, part_message, part_item}
-use Rattle.world.specs.Sound.{IsSoundWith, IsSoundMessage, IsSoundCommit, IsSoundItem, flight}
+use Rattle.world.specs.declared.flight.Report.{Report}
+use Rattle.world.specs.Flights.{Acting, Part, nothing, join, part_message, part_item}
+use Rattle.world.specs.Sound.{IsSoundWith, IsSoundMessage, IsSoundCommit, IsSoundItem, IsSoundPhase, IsSoundActive, awaited, flight}
 use Rattle.world.specs.Events.{Pushes, Commits, SendsItem, logging}
 use Rattle.world.specs.Worlds.{FitsPart, Fits, Advances}
 use Rattle.world.proofs.Fitting.{fits_quiet}
-use Rattle.world.proofs.Puts.{item_in_hand, fits_in_hand}
-use Rattle.world.proofs.Following.{TheLaws}
+use Rattle.world.proofs.Tokens.{is_awaited, one_weighs, weigh_acting, acting_under_way}
+use Rattle.world.proofs.Puts.{GoesOn, item_in_hand, fits_in_hand}
 use Rattle.world.proofs.Reporting.{pushes_sound, pushes_fits, put_back_sound, put_back_fits}
-use Rattle.world.proofs.Meetings.{GoesOn, reports_go_on}
-use Rattle.world.proofs.Endings.{part_ended, ended_goes_on}
+use Rattle.world.proofs.Meetings.{reports_go_on}
+use Rattle.world.proofs.Endings.{ended_goes_on}
 use Rattle.world.proofs.Logging.{refusing_goes_on, logging_goes_on}
 use Rattle.world.proofs.Replying.{replies_sound, replies_fits}
 
@@ -42,7 +44,7 @@ module _ {J : Type 0} where
         (fits_quiet opening history next.log next.slice next.desk.admitted (flight next) (Send executor) Sent tt (goes.fits opening history f)));
   }
 
-  sends_push : (scale : Scale) (w new : Parts J) (message : Message J) (answer : EventAnswer) (room : Bool) → (h : IsSoundWith scale (part_message message) w) → IsSoundMessage scale h.payment message
+  sends_push : (scale : Scale) (w new : Parts J) (message : Message J) (answer : EventAnswer) (room : Bool) → (h : IsSoundWith scale (part_message message) w) → IsSoundMessage scale h.under_way message
       → Pushes room message w answer new → SendsOn scale (part_message message) w answer new
   sends_push scale w new message answer true h s said =
       quietly scale (part_message message) w (record w { inbox = w.inbox ++ message ∷ [] }) new answer
@@ -57,32 +59,43 @@ module _ {J : Type 0} where
             (fits_quiet opening history next.log next.slice next.desk.admitted (flight next) (Send executor) Full tt (put_back_fits opening history w (item.Push message) f)));
       }
 
-  sends_commit : (scale : Scale) (w new : Parts J) (commit : CommitItem J) (answer : EventAnswer) (h : IsSoundWith scale (part_item (item.Commit commit)) w) (s : IsSoundCommit scale h.payment commit)
-      (a : Active J) → w.desk.active ≡ Some a → Commits commit a w answer new → SendsOn scale (part_item (item.Commit commit)) w answer new
-  sends_commit scale w new commit (Logged place) h s a active said =
-      let both = logging_goes_on scale w commit h s a active in
+  sends_commit : (scale : Scale) (w new : Parts J) (commit : CommitItem J) (answer : EventAnswer) (h : IsSoundWith scale (part_item (item.Commit commit)) w) (s : IsSoundCommit scale commit)
+      → Commits commit w answer new → SendsOn scale (part_item (item.Commit commit)) w answer new
+  sends_commit scale w new commit (Logged place) h s said =
+      let both = logging_goes_on scale w commit h s in
       record {
         sound = subst (λ v. IsSoundWith scale nothing v) (sym said.1.1) both.0;
         fits = λ opening history executor f.
             subst (λ v. Fits opening (history ++ step (Send executor) (Logged place) ∷ []) v) (sym said.1.1)
-            (subst (λ n. Fits opening (history ++ step (Send executor) (Logged n) ∷ []) (logging commit a w)) (sym said.0) (both.1 opening history executor f));
+            (subst (λ n. Fits opening (history ++ step (Send executor) (Logged n) ∷ []) (logging commit w)) (sym said.0) (both.1 opening history executor f));
       }
-  sends_commit scale w new commit Sent h s a active said = quietly scale (part_item (item.Commit commit)) w _ new Sent (refusing_goes_on scale w commit h s a active said.0) refl said.1.1
-  sends_commit scale w new commit (Accepted age) h s a active said = absurd said
-  sends_commit scale w new commit Took h s a active said = absurd said
-  sends_commit scale w new commit Full h s a active said = absurd said
-  sends_commit scale w new commit (Answered session number told) h s a active said = absurd said
-  sends_commit scale w new commit Nothing h s a active said = absurd said
+  sends_commit scale w new commit Sent h s said = quietly scale (part_item (item.Commit commit)) w _ new Sent (refusing_goes_on scale w commit h s said.0) refl said.1.1.1
+  sends_commit scale w new commit (Accepted age) h s said = absurd said
+  sends_commit scale w new commit Took h s said = absurd said
+  sends_commit scale w new commit Full h s said = absurd said
+  sends_commit scale w new commit (Answered session number told) h s said = absurd said
+  sends_commit scale w new commit Nothing h s said = absurd said
 
-  pub sends_on : (laws : TheLaws) (scale : Scale) (w new : Parts J) (i : Item J) (answer : EventAnswer) (h : IsSoundWith scale (part_item i) w) → IsSoundItem scale w.log h.payment i
+  -- the phase that is under way where a report comes
+  pub phase_at : (scale : Scale) (w : Parts J) (r : Report J) (h : IsSoundWith scale (part_item (item.Report r)) w) (slots : List (Option (Report J))) → w.desk.active ≡ Some (active.Acting slots)
+      → IsSoundPhase scale h.under_way slots × (slice_get slots r.place ≡ Some None)
+  phase_at scale w r h slots is =
+      let at = acting_under_way r.place w.desk.active (is_awaited (weigh_acting r.place) (Acting r.place) (flight w).tokens (awaited w.desk.active) (one_weighs r.place) h.balance.tokens) in
+      let found = at.1.0 in
+      let same : at.0 ≡ slots = cc in
+      (subst (λ a. IsSoundActive scale h.under_way a) is h.active, subst (λ (l : List (Option (Report J))). slice_get l r.place ≡ Some None) same at.1.1)
+
+  pub sends_on : (scale : Scale) (w new : Parts J) (i : Item J) (answer : EventAnswer) (h : IsSoundWith scale (part_item i) w) → IsSoundItem scale w.log h.under_way i
       → SendsItem i w answer new → SendsOn scale (part_item i) w answer new
-  sends_on laws scale w new (item.Push message) answer h s said = sends_push scale w new message answer (nat_lt (length w.inbox) 1024) h s said
-  sends_on laws scale w new (item.Report r) answer h s said =
-      quietly scale (part_item (item.Report r)) w _ new answer (reports_go_on laws scale w r h s said.1.0 said.1.1.0) said.0 said.1.1.1
-  sends_on laws scale w new (item.Ended place) answer h s said =
-      quietly scale (part_ended place) w _ new answer (ended_goes_on scale w place h said.1.0 said.1.1.0) said.0 said.1.1.1
-  sends_on laws scale w new (item.Commit commit) answer h s said = sends_commit scale w new commit answer h s said.0 said.1.0 said.1.1
-  sends_on laws scale w new (item.Reply told) answer h s said = record {
+  sends_on scale w new (item.Push message) answer h s said = sends_push scale w new message answer (nat_lt (length w.inbox) 1024) h s said
+  sends_on scale w new (item.Report r) answer h s said =
+      let slots = said.1.0 in
+      let at = phase_at scale w r h slots said.1.1.0 in
+      quietly scale (part_item (item.Report r)) w new new answer (reports_go_on scale w r h s slots said.1.1.0 at.0 at.1 new said.1.1.1) said.0 refl
+  sends_on scale w new item.Ended answer h s said =
+      quietly scale (part_item {J = J} item.Ended) w _ new answer (ended_goes_on scale w h said.1.0 said.1.1.0) said.0 said.1.1.1
+  sends_on scale w new (item.Commit commit) answer h s said = sends_commit scale w new commit answer h s said
+  sends_on scale w new (item.Reply told) answer h s said = record {
     sound = replies_sound scale w told h s said.1.0 said.1.1.0 new said.1.1.1;
     fits = λ opening history executor f.
         subst (λ a. Fits opening (history ++ step (Send executor) a ∷ []) new) (sym said.0)
@@ -91,9 +104,9 @@ module _ {J : Type 0} where
 
   -- ---- the first item of the outbox
 
-  pub first_sent : (laws : TheLaws) (scale : Scale) (old new : Parts J) (i : Item J) (rest : List (Item J)) (answer : EventAnswer) → old.outbox ≡ i ∷ rest → IsSoundWith scale nothing old
+  pub first_sent : (scale : Scale) (old new : Parts J) (i : Item J) (rest : List (Item J)) (answer : EventAnswer) → old.outbox ≡ i ∷ rest → IsSoundWith scale nothing old
       → SendsItem i (record old { outbox = rest }) answer new → (executor : ℕ) → IsSoundWith scale nothing new × Advances old (step (Send executor) answer ∷ []) new
-  first_sent laws scale old new i rest answer is h said executor =
+  first_sent scale old new i rest answer is h said executor =
       let hand = item_in_hand scale old i rest is h in
-      let sends = sends_on laws scale (record old { outbox = rest }) new i answer hand.0 hand.1 said in
+      let sends = sends_on scale (record old { outbox = rest }) new i answer hand.0 hand.1 said in
       (sends.sound, λ opening history f. sends.fits opening history executor (fits_in_hand opening history old i rest is f))

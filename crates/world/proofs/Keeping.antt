@@ -1,27 +1,18 @@
--- Steps of a slice that keep what is committed: one after another, beside other claims, and in another order.
-use Rattle.std.proofs.Common.{List, [], ◌++◌, refl, sym, ◌∙◌, subst, append_assoc}
+-- Steps of a slice that keep what is committed, beside claims that were out before.
+use Rattle.std.proofs.Common.{List, [], ◌++◌, refl, sym, subst, append_assoc}
 use Rattle.std.specs.List.Sorted.{IsPermutation}
 use Rattle.std.proofs.lemmas.List.Sorted.{IsPermutation-append_left, IsPermutation-append_comm}
 use Rattle.tickets.specs.Claims.{Claiming}
 use Rattle.tickets.specs.Committed.{AreCommitted}
-use Rattle.tickets.specs.Laws.{OrderDoesNotMatter}
+use Rattle.tickets.proofs.Committed as kept
 use Rattle.slices.specs.Sliced.{Sliced, SliceKeeps, everywhere, standing}
 
 -- nothing is done
 pub stays : (claims : List Claiming) (slice : Sliced) → SliceKeeps claims slice claims slice
 stays claims slice = record { committed = λ tables others h. h; scale = refl; items = refl }
 
--- one step after another
-pub then : {first between last : List Claiming} {old slice new : Sliced}
-    → SliceKeeps first old between slice → SliceKeeps between slice last new → SliceKeeps first old last new
-then one two = record {
-  committed = λ tables others h. two.committed tables others (one.committed tables others h);
-  scale = two.scale ∙ one.scale;
-  items = two.items ∙ one.items;
-}
-
 -- more claims are out, after those of the step
-pub beside : (before after more : List Claiming) (old new : Sliced)
+beside : (before after more : List Claiming) (old new : Sliced)
     → SliceKeeps before old after new → SliceKeeps (before ++ more) old (after ++ more) new
 beside before after more old new step = record {
   committed = λ tables others h.
@@ -32,18 +23,18 @@ beside before after more old new step = record {
 }
 
 -- the claims are in another order after the step
-pub ordered : OrderDoesNotMatter → (before after last : List Claiming) (old new : Sliced)
+ordered : (before after last : List Claiming) (old new : Sliced)
     → IsPermutation after last → SliceKeeps before old after new → SliceKeeps before old last new
-ordered order before after last old new same step = record {
+ordered before after last old new same step = record {
   committed = λ tables others h.
-      order everywhere tables (standing new) (after ++ others) (last ++ others) (IsPermutation-append_left others after last same)
+      kept.AreCommitted-permutation everywhere tables (standing new) (after ++ others) (last ++ others) (IsPermutation-append_left others after last same)
       (step.committed tables others h);
   scale = step.scale;
   items = step.items;
 }
 
 -- a step that makes claims, after those that are out
-pub more : OrderDoesNotMatter → (claims made : List Claiming) (old new : Sliced)
+pub more : (claims made : List Claiming) (old new : Sliced)
     → SliceKeeps [] old made new → SliceKeeps claims old (claims ++ made) new
-more order claims made old new step =
-    ordered order claims (made ++ claims) (claims ++ made) old new (IsPermutation-append_comm made claims) (beside [] made claims old new step)
+more claims made old new step =
+    ordered claims (made ++ claims) (claims ++ made) old new (IsPermutation-append_comm made claims) (beside [] made claims old new step)

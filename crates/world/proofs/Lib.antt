@@ -5,8 +5,9 @@ pub mod Taking
 pub mod Tokens
 pub mod Puts
 pub mod Releases
-pub mod Following
 pub mod Reporting
+pub mod Reported
+pub mod Sorting
 pub mod Meetings
 pub mod Endings
 pub mod Logging
@@ -22,13 +23,8 @@ pub mod Answered
 pub mod Runs
 pub mod Busy
 pub mod Keeping
-pub mod GivingBack
-pub mod Acting
 pub mod Works
 pub mod Submitting
 pub mod Admissions
-pub mod SendingBoth
-pub mod SendingEnds
-pub mod SendingGiven
 pub mod Opened
 pub mod Schedules

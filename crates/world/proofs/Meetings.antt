@@ -1,150 +1,400 @@
--- A report comes to where its phase meets, whatever has been reported there.
-use Rattle.std.proofs.Common.{◌≡◌, List, [], ◌∷◌, ◌++◌, Option, Some, None, refl, ◌∙◌, ap, subst, arith}
-use Rattle.std.specs.Prelude.{map, slice_set}
-use Rattle.std.proofs.lemmas.List.Sums.{sum_by-cons}
+-- A report comes to where its phase meets: it is kept, or all have reported, and what follows is done.
+use Rattle.std.proofs.Common.{◌≡◌, ◌⊎◌, inl, inr, ℕ, ◌+◌, ◌≤◌, false, zero, suc, List, [], ◌∷◌, ◌++◌, length, Option, Some, None, refl, sym, ◌∙◌, ap, subst, arith, append-nil, ⊎_elim}
+use Rattle.std.specs.Prelude.{All, map, replicate, slice_set}
+use Rattle.std.specs.List.{slice_get, sum_by}
+use Rattle.std.specs.List.Sorted.{IsPermutation}
+use Rattle.std.proofs.lemmas.List.{length-append, length-replicate, length-set}
+use Rattle.std.proofs.lemmas.List.FromFn.{length-range_with_len}
+use Rattle.std.proofs.lemmas.List.Elements.{All-nil, All-cons, All-append}
+use Rattle.std.proofs.lemmas.List.Sorted.{IsPermutation-refl, IsPermutation-sym, IsPermutation-map, sum_by-IsPermutation}
+use Rattle.std.proofs.lemmas.List.Sums.{sum_by-append, sum_by-cons}
 use Rattle.schema.specs.declared.scale.Scale.{Scale}
 use Rattle.schema.specs.Database.{Database}
-use Rattle.requests.specs.declared.request.Payment.{Payment}
+use Rattle.requests.specs.Check.{IsAccepted}
+use Rattle.requests.specs.declared.reply.Reply.{Reply}
+use Rattle.requests.specs.declared.reply.Reply.TheVariants as reply
+use Rattle.requests.specs.declared.refusal.Refusal.{Refusal}
+use Rattle.requests.specs.declared.refusal.Refusal.TheVariants as refusal
+use Rattle.tickets.specs.Claims.{Claiming, all_claims}
+use Rattle.commit_log.specs.Claimed.{IsCarriedOut}
 use Rattle.history.specs.History.{Step}
-use Rattle.rendezvous.specs.Awaited.{awaited_from}
+use Rattle.phases.specs.Following.{Follows, HaveAllDone}
+use Rattle.phases.specs.declared.phase.Gathered.{Gathered}
+use Rattle.phases.specs.declared.phase.Gathered.TheVariants.{Next, Finish, RollBack}
+use Rattle.actions.specs.declared.work.Work.{Work}
+use Rattle.actions.specs.declared.work.Found.{Found}
+use Rattle.actions.specs.Acting.{CanBeUndone}
+use Rattle.actions.specs.Works.{HasDone}
+use Rattle.actions.proofs.Wished.{works_have_wishes, works_have_a_claim_for_each_wish}
+use Rattle.flow_graphs.specs.declared.graphs.Progress.{Progress}
+use Rattle.flow_graphs.specs.Progresses.{HoldsSome, IsReached, works_of}
+use Rattle.flow_graphs.specs.ProgressLaws.{can_all}
+use Rattle.flow_graphs.proofs.Accepted.{accepted}
+use Rattle.flow_graphs.proofs.Counts.{some_actions}
+use Rattle.rendezvous.specs.Awaited.{awaited_from, reported}
+use Rattle.rendezvous.proofs.Awaiting.{all_awaited, report_takes_one_number, none_awaited}
 use Rattle.world.specs.declared.desk.Active.{Active}
-use Rattle.world.specs.declared.desk.Stage.TheVariants as stage
+use Rattle.world.specs.declared.desk.Active.TheVariants as active
+use Rattle.world.specs.declared.desk.Desk.{Desk}
+use Rattle.world.specs.declared.flight.Transaction.{Transaction}
 use Rattle.world.specs.declared.flight.Flow.{Flow}
-use Rattle.world.specs.declared.flight.Paid.{Paid}
-use Rattle.world.specs.declared.flight.HomeRan.{HomeRan}
-use Rattle.world.specs.declared.flight.CustomerRan.{CustomerRan}
-use Rattle.world.specs.declared.flight.HistoryRan.{HistoryRan}
-use Rattle.world.specs.declared.flight.HistoryRan.TheVariants as history_ran
 use Rattle.world.specs.declared.flight.Report.{Report}
-use Rattle.world.specs.declared.flight.Report.TheVariants as report
+use Rattle.world.specs.declared.flight.Item.{Item}
+use Rattle.world.specs.declared.flight.Item.TheVariants as item
 use Rattle.world.specs.declared.world.Parts.{Parts}
-use Rattle.world.specs.Flights.{Acting, Part, nothing, join, part_report, claims_home_ran, claims_customer_ran, claims_history_ran, claims_paid}
-use Rattle.world.specs.Sound.{IsSoundWith, IsSoundReport, MeetingsFit, AreTwoSlots, awaited, awaited_in, flight, none_ended, reported_to}
-use Rattle.world.specs.Phases.{gathered_first, gathered_second}
-use Rattle.world.specs.Events.{following, meeting_first, reporting, AwaitsHome, AwaitsCustomer}
-use Rattle.world.specs.Worlds.{FitsPart, Fits}
+use Rattle.world.specs.Flights.{Acting, Committing, Part, part, nothing, join, parts, acting_from, part_item, part_met, part_report, part_transaction, unanswered_transaction}
+use Rattle.world.specs.Following.{acts_of, committing, found_in, held_in, holding, refusal_of, refused, releasing, with_active, IfCarried}
+use Rattle.world.specs.Sound.{IsSoundWith, IsSoundMessage, IsSoundItem, IsSoundReport, IsSoundPhase, IsSoundFlow, IsSoundStart, IsSoundCommit, IsAskedBy, IsBalanced, UnderWay, WeighAlike, awaited, flight, reported_to}
+use Rattle.world.specs.Events.{LeadsTo, MeetsAs, MeetsUnless, ReportsInto, goes_on}
+use Rattle.world.specs.Worlds.{FitsPart}
+use Rattle.world.proofs.Joins.{IsSame, same-refl, same-sym, same-trans, same-join, join-assoc, join-nothing}
+use Rattle.world.proofs.Balances.{fly, fly_last, in_inbox, in_outbox, balanced_same}
 use Rattle.world.proofs.Fitting.{fits_same}
-use Rattle.world.proofs.Tokens.{one_less, is_awaited, weigh_acting, home_of, customer_of, history_of}
-use Rattle.world.proofs.Puts.{lots}
-use Rattle.world.proofs.Following.{TheLaws, HasNext, first_gathered, second_gathered, follows_fits, follows_sound}
-use Rattle.world.proofs.Reporting.{beside, beside_now, first_awaited, first_met, keeps_sound, keeps_fits, all_met_home, all_met_customer, last_sound}
+use Rattle.world.proofs.Asking.{all_acting, few_at, no_message, one_each, other_under_way}
+use Rattle.world.proofs.Puts.{AreServed, GoesOn, lots, puts_fits, puts_sound}
+use Rattle.world.proofs.Releases.{releases_fits, releases_sound}
+use Rattle.world.proofs.Reporting.{beside, beside_now, first_met, served_same}
+use Rattle.world.proofs.Reported.{HaveReported, all_claims-append, all_done, all_hold, all_undo, few_hold, is_carried, met_one_more, met_tokens, parts_all, phase_reported, put_at, reported-map}
+use Rattle.world.proofs.Works.{acts_fine, part_acts}
+
+-- an action that has done its work holds some claim
+work_holds : (scale : Scale) (work : Work) (found : Found) (claims : List Claiming) → HasDone scale work found claims → HoldsSome claims
+work_holds scale work found claims has = omega (arith, works_have_a_claim_for_each_wish scale work found claims has, works_have_wishes work)
+
+-- nothing has been reported of a phase that begins
+none_reported : {R : Type 0} (n : ℕ) → reported {R = R} (replicate n None) ≡ []
+none_reported zero = refl
+none_reported (suc n) = none_reported n
+
+no_report : {R : Type 0} (n place : ℕ) (r : R) → slice_get (replicate n None) place ≡ Some (Some r) → ⊥
+no_report zero place r is = absurd (cc)
+no_report (suc n) zero r is = absurd (cc)
+no_report (suc n) (suc place) r is = no_report n place r is
 
 module _ {J : Type 0} where
-  -- from what was in hand, the next world is sound, and a history that fits goes on fitting
-  pub record GoesOn (scale : Scale) (hand : Part) (old new : Parts J) : Type 0 where
-    pub sound : IsSoundWith scale nothing new
-    pub fits : (opening : Database) (history : List Step) → FitsPart opening history old.log old.slice old.desk.admitted (join hand (flight old)) → Fits opening history new
+  -- ---- what is in hand, with all that has met
 
-  -- what fits, with what has met told
-  fits_beside : (opening : Database) (history : List Step) (w : Parts J) (hand : Part) (met : List (Report J)) → reported_to w.desk.active ≡ met
-      → FitsPart opening history w.log w.slice w.desk.admitted (join hand (flight w)) → FitsPart opening history w.log w.slice w.desk.admitted (beside hand w met)
-  fits_beside opening history w hand met is f = subst (λ rs. FitsPart opening history w.log w.slice w.desk.admitted (beside hand w rs)) is f
+  -- what has met comes to the front
+  front : (hand : Part) (w : Parts J) (met : List (Report J)) → IsSame (beside hand w met) (join (join hand (parts part_met met)) (lots w))
+  front hand w met =
+      let p = parts part_met met in
+      subst (λ q. IsSame (beside hand w met) q) (sym (join-assoc hand p (lots w)))
+      (same-join hand hand (fly (in_inbox w) (in_outbox w) p) (join p (lots w)) (same-refl hand)
+      (subst (λ q. IsSame (fly (in_inbox w) (in_outbox w) q) (join p (lots w))) (join-nothing p) (fly_last p (in_inbox w) (in_outbox w) nothing)))
 
-  module _ (laws : TheLaws) (scale : Scale) (w : Parts J) where
-    home_reports : (flow : Flow J) (ran : HomeRan J) (h : IsSoundWith scale (part_report (report.Home flow ran)) w) → IsSoundReport scale h.payment (report.Home flow ran)
-        → (a : Active J) → w.desk.active ≡ Some a → a.stage ≡ stage.First → a.second ≡ None ∷ [] → a.ending ≡ none_ended
-        → (slots : List (Option (Report J))) → a.first ≡ slots → AwaitsHome slots → AreTwoSlots scale h.payment slots
-        → GoesOn scale (part_report (report.Home flow ran)) w (meeting_first (slice_set slots 0 (Some (report.Home flow ran))) a w)
-    home_reports flow ran h s a active is second ending (None ∷ None ∷ []) first awaits fit =
-        let r = report.Home flow ran in
-        let met = first_met w a (None ∷ None ∷ []) active first in
-        let b = beside_now (part_report r) w [] (Acting 0 ∷ Acting 1 ∷ []) h.balance met (first_awaited w a (None ∷ None ∷ []) active is first) in
+  -- all reports together, once the last one has come
+  all_together : (w : Parts J) (slots : List (Option (Report J))) (r : Report J) (reports : List (Report J)) → slice_get slots r.place ≡ Some None
+      → map Some reports ≡ slice_set slots r.place (Some r)
+      → IsSame (beside (part_report r) w (reported slots)) (join (part (parts part_met reports).claims (parts part_met reports).pending (Acting r.place ∷ [])) (lots w))
+  all_together w slots r reports waits all =
+      let met = parts part_met (reported slots) in
+      let now = parts part_met reports in
+      let is : reports ≡ reported (slice_set slots r.place (Some r)) = sym (reported-map reports) ∙ ap (λ (l : List (Option (Report J))). reported l) all in
+      let more : IsSame now (join (part_met r) met) = subst (λ rs. IsSame (parts part_met rs) (join (part_met r) met)) (sym is) (met_one_more slots r.place r waits) in
+      let same : IsSame (join (part_report r) met) (part now.claims now.pending (Acting r.place ∷ [])) = record {
+        claims = IsPermutation-sym now.claims ((part_met r).claims ++ met.claims) more.claims;
+        pending = IsPermutation-sym now.pending ((part_met r).pending ++ met.pending) more.pending;
+        tokens = subst (λ ts. IsPermutation (Acting r.place ∷ ts) (Acting r.place ∷ [])) (sym (met_tokens (reported slots))) (IsPermutation-refl (Acting r.place ∷ []));
+      } in
+      same-trans (beside (part_report r) w (reported slots)) (join (join (part_report r) met) (lots w)) (join (part now.claims now.pending (Acting r.place ∷ [])) (lots w))
+      (front (part_report r) w (reported slots))
+      (same-join (join (part_report r) met) (part now.claims now.pending (Acting r.place ∷ [])) (lots w) (lots w) same (same-refl (lots w)))
+
+  -- the tokens of those that are awaited, before a report and after it
+  awaited_less : (slots : List (Option (Report J))) (r : Report J) → slice_get slots r.place ≡ Some None
+      → WeighAlike (Acting r.place ∷ map Acting (awaited_from 0 (slice_set slots r.place (Some r)))) (map Acting (awaited_from 0 slots))
+  awaited_less slots r waits weight =
+      let rest = awaited_from 0 (slice_set slots r.place (Some r)) in
+      let same : 0 + r.place ≡ r.place = omega arith in
+      let fewer : IsPermutation (awaited_from 0 slots) (r.place ∷ rest) =
+      subst (λ (n : ℕ). IsPermutation (awaited_from 0 slots) (n ∷ rest)) same (report_takes_one_number 0 r.place slots r waits) in
+      sum_by-IsPermutation weight (map Acting (awaited_from 0 slots)) (map Acting (r.place ∷ rest)) (IsPermutation-map Acting (awaited_from 0 slots) (r.place ∷ rest) fewer)
+
+  -- ---- a report is kept, since another is awaited
+
+  module _ (scale : Scale) (w : Parts J) (r : Report J) (h : IsSoundWith scale (part_report r) w) (s : IsSoundReport scale h.under_way r)
+      (slots : List (Option (Report J))) (is : w.desk.active ≡ Some (active.Acting slots)) (at : IsSoundPhase scale h.under_way slots) (waits : slice_get slots r.place ≡ Some None) where
+    abbrev u : UnderWay
+    u = h.under_way
+
+    abbrev filled : List (Option (Report J))
+    filled = slice_set slots r.place (Some r)
+
+    met_is : reported_to w.desk.active ≡ reported slots
+    met_is = first_met w slots is
+
+    awaits_are : awaited w.desk.active ≡ map Acting (awaited_from 0 slots)
+    awaits_are = ap awaited is
+
+    fits_beside : (opening : Database) (history : List Step) → FitsPart opening history w.log w.slice w.desk.admitted (join (part_report r) (flight w))
+        → FitsPart opening history w.log w.slice w.desk.admitted (beside (part_report r) w (reported slots))
+    fits_beside opening history f = subst (λ rs. FitsPart opening history w.log w.slice w.desk.admitted (beside (part_report r) w rs)) met_is f
+
+    -- what stands at a place is sound
+    still_sound : (place : ℕ) (q : Report J) → slice_get filled place ≡ Some (Some q) → (q.place ≡ place) × IsSoundReport scale u q
+    still_sound place q stands = by (put_at slots r.place place (Some r) (Some q) stands)
+      where
+        by : ((place ≡ r.place) × (Some r ≡ Some q)) ⊎ (slice_get slots place ≡ Some (Some q)) → (q.place ≡ place) × IsSoundReport scale u q
+        by (inl put) =
+            let both = put.1 in
+            let same : r ≡ q = cc in
+            subst (λ (p : Report J). (p.place ≡ place) × IsSoundReport scale u p) same (sym put.0, s)
+        by (inr stood) = at.reports place q stood
+
+    keeps : 1 ≤ length (awaited_from 0 filled) → GoesOn scale (part_report r) w (with_active (Some (active.Acting filled)) w)
+    keeps awaits =
+        let new = with_active (Some (active.Acting filled)) w in
+        let b = beside_now (part_report r) w (reported slots) (map Acting (awaited_from 0 slots)) h.balance met_is awaits_are in
+        let hand : Part = part_met r in
+        let met = parts part_met (reported slots) in
+        -- without its token, the report is among what has met
+        let same : IsSame (fly (in_inbox w) (in_outbox w) (parts part_met (reported filled))) (join (join hand met) (lots w)) =
+        same-trans (fly (in_inbox w) (in_outbox w) (parts part_met (reported filled))) (join (parts part_met (reported filled)) (lots w)) (join (join hand met) (lots w))
+        (subst (λ q. IsSame (fly (in_inbox w) (in_outbox w) q) (join (parts part_met (reported filled)) (lots w))) (join-nothing (parts part_met (reported filled))) (fly_last (parts part_met (reported filled)) (in_inbox w) (in_outbox w) nothing))
+        (same-join (parts part_met (reported filled)) (join hand met) (lots w) (lots w) (met_one_more slots r.place r waits) (same-refl (lots w))) in
+        let with_token = front (part_report r) w (reported slots) in
+        let lighter : WeighAlike ((join hand met).tokens ++ (lots w).tokens) (map Acting (awaited_from 0 filled)) = λ weight.
+        omega (
+          arith,
+          b.tokens weight,
+          sum_by-IsPermutation weight (beside (part_report r) w (reported slots)).tokens (join (join (part_report r) met) (lots w)).tokens with_token.tokens,
+          sum_by-cons weight (Acting r.place) (met.tokens ++ (lots w).tokens),
+          sum_by-cons weight (Acting r.place) (map Acting (awaited_from 0 filled)),
+          awaited_less slots r waits weight,
+        ) in
+        let served = served_same w.desk (beside (part_report r) w (reported slots)).pending (join (join hand met) (lots w)).pending with_token.pending b.served in
+        let desk : Desk J = record w.desk { active = Some (active.Acting filled) } in
+        let balance : IsBalanced desk (join (join hand met) (lots w)) = record { tokens = lighter; alone = served.alone; many = served.many } in
         record {
-          sound = keeps_sound scale w r a (Some r ∷ None ∷ []) h refl is (((refl, s), tt), (second, ending)) b.served (one_less (Acting 0) (lots w).tokens (Acting 1 ∷ []) b.tokens);
-          fits = λ opening history f. keeps_fits opening history w r a (Some r ∷ None ∷ []) refl (fits_beside opening history w (part_report r) [] met f);
-        }
-    home_reports flow ran h s a active is second ending (None ∷ Some (report.Customer q customer) ∷ []) first awaits fit =
-        let r = report.Home flow ran in
-        let other : List (Report J) = report.Customer q customer ∷ [] in
-        let slots : List (Option (Report J)) = None ∷ Some (report.Customer q customer) ∷ [] in
-        let met = first_met w a slots active first in
-        let b = beside_now (part_report r) w other (Acting 0 ∷ []) h.balance met (first_awaited w a slots active is first) in
-        let same = all_met_home w flow ran q customer in
-        record {
-          sound = last_sound laws scale w (part_report r) other flow ran customer a 0 h s.0 s.1 fit.1.1.1 second ending b same;
+          sound = record {
+            scale_is = h.scale_is;
+            under_way = u;
+            inbox = h.inbox;
+            outbox = h.outbox;
+            active = record {
+              reached = at.reached;
+              hold = at.hold;
+              undo = at.undo;
+              many = length-set slots r.place (Some r) ∙ at.many;
+              reports = still_sound;
+              awaits = awaits;
+            };
+            seats = h.seats;
+            sessions = h.sessions;
+            balance = balanced_same desk (join (join hand met) (lots w)) (flight new) (same-sym _ _ same) balance;
+          };
           fits = λ opening history f.
-              follows_fits scale h.payment opening history w flow (claims_home_ran ran ++ claims_customer_ran customer) (Acting 0 ∷ []) (gathered_first flow ran customer) (record a { first = [] }) refl
-              (first_gathered laws scale h.payment flow ran customer s.0 s.1 fit.1.1.1)
-              (fits_same opening history w.log w.slice w.desk.admitted _ _ same (fits_beside opening history w (part_report r) other met f));
-        }
-    home_reports flow ran h s a active is second ending [] first awaits fit = absurd awaits
-    home_reports flow ran h s a active is second ending (None ∷ []) first awaits fit = absurd awaits
-    home_reports flow ran h s a active is second ending (Some one ∷ slots) first awaits fit = absurd awaits
-    home_reports flow ran h s a active is second ending (None ∷ None ∷ third ∷ slots) first awaits fit = absurd awaits
-    home_reports flow ran h s a active is second ending (None ∷ Some (report.Customer q customer) ∷ third ∷ slots) first awaits fit = absurd awaits
-    home_reports flow ran h s a active is second ending (None ∷ Some (report.Home other home) ∷ slots) first awaits fit = absurd awaits
-    home_reports flow ran h s a active is second ending (None ∷ Some (report.History paid history) ∷ slots) first awaits fit = absurd awaits
-
-    customer_reports : (q : Payment) (ran : CustomerRan J) (h : IsSoundWith scale (part_report (report.Customer q ran)) w) → IsSoundReport scale h.payment (report.Customer q ran)
-        → (a : Active J) → w.desk.active ≡ Some a → a.stage ≡ stage.First → a.second ≡ None ∷ [] → a.ending ≡ none_ended
-        → (slots : List (Option (Report J))) → a.first ≡ slots → AwaitsCustomer slots → AreTwoSlots scale h.payment slots
-        → GoesOn scale (part_report (report.Customer q ran)) w (meeting_first (slice_set slots 1 (Some (report.Customer q ran))) a w)
-    customer_reports q ran h s a active is second ending (None ∷ None ∷ []) first awaits fit =
-        let r = report.Customer q ran in
-        let met = first_met w a (None ∷ None ∷ []) active first in
-        let b = beside_now (part_report r) w [] (Acting 0 ∷ Acting 1 ∷ []) h.balance met (first_awaited w a (None ∷ None ∷ []) active is first) in
-        record {
-          sound = keeps_sound scale w r a (None ∷ Some r ∷ []) h refl is ((tt, (refl, s)), (second, ending)) b.served
-              (λ weight. omega (arith, b.tokens weight, sum_by-cons weight (Acting 1) (lots w).tokens));
-          fits = λ opening history f. keeps_fits opening history w r a (None ∷ Some r ∷ []) refl (fits_beside opening history w (part_report r) [] met f);
-        }
-    customer_reports q ran h s a active is second ending (Some (report.Home flow home) ∷ None ∷ []) first awaits fit =
-        let r = report.Customer q ran in
-        let other : List (Report J) = report.Home flow home ∷ [] in
-        let slots : List (Option (Report J)) = Some (report.Home flow home) ∷ None ∷ [] in
-        let met = first_met w a slots active first in
-        let b = beside_now (part_report r) w other (Acting 1 ∷ []) h.balance met (first_awaited w a slots active is first) in
-        let same = all_met_customer w flow home q ran in
-        record {
-          sound = last_sound laws scale w (part_report r) other flow home ran a 1 h fit.0.1.0 fit.0.1.1 s.1 second ending b same;
-          fits = λ opening history f.
-              follows_fits scale h.payment opening history w flow (claims_home_ran home ++ claims_customer_ran ran) (Acting 1 ∷ []) (gathered_first flow home ran) (record a { first = [] }) refl
-              (first_gathered laws scale h.payment flow home ran fit.0.1.0 fit.0.1.1 s.1)
-              (fits_same opening history w.log w.slice w.desk.admitted _ _ same (fits_beside opening history w (part_report r) other met f));
-        }
-    customer_reports q ran h s a active is second ending [] first awaits fit = absurd awaits
-    customer_reports q ran h s a active is second ending (None ∷ []) first awaits fit = absurd awaits
-    customer_reports q ran h s a active is second ending (None ∷ Some one ∷ slots) first awaits fit = absurd awaits
-    customer_reports q ran h s a active is second ending (None ∷ None ∷ third ∷ slots) first awaits fit = absurd awaits
-    customer_reports q ran h s a active is second ending (Some (report.Home flow home) ∷ []) first awaits fit = absurd awaits
-    customer_reports q ran h s a active is second ending (Some (report.Home flow home) ∷ Some one ∷ slots) first awaits fit = absurd awaits
-    customer_reports q ran h s a active is second ending (Some (report.Home flow home) ∷ None ∷ third ∷ slots) first awaits fit = absurd awaits
-    customer_reports q ran h s a active is second ending (Some (report.Customer other customer) ∷ slots) first awaits fit = absurd awaits
-    customer_reports q ran h s a active is second ending (Some (report.History paid history) ∷ slots) first awaits fit = absurd awaits
-
-    no_next : (paid : Paid J) (ran : HistoryRan J) (a : Active J) → HasNext (gathered_second paid ran) a
-    no_next paid (history_ran.Ran claim) a = tt
-    no_next paid (history_ran.Died group holder) a = tt
-    no_next paid history_ran.NoMemory a = tt
-
-    history_reports : (paid : Paid J) (ran : HistoryRan J) (h : IsSoundWith scale (part_report (report.History paid ran)) w) → IsSoundReport scale h.payment (report.History paid ran)
-        → (a : Active J) → w.desk.active ≡ Some a → a.stage ≡ stage.Second → MeetingsFit scale h.payment stage.Second a
-        → GoesOn scale (part_report (report.History paid ran)) w (following (gathered_second paid ran) (record a { second = [] }) w)
-    history_reports paid ran h s a active is fit =
-        let r = report.History paid ran in
-        let met = first_met w a [] active fit.0 in
-        let awaits : awaited w.desk.active ≡ Acting 2 ∷ [] =
-        ap awaited active ∙ ap (λ s. awaited_in s a) is ∙ ap (λ (l : List (Option (Report J))). map Acting (awaited_from 2 l)) fit.1.0 in
-        let b = beside_now (part_report r) w [] (Acting 2 ∷ []) h.balance met awaits in
-        let claims = claims_paid paid.home paid.customer ++ claims_history_ran ran in
-        let g = gathered_second paid ran in
-        let sound = second_gathered laws scale h.payment paid s.0 ran s.1.0 s.1.1 in
-        record {
-          sound = follows_sound scale h.payment w paid.flow claims g (record a { second = [] }) fit.0 fit.1.1 (no_next paid ran (record a { second = [] })) sound
-              h.scale_is h.inbox h.outbox h.seats h.sessions b.served (one_less (Acting 2) (lots w).tokens [] b.tokens);
-          fits = λ opening history f. follows_fits scale h.payment opening history w paid.flow claims (Acting 2 ∷ []) g (record a { second = [] }) fit.0 sound (fits_beside opening history w (part_report r) [] met f);
+              let together = fits_same opening history w.log w.slice w.desk.admitted (beside (part_report r) w (reported slots)) (join (join (part_report r) met) (lots w)) with_token (fits_beside opening history f) in
+              fits_same opening history w.log w.slice w.desk.admitted (join (join hand met) (lots w)) (flight new) (same-sym _ _ same)
+              (record { told = together.told; committed = together.committed; scale = together.scale; items = together.items });
         }
 
-    -- ---- all reports
+    -- ---- all have reported
 
-    pub reports_go_on : (r : Report J) (h : IsSoundWith scale (part_report r) w) → IsSoundReport scale h.payment r → (a : Active J) → w.desk.active ≡ Some a
-        → GoesOn scale (part_report r) w (reporting r a w)
-    reports_go_on (report.Home flow ran) h s a active =
-        let at = home_of scale h.payment w.desk.active a active h.active (is_awaited (weigh_acting 0) (Acting 0) (flight w).tokens (awaited w.desk.active) refl h.balance.tokens) in
-        home_reports flow ran h s a active at.0 at.1.0.1.0 at.1.0.1.1 a.first refl at.1.1 at.1.0.0
-    reports_go_on (report.Customer q ran) h s a active =
-        let at = customer_of scale h.payment w.desk.active a active h.active (is_awaited (weigh_acting 1) (Acting 1) (flight w).tokens (awaited w.desk.active) refl h.balance.tokens) in
-        customer_reports q ran h s a active at.0 at.1.0.1.0 at.1.0.1.1 a.first refl at.1.1 at.1.0.0
-    reports_go_on (report.History paid ran) h s a active =
-        let at = history_of scale h.payment w.desk.active a active h.active (is_awaited (weigh_acting 2) (Acting 2) (flight w).tokens (awaited w.desk.active) refl h.balance.tokens) in
-        history_reports paid ran h s a active at.0 at.1
+    module _ (reports : List (Report J)) (all : map Some reports ≡ filled) where
+      have : HaveReported scale u 0 (works_of u.progress) reports
+      have = phase_reported scale u slots r reports at s all
+
+      none_left : awaited_from 0 filled ≡ []
+      none_left = ap (λ (l : List (Option (Report J))). awaited_from 0 l) (sym all) ∙ none_awaited 0 reports
+
+      -- nothing else is awaited
+      at_rest : (hand : Part) → hand.tokens ≡ Acting r.place ∷ [] → IsSame (beside (part_report r) w (reported slots)) (join hand (lots w)) → WeighAlike (lots w).tokens []
+      at_rest hand one same weight =
+          let b = beside_now (part_report r) w (reported slots) (map Acting (awaited_from 0 slots)) h.balance met_is awaits_are in
+          let less : WeighAlike (Acting r.place ∷ []) (map Acting (awaited_from 0 slots)) = subst (λ ns. WeighAlike (Acting r.place ∷ map Acting ns) (map Acting (awaited_from 0 slots))) none_left (awaited_less slots r waits) in
+          omega (
+            arith,
+            b.tokens weight,
+            sum_by-IsPermutation weight (beside (part_report r) w (reported slots)).tokens (join hand (lots w)).tokens same.tokens,
+            ap (λ ts. sum_by weight (ts ++ (lots w).tokens)) one,
+            sum_by-cons weight (Acting r.place) (lots w).tokens,
+            sum_by-cons weight (Acting r.place) [],
+            less weight,
+          )
+
+      -- with the transaction that is carried
+      module _ (flow : Flow J) (sound_flow : IsSoundFlow u flow)
+          (together : parts part_met reports ≡ part (all_claims (flow.transaction.held ++ held_in reports)) (unanswered_transaction flow.transaction ∷ []) []) where
+        abbrev t : Transaction J
+        t = holding flow.transaction (held_in reports)
+
+        abbrev hand : Part
+        hand = part_transaction t (Acting r.place ∷ [])
+
+        in_hand : IsSame (beside (part_report r) w (reported slots)) (join hand (lots w))
+        in_hand = subst (λ (q : Part). IsSame (beside (part_report r) w (reported slots)) (join (part q.claims q.pending (Acting r.place ∷ [])) (lots w))) together (all_together w slots r reports waits all)
+
+        rests : WeighAlike (lots w).tokens []
+        rests = at_rest hand refl in_hand
+
+        served : AreServed w.desk (unanswered_transaction t ∷ (lots w).pending)
+        served =
+            let b = beside_now (part_report r) w (reported slots) (map Acting (awaited_from 0 slots)) h.balance met_is awaits_are in
+            served_same w.desk (beside (part_report r) w (reported slots)).pending (unanswered_transaction t ∷ (lots w).pending) in_hand.pending b.served
+
+        fits_in_hand : (opening : Database) (history : List Step) → FitsPart opening history w.log w.slice w.desk.admitted (join (part_report r) (flight w))
+            → FitsPart opening history w.log w.slice w.desk.admitted (join hand (lots w))
+        fits_in_hand opening history f = fits_same opening history w.log w.slice w.desk.admitted (beside (part_report r) w (reported slots)) (join hand (lots w)) in_hand (fits_beside opening history f)
+
+        held_is : t.held ≡ u.held ++ held_in reports
+        held_is = ap (λ (hs : List (List Claiming)). hs ++ held_in reports) sound_flow.held
+
+        undo : All (All CanBeUndone) t.held
+        undo = subst (λ hs. All (All CanBeUndone) hs) (sym held_is) (All-append (All CanBeUndone) u.held (held_in reports) at.undo (all_undo scale u 0 (works_of u.progress) reports have))
+
+        hold : All HoldsSome t.held
+        hold = subst (λ hs. All HoldsSome hs) (sym held_is)
+            (All-append HoldsSome u.held (held_in reports) at.hold (all_hold scale u (work_holds scale) 0 (works_of u.progress) reports have))
+
+        few : length t.held ≤ 4
+        few = omega (
+          arith,
+          ap (λ (hs : List (List Claiming)). length hs) held_is,
+          length-append u.held (held_in reports),
+          few_hold scale u 0 (works_of u.progress) reports have,
+          few_at scale u.request u.progress u.held at.reached at.hold,
+        )
+
+        asked : IsAskedBy t
+        asked = record { session = sound_flow.asked.session; number = sound_flow.asked.number; request = sound_flow.asked.request }
+
+        -- ---- it is refused
+
+        pub refuses : (why : Refusal) → GoesOn scale (part_report r) w (releasing false (refused t why) w)
+        refuses why = record {
+          sound = releases_sound scale u w hand false (refused t why) h.scale_is h.inbox h.outbox h.seats h.sessions asked.session asked.number tt undo few refl served rests;
+          fits = λ opening history f. releases_fits opening history w hand false (refused t why) refl refl (fits_in_hand opening history f);
+        }
+
+        -- ---- it goes on
+
+        no_tokens : sum_by one_each (lots w).tokens ≡ 0
+        no_tokens = rests one_each
+
+        front_tokens : sum_by one_each (lots w).tokens ≡ sum_by one_each (in_inbox w).tokens + sum_by one_each ((in_outbox w).tokens ++ [])
+        front_tokens = sum_by-append one_each (in_inbox w).tokens ((in_outbox w).tokens ++ [])
+
+        back_tokens : sum_by one_each ((in_outbox w).tokens ++ []) ≡ sum_by one_each (in_outbox w).tokens + 0
+        back_tokens = sum_by-append one_each (in_outbox w).tokens []
+
+        no_inbox : w.inbox ≡ []
+        no_inbox = no_message scale u w.inbox h.inbox (omega (arith, no_tokens, front_tokens, back_tokens))
+
+        -- what stands in the outbox is sound whatever is under way
+        outbox_for : (v : UnderWay) → All (IsSoundItem scale w.log v) w.outbox
+        outbox_for v = other_under_way scale w.log u v w.outbox (omega (arith, no_tokens, front_tokens, back_tokens)) h.outbox
+
+        inbox_for : (v : UnderWay) → All (IsSoundMessage scale v) w.inbox
+        inbox_for v = subst (λ ms. All (IsSoundMessage scale v) ms) (sym no_inbox) (All-nil (IsSoundMessage scale v))
+
+        commits : (shown : Reply) → ((opening : Database) → IsCarriedOut opening u.request (all_claims t.held) shown) → GoesOn scale (part_report r) w (committing t shown w)
+        commits shown carried =
+            let one : Item J = item.Commit (record { transaction = t; reply = shown }) in
+            let sound : IsSoundCommit scale (record { transaction = t; reply = shown }) = record {
+              asked = asked;
+              accepted = subst (λ q. IsAccepted scale q) (sym sound_flow.request) (accepted scale u.request u.progress (all_claims u.held) at.reached);
+              carried_out = λ opening. subst (λ q. IsCarriedOut opening q (all_claims t.held) shown) (sym sound_flow.request) (carried opening);
+              undo = undo;
+              few = few;
+            } in
+            record {
+              sound = puts_sound scale u w hand (one ∷ []) (Some active.Committing) refl h.scale_is h.inbox h.outbox
+                  (All-cons (IsSoundItem scale w.log u) one [] sound (All-nil (IsSoundItem scale w.log u))) tt h.seats h.sessions
+                  (IsPermutation-refl (unanswered_transaction t ∷ [])) served
+                  (λ weight. omega (arith, sum_by-cons weight Committing (lots w).tokens, sum_by-cons weight Committing [], rests weight));
+              fits = λ opening history f.
+                  puts_fits opening history w hand (one ∷ []) (Some active.Committing) refl
+                  (subst (λ cs. IsPermutation (all_claims t.held) cs) (sym (append-nil (all_claims t.held))) (IsPermutation-refl (all_claims t.held)))
+                  (IsPermutation-refl (unanswered_transaction t ∷ [])) (fits_in_hand opening history f);
+            }
+
+        next : (progress : Progress) → IsReached scale u.request progress (all_claims t.held) → GoesOn scale (part_report r) w (goes_on t (Next progress) w)
+        next progress reached =
+            let works = works_of progress in
+            let flow_now : Flow J = record { transaction = t; progress = progress } in
+            let v : UnderWay = record { request = u.request; progress = progress; held = t.held } in
+            let begun : Option (Active J) = Some (active.Acting (replicate (length works) None)) in
+            let some : 1 ≤ length works = some_actions progress in
+            let start : IsSoundStart scale v flow_now works = record {
+              flow_is = record { asked = asked; request = sound_flow.request; held = refl; progress = refl };
+              works_are = refl;
+              can = can_all scale u.request progress (all_claims t.held) reached;
+              few = omega (arith, few_at scale u.request progress t.held reached hold);
+            } in
+            let acts = part_acts flow_now works some in
+            let awaits : map Acting (awaited_from 0 (replicate (length works) None)) ≡ acting_from 0 works = all_acting (Report J) 0 works in
+            let phase : IsSoundPhase scale v (replicate (length works) None) = record {
+              reached = reached;
+              hold = hold;
+              undo = undo;
+              many = length-replicate (length works) None;
+              reports = λ place q stands. absurd (no_report (length works) place q stands);
+              awaits = omega (arith, some, ap (λ (ns : List ℕ). length ns) (all_awaited (Report J) 0 (length works)), length-range_with_len 0 (length works));
+            } in
+            record {
+              sound = puts_sound scale v w hand (acts_of flow_now works) begun (none_reported (length works)) h.scale_is (inbox_for v) (outbox_for v)
+                  (acts_fine scale w.log v flow_now works start) phase h.seats h.sessions
+                  (subst (λ (q : Part). IsPermutation (unanswered_transaction t ∷ []) q.pending) (sym acts) (IsPermutation-refl (unanswered_transaction t ∷ []))) served
+                  (λ weight.
+                  omega (
+                    arith,
+                    sum_by-append weight (parts part_item (acts_of flow_now works)).tokens (lots w).tokens,
+                    rests weight,
+                    ap (λ (q : Part). sum_by weight q.tokens) acts,
+                    ap (λ ts. sum_by weight ts) awaits,
+                  ));
+              fits = λ opening history f.
+                  puts_fits opening history w hand (acts_of flow_now works) begun (none_reported (length works))
+                  (subst (λ (q : Part). IsPermutation (all_claims t.held) q.claims) (sym acts) (IsPermutation-refl (all_claims t.held)))
+                  (subst (λ (q : Part). IsPermutation (unanswered_transaction t ∷ []) q.pending) (sym acts) (IsPermutation-refl (unanswered_transaction t ∷ [])))
+                  (fits_in_hand opening history f);
+            }
+
+        -- what the actions hold together
+        all_held : all_claims u.held ++ all_claims (held_in reports) ≡ all_claims t.held
+        all_held = sym (all_claims-append u.held (held_in reports)) ∙ ap all_claims (sym held_is)
+
+        follows : (g : Gathered Progress) → refusal_of None reports ≡ None → LeadsTo flow.progress (found_in reports) g → GoesOn scale (part_report r) w (goes_on t g w)
+        follows g none leads = by g (leads scale u.request (all_claims u.held) (held_in reports) reached done)
+          where
+            reached : IsReached scale u.request flow.progress (all_claims u.held)
+            reached = subst (λ p. IsReached scale u.request p (all_claims u.held)) (sym sound_flow.progress) at.reached
+
+            done : HaveAllDone (HasDone scale) (works_of flow.progress) (found_in reports) (held_in reports)
+            done = subst (λ p. HaveAllDone (HasDone scale) (works_of p) (found_in reports) (held_in reports)) (sym sound_flow.progress) (all_done scale u 0 (works_of u.progress) reports have none)
+
+            by : (g : Gathered Progress)
+                → Follows (IsReached scale u.request) (λ claims shown. (opening : Database) → IsCarriedOut opening u.request claims shown) (all_claims u.held ++ all_claims (held_in reports)) g
+                → GoesOn scale (part_report r) w (goes_on t g w)
+            by (Next progress) is = next progress (subst (λ cs. IsReached scale u.request progress cs) all_held is)
+            by (Finish shown) is = commits shown (λ opening. subst (λ cs. IsCarriedOut opening u.request cs shown) all_held (is opening))
+            by (RollBack fault) is = commits (reply.RolledBack fault) (λ opening. subst (λ cs. IsCarriedOut opening u.request cs (reply.RolledBack fault)) all_held (is opening))
+
+        goes_by : {new next_w : Parts J} → new ≡ next_w → GoesOn scale (part_report r) w next_w → GoesOn scale (part_report r) w new
+        goes_by is goes = subst (λ v. GoesOn scale (part_report r) w v) (sym is) goes
+
+        pub meets_unless : (why : Option Refusal) (new : Parts J) → refusal_of None reports ≡ why → MeetsUnless why reports flow w new → GoesOn scale (part_report r) w new
+        meets_unless (Some why) new refused_by_one said = goes_by said (refuses why)
+        meets_unless None new none said =
+            ⊎_elim (λ no_memory. goes_by no_memory (refuses refusal.NoMemory)) (λ gathered. goes_by gathered.1.1 (follows gathered.0 none gathered.1.0)) said
+
+    -- ---- what a report brings
+
+    carried_met : (reports : List (Report J)) (new : Parts J) → map Some reports ≡ filled → HaveReported scale u 0 (works_of u.progress) reports
+        → MeetsAs reports w new → GoesOn scale (part_report r) w new
+    carried_met [] new all reported_all said = absurd said
+    carried_met (q ∷ reports) new all reported_all said = by (works_of u.progress) reported_all
+      where
+        by : (works : List Work) → HaveReported scale u 0 works (q ∷ reports) → GoesOn scale (part_report r) w new
+        by [] some = absurd some
+        by (work ∷ works) some =
+            let carried = is_carried scale u q.flow some.0.0 in
+            let flow = carried.0 in
+            let of_flow : MeetsUnless (refusal_of None (q ∷ reports)) (q ∷ reports) flow w new = subst (λ (o : Option (Flow J)). IfCarried o (λ f. MeetsUnless (refusal_of None (q ∷ reports)) (q ∷ reports) f w new)) carried.1.0 said in
+            meets_unless (q ∷ reports) all flow carried.1.1 (parts_all scale u (work ∷ works) q reports flow some carried.1.0) (refusal_of None (q ∷ reports)) new refl of_flow
+
+    pub reports_go_on : (new : Parts J) → ReportsInto filled w new → GoesOn scale (part_report r) w new
+    reports_go_on new said =
+        ⊎_elim (λ kept. subst (λ v. GoesOn scale (part_report r) w v) (sym kept.1) (keeps kept.0))
+        (λ met. carried_met met.0 new met.1.0 (phase_reported scale u slots r met.0 at s met.1.0) met.1.1) said

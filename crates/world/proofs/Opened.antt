@@ -10,6 +10,7 @@ use Rattle.schema.specs.Consistency.{Consistent}
 use Rattle.schema.specs.declared.scale.Scale.{Scale}
 use Rattle.requests.specs.declared.request.Choice.TheVariants.{Number}
 use Rattle.requests.specs.declared.request.Payment.{Payment}
+use Rattle.requests.specs.declared.request.Request.TheVariants as request
 use Rattle.groups.specs.Content.{content}
 use Rattle.tickets.specs.Boxes.{Boxed}
 use Rattle.tickets.specs.LogSeats.{Committed}
@@ -19,6 +20,8 @@ use Rattle.tickets.proofs.Committed as kept
 use Rattle.commit_log.specs.declared.entry.Entry.{Entry}
 use Rattle.commit_log.specs.Passing.{Passing, Seating, new_pass, new_seat}
 use Rattle.history.proofs.Fitting.{empty_history_fits}
+use Rattle.phases.specs.declared.graph.Stage.TheVariants.{Here}
+use Rattle.flow_graphs.specs.declared.graphs.Progress.TheVariants as progress
 use Rattle.slices.specs.Openings.{AreOpenedFor, IsBoxOf}
 use Rattle.slices.specs.Sliced.{Sliced, at_rest, everywhere, is_group_of, standing}
 use Rattle.slices.proofs.Opened.{opened_groups_have_boxes}
@@ -26,7 +29,7 @@ use Rattle.world.specs.declared.desk.SessionDesk.{SessionDesk}
 use Rattle.world.specs.declared.world.Parts.{Parts}
 use Rattle.world.specs.Flights.{nothing, join, parts, part_message, part_item, part_met}
 use Rattle.world.specs.Openings.{AreNewLanes, IsNew, session_with}
-use Rattle.world.specs.Sound.{IsSoundWith, IsSoundMessage, IsSoundItem, IsSoundActive, IsPassOf, IsBalanced, awaited, is_here, reported_to, flight}
+use Rattle.world.specs.Sound.{IsSoundWith, IsSoundMessage, IsSoundItem, IsSoundActive, IsPassOf, IsBalanced, UnderWay, awaited, is_here, reported_to, flight}
 use Rattle.world.specs.Worlds.{FitsPart}
 
 -- ---- the log's seats
@@ -46,6 +49,10 @@ seats_tell t openings seats opened in_place same place d small =
 -- a payment, where there is none
 no_payment : Payment
 no_payment = record { home = record { w_id = 1; d_id = 1 }; customer_home = record { w_id = 1; d_id = 1 }; customer = Number 1; amount = 100; moment = 0 }
+
+-- a transaction, where there is none
+none_under_way : UnderWay
+none_under_way = record { request = request.Payment no_payment; progress = progress.Payment (Here (record { payment = no_payment })); held = [] }
 
 found_in : {X Y : Type 0} (f : X → Y) (o : Option X) (y : Y) (x : X) → option_map f o ≡ Some y → o ≡ Some x → y ≡ f x
 found_in f o y x found is = cc
@@ -82,10 +89,10 @@ module _ {J : Type 0} where
       let here : count_by is_here w.desk.sessions.items ≡ length lanes = ap (λ l. count_by is_here l) sessions ∙ all_here J lanes in
       record {
         scale_is = scale_is;
-        payment = no_payment;
-        inbox = subst (All (IsSoundMessage scale no_payment)) (sym inbox) (All-nil (IsSoundMessage scale no_payment));
-        outbox = subst (All (IsSoundItem scale w.log no_payment)) (sym outbox) (All-nil (IsSoundItem scale w.log no_payment));
-        active = subst (IsSoundActive scale no_payment) (sym active) tt;
+        under_way = none_under_way;
+        inbox = subst (All (IsSoundMessage scale none_under_way)) (sym inbox) (All-nil (IsSoundMessage scale none_under_way));
+        outbox = subst (All (IsSoundItem scale w.log none_under_way)) (sym outbox) (All-nil (IsSoundItem scale w.log none_under_way));
+        active = subst (IsSoundActive scale none_under_way) (sym active) tt;
         seats = ap length sessions ∙ length-map lanes session_with ∙ new.many;
         sessions = λ number session found.
             let is = found_at number session found in

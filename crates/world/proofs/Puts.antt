@@ -7,7 +7,6 @@ use Rattle.std.proofs.lemmas.List.Elements.{All-head, All-tail, All-append}
 use Rattle.std.proofs.lemmas.List.Sorted.{IsPermutation-refl, IsPermutation-append}
 use Rattle.schema.specs.declared.scale.Scale.{Scale}
 use Rattle.schema.specs.Database.{Database}
-use Rattle.requests.specs.declared.request.Payment.{Payment}
 use Rattle.history.specs.History.{Step, Unanswered, is_of}
 use Rattle.world.specs.declared.desk.Active.{Active}
 use Rattle.world.specs.declared.desk.Desk.{Desk}
@@ -15,8 +14,8 @@ use Rattle.world.specs.declared.desk.SessionDesk.{SessionDesk}
 use Rattle.world.specs.declared.flight.Item.{Item}
 use Rattle.world.specs.declared.world.Parts.{Parts}
 use Rattle.world.specs.Flights.{Part, part, nothing, join, parts, part_item, part_met}
-use Rattle.world.specs.Sound.{IsSoundWith, IsSoundMessage, IsSoundItem, IsSoundActive, IsSessionOf, IsBalanced, WeighAlike, flight, reported_to, awaited, is_here}
-use Rattle.world.specs.Events.{putting}
+use Rattle.world.specs.Sound.{IsSoundWith, IsSoundMessage, IsSoundItem, IsSoundActive, IsSessionOf, IsBalanced, WeighAlike, UnderWay, flight, reported_to, awaited, is_here}
+use Rattle.world.specs.Following.{putting}
 use Rattle.world.specs.Worlds.{FitsPart, Fits}
 use Rattle.world.proofs.Joins.{IsSame, same-refl, same-sym, same-join}
 use Rattle.world.proofs.Balances.{fly, in_inbox, in_outbox, item_taken, items_put, balanced_same}
@@ -26,20 +25,20 @@ module _ {J : Type 0} where
   -- what is known of the first item of the outbox, once it is in hand
   pub item_in_hand : (scale : Scale) (old : Parts J) (item : Item J) (rest : List (Item J)) → old.outbox ≡ item ∷ rest
       → IsSoundWith scale nothing old
-      → (h : IsSoundWith scale (part_item item) (record old { outbox = rest })) × IsSoundItem scale old.log h.payment item
+      → (h : IsSoundWith scale (part_item item) (record old { outbox = rest })) × IsSoundItem scale old.log h.under_way item
   item_in_hand scale old item rest is h =
-      let all = subst (λ is. All (IsSoundItem scale old.log h.payment) is) is h.outbox in (
+      let all = subst (λ is. All (IsSoundItem scale old.log h.under_way) is) is h.outbox in (
         record {
           scale_is = h.scale_is;
-          payment = h.payment;
+          under_way = h.under_way;
           inbox = h.inbox;
-          outbox = All-tail (IsSoundItem scale old.log h.payment) item rest all;
+          outbox = All-tail (IsSoundItem scale old.log h.under_way) item rest all;
           active = h.active;
           seats = h.seats;
           sessions = h.sessions;
           balance = balanced_same old.desk (flight old) (join (part_item item) (flight (record old { outbox = rest }))) (item_taken old item rest is) h.balance;
         },
-        All-head (IsSoundItem scale old.log h.payment) item rest all,
+        All-head (IsSoundItem scale old.log h.under_way) item rest all,
       )
 
   pub fits_in_hand : (opening : Database) (history : List Step) (old : Parts J) (item : Item J) (rest : List (Item J)) → old.outbox ≡ item ∷ rest
@@ -78,19 +77,16 @@ module _ {J : Type 0} where
         → count_by (is_of number) pending + cond (is_here session) 1 0 ≡ 1
     pub many : length pending + count_by is_here desk.sessions.items ≡ 64
 
-  pub served_by : (desk : Desk J) (under_way : Part) → IsBalanced desk under_way → AreServed desk under_way.pending
-  served_by desk under_way h = record { alone = h.alone; many = h.many }
-
-  pub puts_sound : (scale : Scale) (p : Payment) (w : Parts J) (hand : Part) (items : List (Item J)) (active : Option (Active J)) → reported_to active ≡ []
+  pub puts_sound : (scale : Scale) (u : UnderWay) (w : Parts J) (hand : Part) (items : List (Item J)) (active : Option (Active J)) → reported_to active ≡ []
       → w.slice.tables.scale ≡ scale
-      → All (IsSoundMessage scale p) w.inbox → All (IsSoundItem scale w.log p) w.outbox → All (IsSoundItem scale w.log p) items
-      → IsSoundActive scale p active → length w.desk.sessions.items ≡ 64
+      → All (IsSoundMessage scale u) w.inbox → All (IsSoundItem scale w.log u) w.outbox → All (IsSoundItem scale w.log u) items
+      → IsSoundActive scale u active → length w.desk.sessions.items ≡ 64
       → ((number : ℕ) (session : SessionDesk J) → slice_get w.desk.sessions.items number ≡ Some session → IsSessionOf number session)
       → IsPermutation hand.pending (parts part_item items).pending
       → AreServed w.desk (hand.pending ++ (lots w).pending)
       → WeighAlike ((parts part_item items).tokens ++ (lots w).tokens) (awaited active)
       → IsSoundWith scale nothing (putting items active w)
-  puts_sound scale p w hand items active none scale_is inbox outbox fine sound seats sessions pending served tokens =
+  puts_sound scale u w hand items active none scale_is inbox outbox fine sound seats sessions pending served tokens =
       let put = parts part_item items in
       let rest = lots w in
       let desk : Desk J = record w.desk { active = active } in
@@ -99,12 +95,19 @@ module _ {J : Type 0} where
       let balance : IsBalanced desk (join first rest) = record { tokens = tokens; alone = served.alone; many = served.many } in
       record {
         scale_is = scale_is;
-        payment = p;
+        under_way = u;
         inbox = inbox;
-        outbox = All-append (IsSoundItem scale w.log p) w.outbox items outbox fine;
+        outbox = All-append (IsSoundItem scale w.log u) w.outbox items outbox fine;
         active = sound;
         seats = seats;
         sessions = sessions;
         balance = balanced_same desk (join put rest) (flight (putting items active w)) (same-sym _ _ (lots_put w items active none))
             (balanced_same desk (join first rest) (join put rest) (same-join first put rest rest same (same-refl rest)) balance);
       }
+
+  -- ---- what goes on
+
+  -- from what was in hand, the next world is sound, and a history that fits goes on fitting
+  pub record GoesOn (scale : Scale) (hand : Part) (old new : Parts J) : Type 0 where
+    pub sound : IsSoundWith scale nothing new
+    pub fits : (opening : Database) (history : List Step) → FitsPart opening history old.log old.slice old.desk.admitted (join hand (flight old)) → Fits opening history new

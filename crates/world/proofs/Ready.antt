@@ -1,26 +1,30 @@
 -- What is in hand can be worked on, or sent.
-use Rattle.std.proofs.Common.{◌≡◌, ℕ, ◌<◌, List, [], ◌∷◌, length, zero, suc, Some, refl, sym, ◌∙◌, ap, subst, arith}
+use Rattle.std.proofs.Common.{◌≡◌, ℕ, ◌+◌, ◌<◌, ◌≤◌, List, [], ◌∷◌, length, zero, suc, Option, Some, refl, sym, ◌∙◌, ap, subst, arith}
+use Rattle.std.specs.Prelude.{map, slice_set}
 use Rattle.std.specs.List.{slice_get}
+use Rattle.std.proofs.lemmas.List.{length-map, length-set}
 use Rattle.schema.specs.declared.scale.Scale.{Scale}
 use Rattle.schema.specs.Database.{Database}
-use Rattle.requests.specs.declared.request.Request.TheVariants as request
-use Rattle.requests.specs.declared.request.Payment.{Payment}
-use Rattle.requests.specs.Check.{IsAccepted}
-use Rattle.commit_log.specs.Claimed.{IsCarriedOut}
-use Rattle.actions.specs.Laws.{GatheredPayersAreKnown}
-use Rattle.world.specs.declared.flight.Action.{Action}
-use Rattle.world.specs.declared.flight.Action.TheVariants as action
+use Rattle.tickets.specs.Claims.{Claiming}
+use Rattle.phases.specs.Following.{HaveAllDone}
+use Rattle.actions.specs.declared.work.Work.{Work}
+use Rattle.actions.specs.Works.{HasDone}
+use Rattle.flow_graphs.specs.Progresses.{works_of}
+use Rattle.flow_graphs.proofs.Counts.{some_actions}
+use Rattle.world.specs.declared.flight.Flow.{Flow}
 use Rattle.world.specs.declared.flight.Message.{Message}
 use Rattle.world.specs.declared.flight.Message.TheVariants.{Start, Act, Settle, Undo}
 use Rattle.world.specs.declared.flight.Report.{Report}
-use Rattle.world.specs.declared.flight.Report.TheVariants as report
 use Rattle.world.specs.declared.flight.Item.{Item}
 use Rattle.world.specs.declared.flight.Item.TheVariants as item
 use Rattle.world.specs.declared.world.Parts.{Parts}
-use Rattle.world.specs.Flights.{Acting, Committing, Ending, part_item, part_report, claims_commit}
-use Rattle.world.specs.Sound.{IsSoundWith, IsSoundMessage, IsSoundAction, IsSoundItem, CanRun, awaited, flight}
-use Rattle.world.specs.Events.{CanWork, CanSend, OfActive, AwaitsIn}
-use Rattle.world.proofs.Tokens.{is_awaited, weigh_acting, weigh_committing, weigh_ending, one_weighs, home_under_way, customer_under_way, history_under_way, commit_under_way, ending_under_way}
+use Rattle.world.specs.Flights.{Acting, Ending, part_item}
+use Rattle.world.specs.Following.{IfCarried, found_in, held_in}
+use Rattle.world.specs.Sound.{IsSoundWith, IsSoundMessage, IsSoundItem, IsSoundActive, IsSoundPhase, IsSoundReport, UnderWay, awaited, flight}
+use Rattle.world.specs.Events.{CanWork, CanSend, CanMeet, CanMeetFor}
+use Rattle.world.proofs.Asking.{few_at}
+use Rattle.world.proofs.Reported.{HaveReported, all_done, is_carried, phase_reported}
+use Rattle.world.proofs.Tokens.{is_awaited, weigh_acting, weigh_ending, one_weighs, acting_under_way, ending_under_way}
 
 -- what stands at a place below the length
 pub stands_at : {X : Type 0} (xs : List X) (n : ℕ) → n < length xs → (x : X) × (slice_get xs n ≡ Some x)
@@ -31,45 +35,57 @@ stands_at (x ∷ xs) (suc n) below = stands_at xs n (omega (arith, below))
 module _ {J : Type 0} where
   -- ---- a message
 
-  can_run : (payers : GatheredPayersAreKnown) (scale : Scale) (p : Payment) (a : Action J) → IsSoundAction scale p a → CanRun scale a
-  can_run payers scale p (action.Home flow) h = subst (λ q. IsAccepted scale (request.Payment q)) (sym h.payment) h.accepted
-  can_run payers scale p (action.Customer age payment) h = subst (λ q. IsAccepted scale (request.Payment q)) (sym h.0) h.1
-  can_run payers scale p (action.History paid row) h =
-      (subst (λ q. IsAccepted scale (request.Payment q)) (sym h.flow.payment) h.flow.accepted, payers scale p h.found h.found_customer row paid.reply h.next h.payer)
+  pub can_work : (scale : Scale) (u : UnderWay) (message : Message J) → IsSoundMessage scale u message → CanWork scale message
+  can_work scale u (Start flow works) h =
+      (omega (arith, ap (λ (ws : List Work). length ws) h.works_are, some_actions u.progress), (h.few, h.can))
+  can_work scale u (Act act) h = h.can
+  can_work scale u (Settle claims) h = h
+  can_work scale u (Undo claims) h = h
 
-  pub can_work : (payers : GatheredPayersAreKnown) (scale : Scale) (p : Payment) (message : Message J) → IsSoundMessage scale p message → CanWork scale message
-  can_work payers scale p (Start flow payment) h = tt
-  can_work payers scale p (Act a) h = can_run payers scale p a h
-  can_work payers scale p (Settle claims) h = h
-  can_work payers scale p (Undo claims) h = h
+  -- ---- a report
+
+  -- where all actions of a phase have reported, the first has the transaction with it
+  can_meet : (scale : Scale) (u : UnderWay) (works : List Work) (reports : List (Report J)) → works ≡ works_of u.progress → 1 ≤ length works → length u.held + length works ≤ 4
+      → length reports ≡ length works → HaveReported scale u 0 works reports → CanMeet reports
+  can_meet scale u works [] are some few many h = absurd (omega (arith, some, many))
+  can_meet scale u [] (r ∷ reports) are some few many h = absurd h
+  can_meet scale u (work ∷ works) (r ∷ reports) are some few many h =
+      let all = r ∷ reports in
+      let carried = is_carried scale u r.flow h.0.0 in
+      let same = carried.1.1 in
+      let goes : CanMeetFor all carried.0 = record {
+        room = omega (arith, ap (λ (held : List (List Claiming)). length held) same.held, few, many);
+        done = λ none. (
+          scale,
+          subst (λ ws. HaveAllDone (HasDone scale) ws (found_in all) (held_in all)) (are ∙ ap works_of (sym same.progress)) (all_done scale u 0 (work ∷ works) all h none),
+        );
+      } in
+      subst (λ (o : Option (Flow J)). IfCarried o (CanMeetFor all)) (sym carried.1.0) goes
+
+  can_report : (opening : Database) (w : Parts J) (r : Report J) (h : IsSoundWith opening.scale (part_item (item.Report r)) w) → IsSoundReport opening.scale h.under_way r → CanSend opening (item.Report r) w
+  can_report opening w r h s =
+      let scale = opening.scale in
+      let u = h.under_way in
+      let at = acting_under_way r.place w.desk.active (is_awaited (weigh_acting r.place) (Acting r.place) (flight w).tokens (awaited w.desk.active) (one_weighs r.place) h.balance.tokens) in
+      let phase : IsSoundPhase scale u at.0 = subst (λ a. IsSoundActive scale u a) at.1.0 h.active in
+      let meets : (reports : List (Report J)) → map Some reports ≡ slice_set at.0 r.place (Some r) → CanMeet reports = λ reports all.
+      let many : length reports ≡ length (works_of u.progress) =
+      sym (length-map reports Some) ∙ ap (λ (l : List (Option (Report J))). length l) all ∙ length-set at.0 r.place (Some r) ∙ phase.many in
+      can_meet scale u (works_of u.progress) reports refl (some_actions u.progress) (few_at scale u.request u.progress u.held phase.reached phase.hold) many
+      (phase_reported scale u at.0 r reports phase s all) in
+      (at.0, (at.1.0, (at.1.1, meets)))
 
   -- ---- an item
 
-  can_meet : (scale : Scale) (w : Parts J) (r : Report J) → IsSoundWith scale (part_report r) w → OfActive w (AwaitsIn r)
-  can_meet scale w (report.Home flow ran) h =
-      let at = home_under_way scale h.payment w.desk.active h.active (is_awaited (weigh_acting 0) (Acting 0) (flight w).tokens (awaited w.desk.active) refl h.balance.tokens) in
-      (at.0, (at.1.0, (at.1.1.1.0.1.1, at.1.1.1.1)))
-  can_meet scale w (report.Customer payment ran) h =
-      let at = customer_under_way scale h.payment w.desk.active h.active (is_awaited (weigh_acting 1) (Acting 1) (flight w).tokens (awaited w.desk.active) refl h.balance.tokens) in
-      (at.0, (at.1.0, (at.1.1.1.0.1.1, at.1.1.1.1)))
-  can_meet scale w (report.History paid ran) h =
-      let at = history_under_way scale h.payment w.desk.active h.active (is_awaited (weigh_acting 2) (Acting 2) (flight w).tokens (awaited w.desk.active) refl h.balance.tokens) in
-      (at.0, (at.1.0, (at.1.1.1.0.1.1, at.1.1.1.0.1.0)))
-
-  pub can_send : (opening : Database) (w : Parts J) (i : Item J) (h : IsSoundWith opening.scale (part_item i) w) → IsSoundItem opening.scale w.log h.payment i → CanSend opening i w
+  pub can_send : (opening : Database) (w : Parts J) (i : Item J) (h : IsSoundWith opening.scale (part_item i) w) → IsSoundItem opening.scale w.log h.under_way i → CanSend opening i w
   can_send opening w (item.Push message) h s = tt
-  can_send opening w (item.Report r) h s = can_meet opening.scale w r h
-  can_send opening w (item.Ended place) h s =
-      let at = ending_under_way opening.scale h.payment place w.desk.active h.active (is_awaited (weigh_ending place) (Ending place) (flight w).tokens (awaited w.desk.active) (one_weighs place) h.balance.tokens) in
-      (at.0, (at.1.0, (at.1.1.0, at.1.1.1.1)))
-  can_send opening w (item.Commit commit) h s =
-      let at = commit_under_way opening.scale h.payment w.desk.active h.active (is_awaited weigh_committing Committing (flight w).tokens (awaited w.desk.active) refl h.balance.tokens) in
-      record {
-        active = (at.0, (at.1.0, at.1.1.1.0.1));
-        accepted = subst (λ q. IsAccepted opening.scale (request.Payment q)) (sym s.flow.payment) s.flow.accepted;
-        number = s.flow.number;
-        asks = s.flow.request ∙ ap request.Payment (sym s.flow.payment);
-        carried_out = subst (λ q. IsCarriedOut opening (request.Payment q) (claims_commit commit) commit.reply) (sym s.flow.payment) (s.carried_out opening);
-        shows_no_order = s.shows_no_order;
-      }
+  can_send opening w (item.Report r) h s = can_report opening w r h s
+  can_send opening w item.Ended h s = ending_under_way w.desk.active (is_awaited weigh_ending Ending (flight w).tokens (awaited w.desk.active) refl h.balance.tokens)
+  can_send opening w (item.Commit commit) h s = record {
+    accepted = s.accepted;
+    number = s.asked.number;
+    asks = s.asked.request;
+    carried_out = s.carried_out opening;
+    few = s.few;
+  }
   can_send opening w (item.Reply told) h s = stands_at w.desk.sessions.items told.pass.session (subst (λ n. told.pass.session < n) (sym h.seats) s.0)

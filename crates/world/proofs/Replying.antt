@@ -31,7 +31,7 @@ is_answer_to log age session number request (Refused why) h = refl
 
 module _ {J : Type 0} where
   -- a world that differs from another in its sessions alone
-  pub of_sessions : (old new : Parts J) (sessions : List (SessionDesk J)) → with_sessions old sessions new
+  of_sessions : (old new : Parts J) (sessions : List (SessionDesk J)) → with_sessions old sessions new
       → new ≡ record old { desk = record old.desk { sessions = new.desk.sessions } }
   of_sessions old new sessions h = λ i. record {
     slice = h.0 i;
@@ -58,7 +58,7 @@ module _ {J : Type 0} where
         let next : Parts J = record w { desk = record w.desk { sessions = new.desk.sessions } } in
         let sound : IsSoundWith scale nothing next = record {
           scale_is = h.scale_is;
-          payment = h.payment;
+          under_way = h.under_way;
           inbox = h.inbox;
           outbox = h.outbox;
           active = h.active;

@@ -1,45 +1,44 @@
 -- There is always room in the outbox.
-use Rattle.std.proofs.Common.{◌≡◌, ℕ, ◌+◌, ◌≤◌, List, [], ◌∷◌, ◌++◌, length, Option, Some, None, refl, ap, arith, length-append}
+use Rattle.std.proofs.Common.{◌≡◌, ℕ, ◌+◌, ◌≤◌, zero, suc, List, [], ◌∷◌, ◌++◌, length, Option, Some, None, replicate, refl, arith, length-append}
 use Rattle.std.specs.Prelude.{map}
 use Rattle.std.specs.List.{sum_by}
 use Rattle.std.proofs.lemmas.List.Sums.{sum_by-cons, sum_by-append}
 use Rattle.schema.specs.declared.scale.Scale.{Scale}
-use Rattle.requests.specs.declared.request.Payment.{Payment}
 use Rattle.rendezvous.specs.Awaited.{awaited_from}
 use Rattle.rendezvous.proofs.Awaiting.{awaited_at_most}
 use Rattle.world.specs.declared.desk.Active.{Active}
-use Rattle.world.specs.declared.desk.Stage.{Stage}
-use Rattle.world.specs.declared.desk.Stage.TheVariants as stage
-use Rattle.world.specs.declared.flight.Action.TheVariants as action
+use Rattle.world.specs.declared.desk.Active.TheVariants as active
 use Rattle.world.specs.declared.flight.Message.TheVariants.{Start, Act, Settle, Undo}
-use Rattle.world.specs.declared.flight.Report.{Report}
 use Rattle.world.specs.declared.flight.Item.{Item}
 use Rattle.world.specs.declared.flight.Item.TheVariants as item
 use Rattle.world.specs.declared.world.Parts.{Parts}
-use Rattle.world.specs.Flights.{Token, Acting, Ending, Part, parts, part_item}
-use Rattle.world.specs.Sound.{IsSoundWith, IsSoundActive, MeetingsFit, AreTwoSlots, awaited, awaited_in, flight}
+use Rattle.world.specs.Flights.{Acting, Ending, Part, parts, part_item}
+use Rattle.world.specs.Sound.{IsSoundWith, IsSoundActive, UnderWay, awaited, flight}
 use Rattle.world.proofs.Balances.{in_inbox, in_outbox, in_meeting}
-use Rattle.world.proofs.Asking.{one_each}
+use Rattle.world.proofs.Asking.{few_at, one_each}
 
 length-more : {X : Type 0} (xs ys : List X) → length (xs ++ ys) ≡ length xs + length ys
 length-more xs ys = length-append xs ys
 
--- as many tokens as numbers
-pub as_many : (make : ℕ → Token) (ns : List ℕ) → sum_by one_each (map make ns) ≡ length ns
-as_many make [] = refl
-as_many make (n ∷ ns) = omega (arith, sum_by-cons one_each (make n) (map make ns), as_many make ns)
+-- as many tokens as places
+pub as_many : (ns : List ℕ) → sum_by one_each (map Acting ns) ≡ length ns
+as_many [] = refl
+as_many (n ∷ ns) = omega (arith, sum_by-cons one_each (Acting n) (map Acting ns), as_many ns)
+
+-- as many tokens as actions that end
+pub so_many_end : (left : ℕ) → sum_by one_each (replicate left Ending) ≡ left
+so_many_end zero = refl
+so_many_end (suc left) = omega (arith, sum_by-cons one_each Ending (replicate left Ending), so_many_end left)
 
 module _ {J : Type 0} where
-  -- an item has a token, or it answers a transaction
+  -- an item has a token, or it has a transaction
   item_weighs : (i : Item J) → 1 ≤ sum_by one_each (part_item i).tokens + length (part_item i).pending
-  item_weighs (item.Push (Start flow payment)) = omega arith
-  item_weighs (item.Push (Act (action.Home flow))) = omega arith
-  item_weighs (item.Push (Act (action.Customer age payment))) = omega arith
-  item_weighs (item.Push (Act (action.History paid row))) = omega arith
+  item_weighs (item.Push (Start flow works)) = omega arith
+  item_weighs (item.Push (Act act)) = omega arith
   item_weighs (item.Push (Settle claims)) = omega arith
   item_weighs (item.Push (Undo claims)) = omega arith
   item_weighs (item.Report r) = omega arith
-  item_weighs (item.Ended place) = omega arith
+  item_weighs item.Ended = omega arith
   item_weighs (item.Commit commit) = omega arith
   item_weighs (item.Reply told) = omega arith
 
@@ -48,29 +47,15 @@ module _ {J : Type 0} where
   items_weigh (i ∷ items) =
       omega (arith, item_weighs i, items_weigh items, sum_by-append one_each (part_item i).tokens (parts part_item items).tokens, length-more (part_item i).pending (parts part_item items).pending)
 
-  two_slots : (scale : Scale) (p : Payment) (slots : List (Option (Report J))) → AreTwoSlots scale p slots → length slots ≡ 2
-  two_slots scale p [] h = absurd h
-  two_slots scale p (None ∷ []) h = absurd h
-  two_slots scale p (Some one ∷ []) h = absurd h
-  two_slots scale p (one ∷ other ∷ []) h = refl
-  two_slots scale p (None ∷ other ∷ third ∷ more) h = absurd h
-  two_slots scale p (Some one ∷ None ∷ third ∷ more) h = absurd h
-  two_slots scale p (Some one ∷ Some other ∷ third ∷ more) h = absurd h
-
-  awaited_in_stage : (scale : Scale) (p : Payment) (s : Stage) (a : Active J) → MeetingsFit scale p s a → sum_by one_each (awaited_in s a) ≤ 3
-  awaited_in_stage scale p stage.First a h =
-      omega (arith, as_many Acting (awaited_from 0 a.first), awaited_at_most 0 a.first, two_slots scale p a.first h.0)
-  awaited_in_stage scale p stage.Second a h =
-      omega (arith, as_many Acting (awaited_from 2 a.second), awaited_at_most 2 a.second, ap (λ (l : List (Option (Report J))). length l) h.1.0)
-  awaited_in_stage scale p stage.Committing a h = omega arith
-  awaited_in_stage scale p stage.Ending a h = omega (arith, as_many Ending (awaited_from 0 a.ending), awaited_at_most 0 a.ending, h.1.0)
-
-  few_awaited : (scale : Scale) (p : Payment) (active : Option (Active J)) → IsSoundActive scale p active → sum_by one_each (awaited active) ≤ 3
-  few_awaited scale p None h = omega arith
-  few_awaited scale p (Some a) h = awaited_in_stage scale p a.stage a h
+  few_awaited : (scale : Scale) (u : UnderWay) (a : Option (Active J)) → IsSoundActive scale u a → sum_by one_each (awaited a) ≤ 4
+  few_awaited scale u None h = omega arith
+  few_awaited scale u (Some (active.Acting slots)) h =
+      omega (arith, as_many (awaited_from 0 slots), awaited_at_most 0 slots, h.many, few_at scale u.request u.progress u.held h.reached h.hold)
+  few_awaited scale u (Some active.Committing) h = omega arith
+  few_awaited scale u (Some (active.Ending left)) h = omega (arith, so_many_end left, h.1)
 
   -- there is room for some more
-  pub has_room : (scale : Scale) (hand : Part) (w : Parts J) → IsSoundWith scale hand w → length w.outbox + 4 ≤ 4096
+  pub has_room : (scale : Scale) (hand : Part) (w : Parts J) → IsSoundWith scale hand w → length w.outbox + 8 ≤ 4096
   has_room scale hand w h =
       let met = in_meeting w in
       let tokens = h.balance.tokens one_each in
@@ -78,7 +63,7 @@ module _ {J : Type 0} where
         arith,
         items_weigh w.outbox,
         tokens,
-        few_awaited scale h.payment w.desk.active h.active,
+        few_awaited scale h.under_way w.desk.active h.active,
         h.balance.many,
         sum_by-append one_each hand.tokens (flight w).tokens,
         sum_by-append one_each (in_inbox w).tokens ((in_outbox w).tokens ++ met.tokens),

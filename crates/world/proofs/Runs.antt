@@ -45,10 +45,6 @@ module _ {J : Type 0} where
   pub happens_once : (event : Event) (answer : EventAnswer) (old new : Parts J) → Happens event old answer new → HappenInTurn (step event answer ∷ []) old new
   happens_once event answer old new happens = (new, (happens, refl))
 
-  -- nothing comes about
-  pub nothing_comes : (w : Parts J) → ComeAbout [] w w
-  nothing_comes w = (refl, no_events w)
-
   -- more comes about
   pub comes_after : (some more : List Step) (old mid new : Parts J) → ComeAbout some old mid → ComeAbout more mid new → ComeAbout (some ++ more) old new
   comes_after some more old mid new before after =

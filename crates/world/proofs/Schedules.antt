@@ -1,11 +1,8 @@
 -- Schedules, one item more at a time.
-use Rattle.std.proofs.Common.{◌≡◌, ◌≢◌, ◌⊎◌, ⊎_elim, ℕ, ◌+◌, ◌<◌, List, [], ◌∷◌, ◌++◌, length, refl, sym, ap, subst, ◌∙◌, arith, append_assoc, append-nil, length-append, Option, Some, None, Result, Ok, Err, OnErr}
-use Rattle.std.specs.Prelude.{IsTrue, is_some}
+use Rattle.std.proofs.Common.{◌≡◌, ◌≢◌, ◌⊎◌, ⊎_elim, ℕ, ◌+◌, ◌<◌, List, [], ◌∷◌, ◌++◌, length, refl, sym, ap, subst, ◌∙◌, arith, append_assoc, append-nil, length-append, Result, Ok, Err, OnErr}
 use Rattle.std.specs.List.{All, flat_map}
 use Rattle.std.proofs.lemmas.Grind.{flat_map-append}
 use Rattle.std.proofs.lemmas.List.Elements.{All-append, All-cons, All-nil}
-use Rattle.std.proofs.lemmas.List.{same_from_push}
-use Rattle.schema.specs.Database.{Database}
 use Rattle.history.specs.declared.event.Event.{Event}
 use Rattle.history.specs.declared.event.Event.TheVariants.{Take, Send}
 use Rattle.history.specs.declared.event.EventAnswer.{EventAnswer}
@@ -14,19 +11,15 @@ use Rattle.history.specs.declared.schedule.Scheduled.{Scheduled}
 use Rattle.history.specs.declared.schedule.Told.{Told}
 use Rattle.history.specs.declared.schedule.Told.TheVariants as told
 use Rattle.history.specs.History.{Step, step}
-use Rattle.history.specs.Schedules.{EndAs, EndsQuiet, Follows, IsBusy, IsIdle, Plays, Round, steps_of_round, told_in_round, told_of_round}
+use Rattle.history.specs.Schedules.{EndAs, Follows, IsBusy, IsIdle, Plays, Round, steps_of_round, told_in_round, told_of_round}
 use Rattle.world.specs.declared.flight.Item.{Item}
 use Rattle.world.specs.declared.flight.Message.{Message}
 use Rattle.world.specs.declared.world.Parts.{Parts}
-use Rattle.world.specs.Openings.{gathered}
 use Rattle.world.specs.Worlds.{Advances, ComeAbout, Happens, IsAtRest, SendsFirst, TakesFirst}
 use Rattle.world.proofs.Answered.{nothing_exactly}
 use Rattle.world.proofs.Runs.{comes_after, happens_once}
 
 -- ---- schedules
-
-pub nothing_played : Plays [] [] []
-nothing_played = (refl, refl)
 
 -- one item more
 pub plays_more : (schedule : List Scheduled) (item : Scheduled) (tellings more : List Told) (steps later : List Step) → Plays schedule tellings steps → Follows item more later
@@ -89,9 +82,6 @@ pub record AreRounds (rounds : List Round) (count : ℕ) : Type 0 where
   pub busy : All IsBusy rounds
   pub many : length rounds ≡ count
 
-pub no_rounds : AreRounds [] 0
-no_rounds = record { busy = All-nil IsBusy; many = refl }
-
 pub round_more : (rounds : List Round) (count : ℕ) (r : Round) → AreRounds rounds count → IsBusy r → AreRounds (rounds ++ r ∷ []) (count + 1)
 round_more rounds count r are busy = record {
   busy = All-append IsBusy rounds (r ∷ []) are.busy (All-cons IsBusy r [] busy (All-nil IsBusy));
@@ -102,19 +92,6 @@ round_more rounds count r are busy = record {
 pub end_quiet : (rounds : List Round) (count : ℕ) (last : Round) → AreRounds rounds count → count < 100000 → IsIdle last → EndAs (rounds ++ last ∷ []) told.Quiet
 end_quiet rounds count last are few idle =
     (rounds, (last, (refl, (are.busy, (idle, omega (arith, length-append rounds (last ∷ []), are.many, few))))))
-
--- they end at the limit
-pub end_at_limit : (rounds : List Round) → AreRounds rounds 100000 → EndAs rounds told.Limit
-end_at_limit rounds are = (are.busy, are.many)
-
--- ---- what was told last
-
--- what was told last isn't that rounds ended quiet
-pub ends_otherwise : (tellings before : List Told) (last : Told) → tellings ≡ before ++ last ∷ [] → last ≢ told.Quiet → ¬ EndsQuiet tellings
-ends_otherwise tellings before last is other quiet = other ((same_from_push before quiet.0 last told.Quiet (sym is ∙ quiet.1)).1)
-
-pub nothing_told : ¬ EndsQuiet []
-nothing_told quiet = absurd (omega (arith, ap (λ (l : List Told). length l) quiet.1, length-append quiet.0 (told.Quiet ∷ [])))
 
 -- ---- worlds
 
@@ -161,13 +138,3 @@ module _ {J : Type 0} where
 pub on_err : {X E P : Type 0} (r : Result X E) → P → OnErr r P
 on_err (Ok x) p = tt
 on_err (Err e) p = p
-
--- ---- the tables that are gathered
-
-pub gathered_some : {X : Type 0} (active : Option X) (tables : Database) → ¬ IsTrue (is_some active) → Some tables ≡ gathered (is_some active) tables
-gathered_some None tables other = refl
-gathered_some (Some x) tables other = absurd (other refl)
-
-pub gathered_none : {X : Type 0} (active : Option X) (tables : Database) → IsTrue (is_some active) → None ≡ gathered (is_some active) tables
-gathered_none None tables is = absurd (cc)
-gathered_none (Some x) tables is = refl

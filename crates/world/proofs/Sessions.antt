@@ -8,24 +8,23 @@ use Rattle.std.proofs.lemmas.Map.Views.{exact_unsigned_eq}
 use Rattle.history.specs.History.{Unanswered, is_of}
 use Rattle.world.specs.declared.desk.SessionDesk.{SessionDesk}
 use Rattle.world.specs.Sound.{IsSessionOf, is_here}
-use Rattle.world.proofs.Tokens.{by_bool}
-use Rattle.world.proofs.Endings.{IsFalse}
+use Rattle.world.proofs.Tokens.{IsFalse, by_bool}
 
 -- ---- an element in place of another
 
-pub get_set : {X : Type 0} (xs : List X) (i : ℕ) (x y : X) → slice_get xs i ≡ Some x → slice_get (slice_set xs i y) i ≡ Some y
+get_set : {X : Type 0} (xs : List X) (i : ℕ) (x y : X) → slice_get xs i ≡ Some x → slice_get (slice_set xs i y) i ≡ Some y
 get_set [] i x y is = absurd (cc)
 get_set (z ∷ xs) zero x y is = refl
 get_set (z ∷ xs) (suc i) x y is = get_set xs i x y is
 
-pub get_other : {X : Type 0} (xs : List X) (i k : ℕ) (y : X) → k ≢ i → slice_get (slice_set xs i y) k ≡ slice_get xs k
+get_other : {X : Type 0} (xs : List X) (i k : ℕ) (y : X) → k ≢ i → slice_get (slice_set xs i y) k ≡ slice_get xs k
 get_other [] i k y other = refl
 get_other (z ∷ xs) zero zero y other = absurd (other refl)
 get_other (z ∷ xs) zero (suc k) y other = refl
 get_other (z ∷ xs) (suc i) zero y other = refl
 get_other (z ∷ xs) (suc i) (suc k) y other = get_other xs i k y (λ same. other (ap suc same))
 
-pub sum_set : {X : Type 0} (f : X → ℕ) (xs : List X) (i : ℕ) (x y : X) → slice_get xs i ≡ Some x → sum_by f (slice_set xs i y) + f x ≡ sum_by f xs + f y
+sum_set : {X : Type 0} (f : X → ℕ) (xs : List X) (i : ℕ) (x y : X) → slice_get xs i ≡ Some x → sum_by f (slice_set xs i y) + f x ≡ sum_by f xs + f y
 sum_set f [] i x y is = absurd (cc)
 sum_set f (z ∷ xs) zero x y is =
     let same : z ≡ x = cc in
@@ -33,7 +32,7 @@ sum_set f (z ∷ xs) zero x y is =
 sum_set f (z ∷ xs) (suc i) x y is = omega (arith, sum_by-cons f z (slice_set xs i y), sum_by-cons f z xs, sum_set f xs i x y is)
 
 -- what is found at a place is one thing
-pub found_once : {X : Type 0} (o : Option X) (x y : X) → o ≡ Some x → o ≡ Some y → x ≡ y
+found_once : {X : Type 0} (o : Option X) (x y : X) → o ≡ Some x → o ≡ Some y → x ≡ y
 found_once o x y a b = cc
 
 -- ---- one session's transaction

@@ -30,23 +30,17 @@ not_refused (Some pass) checked accepted active there ok idle =
     subst (λ (r : Result (Unit {0}) Refusal). refuses (Some pass) r active ≡ None) (sym ok)
     (subst (λ (b : Bool). refuses (Some pass) (Ok accepted) b ≡ None) (sym idle) refl)
 
--- the request isn't served
-pub unserved : (served rest : Bool) → served ≡ false → (served && rest) ≡ false
-unserved served rest is = ap (λ b. b && rest) is
-
 -- there is no room
-pub full : (served : Bool) (used room number last : ℕ) → room ≤ used → (served && (nat_lt used room && nat_lt number last)) ≡ false
-full served used room number last h = ap (λ b. served && (b && nat_lt number last)) (le-ltb used room h) ∙ and-false served
+pub full : (used room number last : ℕ) → room ≤ used → (nat_lt used room && nat_lt number last) ≡ false
+full used room number last h = ap (λ b. b && nat_lt number last) (le-ltb used room h)
 
 -- there is no number left
-pub spent : (served : Bool) (used room number last : ℕ) → last ≤ number → (served && (nat_lt used room && nat_lt number last)) ≡ false
-spent served used room number last h =
-    ap (λ b. served && (nat_lt used room && b)) (le-ltb number last h) ∙ ap (λ b. served && b) (and-false (nat_lt used room)) ∙ and-false served
+pub spent : (used room number last : ℕ) → last ≤ number → (nat_lt used room && nat_lt number last) ≡ false
+spent used room number last h = ap (λ b. nat_lt used room && b) (le-ltb number last h) ∙ and-false (nat_lt used room)
 
--- it is served, and there are both
-pub has_all : (served : Bool) (used room number last : ℕ) → served ≡ true → used < room → number < last → (served && (nat_lt used room && nat_lt number last)) ≡ true
-has_all served used room number last is h k =
-    ap (λ b. b && (nat_lt used room && nat_lt number last)) is ∙ ap (λ b. b && nat_lt number last) (lt-ltb used room h) ∙ lt-ltb number last k
+-- there are both
+pub has_all : (used room number last : ℕ) → used < room → number < last → (nat_lt used room && nat_lt number last) ≡ true
+has_all used room number last h k = ap (λ b. b && nat_lt number last) (lt-ltb used room h) ∙ lt-ltb number last k
 
 module _ {J : Type 0} where
   -- a session whose pass is there can ask
@@ -63,7 +57,7 @@ module _ {J : Type 0} where
 
   -- what is done with a request that is not refused
   pub submits : (at : Option (SessionDesk J)) (desk : SessionDesk J) (session number : ℕ) (asked : Request) (old : Parts J) (answer : EventAnswer) (new : Parts J) (room : Bool)
-      → at ≡ Some desk → refusal_at desk asked old ≡ None → can_admit asked old ≡ room
+      → at ≡ Some desk → refusal_at desk asked old ≡ None → can_admit old ≡ room
       → SubmitsInto room session number asked desk old answer new → SubmitsAt at session number asked old answer new
   submits at desk session number asked old answer new room is none has into =
       subst (λ (o : Option (SessionDesk J)). SubmitsAt o session number asked old answer new) (sym is)

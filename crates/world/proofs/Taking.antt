@@ -23,38 +23,38 @@ module _ {J : Type 0} where
   -- what is known of the first message of the inbox, once it is in hand
   pub message_in_hand : (scale : Scale) (old : Parts J) (message : Message J) (rest : List (Message J)) → old.inbox ≡ message ∷ rest
       → IsSoundWith scale nothing old
-      → (h : IsSoundWith scale (part_message message) (record old { inbox = rest })) × IsSoundMessage scale h.payment message
+      → (h : IsSoundWith scale (part_message message) (record old { inbox = rest })) × IsSoundMessage scale h.under_way message
   message_in_hand scale old message rest is h =
-      let all = subst (λ ms. All (IsSoundMessage scale h.payment) ms) is h.inbox in (
+      let all = subst (λ ms. All (IsSoundMessage scale h.under_way) ms) is h.inbox in (
         record {
           scale_is = h.scale_is;
-          payment = h.payment;
-          inbox = All-tail (IsSoundMessage scale h.payment) message rest all;
+          under_way = h.under_way;
+          inbox = All-tail (IsSoundMessage scale h.under_way) message rest all;
           outbox = h.outbox;
           active = h.active;
           seats = h.seats;
           sessions = h.sessions;
           balance = subst (λ p. IsBalanced old.desk p) (message_taken old message rest is) h.balance;
         },
-        All-head (IsSoundMessage scale h.payment) message rest all,
+        All-head (IsSoundMessage scale h.under_way) message rest all,
       )
 
   -- the message's work is done
-  pub worked_sound : (scale : Scale) (mid : Parts J) (message : Message J) (items : List (Item J)) (slice : Sliced)
+  worked_sound : (scale : Scale) (mid : Parts J) (message : Message J) (items : List (Item J)) (slice : Sliced)
       → Works message mid.slice items slice
-      → (h : IsSoundWith scale (part_message message) mid) → IsSoundMessage scale h.payment message
+      → (h : IsSoundWith scale (part_message message) mid) → IsSoundMessage scale h.under_way message
       → IsSoundWith scale nothing (record mid { slice = slice; outbox = mid.outbox ++ items })
   worked_sound scale mid message items slice works h sound =
-      let p = h.payment in
+      let u = h.under_way in
       let moved : Parts J = record mid { slice = slice } in
       let rest = flight mid in
-      let fine : All (IsSoundItem scale mid.log p) items =
-      subst (λ s. All (IsSoundItem s mid.log p) items) h.scale_is (works.fine p mid.log (subst (λ s. IsSoundMessage s p message) (sym h.scale_is) sound)) in
+      let fine : All (IsSoundItem scale mid.log u) items =
+      subst (λ s. All (IsSoundItem s mid.log u) items) h.scale_is (works.fine u mid.log (subst (λ s. IsSoundMessage s u message) (sym h.scale_is) sound)) in
       record {
         scale_is = works.kept.scale ∙ h.scale_is;
-        payment = p;
+        under_way = u;
         inbox = h.inbox;
-        outbox = All-append (IsSoundItem scale mid.log p) mid.outbox items h.outbox fine;
+        outbox = All-append (IsSoundItem scale mid.log u) mid.outbox items h.outbox fine;
         active = h.active;
         seats = h.seats;
         sessions = h.sessions;
@@ -63,7 +63,7 @@ module _ {J : Type 0} where
             (ap (λ us. us ++ rest.pending) works.pending) (ap (λ ts. ts ++ rest.tokens) works.tokens) h.balance);
       }
 
-  pub worked_fits : (opening : Database) (history : List Step) (mid : Parts J) (message : Message J) (items : List (Item J)) (slice : Sliced)
+  worked_fits : (opening : Database) (history : List Step) (mid : Parts J) (message : Message J) (items : List (Item J)) (slice : Sliced)
       → Works message mid.slice items slice
       → FitsPart opening history mid.log mid.slice mid.desk.admitted (join (part_message message) (flight mid))
       → Fits opening history (record mid { slice = slice; outbox = mid.outbox ++ items })

@@ -1,80 +1,135 @@
 -- What the work on each message does.
-use Rattle.std.proofs.Common.{◌≡◌, ℕ, List, [], ◌∷◌, ◌++◌, refl, sym, ap, ◌∙◌, subst, append-nil, append_assoc, arith}
-use Rattle.std.specs.Prelude.{All}
-use Rattle.std.proofs.lemmas.List.Elements.{All-nil, All-cons}
-use Rattle.commit_log.specs.declared.entry.Entry.{Entry}
-use Rattle.requests.specs.declared.request.Payment.{Payment}
+use Rattle.std.proofs.Common.{◌≡◌, ℕ, ◌+◌, ◌≤◌, zero, suc, List, [], ◌∷◌, ◌++◌, length, Option, Some, None, refl, sym, ap, ◌∙◌, subst, append-nil, arith}
+use Rattle.std.specs.Prelude.{All, Vec}
+use Rattle.std.specs.declared.alloc.Global.{Global}
+use Rattle.std.specs.List.{slice_get}
+use Rattle.std.proofs.lemmas.List.Elements.{All-nil, All-cons, All-head, All-tail}
 use Rattle.schema.specs.declared.scale.Scale.{Scale}
-use Rattle.tickets.specs.Claims.{Claiming}
-use Rattle.world.specs.declared.flight.Action.{Action}
-use Rattle.world.specs.declared.flight.Action.TheVariants as action
-use Rattle.world.specs.declared.flight.Claims.{Claims}
+use Rattle.commit_log.specs.declared.entry.Entry.{Entry}
+use Rattle.tickets.specs.Claims.{Claiming, all_claims}
+use Rattle.slices.specs.Sliced.{Sliced, SliceKeeps}
+use Rattle.actions.specs.declared.work.Work.{Work}
+use Rattle.actions.specs.declared.acting.Ran.{Ran}
+use Rattle.actions.specs.declared.acting.Ran.TheVariants as ran
+use Rattle.actions.specs.Acting.{IsRanOf, claims_of_ran}
+use Rattle.actions.specs.Works.{CanDo}
+use Rattle.world.specs.declared.flight.Act.{Act as AnyAct}
 use Rattle.world.specs.declared.flight.Flow.{Flow}
 use Rattle.world.specs.declared.flight.Item.{Item}
 use Rattle.world.specs.declared.flight.Item.TheVariants as item
 use Rattle.world.specs.declared.flight.Message.{Message}
 use Rattle.world.specs.declared.flight.Message.TheVariants.{Start, Act, Settle, Undo}
-use Rattle.world.specs.declared.flight.Report.{Report}
 use Rattle.world.specs.declared.world.Parts.{Parts}
-use Rattle.world.specs.Flights.{claims_held, part_action, part_report, place_held}
-use Rattle.slices.specs.Sliced.{Sliced, SliceKeeps}
-use Rattle.world.specs.Sound.{IsSoundAction, IsSoundItem, IsSoundReport}
-use Rattle.world.specs.Events.{ReportsOf, TakesMessage, Works}
-use Rattle.world.proofs.Keeping.{stays}
+use Rattle.world.specs.Flights.{Acting, Part, part, join, parts, part_carried, part_item, acting_from, unanswered_transaction}
+use Rattle.world.specs.Following.{acts_from, acts_of}
+use Rattle.world.specs.Sound.{IsCarriedAt, IsSoundAct, IsSoundItem, IsSoundRan, IsSoundStart, IsWorkAt, UnderWay}
+use Rattle.world.specs.Events.{TakesMessage, Works}
+use Rattle.world.proofs.Keeping.{more, stays}
+
+-- actions that carry nothing have their tokens alone
+part_acts_from : (J : Type 0) (place age : ℕ) (works : List Work) → parts part_item (acts_from {J = J} place age None works) ≡ part [] [] (acting_from place works)
+part_acts_from J place age [] = refl
+part_acts_from J place age (work ∷ works) = ap (λ (p : Part). join (part [] [] (Acting place ∷ [])) p) (part_acts_from J (place + 1) age works)
+
+-- where nothing is carried but with place 0
+carried_later : (J : Type 0) (u : UnderWay) (place : ℕ) → 1 ≤ place → IsCarriedAt {J = J} u place None
+carried_later J u zero some = absurd (omega (arith, some))
+carried_later J u (suc place) some = tt
 
 module _ {J : Type 0} where
-  one_fine : (scale : Scale) (log : List Entry) (p : Payment) (one : Item J) → IsSoundItem scale log p one → All (IsSoundItem {J = J} scale log p) (one ∷ [])
-  one_fine scale log p one fine = All-cons (IsSoundItem scale log p) one [] fine (All-nil (IsSoundItem scale log p))
+  one_fine : (scale : Scale) (log : List Entry) (u : UnderWay) (one : Item J) → IsSoundItem scale log u one → All (IsSoundItem {J = J} scale log u) (one ∷ [])
+  one_fine scale log u one fine = All-cons (IsSoundItem scale log u) one [] fine (All-nil (IsSoundItem scale log u))
 
-  -- a transaction that starts puts its first actions
-  pub starts : (flow : Flow J) (payment : Payment) (slice : Sliced)
-      → Works (Start flow payment) slice (item.Push (Act (action.Home flow)) ∷ item.Push (Act (action.Customer flow.age payment)) ∷ []) slice
-  starts flow payment slice = record {
-    put = refl;
-    kept = stays [] slice;
-    pending = refl;
-    tokens = refl;
-    few = omega arith;
-    fine = λ p log sound.
-        All-cons (IsSoundItem slice.tables.scale log p) (item.Push (Act (action.Home flow))) (item.Push (Act (action.Customer flow.age payment)) ∷ []) sound.0
-        (one_fine slice.tables.scale log p (item.Push (Act (action.Customer flow.age payment))) (sound.1, sound.0.accepted));
-  }
+  -- ---- the actions of a phase
+
+  -- all of them have the transaction, and their tokens
+  pub part_acts : (flow : Flow J) (works : List Work) → 1 ≤ length works
+      → parts part_item (acts_of flow works) ≡ part (all_claims flow.transaction.held) (unanswered_transaction flow.transaction ∷ []) (acting_from 0 works)
+  part_acts flow [] some = absurd (omega (arith, some))
+  part_acts flow (work ∷ works) some =
+      let t = flow.transaction in
+      let first = part (all_claims t.held) (unanswered_transaction t ∷ []) (Acting 0 ∷ []) in
+      ap (λ (p : Part). join first p) (part_acts_from J (0 + 1) t.age works)
+      ∙ ap (λ (claims : List Claiming). part claims (unanswered_transaction t ∷ []) (acting_from 0 (work ∷ works))) (append-nil (all_claims t.held))
+
+  -- those from a place on are sound
+  acts_fine_from : (scale : Scale) (log : List Entry) (u : UnderWay) (place age : ℕ) (carried : Option (Flow J)) (works : List Work)
+      → IsCarriedAt u place carried → ((k : ℕ) (work : Work) → slice_get works k ≡ Some work → IsWorkAt u (place + k) work) → All (CanDo scale) works
+      → All (IsSoundItem scale log u) (acts_from place age carried works)
+  acts_fine_from scale log u place age carried [] here at can = All-nil (IsSoundItem scale log u)
+  acts_fine_from scale log u place age carried (work ∷ works) here at can =
+      let act : AnyAct J = record { place = place; age = age; work = work; flow = carried } in
+      let first : place + 0 ≡ place = omega arith in
+      let later : (k : ℕ) → place + suc k ≡ (place + 1) + k = λ k. omega arith in
+      let sound : IsSoundAct scale u act = record {
+        flow = here;
+        work = subst (λ n. IsWorkAt u n work) first (at 0 work refl);
+        can = All-head (CanDo scale) work works can;
+      } in
+      All-cons (IsSoundItem scale log u) (item.Push (Act act)) (acts_from (place + 1) age None works) sound
+      (acts_fine_from scale log u (place + 1) age None works (carried_later J u (place + 1) (omega arith))
+      (λ k other is. subst (λ n. IsWorkAt u n other) (later k) (at (suc k) other is)) (All-tail (CanDo scale) work works can))
+
+  pub acts_fine : (scale : Scale) (log : List Entry) (u : UnderWay) (flow : Flow J) (works : List Work) → IsSoundStart scale u flow works → All (IsSoundItem scale log u) (acts_of flow works)
+  acts_fine scale log u flow works h =
+      let from_zero : (k : ℕ) → k ≡ 0 + k = λ k. omega arith in
+      acts_fine_from scale log u 0 flow.transaction.age (Some flow) works h.flow_is
+      (λ k work is. subst (λ n. IsWorkAt u n work) (from_zero k) (subst (λ (ws : List Work). slice_get ws k ≡ Some work) h.works_are is)) h.can
+
+  -- ---- each message
+
+  -- a transaction that starts puts the actions of its first phase
+  pub starts : (flow : Flow J) (works : Vec Work Global) (slice : Sliced) → 1 ≤ length works.items → Works (Start flow works) slice (acts_of flow works.items) slice
+  starts flow works slice some =
+      let held = all_claims flow.transaction.held in
+      let are = part_acts flow works.items some in
+      record {
+        put = refl;
+        kept = subst (λ (p : Part). SliceKeeps held slice p.claims slice) (sym are) (stays held slice);
+        pending = ap (λ (p : Part). p.pending) are;
+        tokens = ap (λ (p : Part). p.tokens) are;
+        fine = λ u log sound. acts_fine slice.tables.scale log u flow works.items sound;
+      }
+
+  ran_soundly : (u : UnderWay) (place : ℕ) (work : Work) (one : Ran J) (old : Sliced) → IsWorkAt u place work → IsRanOf old work one → IsSoundRan old.tables.scale u place one
+  ran_soundly u place work (ran.Done claims found) old here of = (work, (here, of))
+  ran_soundly u place work (ran.Died group holder) old here of = tt
+  ran_soundly u place work ran.NoMemory old here of = tt
 
   -- an action that runs puts its report
-  pub acts : (act : Action J) (report : Report J) (old new : Sliced) → ReportsOf old act report
-      → SliceKeeps (part_action act).claims old (part_report report).claims new
-      → (part_report report).pending ≡ (part_action act).pending → (part_report report).tokens ≡ (part_action act).tokens
-      → ((p : Payment) → IsSoundAction old.tables.scale p act → IsSoundReport old.tables.scale p report)
-      → Works (Act act) old (item.Report report ∷ []) new
-  acts act report old new of kept pending tokens sound = record {
-    put = (report, (refl, of));
-    kept = subst (λ (claims : List Claiming). SliceKeeps (part_action act).claims old claims new) (sym (append-nil (part_report report).claims)) kept;
-    pending = append-nil (part_report report).pending ∙ pending;
-    tokens = tokens;
-    few = omega arith;
-    fine = λ p log fine. one_fine old.tables.scale log p (item.Report report) (sound p fine);
-  }
+  pub acts : (act : AnyAct J) (one : Ran J) (old new : Sliced) → SliceKeeps [] old (claims_of_ran one) new → IsRanOf old act.work one
+      → Works (Act act) old (item.Report (record { place = act.place; flow = act.flow; ran = one }) ∷ []) new
+  acts act one old new kept of =
+      let carried = part_carried act.flow in
+      record {
+        put = (one, (refl, of));
+        kept = subst (λ (claims : List Claiming). SliceKeeps carried.claims old claims new) (sym (append-nil (carried.claims ++ claims_of_ran one)))
+            (more carried.claims (claims_of_ran one) old new kept);
+        pending = append-nil carried.pending;
+        tokens = refl;
+        fine = λ u log fine.
+            one_fine old.tables.scale log u (item.Report (record { place = act.place; flow = act.flow; ran = one }))
+            (record { flow = fine.flow; ran = ran_soundly u act.place act.work one old fine.work of });
+      }
 
   -- claims whose work is committed are given back
-  pub settles : (own : Claims J) (old new : Sliced) → SliceKeeps (claims_held own) old [] new → Works (Settle own) old (item.Ended (place_held own) ∷ []) new
-  settles own old new kept = record {
+  pub settles : (claims : List Claiming) (old new : Sliced) → SliceKeeps claims old [] new → Works {J = J} (Settle claims) old (item.Ended ∷ []) new
+  settles claims old new kept = record {
     put = refl;
     kept = kept;
     pending = refl;
     tokens = refl;
-    few = omega arith;
-    fine = λ p log fine. one_fine old.tables.scale log p (item.Ended (place_held own)) tt;
+    fine = λ u log fine. one_fine old.tables.scale log u item.Ended tt;
   }
 
   -- claims whose work is taken back are given back
-  pub undoes : (own : Claims J) (old new : Sliced) → SliceKeeps (claims_held own) old [] new → Works (Undo own) old (item.Ended (place_held own) ∷ []) new
-  undoes own old new kept = record {
+  pub undoes : (claims : List Claiming) (old new : Sliced) → SliceKeeps claims old [] new → Works {J = J} (Undo claims) old (item.Ended ∷ []) new
+  undoes claims old new kept = record {
     put = refl;
     kept = kept;
     pending = refl;
     tokens = refl;
-    few = omega arith;
-    fine = λ p log fine. one_fine old.tables.scale log p (item.Ended (place_held own)) tt;
+    fine = λ u log fine. one_fine old.tables.scale log u item.Ended tt;
   }
 
   -- the message's items stand at the outbox's end, and nothing else changes but the rows
@@ -90,15 +145,3 @@ module _ {J : Type 0} where
       ),
     ),
   )
-
-  -- two items are put, one after the other
-  pub two_put : (old between new : List (Item J)) (first second : Item J)
-      → between ≡ old ++ first ∷ [] → new ≡ between ++ second ∷ [] → new ≡ old ++ (first ∷ second ∷ [])
-  two_put old between new first second one two =
-      two ∙ ap (λ (items : List (Item J)). items ++ second ∷ []) one ∙ append_assoc old (first ∷ []) (second ∷ [])
-
-  -- the item names the place
-  pub place_put : (old new : List (Item J)) (place same : ℕ) → place ≡ same → new ≡ old ++ item.Ended place ∷ [] → new ≡ old ++ item.Ended same ∷ []
-  place_put old new place same is put =
-      let ending : ℕ → List (Item J) = λ n. old ++ item.Ended n ∷ [] in
-      put ∙ ap ending is

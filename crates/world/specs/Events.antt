@@ -1,101 +1,73 @@
 -- What one event does.
-use Rattle.std.specs.Prelude.{◌≡◌, ◌<◌, ◌≤◌, Bool, true, false, List, [], ◌∷◌, ◌++◌, Option, Some, None, All, nat_lt, length, slice_set, is_some, ◌↔◌, ◌⊎◌}
-use Rattle.std.specs.List.{slice_get, list_all}
-use Rattle.requests.specs.declared.refusal.Refusal.TheVariants as refusal
-use Rattle.commit_log.specs.declared.log_book.AppendFault.{AppendFault}
-use Rattle.commit_log.specs.declared.log_book.AppendFault.TheVariants as fault
-use Rattle.commit_log.specs.Items.{item as item_of}
-use Rattle.commit_log.specs.Passing.{after_item, after_refusal}
+use Rattle.std.specs.Prelude.{◌≡◌, ◌<◌, ◌≤◌, ℕ, ◌+◌, ◌-◌, Bool, true, false, List, [], ◌∷◌, ◌++◌, Option, Some, None, All, nat_lt, length, map, replicate, slice_set, ◌⊎◌}
+use Rattle.std.specs.List.{slice_get}
+use Rattle.schema.specs.Database.{Database}
+use Rattle.schema.specs.declared.scale.Scale.{Scale}
+use Rattle.requests.specs.declared.request.Request.{Request}
+use Rattle.requests.specs.declared.reply.Reply.TheVariants as reply
+use Rattle.requests.specs.declared.answer.Answer.TheVariants.{Done, Refused}
 use Rattle.requests.specs.declared.refusal.Refusal.{Refusal}
-use Rattle.history.specs.declared.event.EventAnswer.{EventAnswer}
-use Rattle.history.specs.declared.event.EventAnswer.TheVariants.{Sent, Full, Logged, Answered}
-use Rattle.requests.specs.declared.request.Payment.{Payment}
-use Rattle.requests.specs.declared.request.Request.TheVariants as request
+use Rattle.requests.specs.declared.refusal.Refusal.TheVariants as refusal
 use Rattle.requests.specs.Check.{IsAccepted}
 use Rattle.requests.specs.Replies.{ShowsStatus}
-use Rattle.schema.specs.Database.{Database}
-use Rattle.commit_log.specs.Claimed.{IsCarriedOut}
-use Rattle.schema.specs.declared.scale.Scale.{Scale}
+use Rattle.tickets.specs.Claims.{Claiming, all_claims}
 use Rattle.commit_log.specs.declared.entry.Entry.{Entry}
-use Rattle.requests.specs.declared.group.Group.{Group}
-use Rattle.requests.specs.declared.group.Group.TheVariants.{Warehouse, District, Customers, History}
-use Rattle.slices.specs.Sliced.{Sliced, SliceKeeps, standing}
-use Rattle.world.specs.declared.desk.Active.{Active}
+use Rattle.commit_log.specs.declared.log_book.AppendFault.{AppendFault}
+use Rattle.commit_log.specs.declared.log_book.AppendFault.TheVariants as fault
+use Rattle.commit_log.specs.Claimed.{IsCarriedOut, claims_logged}
+use Rattle.commit_log.specs.Items.{item as item_of}
+use Rattle.commit_log.specs.Passing.{after_item, after_refusal}
+use Rattle.history.specs.declared.event.EventAnswer.{EventAnswer}
+use Rattle.history.specs.declared.event.EventAnswer.TheVariants.{Sent, Full, Logged, Answered}
+use Rattle.slices.specs.Sliced.{Sliced, SliceKeeps}
+use Rattle.phases.specs.Following.{Follows, HaveAllDone}
+use Rattle.phases.specs.declared.phase.Gathered.{Gathered}
+use Rattle.phases.specs.declared.phase.Gathered.TheVariants.{Next, Finish, RollBack}
+use Rattle.actions.specs.declared.acting.Ran.{Ran}
+use Rattle.actions.specs.declared.work.Found.{Found}
+use Rattle.actions.specs.Acting.{CanBeSettled, CanBeUndone, IsRanOf}
+use Rattle.actions.specs.Works.{CanDo, HasDone}
+use Rattle.flow_graphs.specs.declared.graphs.Progress.{Progress}
+use Rattle.flow_graphs.specs.Progresses.{IsReached, works_of}
+use Rattle.rendezvous.specs.Awaited.{awaited_from}
+use Rattle.world.specs.declared.desk.Active.TheVariants.{Acting, Ending}
 use Rattle.world.specs.declared.desk.SessionDesk.{SessionDesk}
-use Rattle.world.specs.declared.desk.Stage.TheVariants as stage
-use Rattle.world.specs.declared.flight.Action.{Action}
-use Rattle.world.specs.declared.flight.Action.TheVariants as action
-use Rattle.world.specs.declared.flight.HomeRan.{HomeRan}
-use Rattle.world.specs.declared.flight.HomeRan.TheVariants as home_ran
-use Rattle.world.specs.declared.flight.CustomerRan.{CustomerRan}
-use Rattle.world.specs.declared.flight.CustomerRan.TheVariants as customer_ran
-use Rattle.world.specs.declared.flight.HistoryRan.{HistoryRan}
-use Rattle.world.specs.declared.flight.HistoryRan.TheVariants as history_ran
+use Rattle.world.specs.declared.flight.Transaction.{Transaction}
+use Rattle.world.specs.declared.flight.Flow.{Flow}
 use Rattle.world.specs.declared.flight.Message.{Message}
 use Rattle.world.specs.declared.flight.Message.TheVariants.{Start, Act, Settle, Undo}
 use Rattle.world.specs.declared.flight.Report.{Report}
-use Rattle.world.specs.declared.flight.Report.TheVariants as report
 use Rattle.world.specs.declared.flight.CommitItem.{CommitItem}
 use Rattle.world.specs.declared.flight.ReplyItem.{ReplyItem}
 use Rattle.world.specs.declared.flight.Item.{Item}
 use Rattle.world.specs.declared.flight.Item.TheVariants as item
-use Rattle.world.specs.declared.phases.Release.{Release}
-use Rattle.world.specs.declared.phases.Gathered.{Gathered}
-use Rattle.world.specs.declared.phases.Gathered.TheVariants.{Act as Acts, Commit, Refuse}
 use Rattle.world.specs.declared.world.Parts.{Parts}
-use Rattle.world.specs.Flights.{parts, part_message, part_item, claims_held, claims_commit, place_held}
-use Rattle.world.specs.Phases.{gathered_first, gathered_second, items_gathered, items_released, release_logged, release_refused, is_settled, entry_of}
-use Rattle.world.specs.Sound.{IsSoundMessage, IsSoundItem, CanRun, IsSettled, IsUndoable, none_ended}
-
--- the places that hold no claims have nothing to give back
-abbrev pub ended_unless : {X : Type 0} → Option X → Option (Unit {0})
-ended_unless None = Some tt
-ended_unless (Some claims) = None
-
-abbrev pub have_ended : List (Option (Unit {0})) → Bool
-have_ended places = list_all is_some places
+use Rattle.world.specs.Flights.{parts, part_message, part_item}
+use Rattle.world.specs.Following.{CarriesFirst, acts_of, committing, ending, entry_of, found_in, held_in, holding, is_settled, refusal_of, refused, release, releasing, putting, with_active}
+use Rattle.world.specs.Sound.{IsSoundMessage, IsSoundItem, UnderWay}
 
 abbrev pub why_refused : AppendFault → Refusal
 why_refused fault.NoMemory = refusal.NoMemory
 why_refused fault.LogFull = refusal.LogFull
 
--- some ticket of the group is out
-abbrev pub IsHeld : Sliced → Group → Type 0
-IsHeld slice group = (standing slice).free group < 8
+-- what the phase's actions found leads to this
+abbrev pub LeadsTo : Progress → List Found → Gathered Progress → Type 0
+LeadsTo progress found g =
+    (scale : Scale) (asked : Request) (held : List Claiming) (claims : List (List Claiming))
+    → IsReached scale asked progress held → HaveAllDone (HasDone scale) (works_of progress) found claims
+    → Follows (IsReached scale asked) (λ all shown. (opening : Database) → IsCarriedOut opening asked all shown) (held ++ all_claims claims) g
 
 module _ {J : Type 0} where
   -- ---- a message is worked on
 
-  -- Each action dies only on a group of its own, and only where it is held.
-  abbrev pub HomeDiesOnHeld : Sliced → Payment → HomeRan J → Type 0
-  HomeDiesOnHeld slice p (home_ran.Died group holder) =
-      ((group ≡ Warehouse p.home.w_id) ⊎ (group ≡ District p.home.w_id p.home.d_id)) × IsHeld slice group
-  HomeDiesOnHeld slice p ran = Unit {0}
-
-  abbrev pub CustomerDiesOnHeld : Sliced → Payment → CustomerRan J → Type 0
-  CustomerDiesOnHeld slice p (customer_ran.Died group holder) =
-      (group ≡ Customers p.customer_home.w_id p.customer_home.d_id) × IsHeld slice group
-  CustomerDiesOnHeld slice p ran = Unit {0}
-
-  abbrev pub HistoryDiesOnHeld : Sliced → Payment → HistoryRan J → Type 0
-  HistoryDiesOnHeld slice p (history_ran.Died group holder) = (group ≡ History p.home.w_id p.home.d_id) × IsHeld slice group
-  HistoryDiesOnHeld slice p ran = Unit {0}
-
-  -- the report is that of the action that ran, with all that came with it; and who died did so on a group that is held
-  abbrev pub ReportsOf : Sliced → Action J → Report J → Type 0
-  ReportsOf slice (action.Home flow) (report.Home same ran) = (same ≡ flow) × HomeDiesOnHeld slice flow.payment ran
-  ReportsOf slice (action.Customer age payment) (report.Customer same ran) = (same ≡ payment) × CustomerDiesOnHeld slice payment ran
-  ReportsOf slice (action.History paid row) (report.History same ran) = (same ≡ paid) × HistoryDiesOnHeld slice paid.flow.payment ran
-  ReportsOf slice ran other = ⊥
-
-  -- Which items a message's work puts: the two actions of the first phase, in the order of their places, the report of an
-  -- action, or that a place has given its claims back.
+  -- Which items a message's work puts: the actions of the first phase, in the order of their places; the report of an
+  -- action, with what came of it; or that an action has given its claims back.
   abbrev pub PutsItems : Sliced → Message J → List (Item J) → Type 0
-  PutsItems slice (Start flow payment) items =
-      items ≡ item.Push (Act (action.Home flow)) ∷ item.Push (Act (action.Customer flow.age payment)) ∷ []
-  PutsItems slice (Act ran) items = (r : Report J) × ((items ≡ item.Report r ∷ []) × ReportsOf slice ran r)
-  PutsItems slice (Settle claims) items = items ≡ item.Ended (place_held claims) ∷ []
-  PutsItems slice (Undo claims) items = items ≡ item.Ended (place_held claims) ∷ []
+  PutsItems slice (Start flow works) items = items ≡ acts_of flow works.items
+  PutsItems slice (Act act) items =
+      (ran : Ran J) × ((items ≡ item.Report (record { place = act.place; flow = act.flow; ran = ran }) ∷ []) × IsRanOf slice act.work ran)
+  PutsItems slice (Settle claims) items = items ≡ item.Ended ∷ []
+  PutsItems slice (Undo claims) items = items ≡ item.Ended ∷ []
 
   -- What a message does to the rows, and the items that it puts: what is committed is kept; the items have with them the
   -- transactions and the tokens that came with the message; and they are as sound as it is.
@@ -104,15 +76,14 @@ module _ {J : Type 0} where
     pub kept : SliceKeeps (part_message message).claims old (parts part_item items).claims new
     pub pending : (parts part_item items).pending ≡ (part_message message).pending
     pub tokens : (parts part_item items).tokens ≡ (part_message message).tokens
-    pub few : length items ≤ 2
-    pub fine : (p : Payment) (log : List Entry) → IsSoundMessage old.tables.scale p message → All (IsSoundItem old.tables.scale log p) items
+    pub fine : (u : UnderWay) (log : List Entry) → IsSoundMessage old.tables.scale u message → All (IsSoundItem old.tables.scale log u) items
 
   -- what is asked of a message that is worked on
   abbrev pub CanWork : Scale → Message J → Type 0
-  CanWork scale (Start flow payment) = Unit {0}
-  CanWork scale (Act action) = CanRun scale action
-  CanWork scale (Settle claims) = All IsSettled (claims_held claims)
-  CanWork scale (Undo claims) = All IsUndoable (claims_held claims)
+  CanWork scale (Start flow works) = (1 ≤ length works.items) × ((length works.items ≤ 4) × All (CanDo scale) works.items)
+  CanWork scale (Act act) = CanDo scale act.work
+  CanWork scale (Settle claims) = All CanBeSettled claims
+  CanWork scale (Undo claims) = All CanBeUndone claims
 
   -- the items that the message's work puts stand at the outbox's end, and nothing else changes but the rows
   abbrev pub TakesMessage : Message J → Parts J → Parts J → Type 0
@@ -120,71 +91,87 @@ module _ {J : Type 0} where
       (items : List (Item J)) × ((slice : Sliced)
       × ((new ≡ record old { slice = slice; outbox = old.outbox ++ items }) × Works message old.slice items slice))
 
-  -- ---- an item is sent
+  -- ---- a message is pushed
 
   -- A message goes to the end of the inbox, or, where that has its 1,024, back to the end of the outbox.
   abbrev pub Pushes : Bool → Message J → Parts J → EventAnswer → Parts J → Type 0
   Pushes true message old answer new = (answer ≡ Sent) × (new ≡ record old { inbox = old.inbox ++ message ∷ [] })
   Pushes false message old answer new = (answer ≡ Full) × (new ≡ record old { outbox = old.outbox ++ item.Push message ∷ [] })
 
-  abbrev pub with_active : Option (Active J) → Parts J → Parts J
-  with_active active w = record w { desk = record w.desk { active = active } }
+  -- ---- a phase has met
 
-  -- these items stand at the end of the outbox, and this is the active transaction
-  abbrev pub putting : List (Item J) → Option (Active J) → Parts J → Parts J
-  putting items active w = record w { outbox = w.outbox ++ items; desk = record w.desk { active = active } }
+  -- The actions of the next phase are put, and nothing is reported yet; or the transaction is to be logged.
+  abbrev pub goes_on : Transaction J → Gathered Progress → Parts J → Parts J
+  goes_on t (Next progress) old =
+      putting (acts_of (record { transaction = t; progress = progress }) (works_of progress)) (Some (Acting (replicate (length (works_of progress)) None))) old
+  goes_on t (Finish shown) old = committing t shown old
+  goes_on t (RollBack fault) old = committing t (reply.RolledBack fault) old
 
-  -- ---- where a transaction ends
+  -- What follows of what was found is done, unless there is no memory for it: then the transaction is refused.
+  abbrev pub GathersInto : Progress → List Found → Transaction J → Parts J → Parts J → Type 0
+  GathersInto progress found t old new =
+      (new ≡ releasing false (refused t refusal.NoMemory) old) ⊎ ((g : Gathered Progress) × (LeadsTo progress found g × (new ≡ goes_on t g old)))
 
-  -- once these places have given back what they held: where all have, the transaction isn't active any more
-  abbrev pub ending_with : Active J → List (Option (Unit {0})) → Bool → Option (Active J)
-  ending_with active places true = None
-  ending_with active places false = Some (record active { stage = stage.Ending; ending = places })
+  -- One action has died or found no memory, and the transaction is refused; or all have done their work.
+  abbrev pub MeetsUnless : Option Refusal → List (Report J) → Flow J → Parts J → Parts J → Type 0
+  MeetsUnless (Some why) reports flow old new = new ≡ releasing false (refused (holding flow.transaction (held_in reports)) why) old
+  MeetsUnless None reports flow old new =
+      GathersInto flow.progress (found_in reports) (holding flow.transaction (held_in reports)) old new
 
-  abbrev pub ended_by : Release J → List (Option (Unit {0}))
-  ended_by r = ended_unless r.home ∷ ended_unless r.customer ∷ ended_unless r.history ∷ []
+  -- All actions of a phase have reported this, by place.
+  abbrev pub MeetsAs : List (Report J) → Parts J → Parts J → Type 0
+  MeetsAs reports old new = CarriesFirst reports (λ flow. MeetsUnless (refusal_of None reports) reports flow old new)
 
-  abbrev pub releasing : Bool → Release J → Active J → Parts J → Parts J
-  releasing settle r active w = putting (items_released settle r) (ending_with active (ended_by r) (have_ended (ended_by r))) w
+  -- what is asked of them
+  pub record CanMeetFor (reports : List (Report J)) (flow : Flow J) : Type 0 where
+    pub room : length flow.transaction.held + length reports ≤ 4
+    pub done : refusal_of None reports ≡ None → (scale : Scale) × HaveAllDone (HasDone scale) (works_of flow.progress) (found_in reports) (held_in reports)
 
-  -- ---- a report
+  abbrev pub CanMeet : List (Report J) → Type 0
+  CanMeet reports = CarriesFirst reports (CanMeetFor reports)
 
-  -- what follows when the transaction's phase has met
-  abbrev pub following : Gathered J → Active J → Parts J → Parts J
-  following (Acts paid row) active w = putting (items_gathered (Acts paid row)) (Some (record active { stage = stage.Second })) w
-  following (Commit commit) active w = putting (items_gathered (Commit commit)) (Some (record active { stage = stage.Committing })) w
-  following (Refuse r) active w = releasing false r active w
+  -- Another action is awaited, and the report is kept; or the phase has met.
+  abbrev pub ReportsInto : List (Option (Report J)) → Parts J → Parts J → Type 0
+  ReportsInto slots old new =
+      ((1 ≤ length (awaited_from 0 slots)) × (new ≡ with_active (Some (Acting slots)) old))
+      ⊎ ((reports : List (Report J)) × ((map Some reports ≡ slots) × MeetsAs reports old new))
 
-  -- What has been reported in the first phase's two places: once both have, what follows.
-  abbrev pub meeting_first : List (Option (Report J)) → Active J → Parts J → Parts J
-  meeting_first (Some (report.Home flow home) ∷ Some (report.Customer payment customer) ∷ []) active w =
-      following (gathered_first flow home customer) (record active { first = [] }) w
-  meeting_first reports active w = with_active (Some (record active { first = reports })) w
+  -- the phase that is under way, in these places
+  abbrev pub OfPhase : Parts J → (List (Option (Report J)) → Type 0) → Type 0
+  OfPhase w P = (slots : List (Option (Report J))) × ((w.desk.active ≡ Some (Acting slots)) × P slots)
 
-  abbrev pub reporting : Report J → Active J → Parts J → Parts J
-  reporting (report.Home flow ran) active w = meeting_first (slice_set active.first 0 (Some (report.Home flow ran))) active w
-  reporting (report.Customer payment ran) active w = meeting_first (slice_set active.first 1 (Some (report.Customer payment ran))) active w
-  reporting (report.History paid ran) active w = following (gathered_second paid ran) (record active { second = [] }) w
+  abbrev pub Reports : Report J → Parts J → Parts J → Type 0
+  Reports r old new = OfPhase old (λ slots. ReportsInto (slice_set slots r.place (Some r)) old new)
 
-  -- ---- the log
+  -- ---- a transaction is logged
 
   -- the log has the entry more, and the transaction's claims are given back
-  abbrev pub logging : CommitItem J → Active J → Parts J → Parts J
-  logging commit active w =
-      let entry = entry_of commit in
-      let pass = after_item commit.flow.pass (item_of (length w.log) entry.number entry.request entry.reply) in
-      record (releasing (is_settled commit.reply) (release_logged commit (length w.log) pass commit.reply) active w) { log = w.log ++ entry ∷ [] }
+  abbrev pub logging : CommitItem J → Parts J → Parts J
+  logging commit w =
+      let t = commit.transaction in
+      let pass = after_item t.pass (item_of (length w.log) t.number t.request commit.reply) in
+      record (releasing (is_settled commit.reply) (release t pass (Done (length w.log) commit.reply) (map (claims_logged commit.reply) t.held)) w) { log = w.log ++ entry_of commit ∷ [] }
 
   -- the log refused the entry, and what the transaction did is taken back
-  abbrev pub refusing : CommitItem J → AppendFault → Active J → Parts J → Parts J
-  refusing commit why active w =
-      releasing false (release_refused commit (why_refused why) (after_refusal why (length w.log) commit.flow.pass)) active w
+  abbrev pub refusing : CommitItem J → AppendFault → Parts J → Parts J
+  refusing commit why w =
+      let t = commit.transaction in
+      releasing false (release t (after_refusal why (length w.log) t.pass) (Refused (why_refused why)) t.held) w
 
-  abbrev pub Commits : CommitItem J → Active J → Parts J → EventAnswer → Parts J → Type 0
-  Commits commit active old (Logged place) new = (place ≡ length old.log) × ((length old.log < 16777216) × (new ≡ logging commit active old))
-  Commits commit active old Sent new =
-      (why : AppendFault) × (((why ≡ fault.LogFull) ↔ (16777216 ≤ length old.log)) × (new ≡ refusing commit why active old))
-  Commits commit active old answer new = ⊥
+  -- A full log refuses every entry; but there may be no memory for an answer that shows an order.
+  abbrev pub Commits : CommitItem J → Parts J → EventAnswer → Parts J → Type 0
+  Commits commit old (Logged place) new = (place ≡ length old.log) × ((length old.log < 16777216) × (new ≡ logging commit old))
+  Commits commit old Sent new =
+      (why : AppendFault) × ((why ≡ fault.LogFull → 16777216 ≤ length old.log)
+      × ((16777216 ≤ length old.log → (why ≡ fault.LogFull) ⊎ ShowsStatus commit.reply) × (new ≡ refusing commit why old)))
+  Commits commit old answer new = ⊥
+
+  pub record CanCommit (opening : Database) (commit : CommitItem J) : Type 0 where
+    pub accepted : IsAccepted opening.scale commit.transaction.request
+    pub number : commit.transaction.pass.asks.number ≡ commit.transaction.number
+    pub asks : commit.transaction.pass.asks.request ≡ commit.transaction.request
+    pub carried_out : IsCarriedOut opening commit.transaction.request (all_claims commit.transaction.held) commit.reply
+    pub few : length commit.transaction.held ≤ 4
 
   -- ---- the sessions
 
@@ -202,65 +189,23 @@ module _ {J : Type 0} where
 
   -- ---- all items
 
-  -- the active transaction, of which the item is
-  abbrev pub OfActive : Parts J → (Active J → Type 0) → Type 0
-  OfActive old happens = (active : Active J) × ((old.desk.active ≡ Some active) × happens active)
+  -- so many actions have yet to give their claims back
+  abbrev pub OfEnding : Parts J → (ℕ → Type 0) → Type 0
+  OfEnding w P = (left : ℕ) × ((w.desk.active ≡ Some (Ending left)) × P left)
 
-  -- ---- what is asked of an item that is sent
-
-  -- one has not reported, and the other is the report of its place, if it has
-  abbrev pub AwaitsHome : List (Option (Report J)) → Type 0
-  AwaitsHome (None ∷ None ∷ []) = Unit {0}
-  AwaitsHome (None ∷ Some (report.Customer payment ran) ∷ []) = Unit {0}
-  AwaitsHome _ = ⊥
-
-  abbrev pub AwaitsCustomer : List (Option (Report J)) → Type 0
-  AwaitsCustomer (None ∷ None ∷ []) = Unit {0}
-  AwaitsCustomer (Some (report.Home flow ran) ∷ None ∷ []) = Unit {0}
-  AwaitsCustomer _ = ⊥
-
-  -- both actions of the first phase, by place
-  abbrev pub AreBoth : List (Report J) → Type 0
-  AreBoth (report.Home flow home ∷ report.Customer payment customer ∷ []) = Unit {0}
-  AreBoth _ = ⊥
-
-  abbrev pub GathersBoth : List (Report J) → Gathered J → Type 0
-  GathersBoth (report.Home flow home ∷ report.Customer payment customer ∷ []) gathered = gathered ≡ gathered_first flow home customer
-  GathersBoth _ gathered = ⊥
-
-  -- the two places of the first phase, whatever has been reported there
-  abbrev pub AreFirstSlots : List (Option (Report J)) → Type 0
-  AreFirstSlots (None ∷ None ∷ []) = Unit {0}
-  AreFirstSlots (None ∷ Some (report.Customer payment customer) ∷ []) = Unit {0}
-  AreFirstSlots (Some (report.Home flow home) ∷ None ∷ []) = Unit {0}
-  AreFirstSlots (Some (report.Home flow home) ∷ Some (report.Customer payment customer) ∷ []) = Unit {0}
-  AreFirstSlots _ = ⊥
-
-  abbrev pub AwaitsIn : Report J → Active J → Type 0
-  AwaitsIn (report.Home flow ran) active = (active.ending ≡ none_ended) × AwaitsHome active.first
-  AwaitsIn (report.Customer payment ran) active = (active.ending ≡ none_ended) × AwaitsCustomer active.first
-  AwaitsIn (report.History paid ran) active = (active.ending ≡ none_ended) × (active.second ≡ None ∷ [])
-
-  pub record CanCommit (opening : Database) (commit : CommitItem J) (w : Parts J) : Type 0 where
-    pub active : OfActive w (λ active. active.ending ≡ none_ended)
-    pub accepted : IsAccepted opening.scale (request.Payment commit.flow.payment)
-    pub number : commit.flow.pass.asks.number ≡ commit.flow.number
-    pub asks : commit.flow.pass.asks.request ≡ request.Payment commit.flow.payment
-    pub carried_out : IsCarriedOut opening (request.Payment commit.flow.payment) (claims_commit commit) commit.reply
-    pub shows_no_order : ShowsStatus commit.reply → ⊥
-
+  -- what is asked of an item that is sent
   abbrev pub CanSend : Database → Item J → Parts J → Type 0
   CanSend opening (item.Push message) w = Unit {0}
-  CanSend opening (item.Report r) w = OfActive w (AwaitsIn r)
-  CanSend opening (item.Ended place) w = OfActive w (λ active. (active.stage ≡ stage.Ending) × (slice_get active.ending place ≡ Some None))
-  CanSend opening (item.Commit commit) w = CanCommit opening commit w
+  CanSend opening (item.Report r) w =
+      OfPhase w (λ slots. (slice_get slots r.place ≡ Some None)
+      × ((reports : List (Report J)) → map Some reports ≡ slice_set slots r.place (Some r) → CanMeet reports))
+  CanSend opening item.Ended w = OfEnding w (λ left. 1 ≤ left)
+  CanSend opening (item.Commit commit) w = CanCommit opening commit
   CanSend opening (item.Reply told) w = (desk : SessionDesk J) × (slice_get w.desk.sessions.items told.pass.session ≡ Some desk)
 
   abbrev pub SendsItem : Item J → Parts J → EventAnswer → Parts J → Type 0
   SendsItem (item.Push message) old answer new = Pushes (nat_lt (length old.inbox) 1024) message old answer new
-  SendsItem (item.Report r) old answer new = (answer ≡ Sent) × OfActive old (λ active. new ≡ reporting r active old)
-  SendsItem (item.Ended place) old answer new =
-      (answer ≡ Sent)
-      × OfActive old (λ active. new ≡ with_active (ending_with active (slice_set active.ending place (Some tt)) (have_ended (slice_set active.ending place (Some tt)))) old)
-  SendsItem (item.Commit commit) old answer new = OfActive old (λ active. Commits commit active old answer new)
+  SendsItem (item.Report r) old answer new = (answer ≡ Sent) × Reports r old new
+  SendsItem item.Ended old answer new = (answer ≡ Sent) × OfEnding old (λ left. new ≡ with_active (ending (left - 1)) old)
+  SendsItem (item.Commit commit) old answer new = Commits commit old answer new
   SendsItem (item.Reply told) old answer new = Replies told old answer new

@@ -1,7 +1,6 @@
 pub mod Flights
 pub mod Sound
-pub mod Phases
+pub mod Following
 pub mod Events
 pub mod Worlds
-pub mod Sending
 pub mod Openings

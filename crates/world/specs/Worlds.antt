@@ -1,14 +1,13 @@
 -- What holds of a world and its history.
-use Rattle.std.specs.Prelude.{◌≡◌, ◌≢◌, ◌⊎◌, ℕ, ◌+◌, Bool, true, false, List, [], ◌∷◌, ◌++◌, Option, Some, None, Result, Ok, Err, zero, suc, nat_lt, ◌&&◌, length, IsTrue, is_some, slice_set, ◌<◌, ◌≤◌, ◌↔◌, count_by}
+use Rattle.std.specs.Prelude.{◌≡◌, ◌≢◌, ◌⊎◌, ℕ, ◌+◌, Bool, true, false, List, [], ◌∷◌, ◌++◌, Option, Some, None, Result, Ok, Err, zero, suc, nat_lt, ◌&&◌, length, replicate, Vec, IsTrue, is_some, slice_set, ◌<◌, ◌≤◌, ◌↔◌, count_by}
 use Rattle.std.specs.List.{slice_get}
+use Rattle.std.specs.declared.alloc.Global.{Global}
 use Rattle.schema.specs.Database.{Database}
 use Rattle.requests.specs.declared.request.Request.{Request}
-use Rattle.requests.specs.declared.request.Request.TheVariants as request
-use Rattle.requests.specs.declared.request.Payment.{Payment}
 use Rattle.requests.specs.declared.answer.Answer.TheVariants.{Refused}
 use Rattle.requests.specs.declared.refusal.Refusal.{Refusal}
 use Rattle.requests.specs.declared.refusal.Refusal.TheVariants as refusal
-use Rattle.requests.specs.Check.{check_of}
+use Rattle.requests.specs.Check.{IsAccepted, check_of}
 use Rattle.groups.specs.Content.{content}
 use Rattle.tickets.specs.Committed.{AreCommitted}
 use Rattle.machine.specs.Machine.{tables_after}
@@ -23,16 +22,18 @@ use Rattle.history.specs.declared.event.EventAnswer.TheVariants.{Accepted, Took,
 use Rattle.history.specs.History.{Step, step, is_of}
 use Rattle.history.specs.Fits.{Fits as HistoryFits}
 use Rattle.slices.specs.Sliced.{Sliced, everywhere, standing}
-use Rattle.world.specs.declared.desk.Active.{Active}
+use Rattle.schema.specs.declared.scale.Scale.{Scale}
+use Rattle.actions.specs.declared.work.Work.{Work}
+use Rattle.flow_graphs.specs.Progresses.{IsReached, works_of}
+use Rattle.world.specs.declared.desk.Active.TheVariants.{Acting}
 use Rattle.world.specs.declared.desk.SessionDesk.{SessionDesk}
-use Rattle.world.specs.declared.desk.Stage.TheVariants as stage
 use Rattle.world.specs.declared.flight.Flow.{Flow}
 use Rattle.world.specs.declared.flight.Message.{Message}
 use Rattle.world.specs.declared.flight.Message.TheVariants.{Start}
 use Rattle.world.specs.declared.flight.Item.{Item}
 use Rattle.world.specs.declared.world.Parts.{Parts}
 use Rattle.world.specs.Flights.{Part}
-use Rattle.world.specs.Sound.{IsSessionOf, flight, none_ended}
+use Rattle.world.specs.Sound.{IsSessionOf, flight}
 use Rattle.world.specs.Events.{TakesMessage, SendsItem}
 
 -- ---- the history
@@ -57,14 +58,6 @@ steps_of (event ∷ events) (answer ∷ answers) = step event answer ∷ steps_o
 
 -- ---- submissions
 
--- whether requests of this kind are carried out: payments are, and Order-Status is not yet
-abbrev pub is_served : Request → Bool
-is_served (request.Payment p) = true
-is_served (request.OrderStatus o) = false
-
-abbrev pub IsServed : Request → Type 0
-IsServed asked = IsTrue (is_served asked)
-
 -- Why the desk refuses a request at once: its session has a transaction without an answer, its check refuses it, or a
 -- transaction is active.
 abbrev pub refuses : Option Passing → Result (Unit {0}) Refusal → Bool → Option Refusal
@@ -86,33 +79,32 @@ module _ {J : Type 0} where
   abbrev pub refusal_at : SessionDesk J → Request → Parts J → Option Refusal
   refusal_at desk request w = refuses desk.pass (check_of w.slice.tables.scale request) (is_some w.desk.active)
 
-  -- requests of this kind are carried out, the inbox has room, and there is an age left
-  abbrev pub can_admit : Request → Parts J → Bool
-  can_admit asked w = is_served asked && (nat_lt (length w.inbox) 1024 && nat_lt w.desk.admitted 18446744073709551615)
+  -- the inbox has room, and there is an age left
+  abbrev pub can_admit : Parts J → Bool
+  can_admit w = nat_lt (length w.inbox) 1024 && nat_lt w.desk.admitted 18446744073709551615
 
-  abbrev pub admitted_now : Active J
-  admitted_now = record { stage = stage.First; first = None ∷ None ∷ []; second = None ∷ []; ending = none_ended }
-
-  -- A transaction more is admitted, and active: its first actions stand at the inbox's end, and the session's pass goes with
-  -- them.
+  -- A transaction more is admitted, and active: the actions of its first phase stand at the inbox's end, and the session's
+  -- pass goes with them.
   pub record Admits (session number : ℕ) (asked : Request) (desk : SessionDesk J) (old new : Parts J) : Type 0 where
     pub flow : Flow J
-    pub payment : Payment
+    pub works : Vec Work Global
     pub pass : Passing
-    pub age : flow.age ≡ old.desk.admitted
-    pub number_is : flow.number ≡ number
-    pub asks : asked ≡ request.Payment flow.payment
-    pub same : payment ≡ flow.payment
+    pub age : flow.transaction.age ≡ old.desk.admitted
+    pub number_is : flow.transaction.number ≡ number
+    pub request : flow.transaction.request ≡ asked
+    pub held : flow.transaction.held ≡ []
+    pub begins : (scale : Scale) → IsAccepted scale asked → IsReached scale asked flow.progress []
     pub here : desk.pass ≡ Some pass
-    pub pass_is : flow.pass ≡ with_asks pass (asking number asked pass.seen pass.mine)
+    pub pass_is : flow.transaction.pass ≡ with_asks pass (asking number asked pass.seen pass.mine)
+    pub works_are : works.items ≡ works_of flow.progress
     pub slice : new.slice ≡ old.slice
-    pub inbox : new.inbox ≡ old.inbox ++ Start flow payment ∷ []
+    pub inbox : new.inbox ≡ old.inbox ++ Start flow works ∷ []
     pub outbox : new.outbox ≡ old.outbox
     pub log : new.log ≡ old.log
     pub admitted : new.desk.admitted ≡ old.desk.admitted + 1
-    pub active : new.desk.active ≡ Some admitted_now
+    pub active : new.desk.active ≡ Some (Acting (replicate (length works.items) None))
     pub sessions : new.desk.sessions.items
-        ≡ slice_set old.desk.sessions.items session (record { seat = seating desk.seat.session flow.pass.asks; pass = None })
+        ≡ slice_set old.desk.sessions.items session (record { seat = seating desk.seat.session flow.transaction.pass.asks; pass = None })
 
   -- what is asked of a world to which a request is submitted: each session stands at its place
   abbrev pub CanSubmit : Parts J → Type 0
@@ -134,7 +126,7 @@ module _ {J : Type 0} where
 
   abbrev pub SubmitsUnless : Option Refusal → ℕ → ℕ → Request → SessionDesk J → Parts J → EventAnswer → Parts J → Type 0
   SubmitsUnless (Some why) session number asked desk old answer new = StaysAt (Answered session number (Refused why)) old answer new
-  SubmitsUnless None session number asked desk old answer new = SubmitsInto (can_admit asked old) session number asked desk old answer new
+  SubmitsUnless None session number asked desk old answer new = SubmitsInto (can_admit old) session number asked desk old answer new
 
   abbrev pub SubmitsAt : Option (SessionDesk J) → ℕ → ℕ → Request → Parts J → EventAnswer → Parts J → Type 0
   SubmitsAt None session number asked old answer new = StaysAt Nothing old answer new
@@ -178,10 +170,9 @@ module _ {J : Type 0} where
 
   abbrev pub CannotSubmit : Option (SessionDesk J) → Request → Parts J → Type 0
   CannotSubmit None asked w = Unit {0}
-  CannotSubmit (Some desk) asked w = (refusal_at desk asked w ≡ None) × (can_admit asked w ≡ false)
+  CannotSubmit (Some desk) asked w = (refusal_at desk asked w ≡ None) × (can_admit w ≡ false)
 
-  -- A submission by a session of 64 or above, or one that isn't refused while the inbox is full or no age is left, or of a
-  -- request that isn't served; and a Take or a Send where there is nothing to take or to send, or no such executor.
+  -- A submission by a session of 64 or above, or one that isn't refused while the inbox is full or no age is left; and a Take or a Send where there is nothing to take or to send, or no such executor.
   abbrev pub CannotHappen : Event → Parts J → Type 0
   CannotHappen (Submit session number asked) w = CannotSubmit (slice_get w.desk.sessions.items session) asked w
   CannotHappen (Take executor) w = (executor ≢ 0) ⊎ (w.inbox ≡ [])

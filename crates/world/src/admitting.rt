@@ -1,19 +1,20 @@
 //! A session submits a request.
-ghost use Rattle.std.specs.Prelude.{◌≡◌, ◌<◌, length, IfOk, IfSome, OnOk, OnErr, IsTrue, is_some, None, Some, slice_get};
+ghost use Rattle.std.specs.Prelude.{◌≡◌, ◌<◌, length, IfOk, IfSome, OnOk, OnErr, IsTrue, is_some, None, slice_get};
 ghost use Rattle.commit_log.specs.Asks.{asking};
 ghost use Rattle.commit_log.specs.Passing.{seating, with_asks};
-ghost use Rattle.requests.specs.declared.request.Request.TheVariants as request;
 ghost use Rattle.world.specs.declared.desk.SessionDesk.{SessionDesk as AnyDesk};
-ghost use Rattle.world.specs.Worlds as spec;
-ghost use Rattle.world.specs.Worlds.{Admits, CanAsk, CanSubmit, IsServed, SubmitsAt, admitted_now};
+ghost use Rattle.world.specs.Worlds.{Admits, CanAsk, CanSubmit, SubmitsAt};
 
-use crate::desk::{Active, SessionDesk, Stage};
-use crate::flight::{Flow, Message};
+use crate::beginning::Phase;
+use crate::desk::{Active, SessionDesk};
+use crate::flight::{Flow, Message, Transaction};
+use crate::held::Held;
 use crate::world::{INBOX, Parts};
 use commit_log::Pass;
+use flow_graphs::{Asked, Graphs};
 use history::EventAnswer;
-use rendezvous::Meeting;
-use requests::{Answer, Payment, Refusal, Request, check};
+use phases::Graph;
+use requests::{Answer, Refusal, Request, check};
 use schema::NoMemory;
 use std::alloc::Global;
 
@@ -41,7 +42,7 @@ impl<J: commit_log::Naming + tickets::Naming> Parts<J> {
         if self.desk.active.is_some() {
             return refused(session, number, Refusal::Busy);
         }
-        if !is_served(request) || self.inbox.len() >= INBOX || self.desk.admitted == u64::MAX {
+        if self.inbox.len() >= INBOX || self.desk.admitted == u64::MAX {
             return EventAnswer::Nothing;
         }
         match self.admit(alloc, session, number, request) {
@@ -61,35 +62,36 @@ impl<J: commit_log::Naming + tickets::Naming> Parts<J> {
         requires room { length self.old.inbox < 1024 }
         requires age { self.old.desk.admitted < 18446744073709551615 }
         requires sessions { CanSubmit self.old }
-        requires served { IsServed request.now }
         requires here { CanAsk (slice_get self.old.desk.sessions.items session) }
         ensures age { IfOk result (λ age. age ≡ self.old.desk.admitted) }
         ensures admitted { OnOk result ((desk : AnyDesk J) × ((slice_get self.old.desk.sessions.items session ≡ Some desk) × Admits session number request.now desk self.old self.new)) }
         ensures err { OnErr result (self.new ≡ self.old) }
     {
-        let active = Active::open(alloc)?;
-        let first = payment_of(request)?;
-        let second = payment_of(request)?;
+        let own = request.try_clone()?;
+        let asked = Asked {
+            request: request.try_clone()?,
+        };
+        let progress = Graphs.begin(asked);
+        let Phase { works, meeting } = Phase::begin(alloc, &progress)?;
+        let held = Held::open(alloc)?;
         let age = self.desk.admitted;
         let pass = ask(&mut self.desk.sessions[session as usize], number, request);
-        let flow = Flow {
+        let transaction = Transaction {
             age,
             number,
-            payment: first,
+            request: own,
             pass,
+            held,
         };
-        self.inbox.put(Message::Start(flow, second));
+        let flow = Flow {
+            transaction,
+            progress,
+        };
+        self.inbox.put(Message::Start(flow, works));
         self.desk.admitted = age + 1;
-        self.desk.active = Some(active);
+        self.desk.active = Some(Active::Acting(meeting));
         Ok(age)
     }
-}
-
-// Whether the core carries out requests of this kind.
-fn is_served(request: &Request) -> bool
-    ensures { result ≡ spec.is_served request.now }
-{
-    matches!(request, Request::Payment(_))
 }
 
 fn refused(session: u32, number: u32, refusal: Refusal) -> EventAnswer
@@ -100,34 +102,6 @@ fn refused(session: u32, number: u32, refusal: Refusal) -> EventAnswer
         number,
         answer: Answer::Refused(refusal),
     }
-}
-
-impl<J: commit_log::Naming + tickets::Naming> Active<J> {
-    // A transaction that was just admitted, with its meetings.
-    fn open(alloc: Global) -> Result<Active<J>, NoMemory>
-        ensures { IfOk result (λ active. active ≡ admitted_now) }
-    {
-        let first = Meeting::open(alloc, 2)?;
-        let second = Meeting::open(alloc, 1)?;
-        let ending = Meeting::open(alloc, 3)?;
-        Ok(Active {
-            stage: Stage::First,
-            first,
-            second,
-            ending,
-        })
-    }
-}
-
-// The payment that is asked.
-fn payment_of(asked: &Request) -> Result<Payment, NoMemory>
-    requires { IsServed asked.now }
-    ensures { IfOk result (λ payment. asked.now ≡ request.Payment payment) }
-{
-    let Request::Payment(payment) = asked else {
-        unreachable!()
-    };
-    payment.clone()
 }
 
 // The session asks with its pass, which goes with the request from then on.

@@ -11,29 +11,15 @@ pub struct SessionDesk<J: commit_log::Naming + tickets::Naming> {
     pub pass: Option<Pass<J>>,
 }
 
-/// How far a transaction has come.
-#[derive(Clone, Copy, Debug, PartialEq, Eq)]
-pub enum Stage {
-    /// Places 0 and 1 are under way.
-    First,
-    /// Place 2 is under way.
-    Second,
+/// How far the transaction has come that is active.
+#[derive(Drop)]
+pub enum Active<J: commit_log::Naming + tickets::Naming> {
+    /// The actions of a phase are under way, and meet here.
+    Acting(Meeting<Report<J>>),
     /// It is to be logged.
     Committing,
-    /// Its claims are being given back.
-    Ending,
-}
-
-/// A transaction that is active, with its meetings, which were opened when it was admitted.
-#[derive(Drop)]
-pub struct Active<J: commit_log::Naming + tickets::Naming> {
-    pub stage: Stage,
-    /// Where places 0 and 1 meet.
-    pub first: Meeting<Report<J>>,
-    /// Where place 2 reports.
-    pub second: Meeting<Report<J>>,
-    /// Where all places meet that have given their claims back.
-    pub ending: Meeting<()>,
+    /// So many actions have yet to give their claims back.
+    Ending(usize),
 }
 
 /// The desk: the sessions, how many transactions were admitted, and the one that is active.

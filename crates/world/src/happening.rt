@@ -24,13 +24,13 @@ impl<J: commit_log::Naming + tickets::Naming> Parts<J> {
                 number,
                 request,
             } => self.submit(alloc, *session, *number, request),
-            Event::Take { executor } => self.take(*executor),
-            Event::Send { executor } => self.send(*executor),
+            Event::Take { executor } => self.take(alloc, *executor),
+            Event::Send { executor } => self.send(alloc, *executor),
         }
     }
 
     // The executor takes a message.
-    fn take(&mut self, executor: u32) -> EventAnswer
+    fn take(&mut self, alloc: Global, executor: u32) -> EventAnswer
         requires warehouses { J.warehouses ≡ J.opening.scale.warehouses }
         requires sound { IsSoundWith J.opening.scale nothing self.old }
         ensures sound { IsSoundWith J.opening.scale nothing self.new }
@@ -43,12 +43,12 @@ impl<J: commit_log::Naming + tickets::Naming> Parts<J> {
         let Some(message) = self.inbox.take() else {
             return EventAnswer::Nothing;
         };
-        self.work(message);
+        self.work(alloc, message);
         EventAnswer::Took
     }
 
     // The first item of the outbox is sent.
-    fn send(&mut self, executor: u32) -> EventAnswer
+    fn send(&mut self, alloc: Global, executor: u32) -> EventAnswer
         requires warehouses { J.warehouses ≡ J.opening.scale.warehouses }
         requires sound { IsSoundWith J.opening.scale nothing self.old }
         ensures sound { IsSoundWith J.opening.scale nothing self.new }
@@ -60,7 +60,7 @@ impl<J: commit_log::Naming + tickets::Naming> Parts<J> {
         }
         match self.outbox.take() {
             None => EventAnswer::Nothing,
-            Some(item) => self.send_item(item),
+            Some(item) => self.send_item(alloc, item),
         }
     }
 }

@@ -2,20 +2,20 @@
 //! However events follow one another, all logged replies and the tables are those of a machine that
 //! carries out the log's requests one at a time, in log order.
 //!
-//! No thread owns a payment. It is a flow graph of two phases: an action on the home warehouse and
-//! district and an action on the customer, and then one on the district's list of payments. Each goes
-//! as a message to the executor that has the rows; what it reports meets the others of its phase; the
-//! last report brings the next phase or the commit.
+//! No thread owns a transaction. It is a flow graph: the actions of each phase go as messages to the
+//! executor that has the rows; what one reports meets the others of its phase; the last report brings the
+//! next phase, or the commit.
 #![tactic(auto)]
 
 mod admitting;
+mod beginning;
 mod committing;
 mod desk;
-mod executor;
 mod flight;
+mod gathering;
 mod happening;
+mod held;
 mod opening;
-mod phases;
 mod playing;
 mod queue;
 mod sending;
@@ -23,12 +23,11 @@ mod simulating;
 mod working;
 mod world;
 
-pub use desk::{Active, Desk, SessionDesk, Stage};
-pub use flight::{
-    Action, Claims, CommitItem, CustomerRan, Flow, HistoryRan, HomeClaims, HomeRan, Item, Message,
-    Paid, ReplyItem, Report,
-};
+pub use desk::{Active, Desk, SessionDesk};
+pub use flight::{Act, CommitItem, Flow, Item, Message, ReplyItem, Report, Transaction};
+pub use held::Held;
 pub use opening::{OpenFault, Opening};
 pub use queue::Queue;
+pub use sending::Release;
 pub use simulating::{Simulation, simulate};
 pub use world::{GatherFault, INBOX, Parts, World};

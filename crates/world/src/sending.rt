@@ -1,37 +1,66 @@
 //! What becomes of an item of the outbox.
-ghost use Rattle.std.specs.Prelude.{◌≡◌, ◌≤◌, ◌+◌, false, [], ◌∷◌, ◌++◌, length, Some, None, slice_get, slice_set, map, option_to_list};
-ghost use Rattle.requests.specs.declared.request.Payment.{Payment};
-ghost use Rattle.world.specs.Phases.{gathered_second, push_of};
-ghost use Rattle.world.specs.Sound.{none_ended};
-ghost use Rattle.world.specs.Events.{ended_unless, ending_with, have_ended, AreBoth, AreFirstSlots, AwaitsIn, CanSend, GathersBoth, OfActive, SendsItem, following, meeting_first, releasing, reporting};
-ghost use Rattle.world.specs.Sending.{IsOfCustomer, IsOfHistory, IsOfHome};
+ghost use Rattle.std.specs.Prelude.{◌≡◌, ◌≤◌, ◌+◌, ◌∷◌, [], length};
+ghost use Rattle.world.specs.Events.{CanSend, Reports, SendsItem};
+ghost use Rattle.world.specs.Following as spec;
+ghost use Rattle.world.specs.Following.{releasing};
 
-use crate::desk::{Active, Stage};
-use crate::flight::{
-    Action, Claims, CustomerRan, Flow, HistoryRan, HomeClaims, HomeRan, Item, Message, Paid,
-    ReplyItem, Report,
-};
-use crate::phases::{Gathered, Release, gather_first, gather_second};
+use crate::desk::Active;
+use crate::flight::{Item, Message, ReplyItem, Report, Transaction};
+use crate::held::Held;
 use crate::world::{INBOX, Parts};
+use commit_log::Pass;
 use history::EventAnswer;
-use rendezvous::{Reported, Results};
-use tickets::Claim;
+use rendezvous::{Meeting, Reported};
+use requests::{Answer, Refusal};
+use std::alloc::Global;
+
+/// A transaction that is over: its answer, and what its actions hold.
+#[derive(Drop)]
+pub struct Release<J: commit_log::Naming + tickets::Naming> {
+    pub age: u64,
+    pub number: u32,
+    pub pass: Pass<J>,
+    pub answer: Answer,
+    pub held: Held<J>,
+}
+
+impl<J: commit_log::Naming + tickets::Naming> Release<J> {
+    // A transaction that is refused.
+    pub(crate) fn refused(transaction: Transaction<J>, why: Refusal) -> Release<J>
+        ensures { result ≡ spec.refused transaction why }
+    {
+        let Transaction {
+            age,
+            number,
+            request: _,
+            pass,
+            held,
+        } = transaction;
+        Release {
+            age,
+            number,
+            pass,
+            answer: Answer::Refused(why),
+            held,
+        }
+    }
+}
 
 impl<J: commit_log::Naming + tickets::Naming> Parts<J> {
     // Sends an item.
-    pub(crate) fn send_item(&mut self, item: Item<J>) -> EventAnswer
-        requires room { length self.old.outbox + 4 ≤ 4096 }
+    pub(crate) fn send_item(&mut self, alloc: Global, item: Item<J>) -> EventAnswer
+        requires room { length self.old.outbox + 8 ≤ 4096 }
         requires can { CanSend J.opening item self.old }
         ensures sends { SendsItem item self.old result self.new }
     {
         match item {
             Item::Push(message) => self.push(message),
             Item::Report(report) => {
-                self.meet(report);
+                self.meet(alloc, report);
                 EventAnswer::Sent
             }
-            Item::Ended(place) => {
-                self.end(place);
+            Item::Ended => {
+                self.end();
                 EventAnswer::Sent
             }
             Item::Commit(commit) => self.commit(commit),
@@ -41,7 +70,7 @@ impl<J: commit_log::Naming + tickets::Naming> Parts<J> {
 
     // A message goes to the inbox, if there is room.
     fn push(&mut self, message: Message<J>) -> EventAnswer
-        requires room { length self.old.outbox + 4 ≤ 4096 }
+        requires room { length self.old.outbox + 8 ≤ 4096 }
         ensures sends { SendsItem (Item.Push message) self.old result self.new }
     {
         if self.inbox.len() < INBOX {
@@ -54,117 +83,54 @@ impl<J: commit_log::Naming + tickets::Naming> Parts<J> {
     }
 
     // A report comes to where its phase meets.
-    fn meet(&mut self, report: Report<J>)
-        requires room { length self.old.outbox + 4 ≤ 4096 }
-        requires awaited { OfActive self.old (AwaitsIn report) }
-        ensures { OfActive self.old (λ active. self.new ≡ reporting report active self.old) }
+    fn meet(&mut self, alloc: Global, report: Report<J>)
+        requires room { length self.old.outbox + 8 ≤ 4096 }
+        requires awaited { CanSend J.opening (Item.Report report) self.old }
+        ensures { Reports report self.old self.new }
     {
         let Some(active) = self.desk.active.take() else {
             unreachable!()
         };
-        match report {
-            Report::Home(flow, ran) => self.meet_first(active, 0, Report::Home(flow, ran)),
-            Report::Customer(payment, ran) => {
-                self.meet_first(active, 1, Report::Customer(payment, ran))
-            }
-            Report::History(paid, ran) => self.meet_second(active, paid, ran),
+        let mut meeting = meeting_of(active);
+        let place = report.place;
+        match meeting.report(place, report) {
+            Reported::NotLast => self.desk.active = Some(Active::Acting(meeting)),
+            Reported::Last(results) => self.follow(alloc, results),
         }
     }
 
-    // The first phase meets in two places.
-    fn meet_first(&mut self, mut active: Active<J>, place: usize, report: Report<J>)
-        requires room { length self.old.outbox + 4 ≤ 4096 }
-        requires ending { active.ending ≡ none_ended }
-        requires free { slice_get active.first place ≡ Some None }
-        requires both { AreFirstSlots (slice_set active.first place (Some report)) }
-        ensures { self.new ≡ meeting_first (slice_set active.first place (Some report)) active self.old }
-    {
-        match active.first.report(place, report) {
-            Reported::NotLast => self.desk.active = Some(active),
-            Reported::Last(results) => {
-                let gathered = gather_both(results);
-                self.follow(active, gathered);
-            }
-        }
-    }
-
-    // The second phase meets in one.
-    fn meet_second(&mut self, mut active: Active<J>, paid: Paid<J>, ran: HistoryRan<J>)
-        requires room { length self.old.outbox + 4 ≤ 4096 }
-        requires ending { active.ending ≡ none_ended }
-        requires free { active.second ≡ None ∷ [] }
-        ensures { self.new ≡ following (gathered_second paid ran) (record active { second = [] }) self.old }
-    {
-        let Reported::Last(mut results) = active.second.report(0, Report::History(paid, ran)) else {
-            unreachable!()
-        };
-        let Some(report) = results.pop() else {
-            unreachable!()
-        };
-        let (paid, ran) = history_of(report);
-        self.follow(active, gather_second(paid, ran));
-    }
-
-    // What follows when a phase has met.
-    fn follow(&mut self, mut active: Active<J>, gathered: Gathered<J>)
-        requires room { length self.old.outbox + 4 ≤ 4096 }
-        requires ending { active.ending ≡ none_ended }
-        ensures { self.new ≡ following gathered active self.old }
-    {
-        match gathered {
-            Gathered::Act(paid, row) => {
-                active.stage = Stage::Second;
-                self.desk.active = Some(active);
-                self.outbox
-                    .put(Item::Push(Message::Act(Action::History(paid, row))));
-            }
-            Gathered::Commit(commit) => {
-                active.stage = Stage::Committing;
-                self.desk.active = Some(active);
-                self.outbox.put(Item::Commit(commit));
-            }
-            Gathered::Refuse(release) => self.release(active, release, false),
-        }
-    }
-
-    // A transaction is over: it is answered, and its claims are settled or taken back.
-    pub(crate) fn release(&mut self, active: Active<J>, release: Release<J>, settle: bool)
-        requires room { length self.old.outbox + 4 ≤ 4096 }
-        requires ending { active.ending ≡ none_ended }
-        ensures { self.new ≡ releasing settle release active self.old }
+    // A transaction is over: it is answered, and what its actions hold is settled or taken back.
+    pub(crate) fn release(&mut self, over: Release<J>, settle: bool)
+        requires room { length self.old.outbox + (length over.held + 1) ≤ 4096 }
+        ensures { self.new ≡ releasing settle over self.old }
     {
         let Release {
             age,
             number,
             pass,
             answer,
-            home,
-            customer,
-            history,
-        } = release;
-        self.desk.active = end_unheld(active, &home, &customer, &history);
+            held,
+        } = over;
+        let count = held.len();
+        self.desk.active = if count == 0 {
+            None
+        } else {
+            Some(Active::Ending(count))
+        };
         self.outbox.put(Item::Reply(ReplyItem {
             age,
             number,
             pass,
             answer,
         }));
-        self.give_back(home.map(|held| Claims::Home(held)), settle);
-        self.give_back(customer.map(|held| Claims::Customer(held)), settle);
-        self.give_back(history.map(|held| Claims::History(held)), settle);
-    }
-
-    fn give_back(&mut self, held: Option<Claims<J>>, settle: bool)
-        requires room { length self.old.outbox + 1 ≤ 4096 }
-        ensures { self.new ≡ record self.old { outbox = self.old.outbox ++ map (push_of settle) (option_to_list held) } }
-    {
-        let Some(claims) = held else { return };
-        let message = if settle {
-            Message::Settle(claims)
-        } else {
-            Message::Undo(claims)
-        };
-        self.outbox.put(Item::Push(message));
+        for claims in held.into_vec() {
+            let give_back = if settle {
+                Message::Settle(claims)
+            } else {
+                Message::Undo(claims)
+            };
+            self.outbox.put(Item::Push(give_back));
+        }
     }
 
     // The session is answered, and has its pass again.
@@ -187,116 +153,31 @@ impl<J: commit_log::Naming + tickets::Naming> Parts<J> {
         }
     }
 
-    // A place has given back what it held.
-    fn end(&mut self, place: u32)
-        requires { CanSend J.opening (Item.Ended place) self.old }
-        ensures { SendsItem (Item.Ended place) self.old EventAnswer.Sent self.new }
+    // An action has given its claims back.
+    fn end(&mut self)
+        requires { CanSend J.opening Item.Ended self.old }
+        ensures { SendsItem Item.Ended self.old EventAnswer.Sent self.new }
     {
-        let Some(mut active) = self.desk.active.take() else {
-            unreachable!()
+        let left = match self.desk.active {
+            Some(Active::Ending(left)) => left,
+            _ => unreachable!(),
         };
-        let over = end_place(&mut active, place);
-        self.desk.active = if over { None } else { Some(active) };
+        self.desk.active = if left == 1 {
+            None
+        } else {
+            Some(Active::Ending(left - 1))
+        };
     }
 }
 
-// The places that hold no claims have nothing to give back.
-fn end_unheld<J: commit_log::Naming + tickets::Naming>(
-    mut active: Active<J>,
-    home: &Option<HomeClaims<J>>,
-    customer: &Option<Claim<J>>,
-    history: &Option<Claim<J>>,
-) -> Option<Active<J>>
-    requires { active.ending ≡ none_ended }
-    ensures { let places = ended_unless home.now ∷ ended_unless customer.now ∷ ended_unless history.now ∷ [] in
-        result ≡ ending_with active places (have_ended places) }
+// Where the actions of the phase meet that is under way.
+fn meeting_of<J: commit_log::Naming + tickets::Naming>(active: Active<J>) -> Meeting<Report<J>>
+    requires { spec.IsActing active }
+    ensures { active ≡ Active.Acting result }
 {
-    active.stage = Stage::Ending;
-    end_unless(&mut active, 0, home);
-    end_unless(&mut active, 1, customer);
-    if end_unless(&mut active, 2, history) {
-        None
-    } else {
-        Some(active)
-    }
-}
-
-// A place that holds no claims has ended. Tells whether all have.
-fn end_unless<J: commit_log::Naming + tickets::Naming, T>(
-    active: &mut Active<J>,
-    place: u32,
-    held: &Option<T>,
-) -> bool
-    requires { slice_get active.old.ending place ≡ Some None }
-    ensures over { result ≡ have_ended (slice_set active.old.ending place (ended_unless held.now)) }
-    ensures places { result ≡ false → active.new ≡ record active.old { ending = slice_set active.old.ending place (ended_unless held.now) } }
-{
-    match held {
-        None => end_place(active, place),
-        Some(_) => false,
-    }
-}
-
-// A place has nothing to give back any more. Tells whether that is so of all.
-fn end_place<J: commit_log::Naming + tickets::Naming>(active: &mut Active<J>, place: u32) -> bool
-    requires { slice_get active.old.ending place ≡ Some None }
-    ensures over { result ≡ have_ended (slice_set active.old.ending place (Some tt)) }
-    ensures places { result ≡ false → active.new ≡ record active.old { ending = slice_set active.old.ending place (Some tt) } }
-{
-    match active.ending.report(place as usize, ()) {
-        Reported::NotLast => false,
-        Reported::Last(_) => true,
-    }
-}
-
-// Both actions of the first phase have reported.
-fn gather_both<J: commit_log::Naming + tickets::Naming>(
-    mut results: Results<Report<J>>,
-) -> Gathered<J>
-    requires { AreBoth results }
-    ensures { GathersBoth results result }
-{
-    let Some(second) = results.pop() else {
-        unreachable!()
-    };
-    let Some(first) = results.pop() else {
-        unreachable!()
-    };
-    let (flow, home) = home_of(first);
-    gather_first(flow, home, customer_of(second))
-}
-
-fn home_of<J: commit_log::Naming + tickets::Naming>(report: Report<J>) -> (Flow<J>, HomeRan<J>)
-    requires { IsOfHome report }
-    ensures { report ≡ Report.Home result.0 result.1 }
-{
-    match report {
-        Report::Home(flow, ran) => (flow, ran),
-        Report::Customer(_, _) => unreachable!(),
-        Report::History(_, _) => unreachable!(),
-    }
-}
-
-fn customer_of<J: commit_log::Naming + tickets::Naming>(report: Report<J>) -> CustomerRan<J>
-    requires { IsOfCustomer report }
-    ensures { (payment : Payment) × (report ≡ Report.Customer payment result) }
-{
-    match report {
-        Report::Home(_, _) => unreachable!(),
-        Report::Customer(_, ran) => ran,
-        Report::History(_, _) => unreachable!(),
-    }
-}
-
-fn history_of<J: commit_log::Naming + tickets::Naming>(
-    report: Report<J>,
-) -> (Paid<J>, HistoryRan<J>)
-    requires { IsOfHistory report }
-    ensures { report ≡ Report.History result.0 result.1 }
-{
-    match report {
-        Report::Home(_, _) => unreachable!(),
-        Report::Customer(_, _) => unreachable!(),
-        Report::History(paid, ran) => (paid, ran),
+    match active {
+        Active::Acting(meeting) => meeting,
+        Active::Committing => unreachable!(),
+        Active::Ending(_) => unreachable!(),
     }
 }

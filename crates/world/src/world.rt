@@ -84,8 +84,7 @@ impl<J: commit_log::Naming + tickets::Naming> World<J> {
     /// those of a machine that carries out its requests one at a time, in log order, and the tables that
     /// it leaves are the committed ones; each transaction is whole, and stands behind those that were
     /// answered before it was submitted. What the event changes is told exactly, and what can't happen
-    /// is answered `Nothing` and changes nothing: so is the submission of an Order-Status that isn't
-    /// refused, since the core doesn't serve it yet.
+    /// is answered `Nothing` and changes nothing.
     pub fn step(&mut self, alloc: Global, event: &Event) -> EventAnswer
         ensures advances { Advances self.old (one_step event.now result ∷ []) self.new }
         ensures happens { Happens event.now self.old result self.new }

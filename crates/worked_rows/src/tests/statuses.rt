@@ -3,19 +3,19 @@ use requests::{LastName, OrderStatus, OrderStatusReply, StatusOrder};
 use schema::{OrderKey, Scale, Text};
 use std::alloc::Global;
 
-fn by_name(words: &str) -> Result<Choice, Fail> {
+pub(super) fn by_name(words: &str) -> Result<Choice, Fail> {
     let name = LastName::checked_new(Text::parse(words)?).ok_or("begins with #")?;
     Ok(Choice::LastName(name))
 }
 
-fn order_status(customer: Choice) -> Request {
+pub(super) fn order_status(customer: Choice) -> Request {
     Request::OrderStatus(OrderStatus {
         home: district_key(1, 1),
         customer,
     })
 }
 
-fn status(rt: &impl Abort, reply: Reply) -> OrderStatusReply {
+pub(super) fn status(rt: &impl Abort, reply: Reply) -> OrderStatusReply {
     match reply {
         Reply::OrderStatus(shown) => shown,
         other => panic!(rt; "{other:?}"),
@@ -23,7 +23,7 @@ fn status(rt: &impl Abort, reply: Reply) -> OrderStatusReply {
 }
 
 // The order is number 5 of set K: entered as the year began, not delivered, five lines of its items.
-fn assert_order_5(rt: &impl Abort, order: &StatusOrder) {
+pub(super) fn assert_order_5(rt: &impl Abort, order: &StatusOrder) {
     assert_eq!(rt; order.o_id, 5);
     assert_eq!(rt; order.entry_d.seconds(), 1_704_067_200);
     assert!(rt; order.carrier_id.is_none());

@@ -1,3 +1,4 @@
+use super::statuses::{assert_order_5, by_name, order_status, status};
 use super::*;
 use amounts::Cents;
 use history::{Event, EventAnswer, Scheduled, Told};
@@ -91,6 +92,49 @@ fn one_payment_event_by_event(rt: HostRuntime) -> Result<(), Fail> {
     let payments = tables.history(district_key(1, 1)).expect(&rt, "a list");
     let last = payments.last().expect(&rt, "a payment");
     assert_eq!(rt; last.data.as_str(), "W1    D1");
+    Ok(())
+}
+
+// One Order-Status, event by event: its customer is read, and then the last order; it is logged, answered,
+// and its two actions give their claims back.
+#[test]
+fn one_order_status_event_by_event(rt: HostRuntime) -> Result<(), Fail> {
+    let alloc = rt.alloc();
+    let steps = b"tstsstsssssttss";
+    let schedule = submitting(alloc, order_status(Choice::Number(5)), steps)?;
+    let simulation = ran(&rt, alloc, &schedule)?;
+    assert!(rt; spell(&simulation.told, b"ATSTSSTSLRSSTTSS"));
+    let tables = simulation.tables.expect(&rt, "nothing is active");
+    assert!(rt; same_tables(tables, set_k(alloc)?));
+    Ok(())
+}
+
+// By name, in rounds: the second of four, nobody, and the only one. Each is logged, and changes nothing.
+#[test]
+fn order_statuses_by_name_in_rounds(rt: HostRuntime) -> Result<(), Fail> {
+    let alloc = rt.alloc();
+    let mut schedule = Vec::with_capacity(alloc, 6)?;
+    for (number, name) in ["BARBARBAR", "BAROUGHTBAR", "BARBAROUGHT"]
+        .iter()
+        .enumerate()
+    {
+        schedule.push(submit(0, number as u32, order_status(by_name(name)?)))?;
+        schedule.push(Scheduled::Rounds)?;
+    }
+    let simulation = ran(&rt, alloc, &schedule)?;
+    assert!(rt; spell(&simulation.told, b"ALRQALRQALRQ"));
+    let mut log = simulation.log;
+    assert_eq!(rt; log.len(), 3);
+    let last = log.pop().expect(&rt, "an entry");
+    let nobody = log.pop().expect(&rt, "an entry");
+    let first = log.pop().expect(&rt, "an entry");
+    assert_eq!(rt; status(&rt, first.reply).c_id, 1);
+    assert_eq!(rt; nobody.reply, Reply::RolledBack(Fault::NoCustomer));
+    let shown = status(&rt, last.reply);
+    assert_eq!(rt; shown.c_id, 5);
+    assert_order_5(&rt, &shown.order.ok_or("an order")?);
+    let tables = simulation.tables.expect(&rt, "nothing is active");
+    assert!(rt; same_tables(tables, set_k(alloc)?));
     Ok(())
 }
 

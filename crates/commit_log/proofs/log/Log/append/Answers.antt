@@ -1,4 +1,5 @@
 use Rattle.std.proofs.Common.{sym, ap, ◌∙◌}
+use Rattle.tickets.specs.Claims.{all_claims}
 use Rattle.commit_log.specs.Passing.{Passing}
 use Rattle.commit_log.proofs.Claimed.{kept_logged}
 use Rattle.commit_log.proofs.log.Log.append.Goals as goal
@@ -8,7 +9,7 @@ invariant_of-self-2 g c =
     let room = c.in-Ok.ensures in
     let told = c.commit.ensures in
     kept_logged g.J.Naming-1.opening c.self.inside.book.entries c.make_room.new.self.entries c.log.new.self.entries c.self.inside.seats c.commit.new.seats
-    c.args.claims.now c.args.entry c.make_room.new.pass.session
+    (all_claims c.args.held.now) c.args.entry c.make_room.new.pass.session
     c.self.invariant told.told c.requires.accepted c.requires.carried_out room.entries
     (ap (λ (p : Passing). p.session) room.pass ∙ sym c.requires.session)
     (ap (λ b. b.entries) c.log.ensures.book) told.seats

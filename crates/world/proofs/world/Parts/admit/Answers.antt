@@ -1,4 +1,4 @@
-use Rattle.std.proofs.Common.{refl}
+use Rattle.std.proofs.Common.{[], refl, sym}
 use Rattle.world.proofs.Admissions.{admits, desk_read, pass_read}
 use Rattle.world.proofs.world.Parts.admit.Goals as goal
 
@@ -11,13 +11,16 @@ ask-pass-requires-clause-session g c =
 pub returns-clause-admitted : goal.returns-clause-admitted
 returns-clause-admitted g c =
     let old = c.args.self.now in
+    let asked = c.args.request.now in
     let desk = c.index_mut.result.now in
     let read = desk_read old.desk.sessions.items c.args.session desk c.requires.here c.index_mut.ensures.value in (
       desk,
       (
         read.0,
-        admits c.args.session c.args.number c.args.request.now desk c.ask-pass.new.desk old _ c.in_ok-first.first c.in_ok-second.second c.ask-pass.result c.in_ok-active.active
-            read.1 c.in_ok-first.ensures c.in_ok-second.ensures c.ask-pass.ensures.pass c.ask-pass.ensures.seat c.ask-pass.ensures.away
-            refl c.put.ensures refl refl refl c.in_ok-active.ensures refl refl,
+        admits c.args.session c.args.number asked desk c.ask-pass.new.desk old _ _ _ _ read.1
+            refl refl c.in_ok-own.ensures c.in_ok-held.ensures
+            (λ scale accepted. c.begin-progress.ensures scale asked [] (record { is = sym c.in_ok-try_clone.ensures; accepted = accepted; none = refl }))
+            c.ask-pass.ensures.pass c.in_ok-works.ensures.works c.in_ok-works.ensures.meeting c.ask-pass.ensures.seat c.ask-pass.ensures.away
+            refl c.put.ensures refl refl refl refl refl,
       ),
     )

@@ -1,7 +1,7 @@
 use Rattle.std.proofs.Common.{refl, sym, ◌∙◌, ap}
 use Rattle.history.specs.declared.event.Event.TheVariants.{Send}
 use Rattle.history.specs.declared.event.EventAnswer.TheVariants.{Nothing}
-use Rattle.world.proofs.Happened.{the_laws, stays}
+use Rattle.world.proofs.Happened.{stays}
 use Rattle.world.proofs.ItemsSent.{first_sent}
 use Rattle.world.proofs.Puts.{item_in_hand}
 use Rattle.world.proofs.Ready.{can_send}
@@ -30,8 +30,8 @@ send_item-requires-clause-can g c =
 
 pub returns-in-Some-clause-sound : goal.returns-in-Some-clause-sound
 returns-in-Some-clause-sound g c =
-    (first_sent the_laws g.J.Naming-1.opening.scale c.args.self.now c.send_item.new.self c.in-Some.item c.take.new.self c.send_item.result c.in-Some.ensures.first c.requires.sound c.send_item.ensures.sends c.args.executor).0
+    (first_sent g.J.Naming-1.opening.scale c.args.self.now c.send_item.new.self c.in-Some.item c.take.new.self c.send_item.result c.in-Some.ensures.first c.requires.sound c.send_item.ensures.sends c.args.executor).0
 
 pub returns-in-Some-clause-advances : goal.returns-in-Some-clause-advances
 returns-in-Some-clause-advances g c =
-    (first_sent the_laws g.J.Naming-1.opening.scale c.args.self.now c.send_item.new.self c.in-Some.item c.take.new.self c.send_item.result c.in-Some.ensures.first c.requires.sound c.send_item.ensures.sends c.args.executor).1
+    (first_sent g.J.Naming-1.opening.scale c.args.self.now c.send_item.new.self c.in-Some.item c.take.new.self c.send_item.result c.in-Some.ensures.first c.requires.sound c.send_item.ensures.sends c.args.executor).1

@@ -1,12 +1,12 @@
-use Rattle.std.proofs.Common.{◌≡◌, length, refl, sym, ap, ◌∙◌, arith, inl, true, false}
+use Rattle.std.proofs.Common.{◌≡◌, length, refl, ap, ◌∙◌, arith, inl, true, false}
 use Rattle.std.specs.Prelude.{slice_get}
-use Rattle.world.specs.Worlds.{can_admit, is_served}
-use Rattle.world.proofs.Submitting.{can_ask, found, full, has_all, is_there, spent, submits, unrefused, unserved}
+use Rattle.world.specs.Worlds.{can_admit}
+use Rattle.world.proofs.Submitting.{can_ask, found, full, has_all, is_there, spent, submits, unrefused}
 use Rattle.world.proofs.world.Parts.submit.Goals as goal
-use Rattle.world.proofs.world.Parts.submit.Goals.{then-not-is_served-via-then-not-is_served, then-not-is_served-via-else-not-is_served+then-len-ge-INBOX, then-not-is_served-via-else-not-is_served+else-len-ge-INBOX+then-self}
+use Rattle.world.proofs.world.Parts.submit.Goals.{then-len-ge-INBOX-via-then-len-ge-INBOX, then-len-ge-INBOX-via-else-len-ge-INBOX+then-self}
 
-pub returns-then-not-is_served : goal.returns-then-not-is_served
-returns-then-not-is_served g c =
+pub returns-then-len-ge-INBOX : goal.returns-then-len-ge-INBOX
+returns-then-len-ge-INBOX g c =
     let old = c.args.self.now in
     let asked = c.args.request.now in
     let desk = c.in-Some.desk.now in
@@ -15,10 +15,9 @@ returns-then-not-is_served g c =
     let there = is_there desk.pass c.is_none.result c.is_none.ensures c.if-is_none.false in
     let scale = c.scale.ensures.value ∙ ap (λ t. t.scale) c.tables.ensures.tables in
     let none = unrefused desk asked old c.scale.result c.in_default-check.field-0 c.is_some.result there scale c.in_default-check.ensures c.is_some.ensures c.if-is_some.false in
-    let cannot : can_admit asked old ≡ false = elim c.then-not-is_served.branch [
-      | then-not-is_served-via-then-not-is_served w ↦ unserved (is_served asked) _ (sym c.is_served.ensures ∙ w.if-not-is_served.true)
-      | then-not-is_served-via-else-not-is_served+then-len-ge-INBOX w ↦ full (is_served asked) (length old.inbox) 1024 old.desk.admitted 18446744073709551615 (omega arith)
-      | then-not-is_served-via-else-not-is_served+else-len-ge-INBOX+then-self w ↦ spent (is_served asked) (length old.inbox) 1024 old.desk.admitted 18446744073709551615 (omega arith)
+    let cannot : can_admit old ≡ false = elim c.then-len-ge-INBOX.branch [
+      | then-len-ge-INBOX-via-then-len-ge-INBOX w ↦ full (length old.inbox) 1024 old.desk.admitted 18446744073709551615 (omega arith)
+      | then-len-ge-INBOX-via-else-len-ge-INBOX+then-self w ↦ spent (length old.inbox) 1024 old.desk.admitted 18446744073709551615 (omega arith)
     ] in
     submits (slice_get old.desk.sessions.items c.args.session) desk c.args.session c.args.number asked old _ old false at none cannot (refl, refl)
 
@@ -41,7 +40,7 @@ returns-in-Err-admit g c =
     let there = is_there desk.pass c.is_none.result c.is_none.ensures c.if-is_none.false in
     let scale = c.scale.ensures.value ∙ ap (λ t. t.scale) c.tables.ensures.tables in
     let none = unrefused desk asked old c.scale.result c.in_default-check.field-0 c.is_some.result there scale c.in_default-check.ensures c.is_some.ensures c.if-is_some.false in
-    let can : can_admit asked old ≡ true =
-    has_all (is_served asked) (length old.inbox) 1024 old.desk.admitted 18446744073709551615 (sym c.is_served.ensures ∙ c.if-not-is_served.false) (omega arith) (omega arith) in
+    let can : can_admit old ≡ true =
+    has_all (length old.inbox) 1024 old.desk.admitted 18446744073709551615 (omega arith) (omega arith) in
     submits (slice_get old.desk.sessions.items c.args.session) desk c.args.session c.args.number asked old c.refused-in-Err-admit.result c.admit.new.self true at none can
     (inl (c.refused-in-Err-admit.ensures, c.in-Err-admit.ensures.err))

@@ -1,7 +1,6 @@
 use Rattle.std.proofs.Common.{refl, sym, ◌∙◌, ap, subst, arith}
 use Rattle.history.specs.declared.event.Event.TheVariants.{Take}
 use Rattle.history.specs.declared.event.EventAnswer.TheVariants.{Nothing}
-use Rattle.actions.proofs.NextPayers.{gathered_payers_are_known}
 use Rattle.world.specs.Events.{CanWork}
 use Rattle.world.proofs.Happened.{stays}
 use Rattle.world.proofs.Ready.{can_work}
@@ -27,7 +26,7 @@ pub work-requires-clause-can : goal.work-requires-clause-can
 work-requires-clause-can g c =
     let scale = g.J.Naming-1.opening.scale in
     let hand = message_in_hand scale c.args.self.now c.in-Some.message c.take.new.self c.in-Some.ensures.first c.requires.sound in
-    subst (λ s. CanWork s c.in-Some.message) (sym c.requires.sound.scale_is) (can_work gathered_payers_are_known scale hand.0.payment c.in-Some.message hand.1)
+    subst (λ s. CanWork s c.in-Some.message) (sym c.requires.sound.scale_is) (can_work scale hand.0.under_way c.in-Some.message hand.1)
 
 pub returns-clause-sound : goal.returns-clause-sound
 returns-clause-sound g c =

@@ -1,0 +1,239 @@
+-- What the actions of a phase have reported, once all have.
+use Rattle.std.proofs.Common.{◌≡◌, ◌⊎◌, inl, inr, ℕ, ◌+◌, ◌≤◌, zero, suc, List, [], ◌∷◌, ◌++◌, length, Option, Some, None, refl, sym, ◌∙◌, ap, subst, arith, append-nil, append_assoc}
+use Rattle.std.specs.Prelude.{All, map, slice_set}
+use Rattle.std.specs.List.{slice_get}
+use Rattle.std.proofs.lemmas.List.{length-append, length-map, length-set}
+use Rattle.std.proofs.lemmas.List.Elements.{All-nil, All-cons, All-append}
+use Rattle.std.proofs.lemmas.Option.{slice_get-map}
+use Rattle.schema.specs.declared.scale.Scale.{Scale}
+use Rattle.requests.specs.declared.refusal.Refusal.{Refusal}
+use Rattle.requests.specs.declared.refusal.Refusal.TheVariants as refusal
+use Rattle.tickets.specs.Claims.{Claiming, all_claims}
+use Rattle.phases.specs.Following.{HaveAllDone}
+use Rattle.actions.specs.declared.work.Work.{Work}
+use Rattle.actions.specs.declared.work.Found.{Found}
+use Rattle.actions.specs.declared.acting.Ran.{Ran}
+use Rattle.actions.specs.declared.acting.Ran.TheVariants as ran
+use Rattle.actions.specs.Acting.{CanBeUndone, claims_of_ran}
+use Rattle.actions.specs.Works.{HasDone}
+use Rattle.flow_graphs.specs.Progresses.{HoldsSome, works_of}
+use Rattle.rendezvous.specs.Awaited.{reported}
+use Rattle.world.specs.declared.flight.Flow.{Flow}
+use Rattle.world.specs.declared.flight.Report.{Report}
+use Rattle.world.specs.Flights.{part, join, parts, part_carried, part_met, unanswered_transaction}
+use Rattle.world.specs.Following.{found_by, found_in, held_by, held_in, refusal_of, refused_by, refused_still}
+use Rattle.world.specs.Sound.{UnderWay, IsWorkAt, IsSoundFlow, IsCarriedAt, IsSoundRan, IsSoundReport, IsSoundPhase}
+use Rattle.world.proofs.Joins.{IsSame, same-refl, same-trans, same-join, same-middle}
+
+-- ---- lists
+
+-- the claims of some actions and then of others
+pub all_claims-append : (some others : List (List Claiming)) → all_claims (some ++ others) ≡ all_claims some ++ all_claims others
+all_claims-append [] others = refl
+all_claims-append (claims ∷ some) others =
+    ap (λ cs. claims ++ cs) (all_claims-append some others) ∙ sym (append_assoc claims (all_claims some) (all_claims others))
+
+-- what stands in a list once one element is put in it: that one, or what stood there
+pub put_at : {X : Type 0} (xs : List X) (k i : ℕ) (x y : X) → slice_get (slice_set xs k x) i ≡ Some y → ((i ≡ k) × (x ≡ y)) ⊎ (slice_get xs i ≡ Some y)
+put_at [] k i x y is = absurd (cc)
+put_at (z ∷ xs) zero zero x y is = inl (refl, cc)
+put_at (z ∷ xs) zero (suc i) x y is = inr is
+put_at (z ∷ xs) (suc k) zero x y is = inr is
+put_at (z ∷ xs) (suc k) (suc i) x y is = by (put_at xs k i x y is)
+  where
+    by : ((i ≡ k) × (x ≡ y)) ⊎ (slice_get xs i ≡ Some y) → ((suc i ≡ suc k) × (x ≡ y)) ⊎ (slice_get xs i ≡ Some y)
+    by (inl put) = inl (ap suc put.0, put.1)
+    by (inr stood) = inr stood
+
+pub reported-map : {R : Type 0} (rs : List R) → reported (map Some rs) ≡ rs
+reported-map [] = refl
+reported-map (r ∷ rs) = ap (λ ts. r ∷ ts) (reported-map rs)
+
+module _ {J : Type 0} where
+  -- ---- parts
+
+  pub met_tokens : (rs : List (Report J)) → (parts part_met rs).tokens ≡ []
+  met_tokens [] = refl
+  met_tokens (r ∷ rs) = met_tokens rs
+
+  -- one more report has met
+  pub met_one_more : (slots : List (Option (Report J))) (place : ℕ) (r : Report J) → slice_get slots place ≡ Some None
+      → IsSame (parts part_met (reported (slice_set slots place (Some r)))) (join (part_met r) (parts part_met (reported slots)))
+  met_one_more [] place r waits = absurd (cc)
+  met_one_more (None ∷ slots) zero r waits = same-refl (join (part_met r) (parts part_met (reported slots)))
+  met_one_more (Some q ∷ slots) zero r waits = absurd (cc)
+  met_one_more (None ∷ slots) (suc place) r waits = met_one_more slots place r waits
+  met_one_more (Some q ∷ slots) (suc place) r waits =
+      same-trans (join (part_met q) (parts part_met (reported (slice_set slots place (Some r)))))
+      (join (part_met q) (join (part_met r) (parts part_met (reported slots))))
+      (join (part_met r) (join (part_met q) (parts part_met (reported slots))))
+      (same-join (part_met q) (part_met q) _ _ (same-refl (part_met q)) (met_one_more slots place r waits))
+      (same-middle (part_met q) (part_met r) (parts part_met (reported slots)))
+
+  -- what an action holds
+  held_by_ran : (r : Ran J) → claims_of_ran r ≡ all_claims (held_by r)
+  held_by_ran (ran.Done claims found) = sym (append-nil claims)
+  held_by_ran (ran.Died group holder) = refl
+  held_by_ran ran.NoMemory = refl
+
+  -- an action holds the claims of one at most
+  pub one_holds : (own : Ran J) → length (held_by own) ≤ 1
+  one_holds (ran.Done claims found) = omega arith
+  one_holds (ran.Died group holder) = omega arith
+  one_holds ran.NoMemory = omega arith
+
+  -- ---- refusals
+
+  pub stays_refused : (why : Refusal) (reports : List (Report J)) → refusal_of (Some why) reports ≡ None → ⊥
+  stays_refused why [] is = absurd (cc)
+  stays_refused why (r ∷ reports) is = stays_refused (refused_still why r.ran) reports is
+
+  -- ---- the reports of a phase
+
+  module _ (scale : Scale) (u : UnderWay) where
+    -- an action that ran has done this work, and all of it can be taken back
+    abbrev pub HasRan : Work → Ran J → Type 0
+    HasRan work (ran.Done claims found) = HasDone scale work found claims × All CanBeUndone claims
+    HasRan work (ran.Died group holder) = Unit {0}
+    HasRan work ran.NoMemory = Unit {0}
+
+    -- From this place on each action has reported of its own work.
+    abbrev pub HaveReported : ℕ → List Work → List (Report J) → Type 0
+    HaveReported place [] [] = Unit {0}
+    HaveReported place (work ∷ works) (r ∷ reports) = (IsCarriedAt u place r.flow × HasRan work r.ran) × HaveReported (suc place) works reports
+    HaveReported place works reports = ⊥
+
+    ran_at : (place : ℕ) (work : Work) (r : Ran J) → IsWorkAt u place work → IsSoundRan scale u place r → HasRan work r
+    ran_at place work (ran.Done claims found) at h =
+        let other = h.1.0 in
+        let same : h.0 ≡ work = cc in
+        subst (λ (w : Work). HasDone scale w found claims × All CanBeUndone claims) same h.1.1
+    ran_at place work (ran.Died group holder) at h = tt
+    ran_at place work ran.NoMemory at h = tt
+
+    have_reported : (place : ℕ) (works : List Work) (reports : List (Report J)) → length reports ≡ length works
+        → ((i : ℕ) → slice_get (works_of u.progress) (place + i) ≡ slice_get works i)
+        → ((i : ℕ) (r : Report J) → slice_get reports i ≡ Some r → (r.place ≡ place + i) × IsSoundReport scale u r)
+        → HaveReported place works reports
+    have_reported place [] [] many at each = tt
+    have_reported place [] (r ∷ reports) many at each = absurd (omega (arith, many))
+    have_reported place (work ∷ works) [] many at each = absurd (omega (arith, many))
+    have_reported place (work ∷ works) (r ∷ reports) many at each =
+        let first = each 0 r refl in
+        let zero_more : place + 0 ≡ place = omega arith in
+        let here : r.place ≡ place = first.0 ∙ zero_more in
+        let own : IsWorkAt u place work = subst (λ n. slice_get (works_of u.progress) n ≡ Some work) zero_more (at 0) in (
+          (subst (λ n. IsCarriedAt u n r.flow) here first.1.flow, ran_at place work r.ran own (subst (λ n. IsSoundRan scale u n r.ran) here first.1.ran)),
+          have_reported (suc place) works reports (omega (arith, many))
+              (λ i. let one_more : place + suc i ≡ suc place + i = omega arith in subst (λ n. slice_get (works_of u.progress) n ≡ slice_get works i) one_more (at (suc i)))
+              (λ i q is. let e = each (suc i) q is in (omega (arith, e.0), e.1)),
+        )
+
+    -- where all places of the phase have reported
+    pub phase_reported : (slots : List (Option (Report J))) (r : Report J) (reports : List (Report J)) → IsSoundPhase scale u slots → IsSoundReport scale u r
+        → map Some reports ≡ slice_set slots r.place (Some r) → HaveReported 0 (works_of u.progress) reports
+    phase_reported slots r reports at s all =
+        let many : length reports ≡ length (works_of u.progress) =
+        sym (length-map reports Some) ∙ ap (λ (l : List (Option (Report J))). length l) all ∙ length-set slots r.place (Some r) ∙ at.many in
+        have_reported 0 (works_of u.progress) reports many (λ i. let same : 0 + i ≡ i = omega arith in ap (λ n. slice_get (works_of u.progress) n) same)
+        (λ i q is. by i q (put_at slots r.place i (Some r) (Some q) (subst (λ (l : List (Option (Report J))). slice_get l i ≡ Some (Some q)) all (slice_get-map Some reports i ∙ ap (λ o. some_of o) is))))
+      where
+        some_of : Option (Report J) → Option (Option (Report J))
+        some_of None = None
+        some_of (Some q) = Some (Some q)
+
+        by : (i : ℕ) (q : Report J) → ((i ≡ r.place) × (Some r ≡ Some q)) ⊎ (slice_get slots i ≡ Some (Some q)) → (q.place ≡ 0 + i) × IsSoundReport scale u q
+        by i q (inl put) =
+            let both = put.1 in
+            let same : r ≡ q = cc in
+            subst (λ (p : Report J). (p.place ≡ 0 + i) × IsSoundReport scale u p) same (omega (arith, put.0), s)
+        by i q (inr stood) = let told = at.reports i q stood in (omega (arith, told.0), told.1)
+
+    -- ---- who carries the transaction
+
+    pub is_carried : (o : Option (Flow J)) → IsCarriedAt u 0 o → (flow : Flow J) × ((o ≡ Some flow) × IsSoundFlow u flow)
+    is_carried None h = absurd h
+    is_carried (Some flow) h = (flow, (refl, h))
+
+    carries_none : (place : ℕ) (o : Option (Flow J)) → IsCarriedAt u (suc place) o → o ≡ None
+    carries_none place None h = refl
+    carries_none place (Some flow) h = absurd h
+
+    part_later : (place : ℕ) (r : Report J) → IsCarriedAt u (suc place) r.flow → part_met r ≡ part (all_claims (held_by r.ran)) [] []
+    part_later place r h =
+        ap (λ (o : Option (Flow J)). part ((part_carried o).claims ++ claims_of_ran r.ran) (part_carried o).pending []) (carries_none place r.flow h)
+        ∙ ap (λ cs. part cs [] []) (held_by_ran r.ran)
+
+    parts_later : (place : ℕ) (works : List Work) (reports : List (Report J)) → HaveReported (suc place) works reports
+        → parts part_met reports ≡ part (all_claims (held_in reports)) [] []
+    parts_later place [] [] h = refl
+    parts_later place [] (r ∷ reports) h = absurd h
+    parts_later place (work ∷ works) [] h = absurd h
+    parts_later place (work ∷ works) (r ∷ reports) h =
+        (λ i. join (part_later place r h.0.0 i) (parts_later (suc place) works reports h.1 i))
+        ∙ ap (λ cs. part cs [] []) (sym (all_claims-append (held_by r.ran) (held_in reports)))
+
+    -- all that the reports have: the transaction with what it held, and what the actions hold
+    pub parts_all : (works : List Work) (r : Report J) (reports : List (Report J)) (flow : Flow J) → HaveReported 0 works (r ∷ reports) → r.flow ≡ Some flow
+        → parts part_met (r ∷ reports) ≡ part (all_claims (flow.transaction.held ++ held_in (r ∷ reports))) (unanswered_transaction flow.transaction ∷ []) []
+    parts_all [] r reports flow h is = absurd h
+    parts_all (work ∷ works) r reports flow h is =
+        let t = flow.transaction in
+        let own = all_claims (held_by r.ran) in
+        let first : part_met r ≡ part (all_claims t.held ++ own) (unanswered_transaction t ∷ []) [] =
+        ap (λ (o : Option (Flow J)). part ((part_carried o).claims ++ claims_of_ran r.ran) (part_carried o).pending []) is
+        ∙ ap (λ cs. part (all_claims t.held ++ cs) (unanswered_transaction t ∷ []) []) (held_by_ran r.ran) in
+        (λ i. join (first i) (parts_later 0 works reports h.1 i))
+        ∙ ap (λ cs. part cs (unanswered_transaction t ∷ []) []) (
+        append_assoc (all_claims t.held) own (all_claims (held_in reports))
+        ∙ ap (λ cs. all_claims t.held ++ cs) (sym (all_claims-append (held_by r.ran) (held_in reports)))
+        ∙ sym (all_claims-append t.held (held_in (r ∷ reports)))
+        )
+
+    -- ---- what they found and hold
+
+    one_done : (work : Work) (works : List Work) (reports : List (Report J)) (own : Ran J) → HasRan work own
+        → (refusal_of None reports ≡ None → HaveAllDone (HasDone scale) works (found_in reports) (held_in reports))
+        → refusal_of (refused_by None own) reports ≡ None
+        → HaveAllDone (HasDone scale) (work ∷ works) (found_by own ++ found_in reports) (held_by own ++ held_in reports)
+    one_done work works reports (ran.Done claims found) has rest none = (has.0, rest none)
+    one_done work works reports (ran.Died group holder) has rest none = absurd (stays_refused (refusal.Died group holder) reports none)
+    one_done work works reports ran.NoMemory has rest none = absurd (stays_refused refusal.NoMemory reports none)
+
+    pub all_done : (place : ℕ) (works : List Work) (reports : List (Report J)) → HaveReported place works reports → refusal_of None reports ≡ None
+        → HaveAllDone (HasDone scale) works (found_in reports) (held_in reports)
+    all_done place [] [] h none = tt
+    all_done place [] (r ∷ reports) h none = absurd h
+    all_done place (work ∷ works) [] h none = absurd h
+    all_done place (work ∷ works) (r ∷ reports) h none = one_done work works reports r.ran h.0.1 (all_done (suc place) works reports h.1) none
+
+    pub all_undo : (place : ℕ) (works : List Work) (reports : List (Report J)) → HaveReported place works reports → All (All CanBeUndone) (held_in reports)
+    all_undo place [] [] h = All-nil (All CanBeUndone)
+    all_undo place [] (r ∷ reports) h = absurd h
+    all_undo place (work ∷ works) [] h = absurd h
+    all_undo place (work ∷ works) (r ∷ reports) h = All-append (All CanBeUndone) (held_by r.ran) (held_in reports) (one_undo r.ran h.0.1) (all_undo (suc place) works reports h.1)
+      where
+        one_undo : (own : Ran J) → HasRan work own → All (All CanBeUndone) (held_by own)
+        one_undo (ran.Done claims found) has = All-cons (All CanBeUndone) claims [] has.1 (All-nil (All CanBeUndone))
+        one_undo (ran.Died group holder) has = All-nil (All CanBeUndone)
+        one_undo ran.NoMemory has = All-nil (All CanBeUndone)
+
+    -- each that holds claims holds some
+    pub all_hold : ((work : Work) (found : Found) (claims : List Claiming) → HasDone scale work found claims → HoldsSome claims)
+        → (place : ℕ) (works : List Work) (reports : List (Report J)) → HaveReported place works reports → All HoldsSome (held_in reports)
+    all_hold hold place [] [] h = All-nil HoldsSome
+    all_hold hold place [] (r ∷ reports) h = absurd h
+    all_hold hold place (work ∷ works) [] h = absurd h
+    all_hold hold place (work ∷ works) (r ∷ reports) h = All-append HoldsSome (held_by r.ran) (held_in reports) (one_hold r.ran h.0.1) (all_hold hold (suc place) works reports h.1)
+      where
+        one_hold : (own : Ran J) → HasRan work own → All HoldsSome (held_by own)
+        one_hold (ran.Done claims found) has = All-cons HoldsSome claims [] (hold work found claims has.0) (All-nil HoldsSome)
+        one_hold (ran.Died group holder) has = All-nil HoldsSome
+        one_hold ran.NoMemory has = All-nil HoldsSome
+
+    pub few_hold : (place : ℕ) (works : List Work) (reports : List (Report J)) → HaveReported place works reports → length (held_in reports) ≤ length works
+    few_hold place [] [] h = omega arith
+    few_hold place [] (r ∷ reports) h = absurd h
+    few_hold place (work ∷ works) [] h = absurd h
+    few_hold place (work ∷ works) (r ∷ reports) h =
+        omega (arith, one_holds r.ran, length-append (held_by r.ran) (held_in reports), few_hold (suc place) works reports h.1)

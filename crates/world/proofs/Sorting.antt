@@ -1,0 +1,219 @@
+-- What the actions of a phase reported is sorted out, one report after another.
+use Rattle.std.proofs.Common.{◌≡◌, ◌↔◌, ◌⊎◌, inl, inr, false, ℕ, ◌+◌, ◌<◌, ◌≤◌, List, [], ◌∷◌, ◌++◌, length, Option, Some, None, refl, sym, ◌∙◌, ap, subst, arith, append-nil, append_assoc, IsSome}
+use Rattle.std.proofs.lemmas.List.{length-append}
+use Rattle.schema.specs.declared.scale.Scale.{Scale}
+use Rattle.requests.specs.declared.refusal.Refusal.{Refusal}
+use Rattle.requests.specs.declared.refusal.Refusal.TheVariants as refusal
+use Rattle.tickets.specs.Claims.{Claiming}
+use Rattle.phases.specs.Following.{HaveAllDone}
+use Rattle.phases.specs.declared.phase.Gathered.{Gathered}
+use Rattle.phases.specs.declared.phase.Gathered.TheVariants.{Next, Finish, RollBack}
+use Rattle.flow_graphs.specs.declared.graphs.Progress.{Progress}
+use Rattle.actions.specs.declared.work.Found.{Found}
+use Rattle.actions.specs.declared.acting.Ran.{Ran}
+use Rattle.actions.specs.declared.acting.Ran.TheVariants as ran
+use Rattle.actions.specs.Works.{HasDone}
+use Rattle.flow_graphs.specs.Progresses.{works_of}
+use Rattle.world.specs.declared.desk.Active.{Active}
+use Rattle.world.specs.declared.flight.Flow.{Flow}
+use Rattle.world.specs.declared.flight.Report.{Report}
+use Rattle.world.specs.declared.world.Parts.{Parts}
+use Rattle.world.specs.Following.{CarriesFirst, IfCarried, found_by, found_in, held_by, held_in, holding, refusal_of, refused, refused_by, releasing, with_active}
+use Rattle.world.specs.Events.{CanMeet, CanMeetFor, GathersInto, MeetsAs, MeetsUnless, goes_on}
+use Rattle.world.proofs.Reported.{one_holds, stays_refused}
+
+-- where nothing is told nothing is left
+pub none_left : {X : Type 0} (results : List X) (told : Option X) → told ≡ None → (IsSome told ↔ (0 < length results)) → results ≡ []
+none_left [] told none some = refl
+none_left {X} (x ∷ results) told none some = let there : IsSome {T = X} None = subst (λ (o : Option X). IsSome o) none (some.1 (omega arith)) in absurd (cc)
+
+module _ {J : Type 0} where
+  -- who isn't refused now wasn't before
+  was_none : (why : Option Refusal) (own : Ran J) → refused_by why own ≡ None → why ≡ None
+  was_none None own is = refl
+  was_none (Some why) own is = absurd (cc)
+
+  one_finds : (own : Ran J) → length (found_by own) ≤ 1
+  one_finds (ran.Done claims found) = omega arith
+  one_finds (ran.Died group holder) = omega arith
+  one_finds ran.NoMemory = omega arith
+
+  -- ---- one report more
+
+  module _ (r : Report J) (rest results : List (Report J)) (is : results ≡ r ∷ rest) where
+    pub held_more : (held new all : List (List Claiming)) → new ≡ held ++ held_by r.ran → held ++ held_in results ≡ all → new ++ held_in rest ≡ all
+    held_more held new all put before =
+        ap (λ hs. hs ++ held_in rest) put ∙ append_assoc held (held_by r.ran) (held_in rest) ∙ ap (λ rs. held ++ held_in rs) (sym is) ∙ before
+
+    pub room_more : (held new : List (List Claiming)) → new ≡ held ++ held_by r.ran → length held + length results ≤ 4 → length new + length rest ≤ 4
+    room_more held new put room =
+        omega (arith, room, ap (λ rs. length rs) is, ap (λ hs. length hs) put, length-append held (held_by r.ran), one_holds r.ran)
+
+    pub refusal_more : (why next last : Option Refusal) → next ≡ refused_by why r.ran → refusal_of why results ≡ last → refusal_of next rest ≡ last
+    refusal_more why next last told before = ap (λ o. refusal_of o rest) told ∙ ap (λ rs. refusal_of why rs) (sym is) ∙ before
+
+    pub found_more : (why next : Option Refusal) (found new all : List Found) → next ≡ refused_by why r.ran → (next ≡ None → new ≡ found ++ found_by r.ran)
+        → (why ≡ None → found ++ found_in results ≡ all) → next ≡ None → new ++ found_in rest ≡ all
+    found_more why next found new all told put before none =
+        ap (λ fs. fs ++ found_in rest) (put none) ∙ append_assoc found (found_by r.ran) (found_in rest) ∙ ap (λ rs. found ++ found_in rs) (sym is)
+        ∙ before (was_none why r.ran (sym told ∙ none))
+
+    pub found_room_more : (why next : Option Refusal) (found new : List Found) (capacity now : ℕ) → next ≡ refused_by why r.ran → (next ≡ None → new ≡ found ++ found_by r.ran)
+        → (next ≡ None → now ≡ capacity) → (why ≡ None → length found + length results ≤ capacity) → next ≡ None → length new + length rest ≤ now
+    found_room_more why next found new capacity now told put same room none =
+        omega (
+          arith,
+          room (was_none why r.ran (sym told ∙ none)),
+          ap (λ rs. length rs) is,
+          ap (λ fs. length fs) (put none),
+          length-append found (found_by r.ran),
+          one_finds r.ran,
+          same none,
+        )
+
+  -- ---- all reports
+
+  -- the first carried the transaction, which holds what all hold
+  pub carried_first : (r : Report J) (rest all : List (Report J)) (flow last : Flow J) (held : List (List Claiming)) → all ≡ r ∷ rest → r.flow ≡ Some flow
+      → held ≡ flow.transaction.held ++ held_by r.ran
+      → last ≡ record flow { transaction = record flow.transaction { held = last.transaction.held } } → last.transaction.held ++ held_in {J = J} [] ≡ held ++ held_in rest
+      → CarriesFirst all (λ f. last ≡ record f { transaction = holding f.transaction (held_in all) })
+  carried_first r rest all flow last held is carried first only end =
+      let is_held : last.transaction.held ≡ flow.transaction.held ++ held_in (r ∷ rest) =
+      sym (append-nil last.transaction.held) ∙ end ∙ ap (λ hs. hs ++ held_in rest) first ∙ append_assoc flow.transaction.held (held_by r.ran) (held_in rest) in
+      let whole : last ≡ record flow { transaction = holding flow.transaction (held_in (r ∷ rest)) } =
+      only ∙ ap (λ (hs : List (List Claiming)). record flow { transaction = record flow.transaction { held = hs } }) is_held in
+      subst (λ (rs : List (Report J)). CarriesFirst rs (λ f. last ≡ record f { transaction = holding f.transaction (held_in rs) })) (sym is)
+      (subst (λ (o : Option (Flow J)). IfCarried o (λ f. last ≡ record f { transaction = holding f.transaction (held_in (r ∷ rest)) })) (sym carried) whole)
+
+  -- the refusal is that of all
+  pub refusal_all : (r : Report J) (rest all results : List (Report J)) (why first last : Option Refusal) → all ≡ r ∷ rest → results ≡ [] → first ≡ refused_by why r.ran
+      → refusal_of last results ≡ refusal_of first rest → last ≡ refusal_of why all
+  refusal_all r rest all results why first last is empty told end =
+      ap (λ rs. refusal_of last rs) (sym empty) ∙ end ∙ ap (λ o. refusal_of o rest) told ∙ ap (λ rs. refusal_of why rs) (sym is)
+
+  not_refused : (why : Option Refusal) (reports : List (Report J)) → refusal_of why reports ≡ None → why ≡ None
+  not_refused None reports is = refl
+  not_refused (Some why) reports is = absurd (stays_refused why reports is)
+
+  -- and where there is none, what was found is what all found
+  pub found_all : (r : Report J) (rest all results : List (Report J)) (why first last : Option Refusal) (given put found : List Found) → all ≡ r ∷ rest → results ≡ []
+      → first ≡ refused_by why r.ran → refusal_of last results ≡ refusal_of first rest → (why ≡ None → given ≡ []) → (first ≡ None → put ≡ given ++ found_by r.ran)
+      → (last ≡ None → found ++ found_in results ≡ put ++ found_in rest) → last ≡ None → found ≡ found_in all
+  found_all r rest all results why first last given put found is empty told end start one more none =
+      let first_none : first ≡ None = not_refused first rest (sym end ∙ ap (λ rs. refusal_of last rs) empty ∙ none) in
+      let why_none : why ≡ None = was_none why r.ran (sym told ∙ first_none) in
+      sym (append-nil found) ∙ ap (λ rs. found ++ found_in rs) (sym empty) ∙ more none
+      ∙ ap (λ fs. fs ++ found_in rest) (one first_none ∙ ap (λ fs. fs ++ found_by r.ran) (start why_none)) ∙ ap (λ rs. found_in rs) (sym is)
+
+  -- ---- what follows
+
+  -- what is carried is there
+  carried_there : (reports : List (Report J)) (P Q : Flow J → Type 0) → ((f : Flow J) → P f → Q f) → CarriesFirst reports P → CarriesFirst reports Q
+  carried_there [] P Q gives h = absurd h
+  carried_there (r ∷ reports) P Q gives h = by r.flow h
+    where
+      by : (o : Option (Flow J)) → IfCarried o P → IfCarried o Q
+      by None h = absurd h
+      by (Some f) h = gives f h
+
+  -- and one thing is so of it as another is
+  carried_both : (reports : List (Report J)) (P Q : Flow J → Type 0) (G : Type 0) → ((f : Flow J) → P f → Q f → G) → CarriesFirst reports P → CarriesFirst reports Q → G
+  carried_both [] P Q G gives h k = absurd h
+  carried_both (r ∷ reports) P Q G gives h k = by r.flow h k
+    where
+      by : (o : Option (Flow J)) → IfCarried o P → IfCarried o Q → G
+      by None h k = absurd h
+      by (Some f) h k = gives f h k
+
+  -- the transaction once all is sorted out
+  abbrev pub IsSorted : List (Report J) → Flow J → Type 0
+  IsSorted reports last = CarriesFirst reports (λ f. last ≡ record f { transaction = holding f.transaction (held_in reports) })
+
+  few_held : (reports : List (Report J)) → length (held_in reports) ≤ length reports
+  few_held [] = omega arith
+  few_held (r ∷ reports) = omega (arith, one_holds r.ran, few_held reports, length-append (held_by r.ran) (held_in reports))
+
+  pub sorted_room : (reports : List (Report J)) (last : Flow J) → CanMeet reports → IsSorted reports last → length last.transaction.held ≤ 4
+  sorted_room reports last can sorted =
+      carried_both reports (CanMeetFor reports) (λ f. last ≡ record f { transaction = holding f.transaction (held_in reports) }) (length last.transaction.held ≤ 4)
+      (λ f meets is.
+      omega (arith, meets.room, ap (λ (x : Flow J). length x.transaction.held) is, length-append f.transaction.held (held_in reports), few_held reports)) can sorted
+
+  -- where it isn't refused, its actions have done their work
+  pub sorted_done : (reports : List (Report J)) (last : Flow J) (start : Option Refusal) (found : List Found) → CanMeet reports → IsSorted reports last → refusal_of start reports ≡ None → found ≡ found_in reports
+      → (scale : Scale) × (claims : List (List Claiming)) × HaveAllDone (HasDone scale) (works_of last.progress) found claims
+  sorted_done reports last start found can sorted none is_found =
+      let from_none : refusal_of None reports ≡ None = ap (λ o. refusal_of o reports) (sym (not_refused start reports none)) ∙ none in
+      carried_both reports (CanMeetFor reports) (λ f. last ≡ record f { transaction = holding f.transaction (held_in reports) })
+      ((scale : Scale) × (claims : List (List Claiming)) × HaveAllDone (HasDone scale) (works_of last.progress) found claims)
+      (λ f meets is.
+      let done = meets.done from_none in (
+        done.0,
+        held_in reports,
+        subst (λ fs. HaveAllDone (HasDone done.0) (works_of last.progress) fs (held_in reports)) (sym is_found)
+            (subst (λ (x : Flow J). HaveAllDone (HasDone done.0) (works_of x.progress) (found_in reports) (held_in reports)) (sym is) done.1),
+      )) can sorted
+
+  -- want of memory is answered only where no one died
+  memory_last : (reports : List (Report J))
+      → ((refusal_of None reports ≡ None) × (refusal_of (Some refusal.NoMemory) reports ≡ Some refusal.NoMemory)) ⊎ (refusal_of (Some refusal.NoMemory) reports ≡ refusal_of None reports)
+  memory_last [] = inl (refl, refl)
+  memory_last (r ∷ reports) = by r.ran (memory_last reports)
+    where
+      by : (own : Ran J)
+          → ((refusal_of None reports ≡ None) × (refusal_of (Some refusal.NoMemory) reports ≡ Some refusal.NoMemory)) ⊎ (refusal_of (Some refusal.NoMemory) reports ≡ refusal_of None reports)
+          → ((refusal_of (refused_by None own) reports ≡ None) × (refusal_of (refused_by (Some refusal.NoMemory) own) reports ≡ Some refusal.NoMemory))
+          ⊎ (refusal_of (refused_by (Some refusal.NoMemory) own) reports ≡ refusal_of (refused_by None own) reports)
+      by (ran.Done claims found) rest = rest
+      by (ran.Died group holder) rest = inr refl
+      by ran.NoMemory rest = inr refl
+
+  -- it is refused, where an action has died or found no memory, or there was none to gather what they found
+  pub meets_refused : (reports : List (Report J)) (last : Flow J) (start : Option Refusal) (why : Refusal) (old new : Parts J) → IsSorted reports last
+      → (start ≡ None) ⊎ (start ≡ Some refusal.NoMemory) → refusal_of start reports ≡ Some why → new ≡ releasing false (refused last.transaction why) old → MeetsAs reports old new
+  meets_refused reports last start why old new sorted begun told is =
+      carried_there reports (λ f. last ≡ record f { transaction = holding f.transaction (held_in reports) }) (λ f. MeetsUnless (refusal_of None reports) reports f old new)
+      (λ f same. by f (is ∙ ap (λ (x : Flow J). releasing false (refused x.transaction why) old) same) begun) sorted
+    where
+      refused_at : (f : Flow J) → new ≡ releasing false (refused (holding f.transaction (held_in reports)) why) old → refusal_of None reports ≡ Some why → MeetsUnless (refusal_of None reports) reports f old new
+      refused_at f so is_why = subst (λ o. MeetsUnless o reports f old new) (sym is_why) so
+
+      by_memory : (f : Flow J) → new ≡ releasing false (refused (holding f.transaction (held_in reports)) why) old → refusal_of (Some refusal.NoMemory) reports ≡ Some why
+          → ((refusal_of None reports ≡ None) × (refusal_of (Some refusal.NoMemory) reports ≡ Some refusal.NoMemory)) ⊎ (refusal_of (Some refusal.NoMemory) reports ≡ refusal_of None reports)
+          → MeetsUnless (refusal_of None reports) reports f old new
+      by_memory f so is_why (inl none) =
+          let memory = none.1 in
+          let same : why ≡ refusal.NoMemory = cc in
+          subst (λ o. MeetsUnless o reports f old new) (sym none.0) (inl (so ∙ ap (λ w. releasing false (refused (holding f.transaction (held_in reports)) w) old) same))
+      by_memory f so is_why (inr alike) = refused_at f so (sym alike ∙ is_why)
+
+      by : (f : Flow J) → new ≡ releasing false (refused (holding f.transaction (held_in reports)) why) old → (start ≡ None) ⊎ (start ≡ Some refusal.NoMemory) → MeetsUnless (refusal_of None reports) reports f old new
+      by f so (inl none) = refused_at f so (ap (λ o. refusal_of o reports) (sym none) ∙ told)
+      by f so (inr memory) = by_memory f so (ap (λ o. refusal_of o reports) (sym memory) ∙ told) (memory_last reports)
+
+  -- or what they found is gathered
+  pub meets_gathered : (reports : List (Report J)) (last : Flow J) (start : Option Refusal) (found : List Found) (old new : Parts J) → IsSorted reports last
+      → refusal_of start reports ≡ None → found ≡ found_in reports → GathersInto last.progress found last.transaction old new → MeetsAs reports old new
+  meets_gathered reports last start found old new sorted none is_found gathers =
+      let from_none : refusal_of None reports ≡ None = ap (λ o. refusal_of o reports) (sym (not_refused start reports none)) ∙ none in
+      carried_there reports (λ f. last ≡ record f { transaction = holding f.transaction (held_in reports) }) (λ f. MeetsUnless (refusal_of None reports) reports f old new)
+      (λ f same.
+      subst (λ o. MeetsUnless o reports f old new) (sym from_none)
+      (subst (λ (x : Flow J). GathersInto x.progress (found_in reports) x.transaction old new) same (subst (λ fs. GathersInto last.progress fs last.transaction old new) is_found gathers))) sorted
+
+  -- whichever transaction was active
+  unless_active : (why : Option Refusal) (reports : List (Report J)) (f : Flow J) (a : Option (Active J)) (old new : Parts J) → MeetsUnless why reports f (with_active a old) new → MeetsUnless why reports f old new
+  unless_active (Some why) reports f a old new h = h
+  unless_active None reports f a old new (inl h) = inl h
+  unless_active None reports f a old new (inr h) = inr (h.0, (h.1.0, h.1.1 ∙ goes_alike h.0))
+    where
+      goes_alike : (g : Gathered Progress) → goes_on (holding f.transaction (held_in reports)) g (with_active a old) ≡ goes_on (holding f.transaction (held_in reports)) g old
+      goes_alike (Next progress) = refl
+      goes_alike (Finish shown) = refl
+      goes_alike (RollBack fault) = refl
+
+  pub meets_active : (reports : List (Report J)) (a : Option (Active J)) (old new : Parts J) → MeetsAs reports (with_active a old) new → MeetsAs reports old new
+  meets_active reports a old new h =
+      carried_there reports (λ f. MeetsUnless (refusal_of None reports) reports f (with_active a old) new) (λ f. MeetsUnless (refusal_of None reports) reports f old new)
+      (λ f h. unless_active (refusal_of None reports) reports f a old new h) h

@@ -1,0 +1,31 @@
+use Rattle.std.proofs.Common.{◌≡◌, ◌⊎◌, inl, inr, false, length, None, Some, sym, ◌∙◌, ap, arith}
+use Rattle.requests.specs.declared.refusal.Refusal.TheVariants as refusal
+use Rattle.world.specs.Following.{releasing}
+use Rattle.world.proofs.Sorting.{meets_gathered, meets_refused, sorted_done, sorted_room}
+use Rattle.world.proofs.world.Parts.follow.Goals as goal
+use Rattle.world.proofs.world.Parts.follow.Goals.{in-Ok, in-Err}
+
+pub release-requires : goal.release-requires
+release-requires g c =
+    let few = sorted_room c.args.results c.sort_out-flow.result.0 c.requires.can c.sort_out-flow.ensures.flow in
+    record { room = omega (arith, c.requires.room, few, ap (λ r. length r.held) c.refused.ensures) }
+
+pub gather-requires-clause-held : goal.gather-requires-clause-held
+gather-requires-clause-held g c = sorted_room c.args.results c.sort_out-flow.result.0 c.requires.can c.sort_out-flow.ensures.flow
+
+pub gather-requires-clause-done : goal.gather-requires-clause-done
+gather-requires-clause-done g c =
+    sorted_done c.args.results c.sort_out-flow.result.0 c.match-with_capacity.found.1 c.sort_out-flow.result.1.items c.requires.can c.sort_out-flow.ensures.flow
+    (sym c.sort_out-flow.ensures.refusal ∙ c.in-None.is) (c.sort_out-flow.ensures.found c.in-None.is)
+
+pub returns-in-Some : goal.returns-in-Some
+returns-in-Some g c =
+    let start : (c.match-with_capacity.found.1 ≡ None) ⊎ (c.match-with_capacity.found.1 ≡ Some refusal.NoMemory) =
+    elim c.match-with_capacity.branch [ in-Ok w ↦ inl (ap (λ f. f.1) w.found-is) | in-Err w ↦ inr (ap (λ f. f.1) w.found-is) ] in
+    meets_refused c.args.results c.sort_out-flow.result.0 c.match-with_capacity.found.1 c.in-Some.why c.args.self.now c.release.new.self c.sort_out-flow.ensures.flow start
+    (sym c.sort_out-flow.ensures.refusal ∙ c.in-Some.is) (c.release.ensures ∙ ap (λ r. releasing false r c.args.self.now) c.refused.ensures)
+
+pub returns-in-None : goal.returns-in-None
+returns-in-None g c =
+    meets_gathered c.args.results c.sort_out-flow.result.0 c.match-with_capacity.found.1 c.sort_out-flow.result.1.items c.args.self.now c.gather.new.self c.sort_out-flow.ensures.flow
+    (sym c.sort_out-flow.ensures.refusal ∙ c.in-None.is) (c.sort_out-flow.ensures.found c.in-None.is) c.gather.ensures

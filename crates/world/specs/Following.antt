@@ -1,0 +1,157 @@
+-- What follows when a phase has met, and when a transaction is over.
+use Rattle.std.specs.Prelude.{ℕ, ◌+◌, Bool, true, false, zero, suc, List, [], ◌∷◌, ◌++◌, Option, Some, None, map, length}
+use Rattle.requests.specs.declared.group.Group.{Group}
+use Rattle.requests.specs.declared.reply.Reply.{Reply}
+use Rattle.requests.specs.declared.reply.Reply.TheVariants as reply
+use Rattle.requests.specs.declared.answer.Answer.{Answer}
+use Rattle.requests.specs.declared.answer.Answer.TheVariants.{Refused}
+use Rattle.requests.specs.declared.refusal.Refusal.{Refusal}
+use Rattle.requests.specs.declared.refusal.Refusal.TheVariants as refusal
+use Rattle.tickets.specs.Claims.{Claiming}
+use Rattle.commit_log.specs.declared.entry.Entry.{Entry}
+use Rattle.commit_log.specs.Passing.{Passing}
+use Rattle.actions.specs.declared.work.Work.{Work}
+use Rattle.actions.specs.declared.work.Found.{Found}
+use Rattle.actions.specs.declared.acting.Ran.{Ran}
+use Rattle.actions.specs.declared.acting.Ran.TheVariants.{Done, Died, NoMemory}
+use Rattle.world.specs.declared.desk.Active.{Active}
+use Rattle.world.specs.declared.desk.Active.TheVariants.{Acting, Committing, Ending}
+use Rattle.world.specs.declared.flight.Transaction.{Transaction}
+use Rattle.world.specs.declared.flight.Flow.{Flow}
+use Rattle.world.specs.declared.flight.Message.TheVariants.{Act, Settle, Undo}
+use Rattle.world.specs.declared.flight.Report.{Report}
+use Rattle.world.specs.declared.flight.CommitItem.{CommitItem}
+use Rattle.world.specs.declared.flight.Item.{Item}
+use Rattle.world.specs.declared.flight.Item.TheVariants as item
+use Rattle.world.specs.declared.sending.Release.{Release}
+use Rattle.world.specs.declared.world.Parts.{Parts}
+
+-- its claims are settled, unless it was rolled back
+abbrev pub is_settled : Reply → Bool
+is_settled (reply.RolledBack fault) = false
+is_settled _ = true
+
+-- the first who died comes before want of memory
+abbrev pub earlier_death : Refusal → Group → ℕ → Refusal
+earlier_death (refusal.Died first older) group holder = refusal.Died first older
+earlier_death _ group holder = refusal.Died group holder
+
+module _ {J : Type 0} where
+  -- ---- the actions of a phase
+
+  -- the actions from this place on; the first of them carries this
+  abbrev pub acts_from : ℕ → ℕ → Option (Flow J) → List Work → List (Item J)
+  acts_from place age carried [] = []
+  acts_from place age carried (work ∷ works) =
+      item.Push (Act (record { place = place; age = age; work = work; flow = carried })) ∷ acts_from (place + 1) age None works
+
+  -- all actions of a phase: the first carries the transaction
+  abbrev pub acts_of : Flow J → List Work → List (Item J)
+  acts_of flow works = acts_from 0 flow.transaction.age (Some flow) works
+
+  -- ---- what they report
+
+  -- the claims of an action that has done its work
+  abbrev pub held_by : Ran J → List (List Claiming)
+  held_by (Done claims found) = claims ∷ []
+  held_by (Died group holder) = []
+  held_by NoMemory = []
+
+  -- what it found
+  abbrev pub found_by : Ran J → List Found
+  found_by (Done claims found) = found ∷ []
+  found_by (Died group holder) = []
+  found_by NoMemory = []
+
+  abbrev pub held_in : List (Report J) → List (List Claiming)
+  held_in [] = []
+  held_in (r ∷ reports) = held_by r.ran ++ held_in reports
+
+  abbrev pub found_in : List (Report J) → List Found
+  found_in [] = []
+  found_in (r ∷ reports) = found_by r.ran ++ found_in reports
+
+  abbrev pub refused_still : Refusal → Ran J → Refusal
+  refused_still why (Done claims found) = why
+  refused_still why (Died group holder) = earlier_death why group holder
+  refused_still why NoMemory = why
+
+  -- why the transaction is refused, if it is, after one more has reported
+  abbrev pub refused_by : Option Refusal → Ran J → Option Refusal
+  refused_by (Some why) ran = Some (refused_still why ran)
+  refused_by None (Done claims found) = None
+  refused_by None (Died group holder) = Some (refusal.Died group holder)
+  refused_by None NoMemory = Some refusal.NoMemory
+
+  -- and after all of these have, by place
+  abbrev pub refusal_of : Option Refusal → List (Report J) → Option Refusal
+  refusal_of why [] = why
+  refusal_of why (r ∷ reports) = refusal_of (refused_by why r.ran) reports
+
+  -- what is carried is there, and this is so of it
+  abbrev pub IfCarried : Option (Flow J) → (Flow J → Type 0) → Type 0
+  IfCarried None P = ⊥
+  IfCarried (Some flow) P = P flow
+
+  -- the first of them carries a transaction, of which this is so
+  abbrev pub CarriesFirst : List (Report J) → (Flow J → Type 0) → Type 0
+  CarriesFirst [] P = ⊥
+  CarriesFirst (r ∷ reports) P = IfCarried r.flow P
+
+  -- the transaction with these claims more
+  abbrev pub holding : Transaction J → List (List Claiming) → Transaction J
+  holding t more = record t { held = t.held ++ more }
+
+  -- ---- the active transaction
+
+  abbrev pub with_active : Option (Active J) → Parts J → Parts J
+  with_active active w = record w { desk = record w.desk { active = active } }
+
+  -- these items stand at the end of the outbox, and this is the active transaction
+  abbrev pub putting : List (Item J) → Option (Active J) → Parts J → Parts J
+  putting items active w = record w { outbox = w.outbox ++ items; desk = record w.desk { active = active } }
+
+  abbrev pub IsActing : Active J → Type 0
+  IsActing (Acting meeting) = Unit {0}
+  IsActing Committing = ⊥
+  IsActing (Ending left) = ⊥
+
+  -- While so many actions have yet to give their claims back. With none, the transaction isn't active any more.
+  abbrev pub ending : ℕ → Option (Active J)
+  ending zero = None
+  ending (suc n) = Some (Ending (suc n))
+
+  -- it was carried out with this reply, and is to be logged
+  abbrev pub committing : Transaction J → Reply → Parts J → Parts J
+  committing t shown w = putting (item.Commit (record { transaction = t; reply = shown }) ∷ []) (Some Committing) w
+
+  -- ---- a transaction that is over
+
+  abbrev pub release : Transaction J → Passing → Answer → List (List Claiming) → Release J
+  release t pass answer held = record { age = t.age; number = t.number; pass = pass; answer = answer; held = held }
+
+  abbrev pub refused : Transaction J → Refusal → Release J
+  refused t why = release t t.pass (Refused why) t.held
+
+  -- its claims are settled, or what was done under them is taken back
+  abbrev pub push_of : Bool → List Claiming → Item J
+  push_of true claims = item.Push (Settle claims)
+  push_of false claims = item.Push (Undo claims)
+
+  abbrev pub reply_of : Release J → Item J
+  reply_of r = item.Reply (record { age = r.age; number = r.number; pass = r.pass; answer = r.answer })
+
+  -- the answer, and then a push for each action that holds claims, by place
+  abbrev pub items_released : Bool → Release J → List (Item J)
+  items_released settle r = reply_of r ∷ map (push_of settle) r.held
+
+  abbrev pub releasing : Bool → Release J → Parts J → Parts J
+  releasing settle r w = putting (items_released settle r) (ending (length r.held)) w
+
+  abbrev pub entry_of : CommitItem J → Entry
+  entry_of commit = record {
+    session = commit.transaction.pass.session;
+    number = commit.transaction.number;
+    request = commit.transaction.request;
+    reply = commit.reply;
+  }

@@ -1,0 +1,54 @@
+//! A phase begins.
+ghost use Rattle.std.specs.Prelude.{◌≡◌, ◌≤◌, ◌+◌, ◌++◌, length, replicate, IfOk, None, Some};
+ghost use Rattle.flow_graphs.specs.Progresses.{works_of};
+ghost use Rattle.world.specs.Following.{acts_of};
+
+use crate::flight::{Act, Flow, Item, Message, Report};
+use crate::world::Parts;
+use actions::Work;
+use flow_graphs::{Graphs, Progress, phases_have_actions};
+use phases::Graph;
+use rendezvous::Meeting;
+use schema::NoMemory;
+use std::alloc::Global;
+
+/// The actions of a phase that begins: what they do, by place, and where they meet.
+#[derive(Drop)]
+pub(crate) struct Phase<J: commit_log::Naming + tickets::Naming> {
+    pub(crate) works: Vec<Work>,
+    pub(crate) meeting: Meeting<Report<J>>,
+}
+
+impl<J: commit_log::Naming + tickets::Naming> Phase<J> {
+    /// The phase of a transaction that has come so far. Want of memory leaves nothing behind.
+    pub(crate) fn begin(alloc: Global, progress: &Progress) -> Result<Phase<J>, NoMemory>
+        ensures works { IfOk result (λ phase. phase.works.items ≡ works_of progress.now) }
+        ensures meeting { IfOk result (λ phase. phase.meeting ≡ replicate (length phase.works.items) None) }
+    {
+        phases_have_actions();
+        let works = Graphs.works(alloc, progress)?;
+        let meeting = Meeting::open(alloc, works.len())?;
+        Ok(Phase { works, meeting })
+    }
+}
+
+impl<J: commit_log::Naming + tickets::Naming> Parts<J> {
+    // Puts the actions of a phase at the end of the outbox, by place. The first carries the transaction.
+    pub(crate) fn put_acts(&mut self, flow: Flow<J>, works: Vec<Work>)
+        requires room { length self.old.outbox + length works.items ≤ 4096 }
+        ensures { self.new ≡ record self.old { outbox = self.old.outbox ++ acts_of flow works.items } }
+    {
+        let age = flow.transaction.age;
+        let mut carried = Some(flow);
+        let mut place = 0;
+        for work in works {
+            self.outbox.put(Item::Push(Message::Act(Act {
+                place,
+                age,
+                work,
+                flow: carried.take(),
+            })));
+            place += 1;
+        }
+    }
+}

@@ -1,0 +1,150 @@
+//! All actions of a phase have reported: what they found is gathered, and what follows is done.
+ghost use Rattle.std.specs.Prelude.{◌≡◌, ◌≤◌, ◌+◌, ◌++◌, [], List, length, vec_capacity, None, Some};
+ghost use Rattle.schema.specs.declared.scale.Scale.{Scale};
+ghost use Rattle.requests.specs.declared.refusal.Refusal.{Refusal as AnyRefusal};
+ghost use Rattle.tickets.specs.Claims.{Claiming};
+ghost use Rattle.phases.specs.Following.{HaveAllDone};
+ghost use Rattle.actions.specs.Works.{HasDone};
+ghost use Rattle.flow_graphs.specs.Progresses.{works_of};
+ghost use Rattle.world.specs.Following as spec;
+ghost use Rattle.world.specs.Following.{CarriesFirst, found_in, held_in, holding, refusal_of};
+ghost use Rattle.world.specs.Events.{CanMeet, GathersInto, MeetsAs};
+
+use crate::beginning::Phase;
+use crate::desk::Active;
+use crate::flight::{CommitItem, Flow, Item, Report, Transaction};
+use crate::held::Held;
+use crate::sending::Release;
+use crate::world::Parts;
+use actions::{Found, Ran};
+use flow_graphs::{Graphs, Progress};
+use phases::{Gathered, Graph};
+use rendezvous::Results;
+use requests::{Answer, Refusal, Reply};
+use std::alloc::Global;
+
+impl<J: commit_log::Naming + tickets::Naming> Parts<J> {
+    // All actions of a phase have reported. The first death by place is answered, and else want of memory;
+    // where there is none, what they found is gathered.
+    pub(crate) fn follow(&mut self, alloc: Global, results: Results<Report<J>>)
+        requires room { length self.old.outbox + 8 ≤ 4096 }
+        requires can { CanMeet results }
+        ensures { MeetsAs results self.old self.new }
+    {
+        let (found, refusal) = match Vec::with_capacity(alloc, results.len()) {
+            Ok(found) => (found, None),
+            Err(_) => (Vec::new(alloc), Some(Refusal::NoMemory)),
+        };
+        let (flow, found, refusal) = sort_out(results, found, refusal);
+        let Flow {
+            transaction,
+            progress,
+        } = flow;
+        match refusal {
+            Some(why) => self.release(Release::refused(transaction, why), false),
+            None => self.gather(alloc, transaction, progress, found),
+        }
+    }
+
+    // Gathers what the actions of a phase found.
+    fn gather(
+        &mut self,
+        alloc: Global,
+        transaction: Transaction<J>,
+        progress: Progress,
+        found: Vec<Found>,
+    )
+        requires room { length self.old.outbox + 8 ≤ 4096 }
+        requires held { length transaction.held ≤ 4 }
+        requires done { (scale : Scale) × (claims : List (List Claiming)) × HaveAllDone (HasDone scale) (works_of progress) found.items claims }
+        ensures { GathersInto progress found.items transaction self.old self.new }
+    {
+        match Graphs.gather(progress, found) {
+            Gathered::Next(progress) => match Phase::begin(alloc, &progress) {
+                Ok(Phase { works, meeting }) => {
+                    self.desk.active = Some(Active::Acting(meeting));
+                    let flow = Flow {
+                        transaction,
+                        progress,
+                    };
+                    self.put_acts(flow, works);
+                }
+                Err(_) => self.release(Release::refused(transaction, Refusal::NoMemory), false),
+            },
+            Gathered::Finish(reply) => self.put_commit(transaction, reply),
+            Gathered::RollBack(fault) => self.put_commit(transaction, Reply::RolledBack(fault)),
+        }
+    }
+
+    // The transaction was carried out, and is to be logged.
+    fn put_commit(&mut self, transaction: Transaction<J>, reply: Reply)
+        requires room { length self.old.outbox + 1 ≤ 4096 }
+        ensures { self.new ≡ spec.committing transaction reply self.old }
+    {
+        self.desk.active = Some(Active::Committing);
+        self.outbox
+            .put(Item::Commit(CommitItem { transaction, reply }));
+    }
+}
+
+// The transaction holds what its actions hold, and what they found stands in order, unless one has died or
+// found no memory.
+fn sort_out<J: commit_log::Naming + tickets::Naming>(
+    mut results: Results<Report<J>>,
+    mut found: Vec<Found>,
+    refusal: Option<Refusal>,
+) -> (Flow<J>, Vec<Found>, Option<Refusal>)
+    requires can { CanMeet results }
+    requires found { refusal ≡ None → (found.items ≡ []) × (length results ≤ vec_capacity found) }
+    ensures flow { CarriesFirst results (λ flow. result.0 ≡ record flow { transaction = holding flow.transaction (held_in results) }) }
+    ensures refusal { result.2 ≡ refusal_of refusal results }
+    ensures found { result.2 ≡ None → result.1.items ≡ found_in results }
+{
+    let Some(first) = results.next() else {
+        unreachable!()
+    };
+    let Report {
+        place: _,
+        flow,
+        ran,
+    } = first;
+    let Some(mut flow) = flow else { unreachable!() };
+    let mut refusal = sort_one(ran, &mut flow.transaction.held, &mut found, refusal);
+    while let Some(report) = results.next() {
+        refusal = sort_one(report.ran, &mut flow.transaction.held, &mut found, refusal);
+    }
+    (flow, found, refusal)
+}
+
+// What came of one action: its claims are held, and what it found stands behind what others found.
+fn sort_one<J: commit_log::Naming + tickets::Naming>(
+    ran: Ran<J>,
+    held: &mut Held<J>,
+    found: &mut Vec<Found>,
+    refusal: Option<Refusal>,
+) -> Option<Refusal>
+    requires held { length held.old + 1 ≤ 4 }
+    requires found { refusal ≡ None → length found.old.items + 1 ≤ vec_capacity found.old }
+    ensures refusal { result ≡ spec.refused_by refusal ran }
+    ensures held { held.new ≡ held.old ++ spec.held_by ran }
+    ensures found { result ≡ None → found.new.items ≡ found.old.items ++ spec.found_by ran }
+    ensures room { result ≡ None → vec_capacity found.new ≡ vec_capacity found.old }
+{
+    match ran {
+        Ran::Done(claims, one) => {
+            held.put(claims);
+            if refusal.is_none() {
+                found.push_reserved(one);
+            }
+            refusal
+        }
+        Ran::Died { group, holder } => match refusal {
+            Some(Refusal::Died { .. }) => refusal,
+            _ => Some(Refusal::Died { group, holder }),
+        },
+        Ran::NoMemory => match refusal {
+            Some(_) => refusal,
+            None => Some(Refusal::NoMemory),
+        },
+    }
+}

@@ -1,0 +1,62 @@
+//! What the actions of a transaction hold.
+ghost use Rattle.std.specs.Prelude.{◌≡◌, ◌<◌, [], ◌∷◌, ◌++◌, length, IfOk};
+
+use flow_graphs::MOST_ACTIONS;
+use schema::NoMemory;
+use std::alloc::Global;
+use std::marker::Model;
+use tickets::{Claims, Naming};
+
+/// The claims of actions that have done their work, by place, with room for those of all that a transaction
+/// has. Only its opening takes memory.
+#[derive(Drop)]
+pub struct Held<J: Naming> {
+    pub(crate) places: Vec<Claims<J>>,
+}
+
+impl<J: Naming> Model for Held<J> {
+    ghost use Rattle.std.specs.Coded.{codes};
+    ghost use Rattle.std.specs.Prelude.{List, ◌≤◌, vec_capacity};
+    ghost use Rattle.groups.specs.contracts.content.Content as content;
+    ghost use Rattle.tickets.specs.Claims.{Claiming};
+
+    ghost Value = { List (List Claiming) };
+
+    ghost coded = { Prim.hlevel (codes, content.the_row.coded) };
+
+    ghost view = { λ h. h.places.items };
+
+    ghost invariant = { λ h. 4 ≤ vec_capacity h.places };
+}
+
+impl<J: Naming> Held<J> {
+    /// Nothing is held yet.
+    pub fn open(alloc: Global) -> Result<Held<J>, NoMemory>
+        ensures { IfOk result (λ held. held ≡ []) }
+    {
+        let places = Vec::with_capacity(alloc, MOST_ACTIONS)?;
+        Ok(Held { places })
+    }
+
+    /// How many actions hold claims.
+    pub fn len(&self) -> usize
+        ensures { result ≡ length self.now }
+    {
+        self.places.len()
+    }
+
+    /// The action of the next place holds these.
+    pub fn put(&mut self, claims: Claims<J>)
+        requires { length self.old < 4 }
+        ensures { self.new ≡ self.old ++ claims ∷ [] }
+    {
+        self.places.push_reserved(claims);
+    }
+
+    /// The claims of each action, by place.
+    pub fn into_vec(self) -> Vec<Claims<J>>
+        ensures { result.items ≡ self }
+    {
+        self.places
+    }
+}
