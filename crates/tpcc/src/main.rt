@@ -4,6 +4,7 @@
 mod check;
 mod command_fault;
 mod commands;
+mod help;
 mod populate;
 mod progress;
 mod replay;

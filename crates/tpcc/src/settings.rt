@@ -1,6 +1,7 @@
 ghost use Rattle.std.specs.Prelude.{◌≡◌, ◌≤◌, IfOk, None, Ok};
 ghost use Rattle.tpcc.specs.Settings.{IsWithinLimits, HasOneExecutor, HasSessions};
 
+use crate::help;
 use crate::usage::UsageFault;
 use clap::{Arg, ArgAction, ArgMatches, Command};
 use engine::MOST_SESSIONS;
@@ -187,6 +188,7 @@ fn program<'a>(alloc: Global) -> Result<Command<'a>, AllocError> {
         .subcommand_required(true)
         .arg_required_else_help(true)
         .disable_help_subcommand(true)
+        .after_help(help::PROGRAM)
         .subcommand(populate_command(alloc)?)?
         .subcommand(check_command(alloc)?)?
         .subcommand(run_command(alloc)?)?
@@ -200,6 +202,7 @@ fn populate_command<'a>(alloc: Global) -> Result<Command<'a>, AllocError> {
         .required(true);
     Command::new(alloc, "populate")
         .about("Makes a dataset as the benchmark begins with, after clause 4.3")
+        .after_help(help::POPULATE)
         .arg(file)?
         .arg(counted(
             alloc,
@@ -239,6 +242,7 @@ fn check_command<'a>(alloc: Global) -> Result<Command<'a>, AllocError> {
         .action(ArgAction::SetTrue);
     Command::new(alloc, "check")
         .about("Tells of each of the twelve conditions of consistency whether the dataset meets it")
+        .after_help(help::CHECK)
         .arg(data(alloc))?
         .arg(fresh)
 }
@@ -253,6 +257,7 @@ fn replay_command<'a>(alloc: Global) -> Result<Command<'a>, AllocError> {
         .help("Where the tables at the end are written, as a dataset, if the log is equal");
     Command::new(alloc, "replay")
         .about("Carries out a log's requests one at a time, and compares the replies")
+        .after_help(help::REPLAY)
         .arg(data(alloc))?
         .arg(entries)?
         .arg(tables)
@@ -266,6 +271,7 @@ fn run_command<'a>(alloc: Global) -> Result<Command<'a>, AllocError> {
         .action(ArgAction::Append);
     Command::new(alloc, "run")
         .about("Serves scripts of requests and prints their answers, by session and number")
+        .after_help(help::RUN)
         .arg(data(alloc))?
         .arg(scripts)?
         .arg(log(alloc))
@@ -285,6 +291,7 @@ fn sim_command<'a>(alloc: Global) -> Result<Command<'a>, AllocError> {
         .help("Where the tables are written, as a dataset, if no transaction is active at the end");
     Command::new(alloc, "sim")
         .about("Plays a schedule, event by event, and prints what comes of each event")
+        .after_help(help::SIM)
         .arg(data(alloc))?
         .arg(schedule)?
         .arg(executors)?

@@ -226,3 +226,22 @@ fn mistakes_in_the_words_are_usage(rt: HostRuntime) -> Result<(), Fail> {
     assert_eq!(rt; fault_status(alloc, &["run", "data"])?, Some(Status::Usage));
     Ok(())
 }
+
+#[test]
+fn every_help_tells_the_exit_statuses(rt: HostRuntime) -> Result<(), Fail> {
+    let alloc = rt.alloc();
+    for words in [
+        ["--help"].as_slice(),
+        ["populate", "--help"].as_slice(),
+        ["check", "--help"].as_slice(),
+        ["run", "--help"].as_slice(),
+        ["replay", "--help"].as_slice(),
+        ["sim", "--help"].as_slice(),
+    ] {
+        let text = fault_text(alloc, words)?.ok_or("a fault")?;
+        assert!(rt; text.as_str().contains("Exit statuses"), "{text}");
+        assert!(rt; text.as_str().contains("no memory"), "{text}");
+        assert_eq!(rt; fault_status(alloc, words)?, Some(Status::Usage));
+    }
+    Ok(())
+}
