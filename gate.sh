@@ -1,8 +1,11 @@
 #!/usr/bin/env bash
-# Passes the tests: makes chosen allocations of the worked examples fail, then proves every crate from nothing,
-# tries the must-fail edits and runs the tests. It stops at the first failure; docs/COSTS.md tells how long it takes.
+# Passes the tests: runs the examples and compares what comes of them, makes chosen allocations of the worked examples
+# fail, then proves every crate from nothing, tries the must-fail edits and runs the tests. It stops at the first
+# failure; docs/COSTS.md tells how long it takes.
 set -euo pipefail
 cd "$(dirname "${BASH_SOURCE[0]}")"
+
+examples/check.sh
 
 # with_refused TEST NUMBER: the test passes though the allocation of that number is refused.
 with_refused() {
@@ -29,4 +32,5 @@ for number in 2223 2226 2229 2230; do
     with_refused worlds::want_of_memory_is_taken_back "$number"
 done
 
+echo "proving every crate from nothing, trying the must-fail edits and running the tests:"
 exec rt ci
