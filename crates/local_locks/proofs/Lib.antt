@@ -8,9 +8,11 @@ pub mod Covering
 pub mod Views
 pub mod Apartness
 pub mod Rising
+pub mod Wished
 pub mod Asks
 pub mod Taken
 pub mod Returns
 pub mod Opened
+pub mod Stands
 pub mod Left
 pub mod Named

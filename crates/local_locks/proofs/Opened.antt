@@ -3,21 +3,21 @@ use Rattle.std.proofs.Common.{◌≡◌, ◌≢◌, ◌⊎◌, ℕ, suc, ◌+◌
 use Rattle.std.specs.Prelude.{All, AllPairs, Contains, ◌&&◌}
 use Rattle.std.specs.List.{flat_map}
 use Rattle.std.proofs.lemmas.List.{append-nil, get_or-map, length-map}
-use Rattle.std.proofs.lemmas.List.Elements.{All-map}
+use Rattle.std.proofs.lemmas.List.Elements.{All-contains, All-contains_itself, All-map, All-weaker}
 use Rattle.requests.specs.declared.group.Group.{Group}
-use Rattle.groups.specs.Groups.{is_same}
+use Rattle.groups.specs.Groups.{is_same, warehouse_of}
 use Rattle.groups.specs.declared.wishes.Mode.{Mode}
 use Rattle.groups.specs.declared.wishes.Mode.TheVariants.{Shared, Exclusive}
 use Rattle.tickets.specs.Boxes.{Boxed, sharing}
-use Rattle.tickets.specs.Places.{place_in_warehouse}
+use Rattle.tickets.specs.Places.{IsGroupOf, place_in_warehouse}
 use Rattle.tickets.proofs.Apart.{apart, by_mode}
 use Rattle.wait_die.specs.declared.deciding.Holder.{Holder}
 use Rattle.local_locks.specs.Locking.{Holding, AreBoxesOf, stand_of, opened}
 use Rattle.local_locks.specs.Conflicts.{shared_on, is_shared}
-use Rattle.local_locks.specs.Laws.{DoNotConflict, NoneConflict, IsUntouched, AreUntouched}
-use Rattle.local_locks.specs.Locks.{Locked, locked, Agree, IsLocked, holding, holdings_of, stand_in, locking, IsLockAt, AreLocksOf}
+use Rattle.local_locks.specs.Laws.{AreCompatible, NoneConflict, IsNotAlone, IsUntouched, AreUntouched, IsClaimOf, CouldAsk}
+use Rattle.local_locks.specs.Locks.{Locked, locked, Agree, IsLocked, holding, holdings_of, stand_in, locking, Parked, waiting_of, IsLockAt, AreLocksOf, IsParked}
 use Rattle.local_locks.proofs.Apartness.{pairs_append, pairs_none}
-use Rattle.local_locks.proofs.Members.{contains_none, contains_here}
+use Rattle.local_locks.proofs.Members.{contains_here}
 use Rattle.local_locks.proofs.Views.{AreFrom, are_from, few_holders, held_here, held_somewhere, none_there, all_there, shared_elsewhere, shared_count, count_append, unmapped, lock_place}
 
 -- ---- opened
@@ -70,11 +70,11 @@ all_opened boxes rest locks so_far none = sym (append-nil locks) ∙ sym (ap (λ
 abbrev IsShared : Holding → Type 0
 IsShared h = h.mode ≡ Shared
 
-pairs_of : (hs : List Holding) → All IsShared hs → AllPairs DoNotConflict hs
+pairs_of : (hs : List Holding) → All IsShared hs → AllPairs AreCompatible hs
 pairs_of hs all = λ i j d before small same. (all i d (omega (arith, before, small)), all j d small)
 
 -- of one lock
-lock_pairs : (lock : Locked) → IsLocked lock → AllPairs DoNotConflict (holdings_of lock)
+lock_pairs : (lock : Locked) → IsLocked lock → AllPairs AreCompatible (holdings_of lock)
 lock_pairs lock agree =
     let hold = holding lock.ticket_box.group lock.ticket_box.mode in
     by_mode lock.ticket_box.mode refl
@@ -83,10 +83,10 @@ lock_pairs lock agree =
     λ i j d before small. absurd (omega (arith, before, small, one.1, length-map lock.holders hold)))
     (λ shared. pairs_of (holdings_of lock) (All-map IsShared hold lock.holders (λ k d small. shared)))
 
-all_pairs : (warehouses w_id first : ℕ) (locks : List Locked) → AreFrom warehouses w_id first locks → AllPairs DoNotConflict (flat_map holdings_of locks)
-all_pairs warehouses w_id first [] are = pairs_none DoNotConflict
+all_pairs : (warehouses w_id first : ℕ) (locks : List Locked) → AreFrom warehouses w_id first locks → AllPairs AreCompatible (flat_map holdings_of locks)
+all_pairs warehouses w_id first [] are = pairs_none AreCompatible
 all_pairs warehouses w_id first (lock ∷ locks) are =
-    pairs_append DoNotConflict (holdings_of lock) (flat_map holdings_of locks) (lock_pairs lock are.0.agree) (all_pairs warehouses w_id (suc first) locks are.1)
+    pairs_append AreCompatible (holdings_of lock) (flat_map holdings_of locks) (lock_pairs lock are.0.agree) (all_pairs warehouses w_id (suc first) locks are.1)
     (λ a b c e same.
     let own = unmapped (holding lock.ticket_box.group lock.ticket_box.mode) lock.holders a c in
     let found = held_somewhere locks b e in
@@ -135,17 +135,38 @@ first_of_one : (hs : List Holder) → length hs ≡ 1 → (h : Holder) × Contai
 first_of_one [] long = absurd (omega (arith, long))
 first_of_one (h ∷ hs) long = (h, contains_here h hs)
 
-pub untouched : (warehouses w_id : ℕ) (locks : List Locked) → AreLocksOf warehouses w_id locks → flat_map holdings_of locks ≡ [] → AreUntouched (map stand_in locks)
-untouched warehouses w_id locks are none =
-    All-map IsUntouched stand_in locks (λ k d small.
+pub untouched : (warehouses w_id : ℕ) (locks : List Locked) → AreLocksOf warehouses w_id locks → AreUntouched (flat_map holdings_of locks) (map stand_in locks)
+untouched warehouses w_id locks are =
+    All-map (IsUntouched (flat_map holdings_of locks)) stand_in locks (λ k d small not_alone.
     let lock = get_or locks k d in
+    let group = lock.ticket_box.group in
     let agree = (are.each k d small).agree in
     by_mode lock.ticket_box.mode refl
     (λ exclusive.
     let one : Agree Exclusive lock.ticket_box lock.holders = subst (λ m. Agree m lock.ticket_box lock.holders) exclusive agree in
     let held = first_of_one lock.holders one.1 in
-    contains_none (holding lock.ticket_box.group lock.ticket_box.mode held.0)
-    (subst (λ hs. Contains hs (holding lock.ticket_box.group lock.ticket_box.mode held.0)) none (held_here locks k d held.0 small held.1)))
+    let there = held_here locks k d held.0 small held.1 in
+    let shared : lock.ticket_box.mode ≡ Shared = All-contains (IsNotAlone group) (flat_map holdings_of locks) (holding group lock.ticket_box.mode held.0) not_alone there refl in
+    absurd (unlike (sym shared ∙ exclusive)))
     (λ shared.
     let some : Agree Shared lock.ticket_box lock.holders = subst (λ m. Agree m lock.ticket_box lock.holders) shared agree in
     ap (λ (b : Boxed). b.back) some.0))
+  where
+    unlike : Shared ≡ Exclusive → ⊥
+    unlike e = cc
+
+-- ---- on which groups
+
+pub claims_at_home : (warehouses w_id : ℕ) (locks : List Locked) → AreLocksOf warehouses w_id locks → All (IsClaimOf warehouses w_id) (flat_map holdings_of locks)
+claims_at_home warehouses w_id locks are =
+    All-weaker (Contains (flat_map holdings_of locks)) (IsClaimOf warehouses w_id)
+    (λ h c.
+    let found = held_somewhere locks h c in
+    let held = found.2 in
+    let at : IsLockAt warehouses w_id found.0 found.1 = subst (IsLockAt warehouses w_id found.0) held.is (are.each found.0 found.1 held.small) in
+    (subst (IsGroupOf warehouses) held.group at.known, ap warehouse_of (sym held.group) ∙ at.here))
+    (flat_map holdings_of locks) (All-contains_itself (flat_map holdings_of locks))
+
+pub waiters_could_ask : (warehouses w_id : ℕ) (waiters : List Parked) → All (IsParked warehouses w_id) waiters → All (CouldAsk warehouses w_id) (map waiting_of waiters)
+waiters_could_ask warehouses w_id waiters are =
+    All-map (CouldAsk warehouses w_id) waiting_of waiters (λ k d small. (are k d small).can)

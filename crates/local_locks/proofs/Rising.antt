@@ -4,16 +4,19 @@ use Rattle.std.specs.Prelude.{All}
 use Rattle.std.proofs.lemmas.List.Elements.{All-contains}
 use Rattle.local_locks.specs.Locking.{Locking}
 use Rattle.local_locks.specs.Asking.{StillWaits}
-use Rattle.local_locks.specs.Laws.{WaitsFor, Path, NobodyWaitsForItself}
+use Rattle.local_locks.specs.Laws.{AllHaveToWait, WaitsFor, WaitsSomewhere, Path, NobodyWaitsForItself}
 
-waits_rises : (table : Locking) → All (StillWaits table.holdings) table.waiters → (t u : ℕ) → WaitsFor table t u → t < u
+waits_rises : (table : Locking) → AllHaveToWait table → (t u : ℕ) → WaitsFor table t u → t < u
 waits_rises table all t u w =
     let waits = All-contains (StillWaits table.holdings) table.waiters w.waiting all w.waits in
     omega (arith, waits.younger w.holding w.blocks, w.age, w.holder)
 
-path_rises : (table : Locking) → All (StillWaits table.holdings) table.waiters → (t : ℕ) (ages : List ℕ) (u : ℕ) → Path (WaitsFor table) t ages u → t < u
-path_rises table all t [] u path = waits_rises table all t u path
-path_rises table all t (next ∷ ages) u path = omega (arith, waits_rises table all t next path.0, path_rises table all next ages u path.1)
+somewhere_rises : (tables : List Locking) → All AllHaveToWait tables → (t u : ℕ) → WaitsSomewhere tables t u → t < u
+somewhere_rises tables all t u any = waits_rises any.1 (All-contains AllHaveToWait tables any.1 all (any.0, any.2, any.3)) t u any.4
+
+path_rises : (tables : List Locking) → All AllHaveToWait tables → (t : ℕ) (ages : List ℕ) (u : ℕ) → Path (WaitsSomewhere tables) t ages u → t < u
+path_rises tables all t [] u path = somewhere_rises tables all t u path
+path_rises tables all t (next ∷ ages) u path = omega (arith, somewhere_rises tables all t next path.0, path_rises tables all next ages u path.1)
 
 pub nobody_waits_for_itself : NobodyWaitsForItself
-nobody_waits_for_itself table all t ages path = let rises : t < t = path_rises table all t ages t path in omega (arith, rises)
+nobody_waits_for_itself tables all t ages path = let rises : t < t = path_rises tables all t ages t path in omega (arith, rises)

@@ -19,7 +19,7 @@ use Rattle.tickets.specs.Places.{IsGroupOf, place_in_warehouse}
 use Rattle.wait_die.specs.declared.deciding.Holder.{Holder}
 use Rattle.local_locks.specs.declared.rulings.Ruling.TheVariants.{Free, Waits, Dies}
 use Rattle.local_locks.specs.Locking.{Holding}
-use Rattle.local_locks.specs.Conflicts.{is_shared, shared_on, Conflicts, Blocks, IsFree, MustWait, MustDie}
+use Rattle.local_locks.specs.Conflicts.{is_shared, shared_on, ClaimConflicts, Blocks, IsFree, MustWait, MustDie}
 use Rattle.local_locks.specs.Wishes.{IsOwn}
 use Rattle.local_locks.specs.Locks.{Locked, Agree, IsLocked, is_taken, conflicting, holding, holdings_of, IsLockAt, AreLocksOf}
 use Rattle.local_locks.specs.Rulings.{spot, spots_of, first_place, count_in, conflicting_at, Stops, IsRuling}
@@ -28,7 +28,7 @@ use Rattle.local_locks.proofs.Members.{contains_none, contains_cases, contains_h
 use Rattle.local_locks.proofs.Spots.{spot_inside, inside_spots}
 use Rattle.local_locks.proofs.Covering.{covered_place, place_covered}
 
-mapped : {X Y : Type 0} (f : X → Y) (xs : List X) (x : X) → Contains xs x → Contains (map f xs) (f x)
+pub mapped : {X Y : Type 0} (f : X → Y) (xs : List X) (x : X) → Contains xs x → Contains (map f xs) (f x)
 mapped f [] x c = contains_none x c
 mapped {X} {Y} f (y ∷ ys) x c =
     ⊎_elim
@@ -218,7 +218,7 @@ in_the_way warehouses w_id locks wants h are blocks =
     let at : IsLockAt warehouses w_id number lock = subst (IsLockAt warehouses w_id number) held.is (are.each number lock held.small) in
     let any = blocks.1 in
     let want = any.1 in
-    let conflict : Conflicts (flat_map holdings_of locks) h want = any.4 in
+    let conflict : ClaimConflicts (flat_map holdings_of locks) h want = any.4 in
     let known : IsGroupOf warehouses h.group = subst (IsGroupOf warehouses) held.group at.known in
     let place : place_in_warehouse h.group ≡ number = ap place_in_warehouse (sym held.group) ∙ at.place in
     let count : shared_on h.group (flat_map holdings_of locks) ≡ shared_count lock.ticket_box.mode lock.holders =
@@ -271,11 +271,11 @@ stands_in_the_way warehouses w_id locks wants number d by are own stops = by_pla
         let covered = place_covered warehouses want.extent lock.ticket_box.group mine.0 at.known (mine.1 ∙ sym at.here) (record { from = omega (arith, inside.from, at.place); below = omega (arith, inside.below, at.place) }) in
         let apart = where_taken stops.mode lock.ticket_box.mode lock.holders (shared_on lock.ticket_box.group (flat_map holdings_of locks)) (shared_there warehouses w_id locks number d are small) held.0 in
         let modes : stops.mode ≡ want.mode = inside.mode in
-        let conflict : Conflicts (flat_map holdings_of locks) (held_of locks number d by) want = record {
+        let conflict : ClaimConflicts (flat_map holdings_of locks) (held_of locks number d by) want = record {
           covered = covered;
           apart = subst (λ (m : Mode). (m ≡ Exclusive) ⊎ ((lock.ticket_box.mode ≡ Exclusive) ⊎ (8 ≤ shared_on lock.ticket_box.group (flat_map holdings_of locks)))) modes apart;
         } in
-        (small, (held_here locks number d by small held.1, contains_any (Conflicts (flat_map holdings_of locks) (held_of locks number d by)) wants want found.1 conflict)))
+        (small, (held_here locks number d by small held.1, contains_any (ClaimConflicts (flat_map holdings_of locks) (held_of locks number d by)) wants want found.1 conflict)))
         (λ (past : length locks ≤ number). absurd (nothing_at locks stops.mode number by past stops.holds))
         where_is
 

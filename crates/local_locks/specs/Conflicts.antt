@@ -17,15 +17,16 @@ is_shared Exclusive = false
 abbrev pub shared_on : Group → List Holding → ℕ
 shared_on group holdings = count_by (λ holding. is_same holding.group group && is_shared holding.mode) holdings
 
--- Whoever holds a group that is wanted conflicts with that, if one of the two is exclusive, or if all eight shared claims
--- on the group are out.
-pub record Conflicts (holdings : List Holding) (holding : Holding) (want : Want) : Type 0 where
+-- The claim that one holds conflicts with what another wants: its group is wanted, and one of the two is exclusive, or all
+-- eight shared claims on the group are out. Of two wants, of which none is granted yet, the modes alone count: that is
+-- `Conflict` of groups.
+pub record ClaimConflicts (holdings : List Holding) (holding : Holding) (want : Want) : Type 0 where
   pub covered : Covers want holding.group
   pub apart : (want.mode ≡ Exclusive) ⊎ ((holding.mode ≡ Exclusive) ⊎ (8 ≤ shared_on holding.group holdings))
 
 -- this is one of those whose claims conflict with what is wanted
 abbrev pub Blocks : List Holding → List Want → Holding → Type 0
-Blocks holdings wants holding = Contains holdings holding × Any (Conflicts holdings holding) wants
+Blocks holdings wants holding = Contains holdings holding × Any (ClaimConflicts holdings holding) wants
 
 -- ---- what is said to one of this age who wants these
 

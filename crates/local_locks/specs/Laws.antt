@@ -1,26 +1,43 @@
 -- What holds of every table, and of who waits for whom.
-use Rattle.std.specs.Prelude.{◌≡◌, ℕ, ◌≤◌, List, [], ◌∷◌, All, AllPairs, Contains}
+use Rattle.std.specs.Prelude.{◌≡◌, ◌↔◌, ℕ, ◌≤◌, List, [], ◌∷◌, All, AllPairs, Any, Contains}
 use Rattle.requests.specs.declared.group.Group.{Group}
+use Rattle.groups.specs.Groups.{warehouse_of}
+use Rattle.groups.specs.Wants.{Covers}
 use Rattle.groups.specs.declared.wishes.Mode.TheVariants.{Shared}
+use Rattle.groups.specs.declared.wants.Want.{Want}
+use Rattle.tickets.specs.Places.{IsGroupOf}
 use Rattle.local_locks.specs.Locking.{Holding, Waiting, Stand, Locking}
 use Rattle.local_locks.specs.Conflicts.{Blocks, shared_on}
 use Rattle.local_locks.specs.Asking.{StillWaits}
+use Rattle.local_locks.specs.Wishes.{CanAsk, wish_of, wishes_in}
 
 -- two claims on one group are shared
-abbrev pub DoNotConflict : Holding → Holding → Type 0
-DoNotConflict a b = a.group ≡ b.group → (a.mode ≡ Shared) × (b.mode ≡ Shared)
+abbrev pub AreCompatible : Holding → Holding → Type 0
+AreCompatible a b = a.group ≡ b.group → (a.mode ≡ Shared) × (b.mode ≡ Shared)
 
 -- No two claims conflict: of two on one group both are shared, and at most eight are out on each group.
 pub record NoneConflict (holdings : List Holding) : Type 0 where
-  pub pairs : AllPairs DoNotConflict holdings
+  pub pairs : AllPairs AreCompatible holdings
   pub most : (group : Group) → shared_on group holdings ≤ 8
 
-abbrev pub IsUntouched : Stand → Type 0
-IsUntouched stand = stand.back ≡ stand.left
+-- where the claim is on this group, it is shared
+abbrev pub IsNotAlone : Group → Holding → Type 0
+IsNotAlone group holding = holding.group ≡ group → holding.mode ≡ Shared
 
--- nothing is left to be taken back in any group
-abbrev pub AreUntouched : List Stand → Type 0
-AreUntouched stands = All IsUntouched stands
+-- where no exclusive claim on the group is out, nothing is left to be taken back in it
+abbrev pub IsUntouched : List Holding → Stand → Type 0
+IsUntouched holdings stand = All (IsNotAlone stand.group) holdings → stand.back ≡ stand.left
+
+abbrev pub AreUntouched : List Holding → List Stand → Type 0
+AreUntouched holdings stands = All (IsUntouched holdings) stands
+
+-- the claim is on a group of the warehouse
+abbrev pub IsClaimOf : ℕ → ℕ → Holding → Type 0
+IsClaimOf warehouses w_id holding = IsGroupOf warehouses holding.group × (warehouse_of holding.group ≡ w_id)
+
+-- it waits for what can be asked of the table
+abbrev pub CouldAsk : ℕ → ℕ → Waiting → Type 0
+CouldAsk warehouses w_id waiting = CanAsk warehouses w_id waiting.wants
 
 -- ---- who waits for whom
 
@@ -33,12 +50,29 @@ pub record WaitsFor (table : Locking) (t u : ℕ) : Type 0 where
   pub blocks : Blocks table.holdings waiting.wants holding
   pub holder : holding.by.age ≡ u
 
+-- one of age t waits for one of age u in one of these tables
+abbrev pub WaitsSomewhere : List Locking → ℕ → ℕ → Type 0
+WaitsSomewhere tables t u = Any (λ table. WaitsFor table t u) tables
+
 -- each waits for the next, and the last for u
 abbrev pub Path : (ℕ → ℕ → Type 0) → ℕ → List ℕ → ℕ → Type 0
 Path waits t [] u = waits t u
 Path waits t (next ∷ ages) u = waits t next × Path waits next ages u
 
--- where all who wait have to, none waits for itself, through any others
+-- all who wait in the table have to wait
+abbrev pub AllHaveToWait : Locking → Type 0
+AllHaveToWait table = All (StillWaits table.holdings) table.waiters
+
+-- Where all who wait have to, in some tables, none waits for itself, through any others, from table to table.
 abbrev pub NobodyWaitsForItself : Type 0
 NobodyWaitsForItself =
-    (table : Locking) → All (StillWaits table.holdings) table.waiters → (t : ℕ) (ages : List ℕ) → Path (WaitsFor table) t ages t → ⊥
+    (tables : List Locking) → All AllHaveToWait tables → (t : ℕ) (ages : List ℕ) → Path (WaitsSomewhere tables) t ages t → ⊥
+
+-- ---- what is wanted
+
+-- Of the groups that there are, a wish stands for each that a want covers, and for no other: for a prefix one for each
+-- group of its kind and warehouse.
+abbrev pub EachCoveredGroupIsWished : Type 0
+EachCoveredGroupIsWished =
+    (warehouses : ℕ) (want : Want) (group : Group)
+    → IsGroupOf warehouses group → Covers want group ↔ Contains (wishes_in want) (wish_of want group)

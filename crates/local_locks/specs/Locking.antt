@@ -46,6 +46,17 @@ left_in stands group = (stand_for stands group).left
 abbrev pub back_in : List Stand → Group → Content
 back_in stands group = (stand_for stands group).back
 
+-- the stand is that of the warehouse's group at this place
+pub record IsStandAt (warehouses w_id number : ℕ) (stand : Stand) : Type 0 where
+  pub known : IsGroupOf warehouses stand.group
+  pub here : warehouse_of stand.group ≡ w_id
+  pub place : place_in_warehouse stand.group ≡ number
+
+-- there is one for each group of the warehouse, in the order of groups
+pub record AreStandsOf (warehouses w_id : ℕ) (stands : List Stand) : Type 0 where
+  pub all_there : length stands ≡ 105
+  pub each : (place : ℕ) (d : Stand) → place < 105 → IsStandAt warehouses w_id place (slice_index_or stands place d)
+
 -- ---- the opening
 
 abbrev pub stand_of : Boxed → Stand

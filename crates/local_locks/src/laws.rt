@@ -1,8 +1,15 @@
-//! What holds of who waits for whom: a function that does nothing, and is proved.
-ghost use Rattle.local_locks.specs.Laws.{NobodyWaitsForItself};
+//! What holds of who waits for whom, and of what is wanted: functions that do nothing, and are proved.
+ghost use Rattle.local_locks.specs.Laws.{EachCoveredGroupIsWished, NobodyWaitsForItself};
 
 /// Where all who wait have to wait, as when `LockTable::next_grant` has answered `None`, each is older
-/// than those it waits for. So none waits for itself, through any others.
+/// than those it waits for. So none waits for itself, through any others, in one table or from table to
+/// table.
 pub fn nobody_waits_for_itself()
     ensures { NobodyWaitsForItself }
+{}
+
+/// Who wants a group is granted it, and who wants a prefix is granted each group of its kind and
+/// warehouse.
+pub fn each_covered_group_is_wished()
+    ensures { EachCoveredGroupIsWished }
 {}

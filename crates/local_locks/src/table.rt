@@ -6,8 +6,8 @@ ghost use Rattle.groups.specs.declared.wishes.Mode.TheVariants.{Exclusive};
 ghost use Rattle.tickets.specs.Claims.{leaving};
 ghost use Rattle.local_locks.specs.Asking.{all_kept_after, held_by, AreHeld, Answers, IsSettled, StillWaits, TakesTurn, leaving_in};
 ghost use Rattle.local_locks.specs.Conflicts.{MustDie};
-ghost use Rattle.local_locks.specs.Laws.{NoneConflict, AreUntouched};
-ghost use Rattle.local_locks.specs.Locking.{back_in, left_in, opened, AreBoxesOf};
+ghost use Rattle.local_locks.specs.Laws.{AreUntouched, CouldAsk, IsClaimOf, NoneConflict};
+ghost use Rattle.local_locks.specs.Locking.{back_in, left_in, opened, AreBoxesOf, AreStandsOf};
 ghost use Rattle.local_locks.specs.Wishes.{CanAsk};
 
 use crate::granting::{count_of, grant_all, take_all_back};
@@ -195,10 +195,15 @@ impl<J: Naming> LockTable<J> {
         self.locks[place].undo(claim);
     }
 
-    /// No two claims that are out conflict. While none is out, nothing is left to be taken back in any group.
+    /// What stands in each group of the warehouse is known, and all claims that are out are on these
+    /// groups. No two of them conflict. Where no exclusive one is out, nothing is left to be taken back.
+    /// All who wait do so for what can be asked.
     pub fn agree(&self)
+        ensures stands { AreStandsOf J.warehouses self.now.w_id self.now.stands }
+        ensures claims { All (IsClaimOf J.warehouses self.now.w_id) self.now.holdings }
         ensures none_conflict { NoneConflict self.now.holdings }
-        ensures untouched { self.now.holdings ≡ [] → AreUntouched self.now.stands }
+        ensures untouched { AreUntouched self.now.holdings self.now.stands }
+        ensures waiters { All (CouldAsk J.warehouses self.now.w_id) self.now.waiters }
     {
         let _ = &self.locks;
     }

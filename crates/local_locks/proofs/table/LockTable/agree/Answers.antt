@@ -1,8 +1,18 @@
-use Rattle.std.proofs.Common.{◌≡◌, [], subst}
-use Rattle.local_locks.specs.Laws.{NoneConflict, AreUntouched}
-use Rattle.local_locks.specs.Locking.{Locking}
-use Rattle.local_locks.proofs.Opened.{none_conflict, untouched}
+use Rattle.std.proofs.Common.{◌≡◌, subst}
+use Rattle.std.specs.Prelude.{All}
+use Rattle.local_locks.specs.Laws.{NoneConflict, AreUntouched, CouldAsk, IsClaimOf}
+use Rattle.local_locks.specs.Locking.{AreStandsOf, Locking}
+use Rattle.local_locks.proofs.Opened.{claims_at_home, none_conflict, untouched, waiters_could_ask}
+use Rattle.local_locks.proofs.Stands.{stands_of}
 use Rattle.local_locks.proofs.table.LockTable.agree.Goals as goal
+
+pub returns-clause-stands : goal.returns-clause-stands
+returns-clause-stands g c =
+    subst (λ (t : Locking). AreStandsOf g.J.Naming.warehouses t.w_id t.stands) c.self.view_is (stands_of g.J.Naming.warehouses c.self.inside.w_id c.self.inside.locks.items c.self.invariant.0)
+
+pub returns-clause-claims : goal.returns-clause-claims
+returns-clause-claims g c =
+    subst (λ (t : Locking). All (IsClaimOf g.J.Naming.warehouses t.w_id) t.holdings) c.self.view_is (claims_at_home g.J.Naming.warehouses c.self.inside.w_id c.self.inside.locks.items c.self.invariant.0)
 
 pub returns-clause-none_conflict : goal.returns-clause-none_conflict
 returns-clause-none_conflict g c =
@@ -10,4 +20,8 @@ returns-clause-none_conflict g c =
 
 pub returns-clause-untouched : goal.returns-clause-untouched
 returns-clause-untouched g c =
-    subst (λ (t : Locking). t.holdings ≡ [] → AreUntouched t.stands) c.self.view_is (untouched g.J.Naming.warehouses c.self.inside.w_id c.self.inside.locks.items c.self.invariant.0)
+    subst (λ (t : Locking). AreUntouched t.holdings t.stands) c.self.view_is (untouched g.J.Naming.warehouses c.self.inside.w_id c.self.inside.locks.items c.self.invariant.0)
+
+pub returns-clause-waiters : goal.returns-clause-waiters
+returns-clause-waiters g c =
+    subst (λ (t : Locking). All (CouldAsk g.J.Naming.warehouses t.w_id) t.waiters) c.self.view_is (waiters_could_ask g.J.Naming.warehouses c.self.inside.w_id c.self.inside.waiters.items c.self.invariant.1)
