@@ -1,7 +1,6 @@
 //! All actions of a phase have reported: what they found is gathered, and what follows is done.
 ghost use Rattle.std.specs.Prelude.{◌≡◌, ◌≤◌, ◌+◌, ◌++◌, [], List, length, vec_capacity, None, Some};
 ghost use Rattle.schema.specs.declared.scale.Scale.{Scale};
-ghost use Rattle.requests.specs.declared.refusal.Refusal.{Refusal as AnyRefusal};
 ghost use Rattle.tickets.specs.Claims.{Claiming};
 ghost use Rattle.phases.specs.Following.{HaveAllDone};
 ghost use Rattle.actions.specs.Works.{HasDone};
@@ -20,7 +19,7 @@ use actions::{Found, Ran};
 use flow_graphs::{Graphs, Progress};
 use phases::{Gathered, Graph};
 use rendezvous::Results;
-use requests::{Answer, Refusal, Reply};
+use requests::{Refusal, Reply};
 use std::alloc::Global;
 
 impl<J: commit_log::Naming + tickets::Naming> Parts<J> {

@@ -1,5 +1,5 @@
 //! What becomes of an item of the outbox.
-ghost use Rattle.std.specs.Prelude.{◌≡◌, ◌≤◌, ◌+◌, ◌∷◌, [], length};
+ghost use Rattle.std.specs.Prelude.{◌≡◌, ◌≤◌, ◌+◌, length};
 ghost use Rattle.world.specs.Events.{CanSend, Reports, SendsItem};
 ghost use Rattle.world.specs.Following as spec;
 ghost use Rattle.world.specs.Following.{releasing};

@@ -1,5 +1,5 @@
 //! A message of the inbox is worked on.
-ghost use Rattle.std.specs.Prelude.{◌≡◌, ◌≤◌, ◌+◌, length};
+ghost use Rattle.std.specs.Prelude.{◌≤◌, ◌+◌, length};
 ghost use Rattle.world.specs.Events.{CanWork, TakesMessage};
 
 use crate::flight::{Act, Item, Message, Report};
