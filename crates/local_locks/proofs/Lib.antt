@@ -16,3 +16,4 @@ pub mod Opened
 pub mod Stands
 pub mod Left
 pub mod Named
+pub mod Contents

@@ -2,6 +2,7 @@
 use Rattle.std.specs.Prelude.{◌≡◌, List, All, map}
 use Rattle.std.specs.List.{flat_map}
 use Rattle.std.specs.List.Sorted.{IsPermutation}
+use Rattle.groups.specs.Content.{Content}
 use Rattle.tickets.specs.Claims.{Claiming}
 use Rattle.wait_die.specs.declared.deciding.Holder.{Holder}
 use Rattle.local_locks.specs.Locking.{Holding, Locking}
@@ -18,3 +19,7 @@ pub record AreOut (table : Locking) (out : List (Holder × List Claiming)) : Typ
   pub w_id : table.w_id ≡ 1
   pub held : IsPermutation table.holdings (flat_map held_of out)
   pub settled : All AreSettled out
+
+-- the claim tells that this is committed
+abbrev pub Tells : Content → Claiming → Type 0
+Tells content claim = claim.told ≡ content

@@ -2,6 +2,8 @@ ghost use Rattle.std.specs.Prelude.{◌≡◌, ◌<◌, ◌≤◌, IfOk, vec_len
 ghost use Rattle.tickets.specs.Openings.{AreNamed};
 ghost use Rattle.local_locks.specs.Wishes.{AreApart, CanAsk, IsOwn};
 
+mod contents;
+
 use crate::*;
 use agreement::Change;
 use groups::{Content, Extent, Kind, Mode, Prefix, Want};

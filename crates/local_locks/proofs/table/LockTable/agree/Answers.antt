@@ -1,4 +1,4 @@
-use Rattle.std.proofs.Common.{◌≡◌, subst}
+use Rattle.std.proofs.Common.{subst}
 use Rattle.std.specs.Prelude.{All}
 use Rattle.local_locks.specs.Laws.{NoneConflict, AreUntouched, CouldAsk, IsClaimOf}
 use Rattle.local_locks.specs.Locking.{AreStandsOf, Locking}
