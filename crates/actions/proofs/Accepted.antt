@@ -16,7 +16,7 @@ use Rattle.groups.specs.Footprint.{payment_footprint, order_status_footprint, gr
 use Rattle.tickets.specs.Places.{IsBetween, IsGroupOf}
 use Rattle.actions.specs.declared.work.Work.TheVariants.{PayHome, PayCustomer, AddPayment, ShowCustomer, ShowOrder}
 use Rattle.actions.specs.Works.{wishes_of}
-use Rattle.actions.specs.Laws.{AcceptedRequestsHaveTheirGroups, AcceptedPaymentsHaveTheirDistrict, AcceptedStatusesHaveTheirDistrict, WorksHaveTheirGroups}
+use Rattle.actions.specs.Laws.{AcceptedRequestsHaveTheirGroups, AcceptedPaymentsHaveTheirDistrict, AcceptedStatusesHaveTheirDistrict, WorksAreAtWarehouses, WorksHaveTheirGroups}
 
 -- a first test that isn't passed
 not_first : (test : Refusal → Bool) (refusal : Refusal) (rest : List Refusal) → refused_by (find test (refusal ∷ rest)) ≡ Ok tt → (test refusal ≡ false) × (refused_by (find test rest) ≡ Ok tt)
@@ -103,3 +103,10 @@ works_have_their_groups scale (ShowOrder key) has =
     let warehouse = between 1 scale.warehouses key.w_id is.0 in
     let district = between 1 10 key.d_id is.1 in
     All-from_recursion (IsGroupOf scale.warehouses) (groups_of (wishes_of (ShowOrder key))) ((warehouse, district), tt)
+
+pub works_are_at_warehouses : WorksAreAtWarehouses
+works_are_at_warehouses scale (PayHome p) accepted = (in_scale scale p accepted).warehouse
+works_are_at_warehouses scale (PayCustomer p) accepted = (in_scale scale p accepted).payers_warehouse
+works_are_at_warehouses scale (AddPayment p row) can = (in_scale scale p can.0).warehouse
+works_are_at_warehouses scale (ShowCustomer o) accepted = (status_in_scale scale o accepted).0
+works_are_at_warehouses scale (ShowOrder key) has = (and_parts (has_warehouse scale key.w_id) (is_between 1 10 key.d_id) has).0

@@ -3,17 +3,20 @@ use Rattle.std.proofs.Common.{◌≡◌, [], ◌∷◌, ◌++◌, List, Result, 
 use Rattle.std.proofs.lemmas.List.{append-nil}
 use Rattle.std.proofs.lemmas.List.Sorted.{IsPermutation-append_comm}
 use Rattle.tickets.specs.Claims.{Claiming}
-use Rattle.tickets.specs.Committed.{AreCommitted}
+use Rattle.tickets.specs.Committed.{AreCommitted, KeepsCommitted}
 use Rattle.tickets.proofs.Committed.{keeps_permuted}
-use Rattle.slices.specs.Sliced.{Sliced, SliceKeeps, standing, everywhere}
+use Rattle.slices.specs.Sliced.{Sliced, SliceKeeps, standing, at_home}
 
 pub stays : (claims : List Claiming) (slice : Sliced) → SliceKeeps claims slice claims slice
-stays claims slice = record { committed = λ tables others h. h; scale = refl; items = refl }
+stays claims slice = record { committed = λ tables others h. h; home = refl; scale = refl; items = refl }
 
 pub then : (first between last : List Claiming) (old slice new : Sliced)
     → SliceKeeps first old between slice → SliceKeeps between slice last new → SliceKeeps first old last new
 then first between last old slice new one two = record {
-  committed = λ tables others h. two.committed tables others (one.committed tables others h);
+  committed = λ tables others h.
+      let more = subst (λ home. KeepsCommitted (at_home home) between (standing slice) last (standing new)) one.home two.committed in
+      more tables others (one.committed tables others h);
+  home = two.home ∙ one.home;
   scale = two.scale ∙ one.scale;
   items = two.items ∙ one.items;
 }
@@ -33,8 +36,9 @@ by_call (Err fault) was now old new kept same = unchanged (was ∷ []) (now ∷ 
 pub with_more : (before after more : List Claiming) (old new : Sliced) → SliceKeeps before old after new → SliceKeeps (before ++ more) old (after ++ more) new
 with_more before after more old new kept = record {
   committed = λ tables others h.
-      subst (λ claims. AreCommitted everywhere tables (standing new) claims) (sym (append_assoc after more others))
-      (kept.committed tables (more ++ others) (subst (λ claims. AreCommitted everywhere tables (standing old) claims) (append_assoc before more others) h));
+      subst (λ claims. AreCommitted (at_home old.home) tables (standing new) claims) (sym (append_assoc after more others))
+      (kept.committed tables (more ++ others) (subst (λ claims. AreCommitted (at_home old.home) tables (standing old) claims) (append_assoc before more others) h));
+  home = kept.home;
   scale = kept.scale;
   items = kept.items;
 }
@@ -43,8 +47,9 @@ pub after_more : (more before after : List Claiming) (old new : Sliced) → Slic
 after_more more before after old new kept =
     let wide = with_more before after more old new kept in
     record {
-      committed = keeps_permuted everywhere (before ++ more) (more ++ before) (after ++ more) (more ++ after) (standing old) (standing new)
+      committed = keeps_permuted (at_home old.home) (before ++ more) (more ++ before) (after ++ more) (more ++ after) (standing old) (standing new)
           (IsPermutation-append_comm more before) (IsPermutation-append_comm after more) wide.committed;
+      home = kept.home;
       scale = kept.scale;
       items = kept.items;
     }

@@ -1,4 +1,5 @@
 pub mod Settled
+pub mod Homes
 pub mod Told
 pub mod CarriedOut
 pub mod RolledBack

@@ -1,13 +1,15 @@
--- What actions wish for: claims that were granted for it, one after another, and how many they are.
+-- What actions wish for: claims that were granted for it, one after another, how many they are, and at which warehouse.
 use Rattle.std.proofs.Common.{◌≡◌, ◌≢◌, ℕ, zero, suc, ◌<◌, List, [], ◌∷◌, ◌++◌, length, refl, sym, ap, subst, ◌∙◌, arith}
-use Rattle.std.specs.Prelude.{◌+◌, Some, None, All, take, slice_get, slice_index_or}
+use Rattle.std.specs.Prelude.{◌+◌, Some, None, All, map, take, slice_get, slice_index_or}
 use Rattle.std.specs.List.{AllByRecursion}
-use Rattle.std.proofs.lemmas.List.{take_more}
+use Rattle.std.proofs.lemmas.List.{length-map, take_more}
 use Rattle.std.proofs.lemmas.List.Elements.{All-nil, All-cons, All-head, All-tail, All-from_recursion}
 use Rattle.std.proofs.lemmas.Option.{slice_get_within, get_or_from_slice_get}
+use Rattle.schema.specs.declared.scale.Scale.{Scale}
 use Rattle.requests.specs.declared.group.Group.{Group}
-use Rattle.requests.specs.declared.group.Group.TheVariants.{Warehouse, District}
-use Rattle.groups.specs.Footprint.{exclusively, groups_of}
+use Rattle.requests.specs.declared.group.Group.TheVariants.{Warehouse, District, Customers, Orders, History}
+use Rattle.groups.specs.Footprint.{exclusively, groups_of, shared}
+use Rattle.groups.specs.Groups.{warehouse_of}
 use Rattle.groups.specs.declared.wishes.Wish.{Wish}
 use Rattle.tickets.specs.Claims.{Claiming}
 use Rattle.tickets.proofs.Committed.{All-front}
@@ -15,10 +17,12 @@ use Rattle.slices.specs.Sliced.{Sliced, standing}
 use Rattle.slices.proofs.Steps.{All-last}
 use Rattle.actions.specs.declared.work.Work.TheVariants.{PayHome, PayCustomer, AddPayment, ShowCustomer, ShowOrder}
 use Rattle.actions.specs.declared.work.Work.{Work}
+use Rattle.actions.specs.declared.work.Found.{Found}
 use Rattle.actions.specs.declared.work.Found.TheVariants.{Home, Customer, Added, Shown, Order}
-use Rattle.actions.specs.Works.{wishes_of, IsGrantedFor, AreGrantedFor, AreLeft}
+use Rattle.actions.specs.Works.{home_of, wishes_of, AreWishesAt, IsGrantedFor, AreGrantedFor, AreLeft, HasDone}
 use Rattle.actions.specs.Acting.{CanBeSettled, CanBeUndone, DiesOn}
-use Rattle.actions.specs.Laws.{WorksHaveWishes, WorksHaveAClaimForEachWish}
+use Rattle.actions.specs.Laws.{WorksHaveWishes, WorksHaveAClaimForEachWish, WorksClaimAtHome, WorksAreDoneAtHome}
+use Rattle.actions.proofs.Homes.{claims_here, of_one_home}
 
 -- ---- the wish of a number
 
@@ -27,6 +31,11 @@ pub wished_at : (P : Group → Type 0) (wishes : List Wish) (k : ℕ) (wish : Wi
 wished_at P [] k wish all is = absurd cc
 wished_at P (w ∷ ws) zero wish all is = let same : w ≡ wish = cc in subst (λ (x : Wish). P x.group) same (All-head P w.group (groups_of ws) all)
 wished_at P (w ∷ ws) (suc k) wish all is = wished_at P ws k wish (All-tail P w.group (groups_of ws) all) is
+
+-- and it is for a group of the warehouse that all are for
+pub wished_here : (home : ℕ) (wishes : List Wish) (k : ℕ) (wish : Wish) → AreWishesAt home wishes → slice_get wishes k ≡ Some wish → warehouse_of wish.group ≡ home
+wished_here home wishes k wish here is =
+    subst (λ (w : Wish). warehouse_of w.group ≡ home) (get_or_from_slice_get wishes k wish wish is) (here k wish (slice_get_within wishes k wish is))
 
 -- it comes after those before it
 wishes_more : (wishes : List Wish) (k n : ℕ) (wish : Wish) → slice_get wishes k ≡ Some wish → n ≡ k + 1 → take n wishes ≡ take k wishes ++ wish ∷ []
@@ -128,40 +137,69 @@ works_have_wishes (AddPayment p row) = omega arith
 works_have_wishes (ShowCustomer o) = omega arith
 works_have_wishes (ShowOrder key) = omega arith
 
+-- the claims are on the groups that it wished for
+done_on : (scale : Scale) (work : Work) (found : Found) (claims : List Claiming) → HasDone scale work found claims
+    → map (λ (claim : Claiming). claim.group) claims ≡ groups_of (wishes_of work)
+done_on scale (PayHome p) (Home found) [] done = absurd done
+done_on scale (PayHome p) (Home found) (a ∷ []) done = absurd done
+done_on scale (PayHome p) (Home found) (a ∷ b ∷ []) done = λ i. done.warehouse_claim.group i ∷ done.district_claim.group i ∷ []
+done_on scale (PayHome p) (Home found) (a ∷ b ∷ c ∷ claims) done = absurd done
+done_on scale (PayHome p) (Customer found) claims done = absurd done
+done_on scale (PayHome p) Added claims done = absurd done
+done_on scale (PayHome p) (Shown found) claims done = absurd done
+done_on scale (PayHome p) (Order found) claims done = absurd done
+done_on scale (PayCustomer p) (Home found) claims done = absurd done
+done_on scale (PayCustomer p) (Customer found) [] done = absurd done
+done_on scale (PayCustomer p) (Customer found) (a ∷ []) done = λ i. done.0.claim.group i ∷ []
+done_on scale (PayCustomer p) (Customer found) (a ∷ b ∷ claims) done = absurd done
+done_on scale (PayCustomer p) Added claims done = absurd done
+done_on scale (PayCustomer p) (Shown found) claims done = absurd done
+done_on scale (PayCustomer p) (Order found) claims done = absurd done
+done_on scale (AddPayment p row) (Home found) claims done = absurd done
+done_on scale (AddPayment p row) (Customer found) claims done = absurd done
+done_on scale (AddPayment p row) Added [] done = absurd done
+done_on scale (AddPayment p row) Added (a ∷ []) done = λ i. done.claim.group i ∷ []
+done_on scale (AddPayment p row) Added (a ∷ b ∷ claims) done = absurd done
+done_on scale (AddPayment p row) (Shown found) claims done = absurd done
+done_on scale (AddPayment p row) (Order found) claims done = absurd done
+done_on scale (ShowCustomer o) (Home found) claims done = absurd done
+done_on scale (ShowCustomer o) (Customer found) claims done = absurd done
+done_on scale (ShowCustomer o) Added claims done = absurd done
+done_on scale (ShowCustomer o) (Shown found) [] done = absurd done
+done_on scale (ShowCustomer o) (Shown found) (a ∷ []) done = λ i. done.claim.group i ∷ []
+done_on scale (ShowCustomer o) (Shown found) (a ∷ b ∷ claims) done = absurd done
+done_on scale (ShowCustomer o) (Order found) claims done = absurd done
+done_on scale (ShowOrder key) (Home found) claims done = absurd done
+done_on scale (ShowOrder key) (Customer found) claims done = absurd done
+done_on scale (ShowOrder key) Added claims done = absurd done
+done_on scale (ShowOrder key) (Shown found) claims done = absurd done
+done_on scale (ShowOrder key) (Order found) [] done = absurd done
+done_on scale (ShowOrder key) (Order found) (a ∷ []) done = λ i. done.claim.group i ∷ []
+done_on scale (ShowOrder key) (Order found) (a ∷ b ∷ claims) done = absurd done
+
 pub works_have_a_claim_for_each_wish : WorksHaveAClaimForEachWish
-works_have_a_claim_for_each_wish scale (PayHome p) (Home found) [] done = absurd done
-works_have_a_claim_for_each_wish scale (PayHome p) (Home found) (a ∷ []) done = absurd done
-works_have_a_claim_for_each_wish scale (PayHome p) (Home found) (a ∷ b ∷ []) done = refl
-works_have_a_claim_for_each_wish scale (PayHome p) (Home found) (a ∷ b ∷ c ∷ claims) done = absurd done
-works_have_a_claim_for_each_wish scale (PayHome p) (Customer found) claims done = absurd done
-works_have_a_claim_for_each_wish scale (PayHome p) Added claims done = absurd done
-works_have_a_claim_for_each_wish scale (PayHome p) (Shown found) claims done = absurd done
-works_have_a_claim_for_each_wish scale (PayHome p) (Order found) claims done = absurd done
-works_have_a_claim_for_each_wish scale (PayCustomer p) (Home found) claims done = absurd done
-works_have_a_claim_for_each_wish scale (PayCustomer p) (Customer found) [] done = absurd done
-works_have_a_claim_for_each_wish scale (PayCustomer p) (Customer found) (a ∷ []) done = refl
-works_have_a_claim_for_each_wish scale (PayCustomer p) (Customer found) (a ∷ b ∷ claims) done = absurd done
-works_have_a_claim_for_each_wish scale (PayCustomer p) Added claims done = absurd done
-works_have_a_claim_for_each_wish scale (PayCustomer p) (Shown found) claims done = absurd done
-works_have_a_claim_for_each_wish scale (PayCustomer p) (Order found) claims done = absurd done
-works_have_a_claim_for_each_wish scale (AddPayment p row) (Home found) claims done = absurd done
-works_have_a_claim_for_each_wish scale (AddPayment p row) (Customer found) claims done = absurd done
-works_have_a_claim_for_each_wish scale (AddPayment p row) Added [] done = absurd done
-works_have_a_claim_for_each_wish scale (AddPayment p row) Added (a ∷ []) done = refl
-works_have_a_claim_for_each_wish scale (AddPayment p row) Added (a ∷ b ∷ claims) done = absurd done
-works_have_a_claim_for_each_wish scale (AddPayment p row) (Shown found) claims done = absurd done
-works_have_a_claim_for_each_wish scale (AddPayment p row) (Order found) claims done = absurd done
-works_have_a_claim_for_each_wish scale (ShowCustomer o) (Home found) claims done = absurd done
-works_have_a_claim_for_each_wish scale (ShowCustomer o) (Customer found) claims done = absurd done
-works_have_a_claim_for_each_wish scale (ShowCustomer o) Added claims done = absurd done
-works_have_a_claim_for_each_wish scale (ShowCustomer o) (Shown found) [] done = absurd done
-works_have_a_claim_for_each_wish scale (ShowCustomer o) (Shown found) (a ∷ []) done = refl
-works_have_a_claim_for_each_wish scale (ShowCustomer o) (Shown found) (a ∷ b ∷ claims) done = absurd done
-works_have_a_claim_for_each_wish scale (ShowCustomer o) (Order found) claims done = absurd done
-works_have_a_claim_for_each_wish scale (ShowOrder key) (Home found) claims done = absurd done
-works_have_a_claim_for_each_wish scale (ShowOrder key) (Customer found) claims done = absurd done
-works_have_a_claim_for_each_wish scale (ShowOrder key) Added claims done = absurd done
-works_have_a_claim_for_each_wish scale (ShowOrder key) (Shown found) claims done = absurd done
-works_have_a_claim_for_each_wish scale (ShowOrder key) (Order found) [] done = absurd done
-works_have_a_claim_for_each_wish scale (ShowOrder key) (Order found) (a ∷ []) done = refl
-works_have_a_claim_for_each_wish scale (ShowOrder key) (Order found) (a ∷ b ∷ claims) done = absurd done
+works_have_a_claim_for_each_wish scale work found claims done =
+    sym (length-map claims (λ (claim : Claiming). claim.group)) ∙ ap length (done_on scale work found claims done)
+    ∙ length-map (wishes_of work) (λ (wish : Wish). wish.group)
+
+-- ---- at which warehouse
+
+abbrev IsWishAt : ℕ → Wish → Type 0
+IsWishAt home wish = warehouse_of wish.group ≡ home
+
+one_wish : (home : ℕ) (wish : Wish) → IsWishAt home wish → AreWishesAt home (wish ∷ [])
+one_wish home wish here = All-cons (IsWishAt home) wish [] here (All-nil (IsWishAt home))
+
+pub works_claim_at_home : WorksClaimAtHome
+works_claim_at_home (PayHome p) = All-cons (IsWishAt p.home.w_id) (exclusively (Warehouse p.home.w_id)) (exclusively (District p.home.w_id p.home.d_id) ∷ []) refl (one_wish p.home.w_id (exclusively (District p.home.w_id p.home.d_id)) refl)
+works_claim_at_home (PayCustomer p) = one_wish p.customer_home.w_id (exclusively (Customers p.customer_home.w_id p.customer_home.d_id)) refl
+works_claim_at_home (AddPayment p row) = one_wish p.home.w_id (exclusively (History p.home.w_id p.home.d_id)) refl
+works_claim_at_home (ShowCustomer o) = one_wish o.home.w_id (shared (Customers o.home.w_id o.home.d_id)) refl
+works_claim_at_home (ShowOrder key) = one_wish key.w_id (shared (Orders key.w_id key.d_id)) refl
+
+pub works_are_done_at_home : WorksAreDoneAtHome
+works_are_done_at_home scale work found claims done =
+    let here = claims_here (home_of work) (wishes_of work) claims (done_on scale work found claims done) (works_claim_at_home work) in
+    let some = works_have_wishes work in
+    let many = works_have_a_claim_for_each_wish scale work found claims done in
+    (here, of_one_home (home_of work) claims (omega (arith, some, many)) here)

@@ -4,7 +4,7 @@ use Rattle.rows.specs.Keys.{district_of_customer}
 use Rattle.rows.specs.declared.keys.CustomerKey.{CustomerKey}
 use Rattle.rows.specs.declared.records.History.{History}
 use Rattle.schema.specs.declared.scale.Scale.{Scale}
-use Rattle.schema.specs.Scale.{has_customer, has_district}
+use Rattle.schema.specs.Scale.{has_customer, has_district, has_warehouse}
 use Rattle.schema.specs.Database.{Database}
 use Rattle.requests.specs.declared.request.Payment.{Payment}
 use Rattle.requests.specs.declared.request.OrderStatus.{OrderStatus}
@@ -20,6 +20,7 @@ use Rattle.groups.specs.Footprint.{footprint, groups_of}
 use Rattle.tickets.specs.Claims.{Claiming, leaving}
 use Rattle.tickets.specs.Places.{IsGroupOf}
 use Rattle.commit_log.specs.Claimed.{IsCarriedOut}
+use Rattle.slices.specs.Sliced.{IsClaimAt, AreOfOneHome}
 use Rattle.actions.specs.declared.gathering.HomePaid.{HomePaid}
 use Rattle.actions.specs.declared.gathering.CustomerPaid.{CustomerPaid}
 use Rattle.actions.specs.declared.gathering.Gathered.TheVariants.{Next, RollBack}
@@ -30,7 +31,7 @@ use Rattle.actions.specs.OrderStatuses.{IsCustomerShown, IsOrderShown}
 use Rattle.actions.specs.Gathering.{gathered, reply_shown}
 use Rattle.actions.specs.declared.work.Work.{Work}
 use Rattle.actions.specs.declared.work.Found.{Found}
-use Rattle.actions.specs.Works.{wishes_of, CanDo, HasDone}
+use Rattle.actions.specs.Works.{home_of, wishes_of, AreWishesAt, CanDo, HasDone}
 
 -- Where its home rows and its customer's row were paid and its row was added to the list of payments, the payment was
 -- carried out under these claims with this reply.
@@ -122,3 +123,19 @@ abbrev pub WorksHaveAClaimForEachWish : Type 0
 WorksHaveAClaimForEachWish =
     (scale : Scale) (work : Work) (found : Found) (claims : List Claiming)
     → HasDone scale work found claims → length claims ≡ length (wishes_of work)
+
+-- ---- at which warehouse an action does its work
+
+-- The work that can be done is at a warehouse of the scale.
+abbrev pub WorksAreAtWarehouses : Type 0
+WorksAreAtWarehouses = (scale : Scale) (work : Work) → CanDo scale work → IsTrue (has_warehouse scale (home_of work))
+
+-- All that an action claims for its work is the warehouse's.
+abbrev pub WorksClaimAtHome : Type 0
+WorksClaimAtHome = (work : Work) → AreWishesAt (home_of work) (wishes_of work)
+
+-- The claims under which work was done are all on groups of the warehouse, and so of one warehouse.
+abbrev pub WorksAreDoneAtHome : Type 0
+WorksAreDoneAtHome =
+    (scale : Scale) (work : Work) (found : Found) (claims : List Claiming)
+    → HasDone scale work found claims → All (IsClaimAt (home_of work)) claims × AreOfOneHome claims

@@ -1,5 +1,5 @@
 -- What actions do, and what they claim for it.
-use Rattle.std.specs.Prelude.{◌≡◌, List, [], ◌∷◌, IsTrue}
+use Rattle.std.specs.Prelude.{◌≡◌, ℕ, List, [], ◌∷◌, All, IsTrue}
 use Rattle.rows.specs.Keys.{district_of_customer}
 use Rattle.schema.specs.declared.scale.Scale.{Scale}
 use Rattle.schema.specs.Scale.{has_customer, has_district}
@@ -8,6 +8,7 @@ use Rattle.requests.specs.declared.request.Request.TheVariants as request
 use Rattle.requests.specs.Check.{IsAccepted}
 use Rattle.groups.specs.declared.wishes.Wish.{Wish}
 use Rattle.groups.specs.Footprint.{exclusively, shared}
+use Rattle.groups.specs.Groups.{warehouse_of}
 use Rattle.tickets.specs.Claims.{Claiming, leaving}
 use Rattle.actions.specs.declared.work.Work.{Work}
 use Rattle.actions.specs.declared.work.Work.TheVariants.{PayHome, PayCustomer, AddPayment, ShowCustomer, ShowOrder}
@@ -16,6 +17,14 @@ use Rattle.actions.specs.declared.work.Found.TheVariants.{Home, Customer, Added,
 use Rattle.actions.specs.Payments.{IsFresh, IsHomePaid, IsCustomerPaid, IsPayerKnown, IsPaymentAdded}
 use Rattle.actions.specs.OrderStatuses.{IsCustomerShown, IsOrderShown}
 
+-- the warehouse at which the work is done
+abbrev pub home_of : Work → ℕ
+home_of (PayHome p) = p.home.w_id
+home_of (PayCustomer p) = p.customer_home.w_id
+home_of (AddPayment p row) = p.home.w_id
+home_of (ShowCustomer o) = o.home.w_id
+home_of (ShowOrder key) = key.w_id
+
 -- the groups that an action claims for its work, and how
 abbrev pub wishes_of : Work → List Wish
 wishes_of (PayHome p) = exclusively (Warehouse p.home.w_id) ∷ exclusively (District p.home.w_id p.home.d_id) ∷ []
@@ -23,6 +32,10 @@ wishes_of (PayCustomer p) = exclusively (Customers p.customer_home.w_id p.custom
 wishes_of (AddPayment p row) = exclusively (History p.home.w_id p.home.d_id) ∷ []
 wishes_of (ShowCustomer o) = shared (Customers o.home.w_id o.home.d_id) ∷ []
 wishes_of (ShowOrder key) = shared (Orders key.w_id key.d_id) ∷ []
+
+-- these wishes are for groups of the warehouse
+abbrev pub AreWishesAt : ℕ → List Wish → Type 0
+AreWishesAt home wishes = All (λ (wish : Wish). warehouse_of wish.group ≡ home) wishes
 
 -- What the work needs: it is of a request that the check accepts, and whom it names is one of the scale.
 abbrev pub CanDo : Scale → Work → Type 0

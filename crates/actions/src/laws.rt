@@ -1,5 +1,5 @@
 //! Laws of the actions: functions that do nothing, and are proved.
-ghost use Rattle.actions.specs.Laws.{AcceptedPaymentsHaveTheirDistrict, AcceptedRequestsHaveTheirGroups, AcceptedStatusesHaveTheirDistrict, GatheredPayersAreKnown, OrderStatusesAreCarriedOut, PaymentsAreCarriedOut, RolledBackClaimsCanBeUndone, RolledBackOrderStatusesAreCarriedOut, RolledBackPaymentsAreCarriedOut, ShownCustomersAreAtHome, WorksHaveAClaimForEachWish, WorksHaveTheirGroups, WorksHaveWishes};
+ghost use Rattle.actions.specs.Laws.{AcceptedPaymentsHaveTheirDistrict, AcceptedRequestsHaveTheirGroups, AcceptedStatusesHaveTheirDistrict, GatheredPayersAreKnown, OrderStatusesAreCarriedOut, PaymentsAreCarriedOut, RolledBackClaimsCanBeUndone, RolledBackOrderStatusesAreCarriedOut, RolledBackPaymentsAreCarriedOut, ShownCustomersAreAtHome, WorksAreAtWarehouses, WorksAreDoneAtHome, WorksClaimAtHome, WorksHaveAClaimForEachWish, WorksHaveTheirGroups, WorksHaveWishes};
 
 /// Where each action did its part, the payment is carried out as the machine does it: the reply is the
 /// machine's, and the claims leave what the machine leaves.
@@ -54,4 +54,19 @@ pub fn works_have_their_groups()
 pub fn works_have_wishes()
     ensures some { WorksHaveWishes }
     ensures claims { WorksHaveAClaimForEachWish }
+{}
+
+/// Work that can be done is at a warehouse of the scale, and so an action's slice is there.
+pub fn works_are_at_warehouses()
+    ensures { WorksAreAtWarehouses }
+{}
+
+/// An action claims groups of the work's warehouse alone, and so one slice has them all.
+pub fn works_claim_at_home()
+    ensures { WorksClaimAtHome }
+{}
+
+/// The claims under which work was done are on groups of the work's warehouse, and so all of one warehouse.
+pub fn works_are_done_at_home()
+    ensures { WorksAreDoneAtHome }
 {}

@@ -26,6 +26,7 @@ pub fn pay_home<J: Naming>(
     requires district_claim { IsExclusiveOn (group.District payment.now.home.w_id payment.now.home.d_id) district.old }
     requires warehouse_fresh { IsFresh warehouse.old }
     requires district_fresh { IsFresh district.old }
+    requires home { payment.now.home.w_id ≡ slice.old.home }
     ensures kept { SliceKeeps (warehouse.old ∷ district.old ∷ []) slice.old (warehouse.new ∷ district.new ∷ []) slice.new }
     ensures paid { IfOk result (λ found. IsHomePaid payment.now found warehouse.new district.new) }
     ensures warehouse { warehouse.new ≡ leaving warehouse.old warehouse.new.left }
@@ -35,10 +36,10 @@ pub fn pay_home<J: Naming>(
     slice.look(warehouse);
     slice.look(district);
     let amount = Cents::new(i64::from(payment.amount));
-    let Some(warehouse_row) = slice.tables().warehouse(payment.home.w_id) else {
+    let Some(warehouse_row) = slice.partition().warehouse(payment.home.w_id) else {
         return Ok(HomePaid::Missing);
     };
-    let Some(district_row) = slice.tables().district(payment.home) else {
+    let Some(district_row) = slice.partition().district(payment.home) else {
         return Ok(HomePaid::Missing);
     };
     let found = HomePaid::Paid {
@@ -74,6 +75,7 @@ fn put_home<J: Naming>(
     requires warehouse_claim { IsExclusiveOn (group.Warehouse payment.now.home.w_id) warehouse.old }
     requires district_claim { IsExclusiveOn (group.District payment.now.home.w_id payment.now.home.d_id) district.old }
     requires warehouse_fresh { IsFresh warehouse.old }
+    requires home { payment.now.home.w_id ≡ slice.old.home }
     requires warehouse_there { IsTrue (map.contains_key slice.old.tables.warehouses payment.now.home.w_id) }
     requires district_there { IsTrue (map.contains_key slice.old.tables.districts payment.now.home) }
     ensures kept { SliceKeeps (warehouse.old ∷ district.old ∷ []) slice.old (warehouse.new ∷ district.new ∷ []) slice.new }
@@ -100,6 +102,7 @@ pub fn pay_customer<J: Naming>(
 ) -> Result<CustomerPaid, NoMemory>
     requires claim { IsExclusiveOn (group.Customers payment.now.customer_home.w_id payment.now.customer_home.d_id) customers.old }
     requires fresh { IsFresh customers.old }
+    requires home { payment.now.customer_home.w_id ≡ slice.old.home }
     ensures kept { SliceKeeps (customers.old ∷ []) slice.old (customers.new ∷ []) slice.new }
     ensures paid { IfOk result (λ found. IsCustomerPaid payment.now found customers.new) }
     ensures payer { IfOk result (IsPayerKnown slice.old.tables.scale payment.now) }
@@ -107,9 +110,8 @@ pub fn pay_customer<J: Naming>(
     ensures err { OnErr result ((slice.new ≡ slice.old) × (customers.new ≡ customers.old)) }
 {
     slice.look(customers);
-    let _scale = slice.tables().scale();
     let home = payment.customer_home;
-    let Some((key, row)) = chosen(slice.tables(), slice.names(), home, &payment.customer) else {
+    let Some((key, row)) = chosen(slice.partition(), slice.names(), home, &payment.customer) else {
         return Ok(CustomerPaid::Missing);
     };
     let Some(row) = customer_paid(row, key, payment.home, payment.amount)? else {
@@ -120,7 +122,8 @@ pub fn pay_customer<J: Naming>(
     Ok(CustomerPaid::Paid(reply))
 }
 
-/// Adds a payment's row to its home district's list of payments. Want of memory changes nothing.
+/// Adds a payment's row to its home district's list of payments. The payer may be another warehouse's. Want of
+/// memory changes nothing.
 pub fn add_payment<J: Naming>(
     slice: &mut Slice<J>,
     history: &mut Claim<J>,
@@ -129,6 +132,7 @@ pub fn add_payment<J: Naming>(
 ) -> Result<(), NoMemory>
     requires claim { IsExclusiveOn (group.History payment.now.home.w_id payment.now.home.d_id) history.old }
     requires fresh { IsFresh history.old }
+    requires home { payment.now.home.w_id ≡ slice.old.home }
     requires district { IsTrue (has_district slice.old.tables.scale payment.now.home) }
     requires payer { IsTrue (has_customer slice.old.tables.scale row.customer) }
     ensures kept { SliceKeeps (history.old ∷ []) slice.old (history.new ∷ []) slice.new }
@@ -137,6 +141,7 @@ pub fn add_payment<J: Naming>(
     ensures err { OnErr result ((slice.new ≡ slice.old) × (history.new ≡ history.old)) }
 {
     slice.look(history);
-    let _scale = slice.tables().scale();
+    // The warehouse has each of its districts.
+    let _ = slice.partition();
     slice.add_payment(history, payment.home, row)
 }

@@ -18,12 +18,18 @@ pub fn show_customer<J: Naming>(
     asked: &OrderStatus,
 ) -> CustomerShown
     requires claim { IsSharedOn (group.Customers asked.now.home.w_id asked.now.home.d_id) customers.old }
+    requires home { asked.now.home.w_id ≡ slice.old.home }
     ensures shown { IsCustomerShown asked.now result customers.new }
     ensures same { (slice.new ≡ slice.old) × (customers.new ≡ customers.old) }
 {
     customers.look_untouched();
     slice.look(customers);
-    match chosen(slice.tables(), slice.names(), asked.home, &asked.customer) {
+    match chosen(
+        slice.partition(),
+        slice.names(),
+        asked.home,
+        &asked.customer,
+    ) {
         None => CustomerShown::Missing,
         Some((key, row)) => CustomerShown::Shown {
             key,
@@ -46,10 +52,11 @@ pub fn show_order<J: Naming>(
     key: CustomerKey,
 ) -> Result<Option<StatusOrder>, NoMemory>
     requires claim { IsSharedOn (group.Orders key.w_id key.d_id) orders.old }
+    requires home { key.w_id ≡ slice.old.home }
     ensures shown { IfOk result (λ order. IsOrderShown key order orders.new) }
     ensures same { (slice.new ≡ slice.old) × (orders.new ≡ orders.old) }
 {
     orders.look_untouched();
     slice.look(orders);
-    latest_shown(alloc, slice.tables(), slice.latest(), key)
+    latest_shown(alloc, slice.partition(), slice.latest(), key)
 }

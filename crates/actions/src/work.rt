@@ -2,7 +2,7 @@
 ghost use Rattle.std.specs.Prelude.{◌≡◌, [], ◌∷◌, List, length, option_to_list, slice_get, IfOk, OnErr};
 ghost use Rattle.groups.specs.Footprint as footprint;
 ghost use Rattle.slices.specs.Sliced.{SliceKeeps};
-ghost use Rattle.actions.specs.Works.{AreGrantedFor, AreLeft, CanDo, HasDone, wishes_of};
+ghost use Rattle.actions.specs.Works.{AreGrantedFor, AreLeft, CanDo, HasDone, home_of, wishes_of};
 
 use crate::{
     CustomerPaid, CustomerShown, HomePaid, add_payment, pay_customer, pay_home, show_customer,
@@ -31,6 +31,18 @@ pub enum Work {
 }
 
 impl Work {
+    /// The W_ID of the warehouse at which the action does its work. All that it claims is there.
+    pub fn home(&self) -> u32
+        ensures { result ≡ home_of self.now }
+    {
+        match self {
+            Work::PayHome(payment) | Work::AddPayment(payment, _) => payment.home.w_id,
+            Work::PayCustomer(payment) => payment.customer_home.w_id,
+            Work::ShowCustomer(asked) => asked.home.w_id,
+            Work::ShowOrder(key) => key.w_id,
+        }
+    }
+
     /// How many groups the action claims for its work: one or two.
     pub fn wish_count(&self) -> usize
         ensures { result ≡ length (wishes_of self.now) }
@@ -118,7 +130,8 @@ pub enum Found {
     Order(Option<StatusOrder>),
 }
 
-/// Does the work under the claims that were granted for it. Want of memory leaves all as it was.
+/// Does the work, in the slice of its warehouse, under the claims that were granted for it. Want of memory
+/// leaves all as it was.
 pub fn run<J: Naming>(
     alloc: Global,
     slice: &mut Slice<J>,
@@ -126,6 +139,7 @@ pub fn run<J: Naming>(
     work: Work,
 ) -> Result<Found, NoMemory>
     requires can { CanDo slice.old.tables.scale work }
+    requires home { home_of work ≡ slice.old.home }
     requires granted { AreGrantedFor (wishes_of work) claims.old }
     ensures kept { SliceKeeps claims.old slice.old claims.new slice.new }
     ensures done { IfOk result (λ found. HasDone slice.old.tables.scale work found claims.new) }

@@ -12,12 +12,14 @@ use Rattle.rows.specs.declared.keys.DistrictKey.{DistrictKey}
 use Rattle.rows.specs.declared.keys.CustomerKey.{CustomerKey}
 use Rattle.rows.specs.declared.records.Customer.{Customer}
 use Rattle.rows.specs.Keys.{customer_cmp}
-use Rattle.schema.specs.Scale.{has_district, has_customer, customer_key}
-use Rattle.schema.specs.Database.{Database, IsWithinScale}
+use Rattle.schema.specs.Scale.{customer_key}
+use Rattle.schema.specs.Database.{Database}
 use Rattle.schema.proofs.KeyOrders.{customers_total, customers_exact}
+use Rattle.partitions.specs.Slots.{Slots, AreRows}
 use Rattle.indexes.specs.Namesakes.{Keyed, is_customer_of, has_last, is_namesake, namesakes}
 use Rattle.indexes.specs.NameOrder.{numbered, namesakes_among}
 use Rattle.indexes.proofs.Counts.{filter-part}
+use Rattle.indexes.proofs.Places.{some_customer, no_customer, no_zero}
 
 -- ---- counts over rows with their keys
 
@@ -144,12 +146,10 @@ some_below [] n = let e : false ≡ nat_lt n 0 = grind (arith, nat_tests) in e
 some_below (x ∷ xs) zero = let e : true ≡ nat_lt 0 (suc (length xs)) = grind (arith, nat_tests) in e
 some_below (x ∷ xs) (suc n) = some_below xs n ∙ (let e : nat_lt n (length xs) ≡ nat_lt (suc n) (suc (length xs)) = grind (arith, nat_tests) in e)
 
-module _ (t : Database) (within : IsWithinScale t) (home : DistrictKey) (rows : List Customer) (read : (c : ℕ) → slice_get rows c ≡ map.get t.customers (customer_key home (c + 1))) where
+module _ (slot : Slots) (districts : ℕ) (t : Database) (here : AreRows slot districts t) (home : DistrictKey) (rows : List Customer) (read : (c : ℕ) → slice_get rows c ≡ map.get t.customers (customer_key home (c + 1))) where
   -- number 0 is no customer's
   none_at_zero : map.get t.customers (customer_key home 0) ≡ None
-  none_at_zero =
-      let out : has_customer t.scale (customer_key home 0) ≡ false = grind (arith, nat_tests) in
-      no_row _ (within.customers (customer_key home 0) ∙ out)
+  none_at_zero = no_row _ (here.customers (customer_key home 0) ∙ no_zero slot t.scale.customers home)
 
   read-key : (q : CustomerKey) → cond (is_customer_of home q) (map.get t.customers q) None ≡ cond (is_customer_of home q && nat_le 1 q.c_id) (slice_get rows (q.c_id - 1)) None
   read-key q =
@@ -186,18 +186,16 @@ module _ (t : Database) (within : IsWithinScale t) (home : DistrictKey) (rows : 
       sym (filter-part (λ (e : Keyed). is_customer_of home e.0) (λ e. has_last last e.1) (entries t.customers))
       ∙ ap (filter (is_namesake home last)) district_entries
 
-  -- a district of the scale has as many rows as the scale says
-  pub row_count : has_district t.scale home ≡ true → length rows ≡ t.scale.customers
-  row_count inside =
+  -- a district that is here has as many rows as the scale says
+  pub row_count : is_some (slot home) ≡ true → length rows ≡ t.scale.customers
+  row_count placed =
       let some_at : (c : ℕ) → nat_lt c (length rows) ≡ nat_lt c t.scale.customers =
-      λ c. sym (some_below rows c) ∙ ap is_some (read c) ∙ within.customers (customer_key home (c + 1))
-      ∙ (let e : has_customer t.scale (customer_key home (c + 1)) ≡ nat_lt c t.scale.customers = rw inside (grind (arith, nat_tests)) in e) in
-      let here : nat_lt (length rows) (length rows) ≡ nat_lt (length rows) t.scale.customers = some_at (length rows) in
-      let there : nat_lt t.scale.customers (length rows) ≡ nat_lt t.scale.customers t.scale.customers = some_at t.scale.customers in
+      λ c. sym (some_below rows c) ∙ ap is_some (read c) ∙ here.customers (customer_key home (c + 1)) ∙ some_customer slot t.scale.customers home c placed in
+      let own : nat_lt (length rows) (length rows) ≡ nat_lt (length rows) t.scale.customers = some_at (length rows) in
+      let other : nat_lt t.scale.customers (length rows) ≡ nat_lt t.scale.customers t.scale.customers = some_at t.scale.customers in
       grind (arith, nat_tests)
 
--- a district that isn't in the scale has no customers
-pub no_district : (t : Database) → IsWithinScale t → (home : DistrictKey) (last : List ℕ) → has_district t.scale home ≡ false → namesakes t.customers home last ≡ []
-no_district t within home last outside =
-    same_namesakes t within home []
-    (λ c. sym (no_row _ (within.customers (customer_key home (c + 1)) ∙ (let out : has_customer t.scale (customer_key home (c + 1)) ≡ false = rw outside refl in out)))) last
+-- a district that isn't here has no customers
+pub no_district : (slot : Slots) (districts : ℕ) (t : Database) → AreRows slot districts t → (home : DistrictKey) (last : List ℕ) → slot home ≡ None → namesakes t.customers home last ≡ []
+no_district slot districts t here home last none =
+    same_namesakes slot districts t here home [] (λ c. sym (no_row _ (here.customers (customer_key home (c + 1)) ∙ no_customer slot t.scale.customers (customer_key home (c + 1)) none))) last

@@ -6,3 +6,4 @@ pub mod Latest
 pub mod Members
 pub mod Middles
 pub mod Names
+pub mod Places

@@ -11,8 +11,8 @@ use Rattle.schema.specs.declared.scale.Scale.{Scale}
 use Rattle.schema.specs.Scale.{customer_key, district_slot}
 use Rattle.schema.specs.Database.{Database}
 use Rattle.schema.proofs.KeyOrders.{customers_total, customers_exact}
-use Rattle.indexes.specs.NameLaws.{PutKeepsNames, SameNamesFit}
-use Rattle.indexes.specs.NameOrder.{IsNameRun, last_of, first_of, last_name, first_name}
+use Rattle.indexes.specs.NameLaws.{SameNames, PutKeepsNames, SameNamesFit}
+use Rattle.indexes.specs.NameOrder.{FitsNames, FitsNamesBy, IsNameRun, last_of, first_of, last_name, first_name}
 
 equal : (o : Ordering) → is_eq o ≡ true → o ≡ Equal
 equal Less h = absurd cc
@@ -36,11 +36,16 @@ put_keeps_names t key old new there last first = record {
   first = kept first_of t key old new there first;
 }
 
-pub same_names_fit : SameNamesFit
-same_names_fit index old new same fits home slot placed =
-    let last : last_name old home ≡ last_name new home = λ i place. sym (same.last (customer_key home (place + 1))) i in
-    let first : first_name old home ≡ first_name new home = λ i place. sym (same.first (customer_key home (place + 1))) i in
-    let was : IsSomeAnd (slice_get index slot) (IsNameRun (last_name old home) (first_name old home) old.scale.customers) = fits home slot (ap (λ (s : Scale). district_slot s home) (sym same.scale) ∙ placed) in
-    subst (λ (s : Scale). IsSomeAnd (slice_get index slot) (IsNameRun (last_name new home) (first_name new home) s.customers)) (sym same.scale)
-    (subst (λ (f : ℕ → List ℕ). IsSomeAnd (slice_get index slot) (IsNameRun (last_name new home) f old.scale.customers)) first
-    (subst (λ (l : ℕ → List ℕ). IsSomeAnd (slice_get index slot) (IsNameRun l (first_name old home) old.scale.customers)) last was))
+pub same_names_fit_by : SameNamesFit
+same_names_fit_by slot index old new same fits home place at =
+    let last : last_name old home ≡ last_name new home = λ i k. sym (same.last (customer_key home (k + 1))) i in
+    let first : first_name old home ≡ first_name new home = λ i k. sym (same.first (customer_key home (k + 1))) i in
+    let was : IsSomeAnd (slice_get index place) (IsNameRun (last_name old home) (first_name old home) old.scale.customers) = fits home place at in
+    subst (λ (s : Scale). IsSomeAnd (slice_get index place) (IsNameRun (last_name new home) (first_name new home) s.customers)) (sym same.scale)
+    (subst (λ (f : ℕ → List ℕ). IsSomeAnd (slice_get index place) (IsNameRun (last_name new home) f old.scale.customers)) first
+    (subst (λ (l : ℕ → List ℕ). IsSomeAnd (slice_get index place) (IsNameRun l (first_name old home) old.scale.customers)) last was))
+
+-- so for the index of all tables
+pub same_names_fit : (index : List (List ℕ)) (old new : Database) → SameNames old new → FitsNames index old → FitsNames index new
+same_names_fit index old new same fits =
+    subst (λ (s : Scale). FitsNamesBy (district_slot s) index new) (sym same.scale) (same_names_fit_by (district_slot old.scale) index old new same fits)

@@ -6,8 +6,9 @@ use Rattle.rows.specs.declared.keys.CustomerKey.{CustomerKey}
 use Rattle.rows.specs.declared.records.Customer.{Customer}
 use Rattle.schema.specs.Scale.{customer_key}
 use Rattle.schema.specs.Database.{Database}
+use Rattle.partitions.specs.Slots.{Slots}
 use Rattle.indexes.specs.Namesakes.{IsMiddleOf}
-use Rattle.indexes.specs.NameOrder.{last_of, first_of, FitsNames}
+use Rattle.indexes.specs.NameOrder.{last_of, first_of, FitsNamesBy}
 
 -- at most one customer is the middle one
 abbrev pub MiddleIsOne : Type 0
@@ -24,9 +25,9 @@ pub record SameNames (old new : Database) : Type 0 where
   pub last : (key : CustomerKey) → last_of (map.get new.customers key) ≡ last_of (map.get old.customers key)
   pub first : (key : CustomerKey) → first_of (map.get new.customers key) ≡ first_of (map.get old.customers key)
 
--- an index fits as long as the names stay
+-- an index fits as long as the names stay, wherever the districts stand
 abbrev pub SameNamesFit : Type 0
-SameNamesFit = (index : List (List ℕ)) (old new : Database) → SameNames old new → FitsNames index old → FitsNames index new
+SameNamesFit = (slot : Slots) (index : List (List ℕ)) (old new : Database) → SameNames old new → FitsNamesBy slot index old → FitsNamesBy slot index new
 
 -- a customer's row that is put with the same C_LAST and C_FIRST leaves the names as they are
 abbrev pub PutKeepsNames : Type 0

@@ -10,6 +10,7 @@ use Rattle.rows.specs.declared.keys.DistrictKey.{DistrictKey}
 use Rattle.rows.specs.declared.records.Customer.{Customer}
 use Rattle.schema.specs.Scale.{customer_key, district_slot}
 use Rattle.schema.specs.Database.{Database}
+use Rattle.partitions.specs.Slots.{Slots}
 use Rattle.indexes.specs.Namesakes.{Keyed, text_cmp, is_namesake, IsMiddle}
 
 -- C_LAST and C_FIRST of a row, empty where there is none
@@ -35,10 +36,14 @@ last_name t home place = last_of (map.get t.customers (customer_key home (place 
 abbrev pub first_name : Database → DistrictKey → ℕ → List ℕ
 first_name t home place = first_of (map.get t.customers (customer_key home (place + 1)))
 
--- the index has a run for each district, at its slot; it asks nothing of the rows but the customers' names
+-- the index has a run for each district that has a place, there; it asks nothing of the rows but the customers' names
+abbrev pub FitsNamesBy : Slots → List (List ℕ) → Database → Type 0
+FitsNamesBy slot index t = (home : DistrictKey) (place : ℕ) → slot home ≡ Some place
+    → IsSomeAnd (slice_get index place) (IsNameRun (last_name t home) (first_name t home) t.scale.customers)
+
+-- the index has a run for each district of the scale
 abbrev pub FitsNames : List (List ℕ) → Database → Type 0
-FitsNames index t = (home : DistrictKey) (slot : ℕ) → district_slot t.scale home ≡ Some slot
-    → IsSomeAnd (slice_get index slot) (IsNameRun (last_name t home) (first_name t home) t.scale.customers)
+FitsNames index t = FitsNamesBy (district_slot t.scale) index t
 
 -- ---- the rows of one district
 

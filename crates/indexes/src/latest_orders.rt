@@ -1,14 +1,17 @@
 ghost use Rattle.std.specs.Prelude.{◌≡◌, IfOk, unwrap_or, replicate};
+ghost use Rattle.partitions.specs.Slots.{AreRows, customer_slot_by};
 ghost use Rattle.indexes.specs.LatestOrder.{latest};
-ghost use Rattle.indexes.specs.LatestIndex.{FitsLatest, HasPlace, latest_at, with_latest, raised, number_of};
+ghost use Rattle.indexes.specs.LatestIndex.{FitsLatestBy, HasPlace, latest_at, with_latest, raised, number_of};
 
-use schema::{CustomerKey, NoMemory, Scale, Tables};
+use partitions::Rows;
+use schema::{CustomerKey, NoMemory};
 use std::alloc::Global;
 use std::marker::Model;
 use std::mem;
 
-/// The number of each customer's latest order, in the order of the customers' keys, four bytes each.
-/// It fits on as the rows of orders change, as long as none comes, goes or changes its customer.
+/// The number of each customer's latest order, in the order of the customers' keys, four bytes each:
+/// of all customers, or of those of one warehouse. It fits on as the rows of orders change, as long as
+/// none comes, goes or changes its customer.
 #[derive(Drop)]
 pub struct LatestOrders {
     // 0 stands for none.
@@ -24,42 +27,46 @@ impl Model for LatestOrders {
 }
 
 impl LatestOrders {
-    /// The index of these tables. Want of memory leaves nothing behind.
-    pub fn build(alloc: Global, tables: &Tables) -> Result<LatestOrders, NoMemory>
-        ensures { IfOk result (λ index. FitsLatest index tables.now) }
+    /// The index of these rows. Want of memory leaves nothing behind.
+    pub fn build<T: Rows>(alloc: Global, rows: &T) -> Result<LatestOrders, NoMemory>
+        ensures { IfOk result (λ index. FitsLatestBy (T.slot rows.now) index (T.tables rows.now)) }
     {
-        let scale = tables.scale();
-        let rows = tables.rows();
-        let mut numbers = zeros(rows.customers.len(), alloc)?;
-        for (key, order) in rows.orders.iter() {
+        let customers = rows.scale().customers as usize;
+        let mut numbers = zeros(rows.district_count() as usize * customers, alloc)?;
+        for (key, order) in rows.orders().iter() {
             let customer = CustomerKey {
                 w_id: key.w_id,
                 d_id: key.d_id,
                 c_id: order.c_id,
             };
-            raise(&mut numbers, scale, customer, key.o_id);
+            raise(&mut numbers, rows, customer, key.o_id);
         }
         Ok(LatestOrders { numbers })
     }
 
     /// The largest O_ID of the customer's orders (clause 2.6.2.2), `None` exactly where there is
-    /// none. It reads one number, and of the tables the scale alone.
-    pub fn latest_order(&self, tables: &Tables, customer: CustomerKey) -> Option<u32>
-        requires { FitsLatest self.now tables.now }
-        ensures { result ≡ latest tables.now.orders customer }
+    /// none. It reads one number, and of the rows none.
+    pub fn latest_order<T: Rows>(&self, rows: &T, customer: CustomerKey) -> Option<u32>
+        requires { FitsLatestBy (T.slot rows.now) self.now (T.tables rows.now) }
+        ensures { result ≡ latest (T.tables rows.now).orders customer }
     {
-        let slot = tables.scale().customer_slot(customer)?;
+        let slot = customer_slot(rows, customer)?;
         number_of(*self.numbers.get(slot)?)
     }
 
     /// Notes the order of that number, from 1, as the customer's latest, and gives what stood there, for
-    /// `take_back`. A customer outside the scale changes nothing. The index fits the tables with that
+    /// `take_back`. A customer whose row is not here changes nothing. The index fits the rows with that
     /// order where it was larger than all of the customer's before (`noted_order_fits`).
-    pub fn note_order(&mut self, scale: Scale, customer: CustomerKey, number: u32) -> Option<u32>
-        ensures noted { self.new ≡ with_latest scale self.old customer number }
-        ensures before { result ≡ latest_at scale self.old customer }
+    pub fn note_order<T: Rows>(
+        &mut self,
+        rows: &T,
+        customer: CustomerKey,
+        number: u32,
+    ) -> Option<u32>
+        ensures noted { self.new ≡ with_latest (T.slot rows.now) (T.tables rows.now).scale.customers self.old customer number }
+        ensures before { result ≡ latest_at (T.slot rows.now) (T.tables rows.now).scale.customers self.old customer }
     {
-        let slot = scale.customer_slot(customer)?;
+        let slot = customer_slot(rows, customer)?;
         if slot < self.numbers.len() {
             number_of(mem::replace(&mut self.numbers[slot], number))
         } else {
@@ -69,10 +76,24 @@ impl LatestOrders {
 
     /// Puts back what `note_order` gave for that customer, where the order is taken away again. The
     /// index is then as it was before (`taken_back_is_as_before`).
-    pub fn take_back(&mut self, scale: Scale, customer: CustomerKey, before: Option<u32>)
-        ensures { self.new ≡ with_latest scale self.old customer (unwrap_or before 0) }
+    pub fn take_back<T: Rows>(&mut self, rows: &T, customer: CustomerKey, before: Option<u32>)
+        ensures { self.new ≡ with_latest (T.slot rows.now) (T.tables rows.now).scale.customers self.old customer (unwrap_or before 0) }
     {
-        self.note_order(scale, customer, before.unwrap_or(0));
+        self.note_order(rows, customer, before.unwrap_or(0));
+    }
+}
+
+// The place of the customer's number; `None` where the customer's row is not here.
+fn customer_slot<T: Rows>(rows: &T, customer: CustomerKey) -> Option<usize>
+    ensures slot { result ≡ customer_slot_by (T.slot rows.now) (T.tables rows.now).scale.customers customer }
+    ensures rows { AreRows (T.slot rows.now) (T.districts rows.now) (T.tables rows.now) }
+{
+    let customers = rows.scale().customers;
+    if (1..=customers).contains(&customer.c_id) {
+        let district = rows.district_slot(customer.district())?;
+        Some(district * customers as usize + (customer.c_id as usize - 1))
+    } else {
+        None
     }
 }
 
@@ -91,11 +112,11 @@ fn zeros(count: usize, alloc: Global) -> Result<Vec<u32>, NoMemory>
 }
 
 // Puts the number for the customer, unless a larger one stands there.
-fn raise(numbers: &mut [u32], scale: Scale, customer: CustomerKey, number: u32)
-    requires { HasPlace scale numbers.old customer }
-    ensures { numbers.new ≡ raised scale numbers.old customer number }
+fn raise<T: Rows>(numbers: &mut [u32], rows: &T, customer: CustomerKey, number: u32)
+    requires { HasPlace (T.slot rows.now) (T.tables rows.now).scale.customers numbers.old customer }
+    ensures { numbers.new ≡ raised (T.slot rows.now) (T.tables rows.now).scale.customers numbers.old customer number }
 {
-    if let Some(slot) = scale.customer_slot(customer) {
+    if let Some(slot) = customer_slot(rows, customer) {
         numbers[slot] = numbers[slot].max(number);
     }
 }

@@ -13,7 +13,7 @@ pub fn middle_is_there()
 {}
 
 /// An index by last name that fits tables fits all tables of the same scale and the same names of
-/// customers, whatever else differs.
+/// customers, whatever else differs, wherever the districts stand.
 pub fn same_names_fit()
     ensures { SameNamesFit }
 {}

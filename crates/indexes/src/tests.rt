@@ -243,18 +243,17 @@ fn the_latest_order_is_found(rt: HostRuntime) -> Result<(), Fail> {
 #[test]
 fn a_noted_order_is_taken_back(rt: HostRuntime) -> Result<(), Fail> {
     let tables = tables(rt.alloc())?;
-    let scale = tables.scale();
     let mut index = LatestOrders::build(rt.alloc(), &tables)?;
     let (old, new, outside) = (customer_key(1, 2), customer_key(1, 1), customer_key(1, 7));
-    assert_eq!(rt; index.note_order(scale, old, 6), Some(3));
-    assert_eq!(rt; index.note_order(scale, new, 7), None);
-    assert_eq!(rt; index.note_order(scale, new, 8), Some(7));
-    assert_eq!(rt; index.note_order(scale, outside, 9), None);
-    index.take_back(scale, new, Some(7));
-    index.take_back(scale, new, None);
-    index.take_back(scale, old, Some(3));
-    assert_eq!(rt; index.note_order(scale, old, 10), Some(3));
-    assert_eq!(rt; index.note_order(scale, new, 11), None);
+    assert_eq!(rt; index.note_order(&tables, old, 6), Some(3));
+    assert_eq!(rt; index.note_order(&tables, new, 7), None);
+    assert_eq!(rt; index.note_order(&tables, new, 8), Some(7));
+    assert_eq!(rt; index.note_order(&tables, outside, 9), None);
+    index.take_back(&tables, new, Some(7));
+    index.take_back(&tables, new, None);
+    index.take_back(&tables, old, Some(3));
+    assert_eq!(rt; index.note_order(&tables, old, 10), Some(3));
+    assert_eq!(rt; index.note_order(&tables, new, 11), None);
     Ok(())
 }
 

@@ -1,10 +1,11 @@
 ghost use Rattle.std.specs.Prelude.{◌≡◌, IfOk};
-ghost use Rattle.indexes.specs.LatestIndex.{FitsLatest};
+ghost use Rattle.indexes.specs.LatestIndex.{FitsLatestBy};
 ghost use Rattle.machine.specs.OrderStatus as spec;
 
 use indexes::LatestOrders;
+use partitions::Rows;
 use requests::{Lines, OrderStatusReply, StatusLine, StatusOrder};
-use schema::{Customer, CustomerKey, NoMemory, OrderKey, OrderLine, Tables};
+use schema::{Customer, CustomerKey, NoMemory, OrderKey, OrderLine};
 use std::alloc::Global;
 
 /// What Order-Status shows of a customer's row, with what it shows of the customer's last order. It takes no
@@ -28,14 +29,14 @@ pub fn status_reply(
 
 /// What Order-Status shows of the customer's last order, `None` exactly where there is none. The order is
 /// looked up by the index. Its lines alone take memory; want of it leaves nothing behind.
-pub fn latest_shown(
+pub fn latest_shown<T: Rows>(
     alloc: Global,
-    tables: &Tables,
+    tables: &T,
     orders: &LatestOrders,
     customer: CustomerKey,
 ) -> Result<Option<StatusOrder>, NoMemory>
-    requires { FitsLatest orders.now tables.now }
-    ensures { IfOk result (λ r. r ≡ spec.latest_shown tables.now customer) }
+    requires { FitsLatestBy (T.slot tables.now) orders.now (T.tables tables.now) }
+    ensures { IfOk result (λ r. r ≡ spec.latest_shown (T.tables tables.now) customer) }
 {
     let Some(o_id) = orders.latest_order(tables, customer) else {
         return Ok(None);
@@ -57,12 +58,12 @@ pub fn latest_shown(
 }
 
 // What is shown of the order's lines.
-fn lines_shown(
+fn lines_shown<T: Rows>(
     alloc: Global,
-    tables: &Tables,
+    tables: &T,
     order: OrderKey,
 ) -> Result<Lines<StatusLine>, NoMemory>
-    ensures { IfOk result (λ r. r ≡ spec.lines_shown tables.now order) }
+    ensures { IfOk result (λ r. r ≡ spec.lines_shown (T.tables tables.now) order) }
 {
     let mut lines = Vec::new(alloc);
     for (_, row) in tables.lines_of(order) {

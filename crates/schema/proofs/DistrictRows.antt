@@ -16,12 +16,12 @@ use Rattle.schema.proofs.Places.{get-dense, place-within}
 use Rattle.schema.proofs.KeyOrders.{customers_total, customers_exact}
 use Rattle.schema.proofs.ScalePlaces.{customer_place, district_place, length-district_keys}
 
-slice_get-drop : {X : Type 0} (xs : List X) (k c : ℕ) → slice_get (drop k xs) c ≡ slice_get xs (k + c)
+pub slice_get-drop : {X : Type 0} (xs : List X) (k c : ℕ) → slice_get (drop k xs) c ≡ slice_get xs (k + c)
 slice_get-drop xs zero c = ap (slice_get xs) (let e : c ≡ 0 + c = omega arith in e)
 slice_get-drop [] (suc k) c = refl
 slice_get-drop (x ∷ xs) (suc k) c = slice_get-drop xs k c ∙ ap (slice_get (x ∷ xs)) (let e : suc (k + c) ≡ suc k + c = omega arith in e)
 
-slice_get-take : {X : Type 0} (xs : List X) (m c : ℕ) → slice_get (take m xs) c ≡ cond (nat_lt c m) (slice_get xs c) None
+pub slice_get-take : {X : Type 0} (xs : List X) (m c : ℕ) → slice_get (take m xs) c ≡ cond (nat_lt c m) (slice_get xs c) None
 slice_get-take xs zero c = let e : nat_lt c 0 ≡ false = grind (arith, nat_tests) in rw e refl
 slice_get-take {X = X} [] (suc m) c =
     elim (nat_lt c (suc m)) as (λ b. slice_get {X = X} [] c ≡ cond b (slice_get {X = X} [] c) None) [ true ↦ refl | false ↦ refl ]

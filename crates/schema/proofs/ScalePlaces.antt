@@ -17,7 +17,7 @@ use Rattle.schema.specs.Dense.{place}
 use Rattle.schema.specs.Scale.{has_warehouse, has_district, item_ids, warehouse_ids, district_key, district_keys, stock_key, stock_keys, customer_key, customer_keys, item_slot, warehouse_slot, district_slot, stock_slot, customer_slot}
 use Rattle.schema.proofs.Places.{place-grid, place-numbers, length-grid}
 
-same_number : (q j : ℕ) → eq_by_cmp nat_cmp q j ≡ eqb q j
+pub same_number : (q j : ℕ) → eq_by_cmp nat_cmp q j ≡ eqb q j
 same_number q j = grind (arith, nat_tests)
 
 then_equal : (x y : Ordering) → is_eq (ordering_then x y) ≡ (is_eq x && is_eq y)
@@ -39,14 +39,14 @@ item_place scale q = numbers_place q scale.items
 pub warehouse_place : (scale : Scale) (q : ℕ) → place (eq_by_cmp nat_cmp q) (warehouse_ids scale) ≡ warehouse_slot scale q
 warehouse_place scale q = numbers_place q scale.warehouses
 
-in_turn : (inside within : Bool) (place_is inner count : ℕ)
+pub in_turn : (inside within : Bool) (place_is inner count : ℕ)
     → cond inside (option_map (λ p. p * count + inner) (cond within (Some place_is) None)) None ≡ cond (within && inside) (Some (place_is * count + inner)) None
 in_turn true true place_is inner count = refl
 in_turn true false place_is inner count = refl
 in_turn false true place_is inner count = refl
 in_turn false false place_is inner count = refl
 
-district_splits : (q : DistrictKey) (w d : ℕ) → eq_by_cmp district_cmp q (district_key w d) ≡ (eq_by_cmp nat_cmp q.w_id w && eqb q.d_id d)
+pub district_splits : (q : DistrictKey) (w d : ℕ) → eq_by_cmp district_cmp q (district_key w d) ≡ (eq_by_cmp nat_cmp q.w_id w && eqb q.d_id d)
 district_splits q w d = then_equal (nat_cmp q.w_id w) (nat_cmp q.d_id d) ∙ ap (λ b. eq_by_cmp nat_cmp q.w_id w && b) (same_number q.d_id d)
 
 pub district_place : (scale : Scale) (q : DistrictKey) → place (eq_by_cmp district_cmp q) (district_keys scale) ≡ district_slot scale q
@@ -64,7 +64,7 @@ stock_place scale q =
     ∙ ap (λ r. cond (is_between 1 scale.items q.i_id) (option_map (λ p. p * scale.items + (q.i_id - 1)) r) None) (warehouse_place scale q.w_id)
     ∙ in_turn (is_between 1 scale.items q.i_id) (has_warehouse scale q.w_id) (q.w_id - 1) (q.i_id - 1) scale.items
 
-customer_splits : (q : CustomerKey) (home : DistrictKey) (c : ℕ) → eq_by_cmp customer_cmp q (customer_key home c) ≡ (eq_by_cmp district_cmp (district_of_customer q) home && eqb q.c_id c)
+pub customer_splits : (q : CustomerKey) (home : DistrictKey) (c : ℕ) → eq_by_cmp customer_cmp q (customer_key home c) ≡ (eq_by_cmp district_cmp (district_of_customer q) home && eqb q.c_id c)
 customer_splits q home c =
     ap is_eq (then_assoc (nat_cmp q.w_id home.w_id) (nat_cmp q.d_id home.d_id) (nat_cmp q.c_id c))
     ∙ then_equal (district_cmp (district_of_customer q) home) (nat_cmp q.c_id c)

@@ -65,7 +65,7 @@ module _ (scale : Scale) (rows : TableRows) where
 
 -- ---- the keys of the six tables
 
-some_if : {X : Type 0} (b : Bool) (x : X) → is_some (cond b (Some x) None) ≡ b
+pub some_if : {X : Type 0} (b : Bool) (x : X) → is_some (cond b (Some x) None) ≡ b
 some_if true x = refl
 some_if false x = refl
 

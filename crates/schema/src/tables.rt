@@ -92,6 +92,14 @@ impl Tables {
         }
     }
 
+    /// The tables of rows that are known to fit the scale. It takes no memory and looks at no row.
+    pub fn from_fitting(scale: Scale, rows: TableRows) -> Tables
+        requires { FitsScale scale rows }
+        ensures { result ≡ database scale rows }
+    {
+        Tables { scale, rows }
+    }
+
     /// The rows again, in the order in which `checked` takes them. It takes no memory.
     pub fn into_rows(self) -> (Scale, TableRows)
         ensures same { database result.0 result.1 ≡ self }

@@ -1,46 +1,57 @@
--- How many tickets of each group are at home, by the groups' places.
+-- How many tickets of each group are at home, by the groups' places in the warehouse.
 use Rattle.std.proofs.Common.{◌≡◌, ◌≢◌, ℕ, ◌<◌, Bool, true, false, List, length, get_or, set, refl, sym, ap, ◌∙◌, arith}
 use Rattle.std.specs.Prelude.{IsTrue, if◌then◌else◌}
+use Rattle.std.proofs.lemmas.Bool.Decides.{nat_tests}
 use Rattle.std.proofs.lemmas.List.{get_or-set_same, get_or-set_other}
 use Rattle.requests.specs.declared.group.Group.{Group}
 use Rattle.requests.specs.declared.group.Group.TheVariants.{Warehouse, District, Customers, Orders, History, Stock}
-use Rattle.tickets.specs.Places.{IsGroupOf, place_of}
-use Rattle.tickets.proofs.OnePlace.{place_injective}
-use Rattle.slices.specs.Sliced.{is_group_of, free_of}
+use Rattle.groups.specs.Groups.{warehouse_of}
+use Rattle.tickets.specs.Places.{IsBetween, IsGroupOf, place_in_warehouse}
+use Rattle.slices.specs.Sliced.{is_group, free_at}
 
-pub group_told : (warehouses : ℕ) (group : Group) → IsTrue (is_group_of warehouses group) → IsGroupOf warehouses group
-group_told warehouses (Warehouse w_id) is = grind arith
-group_told warehouses (District w_id d_id) is = grind arith
-group_told warehouses (Customers w_id d_id) is = grind arith
-group_told warehouses (Orders w_id d_id) is = grind arith
-group_told warehouses (History w_id d_id) is = grind arith
-group_told warehouses (Stock w_id residue) is = grind arith
+-- a group of so many warehouses is one that there is in a warehouse
+pub group_tells : (warehouses : ℕ) (group : Group) → IsGroupOf warehouses group → IsTrue (is_group group)
+group_tells warehouses (Warehouse w_id) is = refl
+group_tells warehouses (District w_id d_id) is = grind (arith, nat_tests)
+group_tells warehouses (Customers w_id d_id) is = grind (arith, nat_tests)
+group_tells warehouses (Orders w_id d_id) is = grind (arith, nat_tests)
+group_tells warehouses (History w_id d_id) is = grind (arith, nat_tests)
+group_tells warehouses (Stock w_id residue) is = grind (arith, nat_tests)
 
-pub group_tells : (warehouses : ℕ) (group : Group) → IsGroupOf warehouses group → IsTrue (is_group_of warehouses group)
-group_tells warehouses (Warehouse w_id) is = grind arith
-group_tells warehouses (District w_id d_id) is = grind arith
-group_tells warehouses (Customers w_id d_id) is = grind arith
-group_tells warehouses (Orders w_id d_id) is = grind arith
-group_tells warehouses (History w_id d_id) is = grind arith
-group_tells warehouses (Stock w_id residue) is = grind arith
+-- and one that there is, is a group of each number of warehouses that has its own
+pub group_told : (warehouses : ℕ) (group : Group) → IsBetween 1 warehouses (warehouse_of group) → IsTrue (is_group group) → IsGroupOf warehouses group
+group_told warehouses (Warehouse w_id) there is = there
+group_told warehouses (District w_id d_id) there is = grind (arith, nat_tests)
+group_told warehouses (Customers w_id d_id) there is = grind (arith, nat_tests)
+group_told warehouses (Orders w_id d_id) there is = grind (arith, nat_tests)
+group_told warehouses (History w_id d_id) there is = grind (arith, nat_tests)
+group_told warehouses (Stock w_id residue) there is = grind (arith, nat_tests)
+
+-- a warehouse has 105 places
+pub place_known : (warehouses : ℕ) (group : Group) → IsGroupOf warehouses group → place_in_warehouse group < 105
+place_known warehouses group is = grind arith
+
+-- no two groups of one warehouse have one place
+pub one_place : (a b : Group) → IsTrue (is_group a) → IsTrue (is_group b) → warehouse_of a ≡ warehouse_of b → place_in_warehouse a ≡ place_in_warehouse b → a ≡ b
+one_place a b is_a is_b same at = grind (arith, nat_tests)
 
 -- of a group that there is, what stands at its place
-pub free_here : (warehouses : ℕ) (free : List ℕ) (group : Group) → IsGroupOf warehouses group → free_of warehouses free group ≡ get_or free (place_of group) 8
-free_here warehouses free group is = ap (λ (b : Bool). if b then get_or free (place_of group) 8 else 8) (group_tells warehouses group is)
+pub free_here : (free : List ℕ) (group : Group) → IsTrue (is_group group) → free_at free group ≡ get_or free (place_in_warehouse group) 8
+free_here free group is = ap (λ (b : Bool). if b then get_or free (place_in_warehouse group) 8 else 8) is
 
 -- another number at the place of a group is that group's,
-pub free_set : (warehouses : ℕ) (free : List ℕ) (group : Group) (place number : ℕ) → IsGroupOf warehouses group → place ≡ place_of group → place < length free
-    → free_of warehouses (set free place number) group ≡ number
-free_set warehouses free group place number is at here =
-    free_here warehouses (set free place number) group is
+pub free_set : (free : List ℕ) (group : Group) (place number : ℕ) → IsTrue (is_group group) → place ≡ place_in_warehouse group → place < length free
+    → free_at (set free place number) group ≡ number
+free_set free group place number is at here =
+    free_here (set free place number) group is
     ∙ ap (λ j. get_or (set free place number) j 8) (sym at)
     ∙ get_or-set_same free place number 8 here
 
--- and no other group's
-pub free_elsewhere : (warehouses : ℕ) (free : List ℕ) (group : Group) (place number : ℕ) → IsGroupOf warehouses group → place ≡ place_of group
-    → (other : Group) → other ≢ group → free_of warehouses (set free place number) other ≡ free_of warehouses free other
-free_elsewhere warehouses free group place number is at other apart =
-    elim (is_group_of warehouses other) as (λ (b : Bool). is_group_of warehouses other ≡ b → (if b then get_or (set free place number) (place_of other) 8 else 8) ≡ (if b then get_or free (place_of other) 8 else 8)) [
-      | true ↦ λ e. get_or-set_other free place (place_of other) number 8 (λ same. apart (place_injective warehouses other group (group_told warehouses other e) is (same ∙ at)))
+-- and no other group's of the warehouse
+pub free_elsewhere : (free : List ℕ) (group : Group) (place number : ℕ) → IsTrue (is_group group) → place ≡ place_in_warehouse group
+    → (other : Group) → warehouse_of other ≡ warehouse_of group → other ≢ group → free_at (set free place number) other ≡ free_at free other
+free_elsewhere free group place number is at other same apart =
+    elim (is_group other) as (λ (b : Bool). is_group other ≡ b → (if b then get_or (set free place number) (place_in_warehouse other) 8 else 8) ≡ (if b then get_or free (place_in_warehouse other) 8 else 8)) [
+      | true ↦ λ e. get_or-set_other free place (place_in_warehouse other) number 8 (λ one. apart (one_place other group e is same (one ∙ at)))
       | false ↦ λ e. refl
     ] refl

@@ -1,6 +1,13 @@
 pub mod Names
 pub mod Steps
+pub mod Seen
 pub mod Homes
+pub mod HomeRows
 pub mod Grounds
 pub mod Keeps
 pub mod Opened
+pub mod Alike
+pub mod Wholes
+pub mod Joined
+pub mod HomeBoxes
+pub mod Cuts

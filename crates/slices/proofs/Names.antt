@@ -10,9 +10,9 @@ use Rattle.rows.specs.declared.keys.CustomerKey.{CustomerKey}
 use Rattle.rows.specs.declared.records.Customer as customer
 use Rattle.rows.specs.Keys.{customer_cmp}
 use Rattle.schema.specs.declared.scale.Scale.{Scale}
-use Rattle.schema.specs.Scale.{has_warehouse, has_district, has_customer}
 use Rattle.schema.specs.Database.{Database}
 use Rattle.schema.proofs.KeyOrders.{customers_total, customers_exact}
+use Rattle.partitions.specs.Parts.{has_customer_of}
 use Rattle.requests.specs.declared.group.Group.{Group}
 use Rattle.indexes.specs.NameLaws.{SameNames}
 use Rattle.indexes.specs.NameOrder.{last_of, first_of}
@@ -52,31 +52,31 @@ put_names t key row names = record {
 
 -- ---- a step is taken back
 
-pub step_names : (kept : Kept) (t : Database) → IsKept t kept → SameNames t (put_back kept t)
-step_names (k.Warehouse w_id row) t is = record { scale = refl; last = λ _. refl; first = λ _. refl }
-step_names (k.District key row) t is = record { scale = refl; last = λ _. refl; first = λ _. refl }
-step_names (k.Customer key row) t is = put_names t key row is.1
-step_names (k.NoPayment key) t is = record { scale = refl; last = λ _. refl; first = λ _. refl }
+pub step_names : (home : ℕ) (kept : Kept) (t : Database) → IsKept home t kept → SameNames t (put_back kept t)
+step_names home (k.Warehouse w_id row) t is = record { scale = refl; last = λ _. refl; first = λ _. refl }
+step_names home (k.District key row) t is = record { scale = refl; last = λ _. refl; first = λ _. refl }
+step_names home (k.Customer key row) t is = put_names t key row is.1
+step_names home (k.NoPayment key) t is = record { scale = refl; last = λ _. refl; first = λ _. refl }
 
 -- a step that can be taken back can be as long as the names stay
-pub still_kept : (t new : Database) → SameNames t new → (kept : Kept) → IsKept t kept → IsKept new kept
-still_kept t new same (k.Warehouse w_id row) is = subst (λ (s : Scale). IsTrue (has_warehouse s w_id)) (sym same.scale) is
-still_kept t new same (k.District key row) is = subst (λ (s : Scale). IsTrue (has_district s key)) (sym same.scale) is
-still_kept t new same (k.Customer key row) is = (subst (λ (s : Scale). IsTrue (has_customer s key)) (sym same.scale) is.0, (same.last key ∙ is.1.0, same.first key ∙ is.1.1))
-still_kept t new same (k.NoPayment key) is = subst (λ (s : Scale). IsTrue (has_district s key)) (sym same.scale) is
+pub still_kept : (home : ℕ) (t new : Database) → SameNames t new → (kept : Kept) → IsKept home t kept → IsKept home new kept
+still_kept home t new same (k.Warehouse w_id row) is = is
+still_kept home t new same (k.District key row) is = is
+still_kept home t new same (k.Customer key row) is = (subst (λ (s : Scale). IsTrue (has_customer_of s home key)) (sym same.scale) is.0, (same.last key ∙ is.1.0, same.first key ∙ is.1.1))
+still_kept home t new same (k.NoPayment key) is = is
 
 -- ---- all steps are
 
-pub all_still_kept : (t new : Database) → SameNames t new → (undo : List Kept) → All (IsKept t) undo → All (IsKept new) undo
-all_still_kept t new same undo all = All-weaker (IsKept t) (IsKept new) (still_kept t new same) undo all
+pub all_still_kept : (home : ℕ) (t new : Database) → SameNames t new → (undo : List Kept) → All (IsKept home t) undo → All (IsKept home new) undo
+all_still_kept home t new same undo all = All-weaker (IsKept home t) (IsKept home new) (still_kept home t new same) undo all
 
-pub all_still_kept_of : (t new : Database) → SameNames t new → (group : Group) (undo : List Kept) → All (IsKeptOf t group) undo → All (IsKeptOf new group) undo
-all_still_kept_of t new same group undo all = All-weaker (IsKeptOf t group) (IsKeptOf new group) (λ kept is. (is.0, still_kept t new same kept is.1)) undo all
+pub all_still_kept_of : (home : ℕ) (t new : Database) → SameNames t new → (group : Group) (undo : List Kept) → All (IsKeptOf home t group) undo → All (IsKeptOf home new group) undo
+all_still_kept_of home t new same group undo all = All-weaker (IsKeptOf home t group) (IsKeptOf home new group) (λ kept is. (is.0, still_kept home t new same kept is.1)) undo all
 
-pub all_names : (group : Group) (undo : List Kept) (t : Database) → All (IsKeptOf t group) undo → SameNames t (all_put_back undo t)
-all_names group [] t all = same_names t
-all_names group (kept ∷ undo) t all =
+pub all_names : (home : ℕ) (group : Group) (undo : List Kept) (t : Database) → All (IsKeptOf home t group) undo → SameNames t (all_put_back undo t)
+all_names home group [] t all = same_names t
+all_names home group (kept ∷ undo) t all =
     let before : Database = all_put_back undo t in
-    let rest = all_names group undo t (All-tail (IsKeptOf t group) kept undo all) in
-    let is : IsKept t kept = (All-head (IsKeptOf t group) kept undo all).1 in
-    same_names-then t before (put_back kept before) rest (step_names kept before (still_kept t before rest kept is))
+    let rest = all_names home group undo t (All-tail (IsKeptOf home t group) kept undo all) in
+    let is : IsKept home t kept = (All-head (IsKeptOf home t group) kept undo all).1 in
+    same_names-then t before (put_back kept before) rest (step_names home kept before (still_kept home t before rest kept is))

@@ -6,6 +6,7 @@ use Rattle.std.proofs.Math.Seq.{get_or-append_seam}
 use Rattle.std.proofs.lemmas.List.{get_or_append_left, get_or-map, get_or-replicate, length-map, length-replicate, map-append, same_lists}
 use Rattle.std.proofs.lemmas.List.Elements.{All-nil, All-cons, All-append}
 use Rattle.schema.specs.Database.{Database}
+use Rattle.partitions.specs.Parts.{Part}
 use Rattle.requests.specs.declared.group.Group.{Group}
 use Rattle.requests.specs.declared.group.Group.TheVariants.{Warehouse}
 use Rattle.groups.specs.Content.{content}
@@ -15,8 +16,8 @@ use Rattle.tickets.specs.Openings.{Opened, box_beside}
 use Rattle.tickets.specs.Places.{IsGroupOf, place_of}
 use Rattle.tickets.specs.Unset.{no_table}
 use Rattle.tickets.proofs.OnePlace.{place_injective, place_inside}
-use Rattle.slices.specs.Grounds.{Grounded, grounded, home, sliced, IsGroundOf, AreGroundsOf}
-use Rattle.slices.specs.Openings.{AreOpenedFor, IsBoxOf, AreBoxesOf, OpenedGroupsHaveBoxes}
+use Rattle.slices.specs.Grounds.{Grounded, grounded, tickets_in, sliced, IsGroundOf, AreGroundsOf}
+use Rattle.slices.specs.Openings.{AreOpenedFor, IsBoxOf, IsHomeBoxOf, AreHomeBoxesOf, OpenedGroupsHaveBoxes}
 use Rattle.slices.specs.Sliced.{at_rest}
 use Rattle.slices.specs.Undo.{all_put_back_in, IsKeptOf}
 
@@ -46,43 +47,47 @@ one_ground_more boxes rest more grounds later ticket_box ground so_far next long
 pub idle_more : (grounds later : List Grounded) (ground : Grounded) → All IsIdle grounds → IsIdle ground → later ≡ grounds ++ ground ∷ [] → All IsIdle later
 idle_more grounds later ground all one longer = subst (All IsIdle) (sym longer) (All-append IsIdle grounds (ground ∷ []) all (All-cons IsIdle ground [] one (All-nil IsIdle)))
 
-module _ (t : Database) (boxes : List Boxed) (grounds : List Grounded) (are : AreBoxesOf t boxes) (same : map box_of grounds ≡ boxes) (idle : All IsIdle grounds) where
+module _ (p : Part) (boxes : List Boxed) (grounds : List Grounded) (are : AreHomeBoxesOf p boxes) (same : map box_of grounds ≡ boxes) (idle : All IsIdle grounds) where
   as_long : length grounds ≡ length boxes
   as_long = sym (length-map grounds box_of) ∙ ap length same
 
-  box_at : (place : ℕ) (d : Grounded) → place < length grounds → IsBoxOf t place (get_or grounds place d).ticket_box
+  box_at : (place : ℕ) (d : Grounded) → place < length grounds → IsHomeBoxOf p place (get_or grounds place d).ticket_box
   box_at place d small =
       let inside : place < length boxes = omega (arith, as_long) in
-      subst (IsBoxOf t place) (ap (λ l. get_or l place d.ticket_box) (sym same) ∙ get_or-map box_of grounds place d d.ticket_box small) (are.each place d.ticket_box inside)
+      subst (IsHomeBoxOf p place) (ap (λ l. get_or l place d.ticket_box) (sym same) ∙ get_or-map box_of grounds place d d.ticket_box small) (are.each place d.ticket_box inside)
 
-  ground_of : (place : ℕ) (ground : Grounded) → IsBoxOf t place ground.ticket_box → IsIdle ground → IsGroundOf t place ground
+  ground_of : (place : ℕ) (ground : Grounded) → IsHomeBoxOf p place ground.ticket_box → IsIdle ground → IsGroundOf p.home p.tables place ground
   ground_of place ground is none = record {
     known = is.known;
+    here = is.here;
     place = is.place;
     left = ap (λ b. b.left) is.has;
     back = ap (λ b. b.back) is.has ∙ sym (ap (λ b. b.left) is.has) ∙ sym (ap (λ undo. all_put_back_in undo ground.ticket_box.left) none);
-    kept = subst (All (IsKeptOf t ground.ticket_box.group)) (sym none) (All-nil (IsKeptOf t ground.ticket_box.group));
+    kept = subst (All (IsKeptOf p.home p.tables ground.ticket_box.group)) (sym none) (All-nil (IsKeptOf p.home p.tables ground.ticket_box.group));
     idle = λ _. none;
   }
 
-  pub opened_grounds : AreGroundsOf t grounds
+  pub opened_grounds : AreGroundsOf p.home p.tables grounds
   opened_grounds = record {
     all_there = as_long ∙ are.all_there;
     each = λ place d small. ground_of place (get_or grounds place d) (box_at place d small) (idle place d small);
   }
 
-  pub opened_at_rest : sliced t grounds ≡ at_rest t
+  pub opened_at_rest : sliced p.home p.tables grounds ≡ at_rest p
   opened_at_rest =
-      ap (λ free. record { tables = t; free = free })
-      (same_lists (map home grounds) (replicate (105 * t.scale.warehouses) 8) (length-map grounds home ∙ as_long ∙ are.all_there ∙ sym (length-replicate (105 * t.scale.warehouses) 8)) each)
+      ap (λ free. record { home = p.home; tables = p.tables; free = free })
+      (same_lists (map tickets_in grounds) (replicate 105 8) (length-map grounds tickets_in ∙ as_long ∙ are.all_there ∙ sym (length-replicate 105 eight_tickets)) each)
     where
-      each : (k d : ℕ) → k < length (map home grounds) → get_or (map home grounds) k d ≡ get_or (replicate (105 * t.scale.warehouses) 8) k d
+      eight_tickets : ℕ
+      eight_tickets = 8
+
+      each : (k d : ℕ) → k < length (map tickets_in grounds) → get_or (map tickets_in grounds) k d ≡ get_or (replicate 105 8) k d
       each k d small =
-          let some : Grounded = grounded (sharing (Warehouse 0) (content t (Warehouse 0)) 0) [] 0 0 in
-          let inside : k < length grounds = omega (arith, small, length-map grounds home) in
-          get_or-map home grounds k some d inside
+          let some : Grounded = grounded (sharing (Warehouse 0) (content p.tables (Warehouse 0)) 0) [] 0 0 in
+          let inside : k < length grounds = omega (arith, small, length-map grounds tickets_in) in
+          get_or-map tickets_in grounds k some d inside
           ∙ ap (λ b. tickets_home b.mode b.shared) (box_at k some inside).has
-          ∙ sym (get_or-replicate (105 * t.scale.warehouses) k 8 d (omega (arith, inside, as_long, are.all_there)))
+          ∙ sym (get_or-replicate 105 k 8 d (omega (arith, inside, as_long, are.all_there)))
 
 -- ---- what is opened
 

@@ -1,5 +1,5 @@
 -- What each step does to the tables and to its group, and how it is taken back.
-use Rattle.std.proofs.Common.{◌≡◌, cond, List, [], ◌∷◌, ◌++◌, Option, Some, None, IsTrue, is_some, take, unwrap_or, refl, sym, ap, subst, ◌∙◌, arith, length-append}
+use Rattle.std.proofs.Common.{◌≡◌, ℕ, cond, List, [], ◌∷◌, ◌++◌, Option, Some, None, IsTrue, is_some, take, unwrap_or, refl, sym, ap, subst, ◌∙◌, arith, length-append}
 use Rattle.std.specs.Prelude.{All}
 use Rattle.std.specs.declared.cmp.Ordering.{Ordering}
 use Rattle.std.specs.declared.cmp.Ordering.TheVariants.{Less, Equal, Greater}
@@ -15,11 +15,11 @@ use Rattle.rows.specs.declared.records.Warehouse as warehouse
 use Rattle.rows.specs.declared.records.District as district
 use Rattle.rows.specs.declared.records.Customer as customer
 use Rattle.rows.specs.declared.records.History as payment
-use Rattle.schema.specs.Scale.{has_warehouse, has_district, has_customer}
 use Rattle.schema.specs.Database.{Database, HistoryTable, list_at, with_payment, without_last, without_payment}
 use Rattle.schema.proofs.KeyOrders.{districts_total, districts_exact, customers_total, customers_exact}
 use Rattle.indexes.specs.NameLaws.{SameNames}
 use Rattle.indexes.specs.NameOrder.{last_of, first_of}
+use Rattle.partitions.specs.Parts.{is_of, has_district_of, has_customer_of}
 use Rattle.requests.specs.declared.group.Group.{Group}
 use Rattle.groups.specs.Groups.{group_of_warehouse, group_of_district, group_of_customer, group_of_history}
 use Rattle.groups.specs.Content.{Content}
@@ -87,12 +87,12 @@ all_orders [] t = refl
 all_orders (kept ∷ undo) t = step_orders kept (all_put_back undo t) ∙ all_orders undo t
 
 -- steps of one group, taken back, change what it has and no other group
-pub all_changes : (group : Group) (undo : List Kept) (t : Database) → All (IsKeptOf t group) undo → ChangesOneGroup group (all_put_back_in undo) t (all_put_back undo t)
-all_changes group [] t all = record { here = refl; elsewhere = λ _ _. refl }
-all_changes group (kept ∷ undo) t all =
+pub all_changes : (home : ℕ) (group : Group) (undo : List Kept) (t : Database) → All (IsKeptOf home t group) undo → ChangesOneGroup group (all_put_back_in undo) t (all_put_back undo t)
+all_changes home group [] t all = record { here = refl; elsewhere = λ _ _. refl }
+all_changes home group (kept ∷ undo) t all =
     let before : Database = all_put_back undo t in
-    let rest = all_changes group undo t (All-tail (IsKeptOf t group) kept undo all) in
-    let own : group_of_kept kept ≡ group = (All-head (IsKeptOf t group) kept undo all).0 in
+    let rest = all_changes home group undo t (All-tail (IsKeptOf home t group) kept undo all) in
+    let own : group_of_kept kept ≡ group = (All-head (IsKeptOf home t group) kept undo all).0 in
     let step : ChangesOneGroup group (put_back_in kept) before (put_back kept before) = subst (λ (g : Group). ChangesOneGroup g (put_back_in kept) before (put_back kept before)) own (step_changes kept before) in
     record {
       here = step.here ∙ ap (put_back_in kept) rest.here;
@@ -102,10 +102,10 @@ all_changes group (kept ∷ undo) t all =
 -- ---- the steps of a slice
 
 -- A step in a group, with what takes it back.
-pub record IsStep (group : Group) (kept : Kept) (change : Content → Content) (t new : Database) : Type 0 where
+pub record IsStep (home : ℕ) (group : Group) (kept : Kept) (change : Content → Content) (t new : Database) : Type 0 where
   pub changes : ChangesOneGroup group change t new
   pub back : put_back kept new ≡ t
-  pub kept_of : IsKeptOf t group kept
+  pub kept_of : IsKeptOf home t group kept
   pub names : SameNames t new
   pub scale : new.scale ≡ t.scale
   pub items : new.items ≡ t.items
@@ -125,9 +125,9 @@ restored {R = R} o a m key old row is = same_map o a (map.insert (map.insert m k
           | Greater ↦ λ e. refl
         ] refl
 
-pub warehouse_step : (t : Database) (w_id : _) (old row : warehouse.Warehouse) → map.get t.warehouses w_id ≡ Some old → IsTrue (has_warehouse t.scale w_id)
-    → IsStep (group_of_warehouse w_id) (k.Warehouse w_id old) (with_warehouse row) t (record t { warehouses = map.insert t.warehouses w_id row })
-warehouse_step t w_id old row is has = record {
+pub warehouse_step : (home : ℕ) (t : Database) (w_id : _) (old row : warehouse.Warehouse) → map.get t.warehouses w_id ≡ Some old → IsTrue (is_of home w_id)
+    → IsStep home (group_of_warehouse w_id) (k.Warehouse w_id old) (with_warehouse row) t (record t { warehouses = map.insert t.warehouses w_id row })
+warehouse_step home t w_id old row is has = record {
   changes = (each_put_changes_one_group t).warehouses w_id row;
   back = ap (λ m. record t { warehouses = m }) (restored nat_cmp_total nat_cmp-IsAntisymmetric t.warehouses w_id old row is);
   kept_of = (refl, has);
@@ -137,9 +137,9 @@ warehouse_step t w_id old row is has = record {
   orders = refl;
 }
 
-pub district_step : (t : Database) (key : DistrictKey) (old row : district.District) → map.get t.districts key ≡ Some old → IsTrue (has_district t.scale key)
-    → IsStep (group_of_district key) (k.District key old) (with_district row) t (record t { districts = map.insert t.districts key row })
-district_step t key old row is has = record {
+pub district_step : (home : ℕ) (t : Database) (key : DistrictKey) (old row : district.District) → map.get t.districts key ≡ Some old → IsTrue (has_district_of home key)
+    → IsStep home (group_of_district key) (k.District key old) (with_district row) t (record t { districts = map.insert t.districts key row })
+district_step home t key old row is has = record {
   changes = (each_put_changes_one_group t).districts key row;
   back = ap (λ m. record t { districts = m }) (restored districts_total districts_exact t.districts key old row is);
   kept_of = (refl, has);
@@ -149,9 +149,9 @@ district_step t key old row is has = record {
   orders = refl;
 }
 
-pub customer_step : (t : Database) (key : CustomerKey) (old row : customer.Customer) → map.get t.customers key ≡ Some old → IsTrue (has_customer t.scale key) → AreNamesAt t key row
-    → IsStep (group_of_customer key) (k.Customer key old) (with_customer key row) t (record t { customers = map.insert t.customers key row })
-customer_step t key old row is has names = record {
+pub customer_step : (home : ℕ) (t : Database) (key : CustomerKey) (old row : customer.Customer) → map.get t.customers key ≡ Some old → IsTrue (has_customer_of t.scale home key) → AreNamesAt t key row
+    → IsStep home (group_of_customer key) (k.Customer key old) (with_customer key row) t (record t { customers = map.insert t.customers key row })
+customer_step home t key old row is has names = record {
   changes = (each_put_changes_one_group t).customers key row;
   back = ap (λ m. record t { customers = m }) (restored customers_total customers_exact t.customers key old row is);
   kept_of = (refl, (has, (ap last_of is, ap first_of is)));
@@ -181,9 +181,9 @@ payment_gone histories key row there =
     ap (λ l. map.insert (map.insert histories key longer) key l) (ap without_last read ∙ without_last-more rows row)
     ∙ restored districts_total districts_exact histories key rows longer (listed histories key there)
 
-pub payment_step : (t : Database) (key : DistrictKey) (row : payment.History) → IsTrue (map.contains_key t.histories key) → IsTrue (has_district t.scale key)
-    → IsStep (group_of_history key) (k.NoPayment key) (with_payment_more row) t (record t { histories = with_payment t.histories key row })
-payment_step t key row there has =
+pub payment_step : (home : ℕ) (t : Database) (key : DistrictKey) (row : payment.History) → IsTrue (map.contains_key t.histories key) → IsTrue (has_district_of home key)
+    → IsStep home (group_of_history key) (k.NoPayment key) (with_payment_more row) t (record t { histories = with_payment t.histories key row })
+payment_step home t key row there has =
     let put = (each_put_changes_one_group t).histories key (list_at t.histories key ++ row ∷ []) in
     record {
       changes = record { here = put.here; elsewhere = put.elsewhere };

@@ -1,10 +1,11 @@
--- The groups of a slice, and what ties them to the tables.
-use Rattle.std.specs.Prelude.{◌≡◌, ℕ, ◌*◌, ◌<◌, List, [], length, map, slice_index_or, All}
+-- The groups of a slice, and what ties them to the rows of its warehouse.
+use Rattle.std.specs.Prelude.{◌≡◌, ℕ, ◌<◌, List, [], length, map, slice_index_or, All}
 use Rattle.schema.specs.Database.{Database}
 use Rattle.groups.specs.Content.{content}
+use Rattle.groups.specs.Groups.{warehouse_of}
 use Rattle.groups.specs.declared.wishes.Mode.TheVariants.{Shared}
 use Rattle.tickets.specs.Boxes.{Boxed, tickets_home}
-use Rattle.tickets.specs.Places.{IsGroupOf, place_of}
+use Rattle.tickets.specs.Places.{IsGroupOf, place_in_warehouse}
 use Rattle.slices.specs.declared.kept.Kept.{Kept}
 use Rattle.slices.specs.Sliced.{Sliced}
 use Rattle.slices.specs.Undo.{all_put_back_in, IsKeptOf}
@@ -21,24 +22,25 @@ abbrev pub grounded : Boxed → List Kept → ℕ → ℕ → Grounded
 grounded ticket_box undo room holder = record { ticket_box = ticket_box; undo = undo; room = room; holder = holder }
 
 -- how many of the group's tickets are at home
-abbrev pub home : Grounded → ℕ
-home ground = tickets_home ground.ticket_box.mode ground.ticket_box.shared
+abbrev pub tickets_in : Grounded → ℕ
+tickets_in ground = tickets_home ground.ticket_box.mode ground.ticket_box.shared
 
-abbrev pub sliced : Database → List Grounded → Sliced
-sliced tables grounds = record { tables = tables; free = map home grounds }
+abbrev pub sliced : ℕ → Database → List Grounded → Sliced
+sliced home tables grounds = record { home = home; tables = tables; free = map tickets_in grounds }
 
--- The box is that of the group of the place; what stands in the group is what the box has; what is there again after an
--- undo is what taking back all steps, the last one first, makes of that; each step can be taken back; and while no
+-- The box is that of the warehouse's group of the place; what stands in the group is what the box has; what is there again
+-- after an undo is what taking back all steps, the last one first, makes of that; each step can be taken back; and while no
 -- exclusive claim is out no step is to be taken back.
-pub record IsGroundOf (tables : Database) (number : ℕ) (ground : Grounded) : Type 0 where
+pub record IsGroundOf (home : ℕ) (tables : Database) (number : ℕ) (ground : Grounded) : Type 0 where
   pub known : IsGroupOf tables.scale.warehouses ground.ticket_box.group
-  pub place : place_of ground.ticket_box.group ≡ number
+  pub here : warehouse_of ground.ticket_box.group ≡ home
+  pub place : place_in_warehouse ground.ticket_box.group ≡ number
   pub left : ground.ticket_box.left ≡ content tables ground.ticket_box.group
   pub back : ground.ticket_box.back ≡ all_put_back_in ground.undo ground.ticket_box.left
-  pub kept : All (IsKeptOf tables ground.ticket_box.group) ground.undo
+  pub kept : All (IsKeptOf home tables ground.ticket_box.group) ground.undo
   pub idle : ground.ticket_box.mode ≡ Shared → ground.undo ≡ []
 
--- there is a ground for each group of the tables, at its place
-pub record AreGroundsOf (tables : Database) (grounds : List Grounded) : Type 0 where
-  pub all_there : length grounds ≡ 105 * tables.scale.warehouses
-  pub each : (place : ℕ) (d : Grounded) → place < length grounds → IsGroundOf tables place (slice_index_or grounds place d)
+-- there is a ground for each group of the warehouse, at its place
+pub record AreGroundsOf (home : ℕ) (tables : Database) (grounds : List Grounded) : Type 0 where
+  pub all_there : length grounds ≡ 105
+  pub each : (place : ℕ) (d : Grounded) → place < length grounds → IsGroundOf home tables place (slice_index_or grounds place d)

@@ -1,47 +1,104 @@
--- What a contract sees of a slice.
-use Rattle.std.specs.Prelude.{◌≡◌, ℕ, ◌*◌, List, Bool, true, ◌&&◌, if◌then◌else◌, slice_index_or, replicate}
+-- What a contract sees of a slice, and of all slices together.
+use Rattle.std.specs.Prelude.{◌≡◌, ℕ, ◌<◌, List, [], ◌∷◌, Bool, true, ◌==◌, if◌then◌else◌, All, length, map, slice_index_or, replicate}
 use Rattle.rows.specs.Ranged.{is_between}
 use Rattle.schema.specs.Database.{Database}
+use Rattle.partitions.specs.Parts.{Shared, Part, IsPartAt, whole_of}
 use Rattle.requests.specs.declared.group.Group.{Group}
 use Rattle.requests.specs.declared.group.Group.TheVariants.{Warehouse, District, Customers, Orders, History, Stock}
 use Rattle.groups.specs.Content.{content}
+use Rattle.groups.specs.Groups.{warehouse_of}
 use Rattle.tickets.specs.Claims.{Claiming}
 use Rattle.tickets.specs.Committed.{Standing, KeepsCommitted}
-use Rattle.tickets.specs.Places.{place_of}
+use Rattle.tickets.specs.Places.{place_in_warehouse}
 
--- Its rows as they stand, with what open transactions have done to them, and how many of each group's tickets are at
--- home, by the group's place.
+-- ---- one slice
+
+-- Its warehouse; the warehouse's rows as they stand, with what open transactions have done to them; and how many of each
+-- group's tickets are at home, by the group's place in the warehouse.
 pub record Sliced : Type 0 where
+  pub home : ℕ
   pub tables : Database
   pub free : List ℕ
 
--- whether the group is one of so many warehouses
-abbrev pub is_group_of : ℕ → Group → Bool
-is_group_of warehouses (Warehouse w_id) = is_between 1 warehouses w_id
-is_group_of warehouses (District w_id d_id) = is_between 1 warehouses w_id && is_between 1 10 d_id
-is_group_of warehouses (Customers w_id d_id) = is_between 1 warehouses w_id && is_between 1 10 d_id
-is_group_of warehouses (Orders w_id d_id) = is_between 1 warehouses w_id && is_between 1 10 d_id
-is_group_of warehouses (History w_id d_id) = is_between 1 warehouses w_id && is_between 1 10 d_id
-is_group_of warehouses (Stock w_id residue) = is_between 1 warehouses w_id && is_between 0 63 residue
+-- its rows
+abbrev pub part_in : Sliced → Part
+part_in s = record { home = s.home; tables = s.tables }
 
--- one slice has every group
-abbrev pub everywhere : Group → Bool
-everywhere group = true
+-- whether the group is the warehouse's, be there such a group or not
+abbrev pub at_home : ℕ → Group → Bool
+at_home home group = warehouse_of group == home
 
--- how many tickets of a group are at home: of a group that there isn't, all
-abbrev pub free_of : ℕ → List ℕ → Group → ℕ
-free_of warehouses free group = if is_group_of warehouses group then slice_index_or free (place_of group) 8 else 8
+-- whether there is such a group in a warehouse
+abbrev pub is_group : Group → Bool
+is_group (Warehouse w_id) = true
+is_group (District w_id d_id) = is_between 1 10 d_id
+is_group (Customers w_id d_id) = is_between 1 10 d_id
+is_group (Orders w_id d_id) = is_between 1 10 d_id
+is_group (History w_id d_id) = is_between 1 10 d_id
+is_group (Stock w_id residue) = is_between 0 63 residue
+
+-- how many tickets of a group of the warehouse are at home: of a group that there isn't, all
+abbrev pub free_at : List ℕ → Group → ℕ
+free_at free group = if is_group group then slice_index_or free (place_in_warehouse group) 8 else 8
 
 -- the slice as the laws of what is committed see it
 abbrev pub standing : Sliced → Standing
-standing s = record { rows = content s.tables; free = free_of s.tables.scale.warehouses s.free }
+standing s = record { rows = content s.tables; free = free_at s.free }
 
 -- a slice no claim of which is out
-abbrev pub at_rest : Database → Sliced
-at_rest tables = record { tables = tables; free = replicate (105 * tables.scale.warehouses) 8 }
+abbrev pub at_rest : Part → Sliced
+at_rest part = record { home = part.home; tables = part.tables; free = replicate 105 8 }
 
--- With these claims where those were: what is committed is kept, whatever it is, and the scale and the items stay.
+-- the claim is on a group of the warehouse
+abbrev pub IsClaimAt : ℕ → Claiming → Type 0
+IsClaimAt home claim = warehouse_of claim.group ≡ home
+
+-- there are claims, all of them on groups of one warehouse
+abbrev pub AreOfOneHome : List Claiming → Type 0
+AreOfOneHome [] = ⊥
+AreOfOneHome (claim ∷ claims) = All (IsClaimAt (warehouse_of claim.group)) (claim ∷ claims)
+
+-- With these claims where those were: what is committed in the warehouse's groups is kept, whatever it is, and the warehouse,
+-- the scale and the items stay.
 pub record SliceKeeps (before : List Claiming) (old : Sliced) (after : List Claiming) (new : Sliced) : Type 0 where
-  pub committed : KeepsCommitted everywhere before (standing old) after (standing new)
+  pub committed : KeepsCommitted (at_home old.home) before (standing old) after (standing new)
+  pub home : new.home ≡ old.home
+  pub scale : new.tables.scale ≡ old.tables.scale
+  pub items : new.tables.items ≡ old.tables.items
+
+-- ---- all slices
+
+-- the rows of all warehouses as they stand, and how many of each group's tickets are at home
+pub record Joined : Type 0 where
+  pub tables : Database
+  pub free : Group → ℕ
+
+-- all slices have every group
+abbrev pub everywhere : Group → Bool
+everywhere group = true
+
+-- a group's tickets are with the slice of its warehouse: of a warehouse that there isn't, all are at home
+abbrev pub free_in : List Sliced → Group → ℕ
+free_in [] group = 8
+free_in (s ∷ slices) group = if at_home s.home group then free_at s.free group else free_in slices group
+
+abbrev pub joined : Shared → List Sliced → Joined
+joined shared slices = record { tables = whole_of shared (map part_in slices); free = free_in slices }
+
+abbrev pub all_standing : Joined → Standing
+all_standing j = record { rows = content j.tables; free = j.free }
+
+-- all slices, no claim of which is out
+abbrev pub all_at_rest : Database → Joined
+all_at_rest tables = record { tables = tables; free = λ group. 8 }
+
+-- the slices of all warehouses, in order, which share these
+pub record AreSlicesOf (shared : Shared) (slices : List Sliced) : Type 0 where
+  pub many : length slices ≡ shared.scale.warehouses
+  pub each : (place : ℕ) (d : Sliced) → place < length slices → IsPartAt shared place (part_in (slice_index_or slices place d))
+
+-- With these claims where those were: what is committed anywhere is kept, and the scale and the items stay.
+pub record SlicesKeep (before : List Claiming) (old : Joined) (after : List Claiming) (new : Joined) : Type 0 where
+  pub committed : KeepsCommitted everywhere before (all_standing old) after (all_standing new)
   pub scale : new.tables.scale ≡ old.tables.scale
   pub items : new.tables.items ≡ old.tables.items

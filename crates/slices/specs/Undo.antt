@@ -1,11 +1,11 @@
 -- What taking steps back makes of the tables, and of what a group has.
-use Rattle.std.specs.Prelude.{◌≡◌, List, [], ◌∷◌, ◌++◌, Some, IsTrue, unwrap_or}
+use Rattle.std.specs.Prelude.{◌≡◌, ℕ, List, [], ◌∷◌, ◌++◌, Some, IsTrue, unwrap_or}
 use Rattle.std.specs.FinMap as map
 use Rattle.rows.specs.declared.keys.CustomerKey.{CustomerKey}
 use Rattle.rows.specs.declared.records.Customer as customer
 use Rattle.rows.specs.declared.records.History.{History}
-use Rattle.schema.specs.Scale.{has_warehouse, has_district, has_customer}
 use Rattle.schema.specs.Database.{Database, without_last, without_payment}
+use Rattle.partitions.specs.Parts.{is_of, has_district_of, has_customer_of}
 use Rattle.indexes.specs.NameOrder.{last_of, first_of}
 use Rattle.requests.specs.declared.group.Group.{Group}
 use Rattle.groups.specs.Groups.{group_of_warehouse, group_of_district, group_of_customer, group_of_history}
@@ -37,12 +37,12 @@ group_of_kept (NoPayment key) = group_of_history key
 abbrev pub AreNamesAt : Database → CustomerKey → customer.Customer → Type 0
 AreNamesAt t key row = (last_of (map.get t.customers key) ≡ row.last) × (first_of (map.get t.customers key) ≡ row.first)
 
--- The tables' scale has the row; and no step changed a customer's names.
-abbrev pub IsKept : Database → Kept → Type 0
-IsKept t (Warehouse w_id row) = IsTrue (has_warehouse t.scale w_id)
-IsKept t (District key row) = IsTrue (has_district t.scale key)
-IsKept t (Customer key row) = IsTrue (has_customer t.scale key) × AreNamesAt t key row
-IsKept t (NoPayment key) = IsTrue (has_district t.scale key)
+-- The row is one of the warehouse's; and no step changed a customer's names.
+abbrev pub IsKept : ℕ → Database → Kept → Type 0
+IsKept home t (Warehouse w_id row) = IsTrue (is_of home w_id)
+IsKept home t (District key row) = IsTrue (has_district_of home key)
+IsKept home t (Customer key row) = IsTrue (has_customer_of t.scale home key) × AreNamesAt t key row
+IsKept home t (NoPayment key) = IsTrue (has_district_of home key)
 
 -- the tables once the step is taken back
 abbrev pub put_back : Kept → Database → Database
@@ -69,5 +69,5 @@ all_put_back_in [] content = content
 all_put_back_in (kept ∷ undo) content = put_back_in kept (all_put_back_in undo content)
 
 -- the step was one in the group, and can be taken back
-abbrev pub IsKeptOf : Database → Group → Kept → Type 0
-IsKeptOf t group kept = (group_of_kept kept ≡ group) × IsKept t kept
+abbrev pub IsKeptOf : ℕ → Database → Group → Kept → Type 0
+IsKeptOf home t group kept = (group_of_kept kept ≡ group) × IsKept home t kept

@@ -8,8 +8,9 @@ ghost use Rattle.slices.specs.Undo.{all_put_back, IsKept};
 use crate::kept::{Kept, put_all_back};
 use agreement::Change;
 use groups::Content;
+use partitions::Partition;
 use requests::Group;
-use schema::{NoMemory, Tables};
+use schema::NoMemory;
 use std::alloc::Global;
 use std::marker::Model;
 use tickets::{Claim, Naming, TicketBox};
@@ -144,20 +145,20 @@ impl<J: Naming> Ground<J> {
         self.undo.push_reserved(kept);
     }
 
-    /// Takes back all that was done under an exclusive claim, in the group and in the tables.
-    pub(crate) fn undo(&mut self, claim: &mut Claim<J>, tables: &mut Tables)
+    /// Takes back all that was done under an exclusive claim, in the group and in the rows.
+    pub(crate) fn undo(&mut self, claim: &mut Claim<J>, partition: &mut Partition)
         requires group { claim.old.group ≡ self.old.ticket_box.group }
         requires exclusive { claim.old.mode ≡ Exclusive }
-        requires kept { All (IsKept tables.old) self.old.undo }
+        requires kept { All (IsKept partition.old.home partition.old.tables) self.old.undo }
         ensures back { claim.old.back ≡ self.old.ticket_box.back }
         ensures out { self.old.ticket_box.mode ≡ Exclusive }
         ensures claim { claim.new ≡ leaving claim.old claim.old.back }
         ensures ticket_box { self.new.ticket_box ≡ with_left self.old.ticket_box self.old.ticket_box.back }
         ensures undo { self.new.undo ≡ [] }
         ensures holder { self.new.holder ≡ self.old.holder }
-        ensures tables { tables.new ≡ all_put_back self.old.undo tables.old }
+        ensures rows { partition.new ≡ record partition.old { tables = all_put_back self.old.undo partition.old.tables } }
     {
-        put_all_back(&mut self.undo, tables);
+        put_all_back(&mut self.undo, partition);
         self.ticket_box.undo(claim);
     }
 

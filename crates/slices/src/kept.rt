@@ -2,7 +2,8 @@
 ghost use Rattle.std.specs.Prelude.{◌≡◌, [], All};
 ghost use Rattle.slices.specs.Undo as spec;
 
-use schema::{Customer, CustomerKey, District, DistrictKey, Tables, Warehouse};
+use partitions::Partition;
+use schema::{Customer, CustomerKey, District, DistrictKey, Warehouse};
 
 /// What takes one step back.
 #[derive(Drop)]
@@ -17,34 +18,34 @@ pub(crate) enum Kept {
 
 impl Kept {
     /// Takes the step back.
-    pub(crate) fn put_back(self, tables: &mut Tables)
-        requires { spec.IsKept tables.old self }
-        ensures { tables.new ≡ spec.put_back self tables.old }
+    pub(crate) fn put_back(self, partition: &mut Partition)
+        requires { spec.IsKept partition.old.home partition.old.tables self }
+        ensures { partition.new ≡ record partition.old { tables = spec.put_back self partition.old.tables } }
     {
-        // The tables have a row at each key of their scale.
-        let _ = tables.scale();
+        // The partition has a row at each key that is the warehouse's.
+        let _ = partition.home();
         match self {
             Kept::Warehouse(w_id, row) => {
-                tables.replace_warehouse(w_id, row);
+                partition.replace_warehouse(w_id, row);
             }
             Kept::District(key, row) => {
-                tables.replace_district(key, row);
+                partition.replace_district(key, row);
             }
             Kept::Customer(key, row) => {
-                tables.replace_customer(key, row);
+                partition.replace_customer(key, row);
             }
-            Kept::NoPayment(key) => tables.pop_history(key),
+            Kept::NoPayment(key) => partition.pop_history(key),
         }
     }
 }
 
 /// Takes all steps back, the last one first. None is left.
-pub(crate) fn put_all_back(undo: &mut Vec<Kept>, tables: &mut Tables)
-    requires { All (spec.IsKept tables.old) undo.old.items }
-    ensures tables { tables.new ≡ spec.all_put_back undo.old.items tables.old }
+pub(crate) fn put_all_back(undo: &mut Vec<Kept>, partition: &mut Partition)
+    requires { All (spec.IsKept partition.old.home partition.old.tables) undo.old.items }
+    ensures rows { partition.new ≡ record partition.old { tables = spec.all_put_back undo.old.items partition.old.tables } }
     ensures none { undo.new.items ≡ [] }
 {
     while let Some(kept) = undo.pop() {
-        kept.put_back(tables);
+        kept.put_back(partition);
     }
 }

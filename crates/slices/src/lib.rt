@@ -1,20 +1,26 @@
-//! A slice: the rows of its groups, and each group's ticket box. A transaction reads the rows of a group under
-//! a claim on it, and changes them under an exclusive one; all that it did in the group can be taken back.
+//! A slice: the rows of one warehouse, and the ticket box of each of its groups. A transaction reads the rows
+//! of a group under a claim on it, and changes them under an exclusive one; all that it did in the group can
+//! be taken back.
 //!
-//! What the slice's calls do is told by the claims that they take: what a claim left in its group, and what
-//! stands there again once that is taken back. Each call keeps what is committed.
+//! What a slice's calls do is told by the claims that they take: what a claim left in its group, and what
+//! stands there again once that is taken back. Each call keeps what is committed in the warehouse, and so what
+//! is committed in all of them.
 //!
 //! Nothing here waits. What takes memory says so, and then want of memory changes nothing.
 #![tactic(auto)]
 
 mod changes;
+mod cutting;
 mod ground;
 mod kept;
 mod laws;
 mod opening;
 mod slice;
 
+pub use cutting::{copy_whole, cut, whole};
 pub use ground::Held;
-pub use laws::{groups_are_told, opened_groups_have_boxes};
+pub use laws::{
+    cut_slices_are_at_rest, groups_are_told, one_slice_keeps_all, opened_groups_have_boxes,
+};
 pub use opening::open_groups;
 pub use slice::Slice;

@@ -15,7 +15,13 @@ pub fn open_groups(alloc: Global, tables: &Tables) -> Result<Vec<GroupSeats>, No
     let mut openings = Vec::new(alloc);
     for place in 0..warehouses as usize * GROUPS_PER_WAREHOUSE {
         let group = group_at(warehouses, place);
-        openings.push(GroupSeats::open(alloc, &ContentOf { tables, group })?)?;
+        openings.push(GroupSeats::open(
+            alloc,
+            &ContentOf {
+                rows: tables,
+                group,
+            },
+        )?)?;
     }
     Ok(openings)
 }

@@ -1,37 +1,42 @@
 ghost use Rattle.std.specs.Prelude.{◌≡◌, ◌≢◌, ◌<◌, [], ◌∷◌, IsTrue, IfOk, IfErr, OnOk, OnErr};
 ghost use Rattle.std.specs.FinMap as map;
 ghost use Rattle.schema.specs.Database.{with_payment};
+ghost use Rattle.schema.specs.Scale.{has_customer};
+ghost use Rattle.partitions.specs.Parts.{IsPart};
+ghost use Rattle.partitions.specs.Slots.{home_slot};
 ghost use Rattle.requests.specs.declared.group.Group.{Group as AnyGroup};
 ghost use Rattle.requests.specs.declared.group.Group.TheVariants as group;
 ghost use Rattle.groups.specs.declared.wishes.Mode.TheVariants.{Shared, Exclusive};
 ghost use Rattle.groups.specs.Content.{content};
+ghost use Rattle.groups.specs.Groups.{warehouse_of};
 ghost use Rattle.groups.specs.Laws.{with_warehouse, with_district, with_customer};
-ghost use Rattle.indexes.specs.LatestIndex.{FitsLatest};
-ghost use Rattle.indexes.specs.NameOrder.{FitsNames};
+ghost use Rattle.indexes.specs.LatestIndex.{FitsLatestBy};
+ghost use Rattle.indexes.specs.NameOrder.{FitsNamesBy};
 ghost use Rattle.tickets.specs.Claims.{fresh, leaving};
-ghost use Rattle.tickets.specs.Places.{IsGroupOf};
-ghost use Rattle.slices.specs.Openings.{AreBoxesOf};
-ghost use Rattle.slices.specs.Sliced.{at_rest, standing, SliceKeeps};
+ghost use Rattle.tickets.specs.Places.{IsGroupOf, place_in_warehouse};
+ghost use Rattle.slices.specs.Openings.{AreHomeBoxesOf};
+ghost use Rattle.slices.specs.Sliced.{at_rest, part_in, standing, IsClaimAt, SliceKeeps};
 ghost use Rattle.slices.specs.Undo.{with_payment_more, AreNamesAt};
 
 use crate::changes::ContentOf;
 use crate::ground::{Ground, Held};
 use crate::kept::Kept;
 use indexes::{LatestOrders, NameIndex};
+use partitions::Partition;
 use requests::Group;
-use schema::{Customer, CustomerKey, District, DistrictKey, History, NoMemory, Tables, Warehouse};
+use schema::{Customer, CustomerKey, District, DistrictKey, History, NoMemory, Warehouse};
 use std::alloc::Global;
 use std::marker::Model;
-use tickets::{Claim, Naming, TicketBox, place_of};
+use tickets::{Claim, GROUPS_PER_WAREHOUSE, Naming, TicketBox, place_of};
 
-/// The rows of all groups, who of the customers has which name and which order is the customer's latest, and
-/// the groups' ticket boxes.
+/// The rows of one warehouse, who of its customers has which name and which order is the customer's latest,
+/// and the ticket boxes of its 105 groups.
 ///
-/// Contracts see the rows as they stand, with what open transactions have done to them, and how many of
-/// each group's tickets are at home. A claim is always on one of the groups, so that no call asks that.
+/// Contracts see the warehouse, its rows as they stand, with what open transactions have done to them, and how
+/// many of each group's tickets are at home.
 #[derive(Drop)]
 pub struct Slice<J: Naming> {
-    tables: Tables,
+    partition: Partition,
     names: NameIndex,
     latest: LatestOrders,
     grounds: Vec<Ground<J>>,
@@ -47,103 +52,122 @@ impl<J: Naming> Model for Slice<J> {
     ghost coded = { Prim.hlevel (codes, tables_kind.the_row.coded) };
 
     ghost use Rattle.std.specs.Prelude.{◌≡◌};
-    ghost use Rattle.indexes.specs.LatestIndex.{FitsLatest};
-    ghost use Rattle.indexes.specs.NameOrder.{FitsNames};
+    ghost use Rattle.partitions.specs.Slots.{home_slot};
+    ghost use Rattle.indexes.specs.LatestIndex.{FitsLatestBy};
+    ghost use Rattle.indexes.specs.NameOrder.{FitsNamesBy};
     ghost use Rattle.slices.specs.Grounds.{sliced, AreGroundsOf};
 
-    ghost view = { λ s. sliced s.tables s.grounds.items };
+    ghost view = { λ s. sliced s.partition.home s.partition.tables s.grounds.items };
 
-    ghost invariant = { λ s. (s.tables.scale.warehouses ≡ J.warehouses) × AreGroundsOf s.tables s.grounds.items × FitsNames s.names s.tables × FitsLatest s.latest s.tables };
+    ghost invariant = { λ s.
+        (s.partition.tables.scale.warehouses ≡ J.warehouses)
+        × AreGroundsOf s.partition.home s.partition.tables s.grounds.items
+        × FitsNamesBy (home_slot s.partition.home) s.names s.partition.tables
+        × FitsLatestBy (home_slot s.partition.home) s.latest s.partition.tables };
 }
 
 impl<J: Naming> Slice<J> {
-    /// The slice of these tables, with the boxes of their groups. It sorts the customers by last name, and
-    /// finds the latest order of each. Nothing is left after an error.
-    pub fn open(
+    /// The slice of this warehouse's rows, with the boxes of its groups. It sorts the customers by last name,
+    /// and finds the latest order of each. Nothing is left after an error.
+    pub(crate) fn open(
         alloc: Global,
-        tables: Tables,
+        partition: Partition,
         boxes: Vec<TicketBox<J>>,
     ) -> Result<Slice<J>, NoMemory>
-        requires warehouses { J.warehouses ≡ tables.scale.warehouses }
-        requires boxes { AreBoxesOf tables boxes.items }
-        ensures { IfOk result (λ slice. slice ≡ at_rest tables) }
+        requires warehouses { J.warehouses ≡ partition.tables.scale.warehouses }
+        requires boxes { AreHomeBoxesOf partition boxes.items }
+        ensures { IfOk result (λ slice. slice ≡ at_rest partition) }
     {
-        let names = NameIndex::build(alloc, &tables)?;
-        let latest = LatestOrders::build(alloc, &tables)?;
+        let names = NameIndex::build(alloc, &partition)?;
+        let latest = LatestOrders::build(alloc, &partition)?;
         let mut grounds = Vec::with_capacity(alloc, boxes.len())?;
         for ticket_box in boxes {
             grounds.push(Ground::new(alloc, ticket_box))?;
         }
         Ok(Slice {
-            tables,
+            partition,
             names,
             latest,
             grounds,
         })
     }
 
+    /// The W_ID of the warehouse.
+    pub fn home(&self) -> u32
+        ensures { result ≡ self.now.home }
+    {
+        self.partition.home()
+    }
+
     /// The rows as they stand.
-    pub fn tables(&self) -> &Tables
-        ensures tables { result.now ≡ self.now.tables }
+    pub fn partition(&self) -> &Partition
+        ensures rows { result.now ≡ part_in self.now }
+        ensures part { IsPart (part_in self.now) }
         ensures warehouses { self.now.tables.scale.warehouses ≡ J.warehouses }
     {
-        &self.tables
+        // A partition has the rows of its warehouse, and no others.
+        let _ = self.partition.home();
+        &self.partition
     }
 
     /// The rows as they stand. It takes no memory.
-    pub fn into_tables(self) -> Tables
-        ensures { result ≡ self.tables }
+    pub(crate) fn into_partition(self) -> Partition
+        ensures { result ≡ part_in self }
     {
-        self.tables
+        self.partition
     }
 
     /// The customers by last name, as the rows stand.
     pub fn names(&self) -> &NameIndex
-        ensures { FitsNames result.now self.now.tables }
+        ensures { FitsNamesBy (home_slot self.now.home) result.now self.now.tables }
     {
         &self.names
     }
 
     /// Each customer's latest order, as the rows stand.
     pub fn latest(&self) -> &LatestOrders
-        ensures { FitsLatest result.now self.now.tables }
+        ensures { FitsLatestBy (home_slot self.now.home) result.now self.now.tables }
     {
         &self.latest
     }
 
-    /// An exclusive claim on a group, for a transaction of this age, unless a claim on it is out.
+    /// An exclusive claim on a group of the warehouse, for a transaction of this age, unless a claim on it is
+    /// out.
     pub fn grant(&mut self, age: u64, group: Group) -> Result<Claim<J>, Held>
         requires known { IsGroupOf J.warehouses group }
+        requires home { warehouse_of group ≡ self.old.home }
         ensures claim { IfOk result (λ claim. claim ≡ fresh group Exclusive (content self.old.tables group)) }
         ensures kept { IfOk result (λ claim. SliceKeeps [] self.old (claim ∷ []) self.new) }
         ensures rows { OnOk result (self.new.tables ≡ self.old.tables) }
-        ensures others { (other : AnyGroup) → other ≢ group → (standing self.new).free other ≡ (standing self.old).free other }
+        ensures others { (other : AnyGroup) → other ≢ group → warehouse_of other ≡ self.old.home → (standing self.new).free other ≡ (standing self.old).free other }
         ensures busy { IfErr result (λ held. (held.group ≡ group) × (self.new ≡ self.old) × ((standing self.old).free group < 8)) }
     {
-        let ground = &mut self.grounds[place_of::<J>(group)];
+        let ground = &mut self.grounds[place_at_home::<J>(group)];
         ground.grant(age)
     }
 
-    /// A shared claim on a group, for a transaction of this age, unless an exclusive claim on it is out, or
-    /// eight shared ones are.
+    /// A shared claim on a group of the warehouse, for a transaction of this age, unless an exclusive claim on it
+    /// is out, or eight shared ones are.
     pub fn grant_shared(&mut self, age: u64, group: Group) -> Result<Claim<J>, Held>
         requires known { IsGroupOf J.warehouses group }
+        requires home { warehouse_of group ≡ self.old.home }
         ensures claim { IfOk result (λ claim. claim ≡ fresh group Shared (content self.old.tables group)) }
         ensures kept { IfOk result (λ claim. SliceKeeps [] self.old (claim ∷ []) self.new) }
         ensures rows { OnOk result (self.new.tables ≡ self.old.tables) }
-        ensures others { (other : AnyGroup) → other ≢ group → (standing self.new).free other ≡ (standing self.old).free other }
+        ensures others { (other : AnyGroup) → other ≢ group → warehouse_of other ≡ self.old.home → (standing self.new).free other ≡ (standing self.old).free other }
         ensures busy { IfErr result (λ held. (held.group ≡ group) × (self.new ≡ self.old) × ((standing self.old).free group ≡ 0)) }
     {
-        self.grounds[place_of::<J>(group)].share(age)
+        self.grounds[place_at_home::<J>(group)].share(age)
     }
 
     /// Learns that what a claim left stands in its group. A shared claim left what it tells
     /// (`Claim::look_untouched`).
     pub fn look(&mut self, claim: &mut Claim<J>)
+        requires home { IsClaimAt self.old.home claim.old }
         ensures left { claim.old.left ≡ content self.old.tables claim.old.group }
         ensures same { (self.new ≡ self.old) × (claim.new ≡ claim.old) }
     {
-        let ground = &mut self.grounds[claim.place()];
+        let ground = &mut self.grounds[place_of_claim(claim)];
         ground.look(claim);
     }
 
@@ -163,13 +187,15 @@ impl<J: Naming> Slice<J> {
         ensures tables { OnOk result (self.new.tables ≡ record self.old.tables { warehouses = map.insert self.old.tables.warehouses w_id row }) }
         ensures err { OnErr result ((self.new ≡ self.old) × (claim.new ≡ claim.old)) }
     {
-        let ground = &mut self.grounds[claim.place()];
+        // The rows that are here are the warehouse's.
+        let _ = self.partition.home();
+        let ground = &mut self.grounds[place_of_claim(claim)];
         ground.make_room()?;
-        let Some(old) = self.tables.replace_warehouse(w_id, row) else {
+        let Some(old) = self.partition.replace_warehouse(w_id, row) else {
             unreachable!()
         };
         let now = ContentOf {
-            tables: &self.tables,
+            rows: &self.partition,
             group: claim.group(),
         };
         ground.leave(claim, Kept::Warehouse(w_id, old), &now);
@@ -190,13 +216,15 @@ impl<J: Naming> Slice<J> {
         ensures tables { OnOk result (self.new.tables ≡ record self.old.tables { districts = map.insert self.old.tables.districts key row }) }
         ensures err { OnErr result ((self.new ≡ self.old) × (claim.new ≡ claim.old)) }
     {
-        let ground = &mut self.grounds[claim.place()];
+        // The rows that are here are the warehouse's.
+        let _ = self.partition.home();
+        let ground = &mut self.grounds[place_of_claim(claim)];
         ground.make_room()?;
-        let Some(old) = self.tables.replace_district(key, row) else {
+        let Some(old) = self.partition.replace_district(key, row) else {
             unreachable!()
         };
         let now = ContentOf {
-            tables: &self.tables,
+            rows: &self.partition,
             group: claim.group(),
         };
         ground.leave(claim, Kept::District(key, old), &now);
@@ -219,22 +247,23 @@ impl<J: Naming> Slice<J> {
         ensures tables { OnOk result (self.new.tables ≡ record self.old.tables { customers = map.insert self.old.tables.customers key row }) }
         ensures err { OnErr result ((self.new ≡ self.old) × (claim.new ≡ claim.old)) }
     {
-        // The tables have a customer's row only where the scale does.
-        let _ = self.tables.scale();
-        let ground = &mut self.grounds[claim.place()];
+        // The rows that are here are the warehouse's.
+        let _ = self.partition.home();
+        let ground = &mut self.grounds[place_of_claim(claim)];
         ground.make_room()?;
-        let Some(old) = self.tables.replace_customer(key, row) else {
+        let Some(old) = self.partition.replace_customer(key, row) else {
             unreachable!()
         };
         let now = ContentOf {
-            tables: &self.tables,
+            rows: &self.partition,
             group: claim.group(),
         };
         ground.leave(claim, Kept::Customer(key, old), &now);
         Ok(())
     }
 
-    /// Adds a payment at the end of the district's list, under an exclusive claim on it.
+    /// Adds a payment at the end of the district's list, under an exclusive claim on it. The payer may belong
+    /// to another warehouse.
     pub fn add_payment(
         &mut self,
         claim: &mut Claim<J>,
@@ -244,19 +273,19 @@ impl<J: Naming> Slice<J> {
         requires group { claim.old.group ≡ group.History key.w_id key.d_id }
         requires exclusive { claim.old.mode ≡ Exclusive }
         requires district { IsTrue (map.contains_key self.old.tables.districts key) }
-        requires payer { IsTrue (map.contains_key self.old.tables.customers row.customer) }
+        requires payer { IsTrue (has_customer self.old.tables.scale row.customer) }
         ensures claim { OnOk result (claim.new ≡ leaving claim.old (with_payment_more row claim.old.left)) }
         ensures kept { OnOk result (SliceKeeps (claim.old ∷ []) self.old (claim.new ∷ []) self.new) }
         ensures tables { OnOk result (self.new.tables ≡ record self.old.tables { histories = with_payment self.old.tables.histories key row }) }
         ensures err { OnErr result ((self.new ≡ self.old) × (claim.new ≡ claim.old)) }
     {
-        // The tables have a list of payments for each district.
-        let _ = self.tables.scale();
-        let ground = &mut self.grounds[claim.place()];
+        // The rows that are here are the warehouse's.
+        let _ = self.partition.home();
+        let ground = &mut self.grounds[place_of_claim(claim)];
         ground.make_room()?;
-        self.tables.push_history(key, row)?;
+        self.partition.push_history(key, row)?;
         let now = ContentOf {
-            tables: &self.tables,
+            rows: &self.partition,
             group: claim.group(),
         };
         ground.leave(claim, Kept::NoPayment(key), &now);
@@ -265,21 +294,39 @@ impl<J: Naming> Slice<J> {
 
     /// Takes back all that was done under an exclusive claim. It takes no memory.
     pub fn undo(&mut self, claim: &mut Claim<J>)
+        requires home { IsClaimAt self.old.home claim.old }
         requires exclusive { claim.old.mode ≡ Exclusive }
         ensures claim { claim.new ≡ leaving claim.old claim.old.back }
         ensures kept { SliceKeeps (claim.old ∷ []) self.old (claim.new ∷ []) self.new }
     {
-        let ground = &mut self.grounds[claim.place()];
-        ground.undo(claim, &mut self.tables);
+        let ground = &mut self.grounds[place_of_claim(claim)];
+        ground.undo(claim, &mut self.partition);
     }
 
     /// Takes a claim back, once what it left is committed; a shared claim left nothing. It takes no memory.
     pub fn take_back(&mut self, claim: Claim<J>)
+        requires home { IsClaimAt self.old.home claim }
         requires committed { claim.mode ≡ Exclusive → claim.told ≡ claim.left }
         ensures kept { SliceKeeps (claim ∷ []) self.old [] self.new }
         ensures rows { self.new.tables ≡ self.old.tables }
     {
-        let ground = &mut self.grounds[claim.place()];
+        let ground = &mut self.grounds[place_of_claim(&claim)];
         ground.take_back(claim);
     }
+}
+
+// The place of a group among those of its warehouse.
+fn place_at_home<J: Naming>(group: Group) -> usize
+    requires { IsGroupOf J.warehouses group }
+    ensures { result ≡ place_in_warehouse group }
+{
+    place_of::<J>(group) % GROUPS_PER_WAREHOUSE
+}
+
+// The place of a claim's group among those of its warehouse.
+fn place_of_claim<J: Naming>(claim: &Claim<J>) -> usize
+    ensures known { IsGroupOf J.warehouses claim.now.group }
+    ensures place { result ≡ place_in_warehouse claim.now.group }
+{
+    claim.place() % GROUPS_PER_WAREHOUSE
 }

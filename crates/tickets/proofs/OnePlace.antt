@@ -7,10 +7,11 @@ use Rattle.std.specs.Prelude.{Bool, true, false, if◌then◌else◌}
 use Rattle.std.proofs.lemmas.Bool.Decides.{eqb_tells}
 use Rattle.requests.specs.declared.group.Group.{Group}
 use Rattle.groups.proofs.SameGroups.{is_same-itself, is_same-other}
-use Rattle.groups.specs.Groups.{is_same}
+use Rattle.requests.specs.declared.group.Group.TheVariants.{Warehouse, District, Customers, Orders, History, Stock}
+use Rattle.groups.specs.Groups.{is_same, warehouse_of}
 use Rattle.tickets.specs.Claims.{Claiming, committed_by}
 use Rattle.tickets.specs.LogSeats.{Committed, with_content, after_one}
-use Rattle.tickets.specs.Places.{IsGroupOf, place_of, AreAtPlaces, AreInPlace}
+use Rattle.tickets.specs.Places.{IsBetween, IsGroupOf, place_of, AreAtPlaces, AreInPlace}
 
 -- no two groups have one place
 pub place_injective : (warehouses : ℕ) (a b : Group) → IsGroupOf warehouses a → IsGroupOf warehouses b → place_of a ≡ place_of b → a ≡ b
@@ -67,3 +68,12 @@ places_push warehouses seats seat all known place = record {
         (λ (same : k ≡ length seats). subst (λ j. P j (get_or (seats ++ seat ∷ []) j d)) (sym same) (subst (P (length seats)) (sym (get_or-append_seam seats seat [] d)) last))
         (λ (inside : k < length seats). subst (P k) (sym (get_or_append_left seats (seat ∷ []) d k inside)) (before inside))
         (eq-or-lt_of_le at_most)
+
+-- a group's warehouse is one of those that there are
+pub home_known : (warehouses : ℕ) (group : Group) → IsGroupOf warehouses group → IsBetween 1 warehouses (warehouse_of group)
+home_known warehouses (Warehouse w_id) known = known
+home_known warehouses (District w_id d_id) known = known.0
+home_known warehouses (Customers w_id d_id) known = known.0
+home_known warehouses (Orders w_id d_id) known = known.0
+home_known warehouses (History w_id d_id) known = known.0
+home_known warehouses (Stock w_id residue) known = known.0

@@ -1,11 +1,12 @@
 ghost use Rattle.std.specs.Prelude.{◌≡◌};
 ghost use Rattle.groups.specs.declared.wishes.Mode.TheVariants.{Shared};
-ghost use Rattle.tickets.specs.Places.{place_of, IsGroupOf};
+ghost use Rattle.groups.specs.Groups.{warehouse_of};
+ghost use Rattle.tickets.specs.Places.{place_of, IsBetween, IsGroupOf};
 
 use crate::work::{Told, Work};
 use crate::{Naming, places};
 use agreement::Seat;
-use groups::Mode;
+use groups::{Mode, warehouse_of};
 use requests::Group;
 use std::marker::{Model, PhantomData};
 
@@ -46,6 +47,14 @@ impl<J: Naming> Claim<J> {
         ensures { result ≡ self.now.group }
     {
         self.group
+    }
+
+    /// The warehouse of its group, 1 to the number of warehouses.
+    pub fn home(&self) -> u32
+        ensures home { result ≡ warehouse_of self.now.group }
+        ensures known { IsBetween 1 J.warehouses result }
+    {
+        warehouse_of(self.group)
     }
 
     /// The place of its group among those of all warehouses.

@@ -1,4 +1,7 @@
-ghost use Rattle.std.specs.Prelude.{◌≡◌, length};
+ghost use Rattle.std.specs.Prelude.{◌≡◌, ◌≤◌, length, slice_index_or};
+ghost use Rattle.groups.specs.Groups.{warehouse_of};
+ghost use Rattle.tickets.specs.Claims.{Claiming};
+ghost use Rattle.tickets.specs.Places.{IsBetween};
 
 use crate::{Claim, Naming};
 use std::marker::Model;
@@ -39,10 +42,12 @@ impl<J: Naming> Claims<J> {
         self.claims
     }
 
-    /// How many there are.
-    pub fn len(&self) -> usize
-        ensures { result ≡ length self.now }
+    /// The warehouse of the first one's group, 1 to the number of warehouses.
+    pub fn home(&self) -> u32
+        requires some { 1 ≤ length self.now }
+        ensures home { (d : Claiming) → result ≡ warehouse_of (slice_index_or self.now 0 d).group }
+        ensures known { IsBetween 1 J.warehouses result }
     {
-        self.claims.len()
+        self.claims[0].home()
     }
 }

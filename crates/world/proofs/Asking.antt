@@ -21,9 +21,8 @@ use Rattle.history.specs.Laws.{new_one}
 use Rattle.groups.specs.Content.{content}
 use Rattle.tickets.specs.Claims.{Claiming, all_claims}
 use Rattle.tickets.specs.Committed.{AreCommitted}
-use Rattle.slices.specs.Sliced.{everywhere, standing}
+use Rattle.slices.specs.Sliced.{all_standing, everywhere}
 use Rattle.actions.specs.declared.work.Work.{Work}
-use Rattle.actions.specs.Acting.{CanBeUndone}
 use Rattle.actions.specs.Works.{CanDo}
 use Rattle.flow_graphs.specs.declared.graphs.Progress.{Progress}
 use Rattle.flow_graphs.specs.Progresses.{HoldsSome, IsReached, works_of}
@@ -39,6 +38,7 @@ use Rattle.world.specs.declared.flight.Report.{Report}
 use Rattle.world.specs.declared.flight.Item.{Item}
 use Rattle.world.specs.declared.flight.Item.TheVariants as item
 use Rattle.world.specs.declared.world.Parts.{Parts}
+use Rattle.world.specs.Parted.{CanAllBeUndone, joined_in}
 use Rattle.world.specs.Flights.{Token, Acting, Part, nothing, join, parts, part_message, part_item, part_met, acting_from, unanswered_transaction}
 use Rattle.world.specs.Sound.{IsSoundWith, IsSoundStart, IsSoundPhase, IsSoundMessage, IsSoundItem, IsBalanced, IsPassOf, UnderWay, WeighAlike, awaited, flight, is_here, reported_to}
 use Rattle.world.specs.Worlds.{FitsPart, Fits, Admits, refuses, tables_now}
@@ -183,7 +183,7 @@ module _ {J : Type 0} where
     sound_phase = record {
       reached = reached;
       hold = All-nil HoldsSome;
-      undo = All-nil (λ claims. All CanBeUndone claims);
+      undo = All-nil CanAllBeUndone;
       many = length-replicate (length a.works.items) None ∙ ap (λ (ws : List Work). length ws) a.works_are;
       reports = λ at r is. absurd (no_report_at (Report J) (length a.works.items) at r is);
       awaits = omega (
@@ -201,7 +201,8 @@ module _ {J : Type 0} where
 
     new_is : new ≡ record with_desk { inbox = w.inbox ++ Start a.flow a.works ∷ [] }
     new_is = λ i. record {
-      slice = a.slice i;
+      catalog = a.catalog i;
+      slices = a.slices i;
       inbox = a.inbox i;
       outbox = a.outbox i;
       desk = record { admitted = new.desk.admitted; sessions = new.desk.sessions; active = a.active i };
@@ -246,6 +247,7 @@ module _ {J : Type 0} where
         } in
         let sound : IsSoundWith scale nothing next = record {
           scale_is = h.scale_is;
+          slices = h.slices;
           under_way = u;
           inbox = subst (λ ms. All (IsSoundMessage scale u) (ms ++ message ∷ [])) (sym empty) (All-cons (IsSoundMessage scale u) message [] sound_start (All-nil (IsSoundMessage scale u)));
           outbox = outbox;
@@ -262,9 +264,9 @@ module _ {J : Type 0} where
         let message : Message J = Start a.flow a.works in
         let t = unanswered_transaction a.flow.transaction in
         let rest = lots w in
-        let first = subst (λ (o : Option (Active J)). FitsPart opening history w.log w.slice w.desk.admitted (fly (in_inbox w) (in_outbox w) (parts part_met (reported_to o)))) none f in
+        let first = subst (λ (o : Option (Active J)). FitsPart opening history w.log (joined_in w) w.desk.admitted (fly (in_inbox w) (in_outbox w) (parts part_met (reported_to o)))) none f in
         let free = asks_first w.desk.sessions.items t rest.pending desk (record { seat = seating desk.seat.session a.flow.transaction.pass.asks; pass = None }) place is whose here refl bare.alone bare.many in
-        let after = fits_admission opening history w.log w.slice w.desk.admitted rest place number asked free first in
+        let after = fits_admission opening history w.log (joined_in w) w.desk.admitted rest place number asked free first in
         let is_t : t ≡ new_one w.desk.admitted place number asked = λ i. record {
           age = a.age i;
           session = whose i;
@@ -274,12 +276,12 @@ module _ {J : Type 0} where
         } in
         let steps = history ++ step (Submit place number asked) (Accepted w.desk.admitted) ∷ [] in
         let none_held : all_claims a.flow.transaction.held ≡ [] = ap all_claims a.held in
-        let with_t : FitsPart opening steps w.log w.slice (w.desk.admitted + 1) (join (part_message message) rest) = record {
+        let with_t : FitsPart opening steps w.log (joined_in w) (w.desk.admitted + 1) (join (part_message message) rest) = record {
           told = subst (λ (x : Unanswered). HistoryFits opening steps w.log (tables_now opening w.log) (w.desk.admitted + 1) (x ∷ rest.pending)) (sym is_t) after.told;
-          committed = subst (λ (cs : List Claiming). AreCommitted everywhere (content (tables_now opening w.log)) (standing w.slice) (cs ++ rest.claims)) (sym none_held) after.committed;
+          committed = subst (λ (cs : List Claiming). AreCommitted everywhere (content (tables_now opening w.log)) (all_standing (joined_in w)) (cs ++ rest.claims)) (sym none_held) after.committed;
           scale = after.scale;
           items = after.items;
         } in
         subst (λ v. Fits opening steps v) (sym new_is)
-        (fits_same opening steps w.log w.slice new.desk.admitted (join (part_message message) rest) (flight next) one_more
-        (subst (λ n. FitsPart opening steps w.log w.slice n (join (part_message message) rest)) (sym a.admitted) with_t))
+        (fits_same opening steps w.log (joined_in w) new.desk.admitted (join (part_message message) rest) (flight next) one_more
+        (subst (λ n. FitsPart opening steps w.log (joined_in w) n (join (part_message message) rest)) (sym a.admitted) with_t))

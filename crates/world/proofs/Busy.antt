@@ -62,12 +62,12 @@ module _ {J : Type 0} where
 
   busy_of : (scale : Scale) (old new : Parts J) (h : IsSoundWith scale nothing old) (session number : ℕ) (asked : Request) (answer : EventAnswer) (desk : SessionDesk J) (pass : Option Passing) → desk.pass ≡ pass
       → slice_get old.desk.sessions.items session ≡ Some desk
-      → SubmitsUnless (refuses pass (check_of old.slice.tables.scale asked) (is_some old.desk.active)) session number asked desk old answer new
+      → SubmitsUnless (refuses pass (check_of old.catalog.scale asked) (is_some old.desk.active)) session number asked desk old answer new
       → (answer ≡ Answered session number (Refused SessionBusy)) ↔ (1 ≤ count_by (is_of session) (flight old).pending)
   busy_of scale old new h session number asked answer desk None is there said =
       (λ told. omega (arith, h.balance.alone session desk there, ap (λ (o : Option Passing). cond {A = ℕ} (is_some o) 1 0) is), λ some. said.0)
   busy_of scale old new h session number asked answer desk (Some pass) is there said = (
-    λ told. absurd (here_not_busy old.slice.tables.scale asked pass (is_some old.desk.active) session number desk old new answer said told),
+    λ told. absurd (here_not_busy old.catalog.scale asked pass (is_some old.desk.active) session number desk old new answer said told),
     λ some. absurd (omega (arith, some, h.balance.alone session desk there, ap (λ (o : Option Passing). cond {A = ℕ} (is_some o) 1 0) is)),
   )
 

@@ -7,6 +7,7 @@ use Rattle.world.specs.declared.desk.Active.{Active}
 use Rattle.world.specs.declared.desk.Active.TheVariants as active
 use Rattle.world.specs.declared.desk.Desk.{Desk}
 use Rattle.world.specs.declared.world.Parts.{Parts}
+use Rattle.world.specs.Parted.{joined_in}
 use Rattle.world.specs.Flights.{Ending, Part, part, parts, part_met}
 use Rattle.world.specs.Sound.{IsSoundWith, IsSoundActive, IsBalanced, WeighAlike, awaited}
 use Rattle.world.specs.Following.{ending, with_active}
@@ -42,6 +43,7 @@ module _ {J : Type 0} (scale : Scale) (w : Parts J) (h : IsSoundWith scale part_
       record {
         sound = record {
           scale_is = h.scale_is;
+          slices = h.slices;
           under_way = h.under_way;
           inbox = h.inbox;
           outbox = h.outbox;
@@ -52,9 +54,9 @@ module _ {J : Type 0} (scale : Scale) (w : Parts J) (h : IsSoundWith scale part_
               (record { tokens = tokens; alone = b.served.alone; many = b.served.many });
         };
         fits = λ opening history f.
-            subst (λ rs. FitsPart opening history w.log w.slice w.desk.admitted (fly (in_inbox w) (in_outbox w) (parts part_met rs))) (sym none)
-            (fits_like opening history w.log w.slice w.desk.admitted (beside part_ended w []) (lots w) (IsPermutation-refl (lots w).claims) (IsPermutation-refl (lots w).pending)
-            (subst (λ rs. FitsPart opening history w.log w.slice w.desk.admitted (beside part_ended w rs)) met f));
+            subst (λ rs. FitsPart opening history w.log (joined_in w) w.desk.admitted (fly (in_inbox w) (in_outbox w) (parts part_met rs))) (sym none)
+            (fits_like opening history w.log (joined_in w) w.desk.admitted (beside part_ended w []) (lots w) (IsPermutation-refl (lots w).claims) (IsPermutation-refl (lots w).pending)
+            (subst (λ rs. FitsPart opening history w.log (joined_in w) w.desk.admitted (beside part_ended w rs)) met f));
       }
 
   pub ended_goes_on : (left : ℕ) → w.desk.active ≡ Some (active.Ending left) → GoesOn scale part_ended w (with_active (ending (left - 1)) w)

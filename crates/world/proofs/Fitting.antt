@@ -27,33 +27,33 @@ use Rattle.history.specs.History.{Step, step, Unanswered, is_of}
 use Rattle.history.specs.Fits.{Fits as HistoryFits}
 use Rattle.history.specs.Laws.{IsQuiet, IsEntryOf, IsAnswerTo, new_one, with_place}
 use Rattle.history.proofs.Fitting.{unanswered_in_any_order, quiet_event_fits, admission_fits, answer_fits, entry_fits}
-use Rattle.slices.specs.Sliced.{Sliced, SliceKeeps, everywhere, standing}
+use Rattle.slices.specs.Sliced.{Joined, SlicesKeep, all_standing, everywhere}
 use Rattle.world.specs.Flights.{Part, part, join}
 use Rattle.world.specs.Worlds.{FitsPart, tables_now}
 use Rattle.world.proofs.Joins.{IsSame}
 
 module _ (opening : Database) (history : List Step) (log : List Entry) where
   -- whatever the order
-  pub fits_same : (slice : Sliced) (admitted : ℕ) (a b : Part) → IsSame a b → FitsPart opening history log slice admitted a → FitsPart opening history log slice admitted b
-  fits_same slice admitted a b same h = record {
+  pub fits_same : (slices : Joined) (admitted : ℕ) (a b : Part) → IsSame a b → FitsPart opening history log slices admitted a → FitsPart opening history log slices admitted b
+  fits_same slices admitted a b same h = record {
     told = unanswered_in_any_order opening history log (tables_now opening log) admitted a.pending b.pending same.pending h.told;
-    committed = kept.AreCommitted-permutation everywhere (content (tables_now opening log)) (standing slice) a.claims b.claims same.claims h.committed;
+    committed = kept.AreCommitted-permutation everywhere (content (tables_now opening log)) (all_standing slices) a.claims b.claims same.claims h.committed;
     scale = h.scale;
     items = h.items;
   }
 
   -- whatever the tokens are
-  pub fits_like : (slice : Sliced) (admitted : ℕ) (a b : Part) → IsPermutation a.claims b.claims → IsPermutation a.pending b.pending
-      → FitsPart opening history log slice admitted a → FitsPart opening history log slice admitted b
-  fits_like slice admitted a b claims pending h = record {
+  pub fits_like : (slices : Joined) (admitted : ℕ) (a b : Part) → IsPermutation a.claims b.claims → IsPermutation a.pending b.pending
+      → FitsPart opening history log slices admitted a → FitsPart opening history log slices admitted b
+  fits_like slices admitted a b claims pending h = record {
     told = unanswered_in_any_order opening history log (tables_now opening log) admitted a.pending b.pending pending h.told;
-    committed = kept.AreCommitted-permutation everywhere (content (tables_now opening log)) (standing slice) a.claims b.claims claims h.committed;
+    committed = kept.AreCommitted-permutation everywhere (content (tables_now opening log)) (all_standing slices) a.claims b.claims claims h.committed;
     scale = h.scale;
     items = h.items;
   }
 
   -- work on the rows
-  pub fits_work : (old new : Sliced) (admitted : ℕ) (a b rest : Part) → SliceKeeps a.claims old b.claims new → b.pending ≡ a.pending
+  pub fits_work : (old new : Joined) (admitted : ℕ) (a b rest : Part) → SlicesKeep a.claims old b.claims new → b.pending ≡ a.pending
       → FitsPart opening history log old admitted (join a rest) → FitsPart opening history log new admitted (join b rest)
   fits_work old new admitted a b rest keeps pending h = record {
     told = subst (λ us. HistoryFits opening history log (tables_now opening log) admitted (us ++ rest.pending)) (sym pending) h.told;
@@ -63,9 +63,9 @@ module _ (opening : Database) (history : List Step) (log : List Entry) where
   }
 
   -- an event that tells nothing of a transaction
-  pub fits_quiet : (slice : Sliced) (admitted : ℕ) (a : Part) (event : Event) (answer : EventAnswer) → IsQuiet event answer
-      → FitsPart opening history log slice admitted a → FitsPart opening (history ++ step event answer ∷ []) log slice admitted a
-  fits_quiet slice admitted a event answer quiet h = record {
+  pub fits_quiet : (slices : Joined) (admitted : ℕ) (a : Part) (event : Event) (answer : EventAnswer) → IsQuiet event answer
+      → FitsPart opening history log slices admitted a → FitsPart opening (history ++ step event answer ∷ []) log slices admitted a
+  fits_quiet slices admitted a event answer quiet h = record {
     told = quiet_event_fits opening history log (tables_now opening log) admitted a.pending event answer quiet h.told;
     committed = h.committed;
     scale = h.scale;
@@ -73,10 +73,10 @@ module _ (opening : Database) (history : List Step) (log : List Entry) where
   }
 
   -- a transaction is admitted
-  pub fits_admission : (slice : Sliced) (admitted : ℕ) (a : Part) (session number : ℕ) (request : Request) → count_by (is_of session) a.pending ≡ 0
-      → FitsPart opening history log slice admitted a
-      → FitsPart opening (history ++ step (Submit session number request) (Accepted admitted) ∷ []) log slice (admitted + 1) (part a.claims (new_one admitted session number request ∷ a.pending) a.tokens)
-  fits_admission slice admitted a session number request none h = record {
+  pub fits_admission : (slices : Joined) (admitted : ℕ) (a : Part) (session number : ℕ) (request : Request) → count_by (is_of session) a.pending ≡ 0
+      → FitsPart opening history log slices admitted a
+      → FitsPart opening (history ++ step (Submit session number request) (Accepted admitted) ∷ []) log slices (admitted + 1) (part a.claims (new_one admitted session number request ∷ a.pending) a.tokens)
+  fits_admission slices admitted a session number request none h = record {
     told = admission_fits opening history log (tables_now opening log) admitted a.pending session number request none h.told;
     committed = h.committed;
     scale = h.scale;
@@ -84,10 +84,10 @@ module _ (opening : Database) (history : List Step) (log : List Entry) where
   }
 
   -- a session is answered
-  pub fits_answer : (slice : Sliced) (admitted : ℕ) (claims : List Claiming) (u : Unanswered) (rest : Part) (executor : ℕ) (answer : Answer) → IsAnswerTo log u answer
-      → FitsPart opening history log slice admitted (part claims (u ∷ rest.pending) rest.tokens)
-      → FitsPart opening (history ++ step (Send executor) (Answered u.session u.number answer) ∷ []) log slice admitted (part claims rest.pending rest.tokens)
-  fits_answer slice admitted claims u rest executor answer is h = record {
+  pub fits_answer : (slices : Joined) (admitted : ℕ) (claims : List Claiming) (u : Unanswered) (rest : Part) (executor : ℕ) (answer : Answer) → IsAnswerTo log u answer
+      → FitsPart opening history log slices admitted (part claims (u ∷ rest.pending) rest.tokens)
+      → FitsPart opening (history ++ step (Send executor) (Answered u.session u.number answer) ∷ []) log slices admitted (part claims rest.pending rest.tokens)
+  fits_answer slices admitted claims u rest executor answer is h = record {
     told = answer_fits opening history log (tables_now opening log) admitted rest.pending executor u answer is h.told;
     committed = h.committed;
     scale = h.scale;
@@ -95,27 +95,27 @@ module _ (opening : Database) (history : List Step) (log : List Entry) where
   }
 
   -- what is committed once a transaction is
-  logged_committed : (shown : Reply) (tables : Group → Content) (next : Group → Content) (slice : Standing) (own others : List Claiming)
+  logged_committed : (shown : Reply) (tables : Group → Content) (next : Group → Content) (standing : Standing) (own others : List Claiming)
       → ((group : Group) → next group ≡ contents_logged shown tables own group)
-      → AreCommitted everywhere tables slice (own ++ others) → AreCommitted everywhere next slice (claims_logged shown own ++ others)
-  logged_committed (reply.RolledBack fault) tables next slice own others same h =
-      kept.AreCommitted-same everywhere tables next slice slice (own ++ others) (λ group here. same group) (λ group here. refl) (λ group here. refl) h
-  logged_committed (reply.Payment shown) tables next slice own others same h =
-      kept.AreCommitted-same everywhere _ next slice slice _ (λ group here. same group) (λ group here. refl) (λ group here. refl)
-      (kept.AreCommitted-commit everywhere tables slice own others h)
-  logged_committed (reply.OrderStatus shown) tables next slice own others same h =
-      kept.AreCommitted-same everywhere _ next slice slice _ (λ group here. same group) (λ group here. refl) (λ group here. refl)
-      (kept.AreCommitted-commit everywhere tables slice own others h)
+      → AreCommitted everywhere tables standing (own ++ others) → AreCommitted everywhere next standing (claims_logged shown own ++ others)
+  logged_committed (reply.RolledBack fault) tables next standing own others same h =
+      kept.AreCommitted-same everywhere tables next standing standing (own ++ others) (λ group here. same group) (λ group here. refl) (λ group here. refl) h
+  logged_committed (reply.Payment shown) tables next standing own others same h =
+      kept.AreCommitted-same everywhere _ next standing standing _ (λ group here. same group) (λ group here. refl) (λ group here. refl)
+      (kept.AreCommitted-commit everywhere tables standing own others h)
+  logged_committed (reply.OrderStatus shown) tables next standing own others same h =
+      kept.AreCommitted-same everywhere _ next standing standing _ (λ group here. same group) (λ group here. refl) (λ group here. refl)
+      (kept.AreCommitted-commit everywhere tables standing own others h)
 
   -- a transaction is logged
-  pub fits_entry : (slice : Sliced) (admitted : ℕ) (own others : List Claiming) (u : Unanswered) (pending : List Unanswered) (executor : ℕ) (entry : Entry)
+  pub fits_entry : (slices : Joined) (admitted : ℕ) (own others : List Claiming) (u : Unanswered) (pending : List Unanswered) (executor : ℕ) (entry : Entry)
       → entry.session ≡ u.session → entry.number ≡ u.number → entry.request ≡ u.request → u.entry ≡ None
       → IsCarriedOut opening entry.request own entry.reply
       → HistoryFits opening history log (tables_now opening log) admitted (u ∷ pending)
-      → AreCommitted everywhere (content (tables_now opening log)) (standing slice) (own ++ others)
+      → AreCommitted everywhere (content (tables_now opening log)) (all_standing slices) (own ++ others)
       → HistoryFits opening (history ++ step (Send executor) (Logged (length log)) ∷ []) (log ++ entry ∷ []) (tables_now opening (log ++ entry ∷ [])) admitted (with_place (length log) u ∷ pending)
-      × AreCommitted everywhere (content (tables_now opening (log ++ entry ∷ []))) (standing slice) (claims_logged entry.reply own ++ others)
-  fits_entry slice admitted own others u pending executor entry session number request none carried told committed =
+      × AreCommitted everywhere (content (tables_now opening (log ++ entry ∷ []))) (all_standing slices) (claims_logged entry.reply own ++ others)
+  fits_entry slices admitted own others u pending executor entry session number request none carried told committed =
       let tables = tables_now opening log in
       let front : All (TellsHere everywhere (content tables)) own = kept.All-front (TellsHere everywhere (content tables)) own others committed.told in
       let tells : Tells (content tables) own = All-weaker (TellsHere everywhere (content tables)) (TellsContent (content tables)) (λ claim here. here refl) own front in
@@ -125,6 +125,6 @@ module _ (opening : Database) (history : List Step) (log : List Entry) where
       let is : IsEntryOf u tables entry = record { session = session; number = number; request = request; reply = sym said.0; none = none } in
       let after = entry_fits opening history log tables admitted pending executor u entry is told in (
         subst (λ t. HistoryFits opening (history ++ step (Send executor) (Logged (length log)) ∷ []) (log ++ entry ∷ []) t admitted (with_place (length log) u ∷ pending)) (sym next) after,
-        subst (λ t. AreCommitted everywhere (content t) (standing slice) (claims_logged entry.reply own ++ others)) (sym next)
-            (logged_committed entry.reply (content tables) (content (transaction tables entry.request).tables) (standing slice) own others said.1 committed),
+        subst (λ t. AreCommitted everywhere (content t) (all_standing slices) (claims_logged entry.reply own ++ others)) (sym next)
+            (logged_committed entry.reply (content tables) (content (transaction tables entry.request).tables) (all_standing slices) own others said.1 committed),
       )

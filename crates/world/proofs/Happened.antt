@@ -13,6 +13,7 @@ use Rattle.history.specs.declared.event.EventAnswer.TheVariants.{Answered, Nothi
 use Rattle.history.specs.History.{step}
 use Rattle.history.specs.Laws.{IsQuiet}
 use Rattle.world.specs.declared.desk.SessionDesk.{SessionDesk}
+use Rattle.world.specs.Parted.{joined_in}
 use Rattle.world.specs.declared.world.Parts.{Parts}
 use Rattle.world.specs.Flights.{nothing}
 use Rattle.world.specs.Sound.{IsSoundWith, flight}
@@ -26,7 +27,7 @@ module _ {J : Type 0} where
   stays old new event told answer quiet said opening history f =
       subst (λ w. Fits opening (history ++ step event answer ∷ []) w) (sym said.1)
       (subst (λ a. Fits opening (history ++ step event a ∷ []) old) (sym said.0)
-      (fits_quiet opening history old.log old.slice old.desk.admitted (flight old) event told quiet f))
+      (fits_quiet opening history old.log (joined_in old) old.desk.admitted (flight old) event told quiet f))
 
   submits_into : (scale : Scale) (old new : Parts J) (h : IsSoundWith scale nothing old) (session number : ℕ) (asked : Request) (desk : SessionDesk J) (answer : EventAnswer)
       → slice_get old.desk.sessions.items session ≡ Some desk → refusal_at desk asked old ≡ None → (can : Bool) → SubmitsInto can session number asked desk old answer new
@@ -34,7 +35,7 @@ module _ {J : Type 0} where
   submits_into scale old new h session number asked desk answer there free false said =
       (subst (λ w. IsSoundWith scale nothing w) (sym said.1) h, stays old new (Submit session number asked) Nothing answer tt said)
   submits_into scale old new h session number asked desk answer there free true said =
-      let clear = not_refused desk.pass (check_of old.slice.tables.scale asked) old.desk.active free in
+      let clear = not_refused desk.pass (check_of old.catalog.scale asked) old.desk.active free in
       let accepted : check_of scale asked ≡ Ok tt = subst (λ s. check_of s asked ≡ Ok tt) h.scale_is clear.0 in
       ⊎_elim
       (λ refused. (subst (λ w. IsSoundWith scale nothing w) (sym refused.1) h, stays old new (Submit session number asked) _ answer tt refused))

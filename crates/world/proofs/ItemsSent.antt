@@ -13,6 +13,7 @@ use Rattle.world.specs.declared.flight.Message.{Message}
 use Rattle.world.specs.declared.flight.Item.{Item}
 use Rattle.world.specs.declared.flight.Item.TheVariants as item
 use Rattle.world.specs.declared.world.Parts.{Parts}
+use Rattle.world.specs.Parted.{joined_in}
 use Rattle.world.specs.declared.flight.Report.{Report}
 use Rattle.world.specs.Flights.{Acting, Part, nothing, join, part_message, part_item}
 use Rattle.world.specs.Sound.{IsSoundWith, IsSoundMessage, IsSoundCommit, IsSoundItem, IsSoundPhase, IsSoundActive, awaited, flight}
@@ -31,7 +32,7 @@ module _ {J : Type 0} where
   -- the next world is sound, and what fitted fits with the Send and its answer at its end
   pub record SendsOn (scale : Scale) (hand : Part) (old : Parts J) (answer : EventAnswer) (new : Parts J) : Type 0 where
     pub sound : IsSoundWith scale nothing new
-    pub fits : (opening : Database) (history : List Step) (executor : ℕ) → FitsPart opening history old.log old.slice old.desk.admitted (join hand (flight old))
+    pub fits : (opening : Database) (history : List Step) (executor : ℕ) → FitsPart opening history old.log (joined_in old) old.desk.admitted (join hand (flight old))
         → Fits opening (history ++ step (Send executor) answer ∷ []) new
 
   -- an event that tells nothing of a transaction
@@ -41,7 +42,7 @@ module _ {J : Type 0} where
     fits = λ opening history executor f.
         subst (λ w. Fits opening (history ++ step (Send executor) answer ∷ []) w) (sym is)
         (subst (λ a. Fits opening (history ++ step (Send executor) a ∷ []) next) (sym said)
-        (fits_quiet opening history next.log next.slice next.desk.admitted (flight next) (Send executor) Sent tt (goes.fits opening history f)));
+        (fits_quiet opening history next.log (joined_in next) next.desk.admitted (flight next) (Send executor) Sent tt (goes.fits opening history f)));
   }
 
   sends_push : (scale : Scale) (w new : Parts J) (message : Message J) (answer : EventAnswer) (room : Bool) → (h : IsSoundWith scale (part_message message) w) → IsSoundMessage scale h.under_way message
@@ -56,7 +57,7 @@ module _ {J : Type 0} where
         fits = λ opening history executor f.
             subst (λ v. Fits opening (history ++ step (Send executor) answer ∷ []) v) (sym said.1)
             (subst (λ a. Fits opening (history ++ step (Send executor) a ∷ []) next) (sym said.0)
-            (fits_quiet opening history next.log next.slice next.desk.admitted (flight next) (Send executor) Full tt (put_back_fits opening history w (item.Push message) f)));
+            (fits_quiet opening history next.log (joined_in next) next.desk.admitted (flight next) (Send executor) Full tt (put_back_fits opening history w (item.Push message) f)));
       }
 
   sends_commit : (scale : Scale) (w new : Parts J) (commit : CommitItem J) (answer : EventAnswer) (h : IsSoundWith scale (part_item (item.Commit commit)) w) (s : IsSoundCommit scale commit)

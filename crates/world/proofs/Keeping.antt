@@ -1,40 +1,40 @@
--- Steps of a slice that keep what is committed, beside claims that were out before.
+-- Steps of the slices that keep what is committed, beside claims that were out before.
 use Rattle.std.proofs.Common.{List, [], ◌++◌, refl, sym, subst, append_assoc}
 use Rattle.std.specs.List.Sorted.{IsPermutation}
 use Rattle.std.proofs.lemmas.List.Sorted.{IsPermutation-append_left, IsPermutation-append_comm}
 use Rattle.tickets.specs.Claims.{Claiming}
 use Rattle.tickets.specs.Committed.{AreCommitted}
 use Rattle.tickets.proofs.Committed as kept
-use Rattle.slices.specs.Sliced.{Sliced, SliceKeeps, everywhere, standing}
+use Rattle.slices.specs.Sliced.{Joined, SlicesKeep, all_standing, everywhere}
 
 -- nothing is done
-pub stays : (claims : List Claiming) (slice : Sliced) → SliceKeeps claims slice claims slice
-stays claims slice = record { committed = λ tables others h. h; scale = refl; items = refl }
+pub stays : (claims : List Claiming) (slices : Joined) → SlicesKeep claims slices claims slices
+stays claims slices = record { committed = λ tables others h. h; scale = refl; items = refl }
 
 -- more claims are out, after those of the step
-beside : (before after more : List Claiming) (old new : Sliced)
-    → SliceKeeps before old after new → SliceKeeps (before ++ more) old (after ++ more) new
+beside : (before after more : List Claiming) (old new : Joined)
+    → SlicesKeep before old after new → SlicesKeep (before ++ more) old (after ++ more) new
 beside before after more old new step = record {
   committed = λ tables others h.
-      subst (λ claims. AreCommitted everywhere tables (standing new) claims) (sym (append_assoc after more others))
-      (step.committed tables (more ++ others) (subst (λ claims. AreCommitted everywhere tables (standing old) claims) (append_assoc before more others) h));
+      subst (λ claims. AreCommitted everywhere tables (all_standing new) claims) (sym (append_assoc after more others))
+      (step.committed tables (more ++ others) (subst (λ claims. AreCommitted everywhere tables (all_standing old) claims) (append_assoc before more others) h));
   scale = step.scale;
   items = step.items;
 }
 
 -- the claims are in another order after the step
-ordered : (before after last : List Claiming) (old new : Sliced)
-    → IsPermutation after last → SliceKeeps before old after new → SliceKeeps before old last new
+ordered : (before after last : List Claiming) (old new : Joined)
+    → IsPermutation after last → SlicesKeep before old after new → SlicesKeep before old last new
 ordered before after last old new same step = record {
   committed = λ tables others h.
-      kept.AreCommitted-permutation everywhere tables (standing new) (after ++ others) (last ++ others) (IsPermutation-append_left others after last same)
+      kept.AreCommitted-permutation everywhere tables (all_standing new) (after ++ others) (last ++ others) (IsPermutation-append_left others after last same)
       (step.committed tables others h);
   scale = step.scale;
   items = step.items;
 }
 
 -- a step that makes claims, after those that are out
-pub more : (claims made : List Claiming) (old new : Sliced)
-    → SliceKeeps [] old made new → SliceKeeps claims old (claims ++ made) new
+pub more : (claims made : List Claiming) (old new : Joined)
+    → SlicesKeep [] old made new → SlicesKeep claims old (claims ++ made) new
 more claims made old new step =
     ordered claims (made ++ claims) (claims ++ made) old new (IsPermutation-append_comm made claims) (beside [] made claims old new step)

@@ -23,6 +23,7 @@ pub mod Answered
 pub mod Runs
 pub mod Busy
 pub mod Keeping
+pub mod Parted
 pub mod Works
 pub mod Submitting
 pub mod Admissions

@@ -9,6 +9,7 @@ use Rattle.requests.specs.declared.reply.Reply.{Reply}
 use Rattle.requests.specs.declared.reply.Reply.TheVariants as reply
 use Rattle.requests.specs.declared.answer.Answer.{Answer}
 use Rattle.requests.specs.declared.answer.Answer.TheVariants.{Done, Refused}
+use Rattle.groups.specs.Groups.{warehouse_of}
 use Rattle.tickets.specs.Claims.{Claiming, all_claims, settled, committed_by}
 use Rattle.tickets.specs.Committed.{all_settled}
 use Rattle.commit_log.specs.declared.entry.Entry.{Entry}
@@ -22,13 +23,15 @@ use Rattle.history.specs.declared.event.EventAnswer.TheVariants.{Logged}
 use Rattle.history.specs.History.{Step, step, Unanswered}
 use Rattle.history.specs.Laws.{with_place}
 use Rattle.history.proofs.Recorded.{slice_get-front, slice_get-last}
-use Rattle.actions.specs.Acting.{CanBeSettled, CanBeUndone}
+use Rattle.slices.specs.Sliced.{AreOfOneHome, IsClaimAt}
+use Rattle.actions.specs.Acting.{CanBeSettled}
 use Rattle.world.specs.declared.desk.Active.TheVariants as active
 use Rattle.world.specs.declared.flight.Item.{Item}
 use Rattle.world.specs.declared.flight.Item.TheVariants as item
 use Rattle.world.specs.declared.flight.CommitItem.{CommitItem}
 use Rattle.world.specs.declared.sending.Release.{Release}
 use Rattle.world.specs.declared.world.Parts.{Parts}
+use Rattle.world.specs.Parted.{CanAllBeUndone, joined_in}
 use Rattle.world.specs.Flights.{Committing, Part, part, nothing, join, part_item, unanswered_transaction}
 use Rattle.world.specs.Sound.{IsSoundWith, IsSoundItem, IsSoundCommit, IsAnswerIn, UnderWay, awaited, flight, reported_to}
 use Rattle.world.specs.Following.{entry_of, is_settled, release, releasing}
@@ -37,7 +40,7 @@ use Rattle.world.specs.Worlds.{FitsPart, Fits}
 use Rattle.world.proofs.Fitting.{fits_entry}
 use Rattle.world.proofs.Tokens.{one_less, is_awaited, weigh_committing, commit_under_way}
 use Rattle.world.proofs.Puts.{lots, GoesOn}
-use Rattle.world.proofs.Releases.{IsGiven, unanswered_release, releases_fits, releases_sound}
+use Rattle.world.proofs.Releases.{AreGiven, unanswered_release, releases_fits, releases_sound}
 use Rattle.world.proofs.Reporting.{beside, Beside, beside_now, none_met}
 
 -- ---- the log grows
@@ -55,18 +58,28 @@ all_settled_given : (cs : List Claiming) → All CanBeSettled (all_settled cs)
 all_settled_given [] = All-nil CanBeSettled
 all_settled_given (c ∷ cs) = All-cons CanBeSettled (settled c) (all_settled cs) (settled_given c) (all_settled_given cs)
 
+-- they are still on groups of one warehouse
+all_settled_at : (home : ℕ) (cs : List Claiming) → All (IsClaimAt home) cs → All (IsClaimAt home) (all_settled cs)
+all_settled_at home [] h = All-nil (IsClaimAt home)
+all_settled_at home (c ∷ cs) h =
+    All-cons (IsClaimAt home) (settled c) (all_settled cs) (All-head (IsClaimAt home) c cs h) (all_settled_at home cs (All-tail (IsClaimAt home) c cs h))
+
+all_settled_together : (cs : List Claiming) → AreOfOneHome cs → AreOfOneHome (all_settled cs)
+all_settled_together [] h = h
+all_settled_together (c ∷ cs) h = all_settled_at (warehouse_of c.group) (c ∷ cs) h
+
 -- those of one action
-logged_given : (shown : Reply) (cs : List Claiming) → All CanBeUndone cs → All (IsGiven (is_settled shown)) (claims_logged shown cs)
+logged_given : (shown : Reply) (cs : List Claiming) → CanAllBeUndone cs → AreGiven (is_settled shown) (claims_logged shown cs)
 logged_given (reply.RolledBack fault) cs h = h
-logged_given (reply.Payment shown) cs h = all_settled_given cs
-logged_given (reply.OrderStatus shown) cs h = all_settled_given cs
+logged_given (reply.Payment shown) cs h = (all_settled_given cs, all_settled_together cs h.1)
+logged_given (reply.OrderStatus shown) cs h = (all_settled_given cs, all_settled_together cs h.1)
 
 -- and those of all
-all_logged_given : (shown : Reply) (held : List (List Claiming)) → All (All CanBeUndone) held → All (All (IsGiven (is_settled shown))) (map (claims_logged shown) held)
-all_logged_given shown [] h = All-nil (All (IsGiven (is_settled shown)))
+all_logged_given : (shown : Reply) (held : List (List Claiming)) → All CanAllBeUndone held → All (AreGiven (is_settled shown)) (map (claims_logged shown) held)
+all_logged_given shown [] h = All-nil (AreGiven (is_settled shown))
 all_logged_given shown (cs ∷ held) h =
-    All-cons (All (IsGiven (is_settled shown))) (claims_logged shown cs) (map (claims_logged shown) held)
-    (logged_given shown cs (All-head (All CanBeUndone) cs held h)) (all_logged_given shown held (All-tail (All CanBeUndone) cs held h))
+    All-cons (AreGiven (is_settled shown)) (claims_logged shown cs) (map (claims_logged shown) held)
+    (logged_given shown cs (All-head CanAllBeUndone cs held h)) (all_logged_given shown held (All-tail CanAllBeUndone cs held h))
 
 -- what is logged of two lots of claims is logged of both together
 logged_none : (shown : Reply) → claims_logged shown [] ≡ []
@@ -122,9 +135,9 @@ module _ {J : Type 0} where
     by_lots : Beside (part_item (item.Commit commit)) w [] (Committing ∷ [])
     by_lots = beside_now (part_item (item.Commit commit)) w [] (Committing ∷ []) h.balance met (ap awaited committing)
 
-    fits_by_lots : (opening : Database) (history : List Step) → FitsPart opening history w.log w.slice w.desk.admitted (join (part_item (item.Commit commit)) (flight w))
-        → FitsPart opening history w.log w.slice w.desk.admitted (join (part_item (item.Commit commit)) (lots w))
-    fits_by_lots opening history f = subst (λ rs. FitsPart opening history w.log w.slice w.desk.admitted (beside (part_item (item.Commit commit)) w rs)) met f
+    fits_by_lots : (opening : Database) (history : List Step) → FitsPart opening history w.log (joined_in w) w.desk.admitted (join (part_item (item.Commit commit)) (flight w))
+        → FitsPart opening history w.log (joined_in w) w.desk.admitted (join (part_item (item.Commit commit)) (lots w))
+    fits_by_lots opening history f = subst (λ rs. FitsPart opening history w.log (joined_in w) w.desk.admitted (beside (part_item (item.Commit commit)) w rs)) met f
 
     pub refusing_goes_on : (why : AppendFault) → GoesOn scale (part_item (item.Commit commit)) w (refusing commit why w)
     refusing_goes_on why =
@@ -142,14 +155,14 @@ module _ {J : Type 0} where
         let hand = part_item (item.Commit commit) in
         let pending : hand.pending ≡ unanswered_release r ∷ [] = ap (λ u. u ∷ []) (sym is) in
         record {
-          sound = releases_sound scale h.under_way w hand false r h.scale_is h.inbox h.outbox h.seats h.sessions
+          sound = releases_sound scale h.under_way w hand false r h.scale_is h.slices h.inbox h.outbox h.seats h.sessions
               (subst (λ n. n < 64) (sym same.0) s.asked.session) (ap (λ asks. asks.number) same.1 ∙ s.asked.number) tt
               s.undo s.few pending by_lots.served (one_less Committing (lots w).tokens [] by_lots.tokens);
           fits = λ opening history f. releases_fits opening history w hand false r refl pending (fits_by_lots opening history f);
         }
 
     pub logging_goes_on : IsSoundWith scale nothing (logging commit w)
-        × ((opening : Database) (history : List Step) (executor : ℕ) → FitsPart opening history w.log w.slice w.desk.admitted (join (part_item (item.Commit commit)) (flight w))
+        × ((opening : Database) (history : List Step) (executor : ℕ) → FitsPart opening history w.log (joined_in w) w.desk.admitted (join (part_item (item.Commit commit)) (flight w))
         → Fits opening (history ++ step (Send executor) (Logged (length w.log)) ∷ []) (logging commit w))
     logging_goes_on =
         let t = commit.transaction in
@@ -166,14 +179,14 @@ module _ {J : Type 0} where
         let hand : Part = part claims (u ∷ []) [] in
         let settle = is_settled shown in
         let few : length held ≤ 4 = subst (λ n. n ≤ 4) (sym (length-map t.held (claims_logged shown))) s.few in (
-          releases_sound scale h.under_way logged_w hand settle r h.scale_is h.inbox
+          releases_sound scale h.under_way logged_w hand settle r h.scale_is h.slices h.inbox
               (All-weaker (IsSoundItem scale w.log h.under_way) (IsSoundItem scale log h.under_way) (λ i sound. item_in_more scale w.log h.under_way entry i sound) w.outbox h.outbox)
               h.seats h.sessions s.asked.session s.asked.number (entry, (slice_get-last w.log entry, refl)) (all_logged_given shown t.held s.undo) few refl
               (record { alone = by_lots.served.alone; many = by_lots.served.many })
               (one_less Committing (lots w).tokens [] by_lots.tokens),
           λ opening history executor f.
               let first = fits_by_lots opening history f in
-              let after = fits_entry opening history w.log w.slice w.desk.admitted (all_claims t.held) (lots w).claims (unanswered_transaction t) (lots w).pending executor entry
+              let after = fits_entry opening history w.log (joined_in w) w.desk.admitted (all_claims t.held) (lots w).claims (unanswered_transaction t) (lots w).pending executor entry
               refl (sym s.asked.number) (sym s.asked.request) refl (s.carried_out opening) first.told first.committed in
               releases_fits opening (history ++ step (Send executor) (Logged place) ∷ []) logged_w hand settle r (sym (logged_claims shown t.held)) refl
               (record { told = after.0; committed = after.1; scale = first.scale; items = first.items }),

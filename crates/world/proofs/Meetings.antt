@@ -23,7 +23,6 @@ use Rattle.phases.specs.declared.phase.Gathered.{Gathered}
 use Rattle.phases.specs.declared.phase.Gathered.TheVariants.{Next, Finish, RollBack}
 use Rattle.actions.specs.declared.work.Work.{Work}
 use Rattle.actions.specs.declared.work.Found.{Found}
-use Rattle.actions.specs.Acting.{CanBeUndone}
 use Rattle.actions.specs.Works.{HasDone}
 use Rattle.actions.proofs.Wished.{works_have_wishes, works_have_a_claim_for_each_wish}
 use Rattle.flow_graphs.specs.declared.graphs.Progress.{Progress}
@@ -42,6 +41,7 @@ use Rattle.world.specs.declared.flight.Report.{Report}
 use Rattle.world.specs.declared.flight.Item.{Item}
 use Rattle.world.specs.declared.flight.Item.TheVariants as item
 use Rattle.world.specs.declared.world.Parts.{Parts}
+use Rattle.world.specs.Parted.{CanAllBeUndone, joined_in}
 use Rattle.world.specs.Flights.{Acting, Committing, Part, part, nothing, join, parts, acting_from, part_item, part_met, part_report, part_transaction, unanswered_transaction}
 use Rattle.world.specs.Following.{acts_of, committing, found_in, held_in, holding, refusal_of, refused, releasing, with_active, IfCarried}
 use Rattle.world.specs.Sound.{IsSoundWith, IsSoundMessage, IsSoundItem, IsSoundReport, IsSoundPhase, IsSoundFlow, IsSoundStart, IsSoundCommit, IsAskedBy, IsBalanced, UnderWay, WeighAlike, awaited, flight, reported_to}
@@ -126,9 +126,9 @@ module _ {J : Type 0} where
     awaits_are : awaited w.desk.active ≡ map Acting (awaited_from 0 slots)
     awaits_are = ap awaited is
 
-    fits_beside : (opening : Database) (history : List Step) → FitsPart opening history w.log w.slice w.desk.admitted (join (part_report r) (flight w))
-        → FitsPart opening history w.log w.slice w.desk.admitted (beside (part_report r) w (reported slots))
-    fits_beside opening history f = subst (λ rs. FitsPart opening history w.log w.slice w.desk.admitted (beside (part_report r) w rs)) met_is f
+    fits_beside : (opening : Database) (history : List Step) → FitsPart opening history w.log (joined_in w) w.desk.admitted (join (part_report r) (flight w))
+        → FitsPart opening history w.log (joined_in w) w.desk.admitted (beside (part_report r) w (reported slots))
+    fits_beside opening history f = subst (λ rs. FitsPart opening history w.log (joined_in w) w.desk.admitted (beside (part_report r) w rs)) met_is f
 
     -- what stands at a place is sound
     still_sound : (place : ℕ) (q : Report J) → slice_get filled place ≡ Some (Some q) → (q.place ≡ place) × IsSoundReport scale u q
@@ -168,6 +168,7 @@ module _ {J : Type 0} where
         record {
           sound = record {
             scale_is = h.scale_is;
+            slices = h.slices;
             under_way = u;
             inbox = h.inbox;
             outbox = h.outbox;
@@ -184,8 +185,8 @@ module _ {J : Type 0} where
             balance = balanced_same desk (join (join hand met) (lots w)) (flight new) (same-sym _ _ same) balance;
           };
           fits = λ opening history f.
-              let together = fits_same opening history w.log w.slice w.desk.admitted (beside (part_report r) w (reported slots)) (join (join (part_report r) met) (lots w)) with_token (fits_beside opening history f) in
-              fits_same opening history w.log w.slice w.desk.admitted (join (join hand met) (lots w)) (flight new) (same-sym _ _ same)
+              let together = fits_same opening history w.log (joined_in w) w.desk.admitted (beside (part_report r) w (reported slots)) (join (join (part_report r) met) (lots w)) with_token (fits_beside opening history f) in
+              fits_same opening history w.log (joined_in w) w.desk.admitted (join (join hand met) (lots w)) (flight new) (same-sym _ _ same)
               (record { told = together.told; committed = together.committed; scale = together.scale; items = together.items });
         }
 
@@ -233,15 +234,15 @@ module _ {J : Type 0} where
             let b = beside_now (part_report r) w (reported slots) (map Acting (awaited_from 0 slots)) h.balance met_is awaits_are in
             served_same w.desk (beside (part_report r) w (reported slots)).pending (unanswered_transaction t ∷ (lots w).pending) in_hand.pending b.served
 
-        fits_in_hand : (opening : Database) (history : List Step) → FitsPart opening history w.log w.slice w.desk.admitted (join (part_report r) (flight w))
-            → FitsPart opening history w.log w.slice w.desk.admitted (join hand (lots w))
-        fits_in_hand opening history f = fits_same opening history w.log w.slice w.desk.admitted (beside (part_report r) w (reported slots)) (join hand (lots w)) in_hand (fits_beside opening history f)
+        fits_in_hand : (opening : Database) (history : List Step) → FitsPart opening history w.log (joined_in w) w.desk.admitted (join (part_report r) (flight w))
+            → FitsPart opening history w.log (joined_in w) w.desk.admitted (join hand (lots w))
+        fits_in_hand opening history f = fits_same opening history w.log (joined_in w) w.desk.admitted (beside (part_report r) w (reported slots)) (join hand (lots w)) in_hand (fits_beside opening history f)
 
         held_is : t.held ≡ u.held ++ held_in reports
         held_is = ap (λ (hs : List (List Claiming)). hs ++ held_in reports) sound_flow.held
 
-        undo : All (All CanBeUndone) t.held
-        undo = subst (λ hs. All (All CanBeUndone) hs) (sym held_is) (All-append (All CanBeUndone) u.held (held_in reports) at.undo (all_undo scale u 0 (works_of u.progress) reports have))
+        undo : All CanAllBeUndone t.held
+        undo = subst (λ hs. All CanAllBeUndone hs) (sym held_is) (All-append CanAllBeUndone u.held (held_in reports) at.undo (all_undo scale u 0 (works_of u.progress) reports have))
 
         hold : All HoldsSome t.held
         hold = subst (λ hs. All HoldsSome hs) (sym held_is)
@@ -263,7 +264,7 @@ module _ {J : Type 0} where
 
         pub refuses : (why : Refusal) → GoesOn scale (part_report r) w (releasing false (refused t why) w)
         refuses why = record {
-          sound = releases_sound scale u w hand false (refused t why) h.scale_is h.inbox h.outbox h.seats h.sessions asked.session asked.number tt undo few refl served rests;
+          sound = releases_sound scale u w hand false (refused t why) h.scale_is h.slices h.inbox h.outbox h.seats h.sessions asked.session asked.number tt undo few refl served rests;
           fits = λ opening history f. releases_fits opening history w hand false (refused t why) refl refl (fits_in_hand opening history f);
         }
 
@@ -299,7 +300,7 @@ module _ {J : Type 0} where
               few = few;
             } in
             record {
-              sound = puts_sound scale u w hand (one ∷ []) (Some active.Committing) refl h.scale_is h.inbox h.outbox
+              sound = puts_sound scale u w hand (one ∷ []) (Some active.Committing) refl h.scale_is h.slices h.inbox h.outbox
                   (All-cons (IsSoundItem scale w.log u) one [] sound (All-nil (IsSoundItem scale w.log u))) tt h.seats h.sessions
                   (IsPermutation-refl (unanswered_transaction t ∷ [])) served
                   (λ weight. omega (arith, sum_by-cons weight Committing (lots w).tokens, sum_by-cons weight Committing [], rests weight));
@@ -333,7 +334,7 @@ module _ {J : Type 0} where
               awaits = omega (arith, some, ap (λ (ns : List ℕ). length ns) (all_awaited (Report J) 0 (length works)), length-range_with_len 0 (length works));
             } in
             record {
-              sound = puts_sound scale v w hand (acts_of flow_now works) begun (none_reported (length works)) h.scale_is (inbox_for v) (outbox_for v)
+              sound = puts_sound scale v w hand (acts_of flow_now works) begun (none_reported (length works)) h.scale_is h.slices (inbox_for v) (outbox_for v)
                   (acts_fine scale w.log v flow_now works start) phase h.seats h.sessions
                   (subst (λ (q : Part). IsPermutation (unanswered_transaction t ∷ []) q.pending) (sym acts) (IsPermutation-refl (unanswered_transaction t ∷ []))) served
                   (λ weight.

@@ -1,11 +1,12 @@
 -- A world that was just opened.
-use Rattle.std.proofs.Common.{◌≡◌, ℕ, ◌+◌, ◌<◌, ◌*◌, zero, suc, true, false, Bool, List, [], ◌∷◌, Option, Some, None, map, length, get_or, replicate, refl, sym, ap, subst, ◌∙◌, cond, arith, option_map}
+use Rattle.std.proofs.Common.{◌≡◌, ℕ, ◌+◌, ◌<◌, suc, List, [], ◌∷◌, Option, Some, None, map, length, get_or, refl, sym, ap, subst, ◌∙◌, cond, arith, option_map}
 use Rattle.std.specs.Prelude.{count_by, slice_get, sum_by, All}
 use Rattle.std.proofs.lemmas.List.{get_or-map, length-map}
 use Rattle.std.proofs.lemmas.List.Elements.{All-nil}
 use Rattle.std.proofs.lemmas.List.Sums.{sum_by-cons}
 use Rattle.std.proofs.lemmas.Option.{slice_get-map, slice_get_within}
-use Rattle.schema.specs.Database.{Database}
+use Rattle.schema.specs.Database.{Database, IsWithinScale}
+use Rattle.partitions.specs.Parts.{Shared, parts_of, shared_of}
 use Rattle.schema.specs.Consistency.{Consistent}
 use Rattle.schema.specs.declared.scale.Scale.{Scale}
 use Rattle.requests.specs.declared.request.Choice.TheVariants.{Number}
@@ -15,7 +16,7 @@ use Rattle.groups.specs.Content.{content}
 use Rattle.tickets.specs.Boxes.{Boxed}
 use Rattle.tickets.specs.LogSeats.{Committed}
 use Rattle.tickets.specs.Openings.{Opened, box_beside, contents_committed, contents_opened}
-use Rattle.tickets.specs.Places.{AreInPlace, place_of}
+use Rattle.tickets.specs.Places.{AreInPlace}
 use Rattle.tickets.proofs.Committed as kept
 use Rattle.commit_log.specs.declared.entry.Entry.{Entry}
 use Rattle.commit_log.specs.Passing.{Passing, Seating, new_pass, new_seat}
@@ -23,10 +24,12 @@ use Rattle.history.proofs.Fitting.{empty_history_fits}
 use Rattle.phases.specs.declared.graph.Stage.TheVariants.{Here}
 use Rattle.flow_graphs.specs.declared.graphs.Progress.TheVariants as progress
 use Rattle.slices.specs.Openings.{AreOpenedFor, IsBoxOf}
-use Rattle.slices.specs.Sliced.{Sliced, at_rest, everywhere, is_group_of, standing}
+use Rattle.slices.specs.Sliced.{Sliced, AreSlicesOf, all_at_rest, all_standing, at_rest, everywhere, joined}
+use Rattle.slices.proofs.Joined.{cut_slices_are_at_rest}
 use Rattle.slices.proofs.Opened.{opened_groups_have_boxes}
 use Rattle.world.specs.declared.desk.SessionDesk.{SessionDesk}
 use Rattle.world.specs.declared.world.Parts.{Parts}
+use Rattle.world.specs.Parted.{joined_in}
 use Rattle.world.specs.Flights.{nothing, join, parts, part_message, part_item, part_met}
 use Rattle.world.specs.Openings.{AreNewLanes, IsNew, session_with}
 use Rattle.world.specs.Sound.{IsSoundWith, IsSoundMessage, IsSoundItem, IsSoundActive, IsPassOf, IsBalanced, UnderWay, awaited, is_here, reported_to, flight}
@@ -43,6 +46,15 @@ seats_tell t openings seats opened in_place same place d small =
     let is : IsBoxOf t place (get_or (map box_beside seats) place (box_beside d)) = boxes.each place (box_beside d) (omega (arith, small, long)) in
     let here : IsBoxOf t place (box_beside (get_or seats place d)) = subst (IsBoxOf t place) (get_or-map box_beside seats place d (box_beside d) small) is in
     sym (ap (λ (b : Boxed). b.left) here.has)
+
+-- ---- the slices
+
+-- those of the tables that were cut are the slices of all warehouses, at rest
+pub cut_slices : (t : Database) (shared : Shared) (slices : List Sliced) → IsWithinScale t → shared ≡ shared_of t → slices ≡ map at_rest (parts_of t)
+    → AreSlicesOf shared slices × (joined shared slices ≡ all_at_rest t)
+cut_slices t shared slices within same are =
+    let Are : Shared → List Sliced → Type 0 = λ s l. AreSlicesOf s l × (joined s l ≡ all_at_rest t) in
+    subst (λ s. Are s slices) (sym same) (subst (Are (shared_of t)) (sym are) (cut_slices_are_at_rest t within))
 
 -- ---- the sessions
 
@@ -81,14 +93,15 @@ module _ {J : Type 0} where
       ∙ ap (λ is. join nothing (join (parts part_item is) (parts part_met (reported_to w.desk.active)))) outbox
       ∙ ap (λ a. join nothing (join nothing (parts part_met (reported_to a)))) active
 
-  pub opened_sound : (scale : Scale) (lanes : List (Passing × Seating)) (w : Parts J) → AreNewLanes lanes → w.slice.tables.scale ≡ scale → w.inbox ≡ [] → w.outbox ≡ [] → w.desk.active ≡ None
+  pub opened_sound : (scale : Scale) (lanes : List (Passing × Seating)) (w : Parts J) → AreNewLanes lanes → w.catalog.scale ≡ scale → AreSlicesOf w.catalog w.slices.items → w.inbox ≡ [] → w.outbox ≡ [] → w.desk.active ≡ None
       → w.desk.sessions.items ≡ map session_with lanes → IsSoundWith scale nothing w
-  opened_sound scale lanes w new scale_is inbox outbox active sessions =
+  opened_sound scale lanes w new scale_is slices inbox outbox active sessions =
       let found_at : (number : ℕ) (session : SessionDesk J) → slice_get w.desk.sessions.items number ≡ Some session → session ≡ session_with (new_pass number, new_seat number) =
       λ number session found. session_is lanes number session new (sym (ap (λ l. slice_get l number) sessions) ∙ found) in
       let here : count_by is_here w.desk.sessions.items ≡ length lanes = ap (λ l. count_by is_here l) sessions ∙ all_here J lanes in
       record {
         scale_is = scale_is;
+        slices = slices;
         under_way = none_under_way;
         inbox = subst (All (IsSoundMessage scale none_under_way)) (sym inbox) (All-nil (IsSoundMessage scale none_under_way));
         outbox = subst (All (IsSoundItem scale w.log none_under_way)) (sym outbox) (All-nil (IsSoundItem scale w.log none_under_way));
@@ -104,10 +117,11 @@ module _ {J : Type 0} where
         });
       }
 
-  pub opened_new : (t : Database) (lanes : List (Passing × Seating)) (w : Parts J) → AreNewLanes lanes → w.slice ≡ at_rest t → w.inbox ≡ [] → w.outbox ≡ [] → w.log ≡ [] → w.desk.admitted ≡ 0 → w.desk.active ≡ None
+  pub opened_new : (t : Database) (lanes : List (Passing × Seating)) (w : Parts J) → AreNewLanes lanes → AreSlicesOf w.catalog w.slices.items → joined_in w ≡ all_at_rest t → w.inbox ≡ [] → w.outbox ≡ [] → w.log ≡ [] → w.desk.admitted ≡ 0 → w.desk.active ≡ None
       → w.desk.sessions.items ≡ map session_with lanes → IsNew t w
-  opened_new t lanes w new slice inbox outbox log admitted active sessions = record {
-    slice = slice;
+  opened_new t lanes w new slices rows inbox outbox log admitted active sessions = record {
+    slices = slices;
+    rows = rows;
     inbox = inbox;
     outbox = outbox;
     log = log;
@@ -120,28 +134,20 @@ module _ {J : Type 0} where
 
 -- ---- its history
 
-replicated : (n k : ℕ) → get_or {A = ℕ} (replicate n 8) k 8 ≡ 8
-replicated zero k = refl
-replicated (suc n) zero = refl
-replicated (suc n) (suc k) = replicated n k
-
-either_way : (b : Bool) (x : ℕ) → x ≡ 8 → cond {A = ℕ} b x 8 ≡ 8
-either_way true x is = is
-either_way false x is = refl
-
 module _ (t : Database) (consistent : Consistent t) where
-  rest_fits : FitsPart t [] [] (at_rest t) 0 nothing
+  rest_fits : FitsPart t [] [] (all_at_rest t) 0 nothing
   rest_fits = record {
     told = empty_history_fits t consistent;
-    committed = (kept.rest_is_committed everywhere (content t) (standing (at_rest t))).0 (record {
-      free = λ group near. either_way (is_group_of t.scale.warehouses group) (get_or (replicate (105 * t.scale.warehouses) 8) (place_of group) 8) (replicated (105 * t.scale.warehouses) (place_of group));
+    committed = (kept.rest_is_committed everywhere (content t) (all_standing (all_at_rest t))).0 (record {
+      free = λ group near. refl;
       rows = λ group near. refl;
     });
     scale = refl;
     items = refl;
   }
 
-  pub opened_fits : {J : Type 0} (w : Parts J) (slice : Sliced) (log : List Entry) → slice ≡ at_rest t → log ≡ [] → w.inbox ≡ [] → w.outbox ≡ [] → w.desk.active ≡ None → FitsPart t [] log slice 0 (flight w)
-  opened_fits w slice log rest empty inbox outbox active =
-      subst (λ p. FitsPart t [] log slice 0 p) (sym (nothing_flies w inbox outbox active))
-      (subst (λ l. FitsPart t [] l slice 0 nothing) (sym empty) (subst (λ s. FitsPart t [] [] s 0 nothing) (sym rest) rest_fits))
+  pub opened_fits : {J : Type 0} (w : Parts J) (log : List Entry) → joined_in w ≡ all_at_rest t → log ≡ [] → w.inbox ≡ [] → w.outbox ≡ [] → w.desk.active ≡ None
+      → FitsPart t [] log (joined_in w) 0 (flight w)
+  opened_fits w log rest empty inbox outbox active =
+      subst (λ p. FitsPart t [] log (joined_in w) 0 p) (sym (nothing_flies w inbox outbox active))
+      (subst (λ l. FitsPart t [] l (joined_in w) 0 nothing) (sym empty) (subst (λ s. FitsPart t [] [] s 0 nothing) (sym rest) rest_fits))

@@ -8,11 +8,13 @@ use Rattle.std.proofs.lemmas.List.Sorted.{IsPermutation-refl, IsPermutation-appe
 use Rattle.schema.specs.declared.scale.Scale.{Scale}
 use Rattle.schema.specs.Database.{Database}
 use Rattle.history.specs.History.{Step, Unanswered, is_of}
+use Rattle.slices.specs.Sliced.{AreSlicesOf}
 use Rattle.world.specs.declared.desk.Active.{Active}
 use Rattle.world.specs.declared.desk.Desk.{Desk}
 use Rattle.world.specs.declared.desk.SessionDesk.{SessionDesk}
 use Rattle.world.specs.declared.flight.Item.{Item}
 use Rattle.world.specs.declared.world.Parts.{Parts}
+use Rattle.world.specs.Parted.{joined_in}
 use Rattle.world.specs.Flights.{Part, part, nothing, join, parts, part_item, part_met}
 use Rattle.world.specs.Sound.{IsSoundWith, IsSoundMessage, IsSoundItem, IsSoundActive, IsSessionOf, IsBalanced, WeighAlike, UnderWay, flight, reported_to, awaited, is_here}
 use Rattle.world.specs.Following.{putting}
@@ -30,6 +32,7 @@ module _ {J : Type 0} where
       let all = subst (λ is. All (IsSoundItem scale old.log h.under_way) is) is h.outbox in (
         record {
           scale_is = h.scale_is;
+          slices = h.slices;
           under_way = h.under_way;
           inbox = h.inbox;
           outbox = All-tail (IsSoundItem scale old.log h.under_way) item rest all;
@@ -42,9 +45,9 @@ module _ {J : Type 0} where
       )
 
   pub fits_in_hand : (opening : Database) (history : List Step) (old : Parts J) (item : Item J) (rest : List (Item J)) → old.outbox ≡ item ∷ rest
-      → Fits opening history old → FitsPart opening history old.log old.slice old.desk.admitted (join (part_item item) (flight (record old { outbox = rest })))
+      → Fits opening history old → FitsPart opening history old.log (joined_in old) old.desk.admitted (join (part_item item) (flight (record old { outbox = rest })))
   fits_in_hand opening history old item rest is f =
-      fits_same opening history old.log old.slice old.desk.admitted (flight old) (join (part_item item) (flight (record old { outbox = rest }))) (item_taken old item rest is) f
+      fits_same opening history old.log (joined_in old) old.desk.admitted (flight old) (join (part_item item) (flight (record old { outbox = rest }))) (item_taken old item rest is) f
 
   -- ---- where nothing has met
 
@@ -62,12 +65,12 @@ module _ {J : Type 0} where
 
   pub puts_fits : (opening : Database) (history : List Step) (w : Parts J) (hand : Part) (items : List (Item J)) (active : Option (Active J)) → reported_to active ≡ []
       → IsPermutation hand.claims (parts part_item items).claims → IsPermutation hand.pending (parts part_item items).pending
-      → FitsPart opening history w.log w.slice w.desk.admitted (join hand (lots w)) → Fits opening history (putting items active w)
+      → FitsPart opening history w.log (joined_in w) w.desk.admitted (join hand (lots w)) → Fits opening history (putting items active w)
   puts_fits opening history w hand items active none claims pending f =
       let put = parts part_item items in
       let rest = lots w in
-      fits_same opening history w.log w.slice w.desk.admitted (join put rest) (flight (putting items active w)) (same-sym _ _ (lots_put w items active none))
-      (fits_like opening history w.log w.slice w.desk.admitted (join hand rest) (join put rest)
+      fits_same opening history w.log (joined_in w) w.desk.admitted (join put rest) (flight (putting items active w)) (same-sym _ _ (lots_put w items active none))
+      (fits_like opening history w.log (joined_in w) w.desk.admitted (join hand rest) (join put rest)
       (IsPermutation-append hand.claims put.claims rest.claims rest.claims claims (IsPermutation-refl rest.claims))
       (IsPermutation-append hand.pending put.pending rest.pending rest.pending pending (IsPermutation-refl rest.pending)) f)
 
@@ -78,7 +81,7 @@ module _ {J : Type 0} where
     pub many : length pending + count_by is_here desk.sessions.items ≡ 64
 
   pub puts_sound : (scale : Scale) (u : UnderWay) (w : Parts J) (hand : Part) (items : List (Item J)) (active : Option (Active J)) → reported_to active ≡ []
-      → w.slice.tables.scale ≡ scale
+      → w.catalog.scale ≡ scale → AreSlicesOf w.catalog w.slices.items
       → All (IsSoundMessage scale u) w.inbox → All (IsSoundItem scale w.log u) w.outbox → All (IsSoundItem scale w.log u) items
       → IsSoundActive scale u active → length w.desk.sessions.items ≡ 64
       → ((number : ℕ) (session : SessionDesk J) → slice_get w.desk.sessions.items number ≡ Some session → IsSessionOf number session)
@@ -86,7 +89,7 @@ module _ {J : Type 0} where
       → AreServed w.desk (hand.pending ++ (lots w).pending)
       → WeighAlike ((parts part_item items).tokens ++ (lots w).tokens) (awaited active)
       → IsSoundWith scale nothing (putting items active w)
-  puts_sound scale u w hand items active none scale_is inbox outbox fine sound seats sessions pending served tokens =
+  puts_sound scale u w hand items active none scale_is slices inbox outbox fine sound seats sessions pending served tokens =
       let put = parts part_item items in
       let rest = lots w in
       let desk : Desk J = record w.desk { active = active } in
@@ -95,6 +98,7 @@ module _ {J : Type 0} where
       let balance : IsBalanced desk (join first rest) = record { tokens = tokens; alone = served.alone; many = served.many } in
       record {
         scale_is = scale_is;
+        slices = slices;
         under_way = u;
         inbox = inbox;
         outbox = All-append (IsSoundItem scale w.log u) w.outbox items outbox fine;
@@ -110,4 +114,4 @@ module _ {J : Type 0} where
   -- from what was in hand, the next world is sound, and a history that fits goes on fitting
   pub record GoesOn (scale : Scale) (hand : Part) (old new : Parts J) : Type 0 where
     pub sound : IsSoundWith scale nothing new
-    pub fits : (opening : Database) (history : List Step) → FitsPart opening history old.log old.slice old.desk.admitted (join hand (flight old)) → Fits opening history new
+    pub fits : (opening : Database) (history : List Step) → FitsPart opening history old.log (joined_in old) old.desk.admitted (join hand (flight old)) → Fits opening history new

@@ -17,7 +17,7 @@ use Rattle.history.specs.declared.event.EventAnswer.{EventAnswer}
 use Rattle.history.specs.declared.event.EventAnswer.TheVariants.{Nothing}
 use Rattle.history.specs.History.{Step}
 use Rattle.rendezvous.specs.Awaited.{awaited_from}
-use Rattle.slices.specs.Sliced.{everywhere, standing}
+use Rattle.slices.specs.Sliced.{all_standing, everywhere}
 use Rattle.commit_log.specs.declared.entry.Entry.{Entry}
 use Rattle.world.specs.declared.desk.Active.{Active}
 use Rattle.world.specs.declared.desk.Active.TheVariants as active
@@ -25,10 +25,11 @@ use Rattle.world.specs.declared.flight.Message.{Message}
 use Rattle.world.specs.declared.flight.Item.{Item}
 use Rattle.world.specs.declared.flight.Item.TheVariants as item
 use Rattle.world.specs.declared.world.Parts.{Parts}
+use Rattle.world.specs.Parted.{joined_in}
 use Rattle.world.specs.Flights.{nothing, parts, part_message, part_item, part_met}
 use Rattle.world.specs.Sound.{IsSoundWith, IsSoundActive, IsSoundItem, UnderWay, awaited, flight, reported_to}
 use Rattle.world.specs.Events.{Pushes, Commits, SendsItem}
-use Rattle.world.specs.Worlds.{Fits, tables_now}
+use Rattle.world.specs.Worlds.{Fits, IsAtRest, tables_now}
 use Rattle.world.proofs.Balances.{in_inbox, in_outbox}
 use Rattle.world.proofs.Asking.{one_each, some_token, no_message}
 use Rattle.world.proofs.Reported.{met_tokens}
@@ -57,6 +58,12 @@ module _ {J : Type 0} where
             ∙ ap (λ (is : List (Item J)). (parts part_item is).claims ++ (parts part_met met).claims) outbox
             ∙ ap (λ (o : Option (Active J)). (parts part_met (reported_to o)).claims) idle,
       )
+
+  -- it is so of how the world is seen
+  pub rests_idle : (scale : Scale) (w seen : Parts J) → w ≡ seen → IsSoundWith scale nothing w → IsAtRest seen → seen.desk.active ≡ None
+  rests_idle scale w seen same h rests =
+      let here = subst IsAtRest (sym same) rests in
+      subst (λ (v : Parts J). v.desk.active ≡ None) same ((quiet_rests scale w h here.0 here.1).0)
 
   -- ---- where nothing is active
 
@@ -93,12 +100,12 @@ module _ {J : Type 0} where
 
   -- the rows are what the machine leaves
   pub idle_tables : (scale : Scale) (w : Parts J) → IsSoundWith scale nothing w → w.desk.active ≡ None → (opening : Database) (history : List Step) → Fits opening history w
-      → w.slice.tables ≡ tables_now opening w.log
+      → (joined_in w).tables ≡ tables_now opening w.log
   idle_tables scale w h none opening history f =
       let last = tables_now opening w.log in
-      let committed = subst (λ cs. AreCommitted everywhere (content last) (standing w.slice) cs) (idle_claims scale w h none) f.committed in
-      let rest = (kept.rest_is_committed everywhere (content last) (standing w.slice)).1 committed in
-      contents_make_tables w.slice.tables last (f.scale ∙ sym (tables_after-scale opening (requests_of w.log))) (f.items ∙ sym (tables_after-items opening (requests_of w.log)))
+      let committed = subst (λ cs. AreCommitted everywhere (content last) (all_standing (joined_in w)) cs) (idle_claims scale w h none) f.committed in
+      let rest = (kept.rest_is_committed everywhere (content last) (all_standing (joined_in w))).1 committed in
+      contents_make_tables (joined_in w).tables last (f.scale ∙ sym (tables_after-scale opening (requests_of w.log))) (f.items ∙ sym (tables_after-items opening (requests_of w.log)))
       (λ group. rest.rows group refl)
 
   -- ---- what is answered Nothing

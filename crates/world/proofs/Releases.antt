@@ -11,20 +11,21 @@ use Rattle.schema.specs.Database.{Database}
 use Rattle.tickets.specs.Claims.{Claiming, all_claims}
 use Rattle.commit_log.specs.declared.entry.Entry.{Entry}
 use Rattle.history.specs.History.{Step, Unanswered}
-use Rattle.actions.specs.Acting.{CanBeSettled, CanBeUndone}
+use Rattle.slices.specs.Sliced.{AreSlicesOf}
 use Rattle.world.specs.declared.desk.SessionDesk.{SessionDesk}
 use Rattle.world.specs.declared.sending.Release.{Release}
 use Rattle.world.specs.declared.world.Parts.{Parts}
+use Rattle.world.specs.Parted.{CanAllBeSettled, CanAllBeUndone, joined_in}
 use Rattle.world.specs.Flights.{Ending, Part, nothing, join, parts, part_item, part_held, place_answered}
 use Rattle.world.specs.Sound.{IsSoundWith, IsSoundMessage, IsSoundItem, IsSoundActive, IsSessionOf, IsAnswerIn, UnderWay, WeighAlike, awaited, reported_to}
 use Rattle.world.specs.Following.{ending, items_released, push_of, releasing}
 use Rattle.world.specs.Worlds.{FitsPart, Fits}
 use Rattle.world.proofs.Puts.{lots, puts_fits, puts_sound, AreServed}
 
--- what is asked of a claim that is settled, and of one that is taken back
-abbrev pub IsGiven : Bool → Claiming → Type 0
-IsGiven true claim = CanBeSettled claim
-IsGiven false claim = CanBeUndone claim
+-- what is asked of claims that are settled, and of those that are taken back
+abbrev pub AreGiven : Bool → List Claiming → Type 0
+AreGiven true claims = CanAllBeSettled claims
+AreGiven false claims = CanAllBeUndone claims
 
 -- ---- what several actions hold
 
@@ -65,17 +66,17 @@ module _ (J : Type 0) where
   pushes_part settle [] = refl
   pushes_part settle (claims ∷ all) = λ i. join (push_part settle claims i) (pushes_part settle all i)
 
-  push_sound : (scale : Scale) (log : List Entry) (u : UnderWay) (settle : Bool) (claims : List Claiming) → All (IsGiven settle) claims → IsSoundItem {J = J} scale log u (push_of settle claims)
+  push_sound : (scale : Scale) (log : List Entry) (u : UnderWay) (settle : Bool) (claims : List Claiming) → AreGiven settle claims → IsSoundItem {J = J} scale log u (push_of settle claims)
   push_sound scale log u true claims h = h
   push_sound scale log u false claims h = h
 
-  pushes_sound : (scale : Scale) (log : List Entry) (u : UnderWay) (settle : Bool) (all : List (List Claiming)) → All (All (IsGiven settle)) all
+  pushes_sound : (scale : Scale) (log : List Entry) (u : UnderWay) (settle : Bool) (all : List (List Claiming)) → All (AreGiven settle) all
       → All (IsSoundItem {J = J} scale log u) (map (push_of settle) all)
   pushes_sound scale log u settle [] h = All-nil (IsSoundItem scale log u)
   pushes_sound scale log u settle (claims ∷ all) h =
       All-cons (IsSoundItem scale log u) (push_of settle claims) (map (push_of settle) all)
-      (push_sound scale log u settle claims (All-head (All (IsGiven settle)) claims all h))
-      (pushes_sound scale log u settle all (All-tail (All (IsGiven settle)) claims all h))
+      (push_sound scale log u settle claims (All-head (AreGiven settle) claims all h))
+      (pushes_sound scale log u settle all (All-tail (AreGiven settle) claims all h))
 
 module _ {J : Type 0} where
   abbrev pub unanswered_release : Release J → Unanswered
@@ -103,7 +104,7 @@ module _ {J : Type 0} where
 
   pub releases_fits : (opening : Database) (history : List Step) (w : Parts J) (hand : Part) (settle : Bool) (r : Release J)
       → hand.claims ≡ all_claims r.held → hand.pending ≡ unanswered_release r ∷ []
-      → FitsPart opening history w.log w.slice w.desk.admitted (join hand (lots w)) → Fits opening history (releasing settle r w)
+      → FitsPart opening history w.log (joined_in w) w.desk.admitted (join hand (lots w)) → Fits opening history (releasing settle r w)
   releases_fits opening history w hand settle r claims pending f =
       puts_fits opening history w hand (items_released settle r) (ending (length r.held)) (nothing_met J (length r.held))
       (subst (λ cs. IsPermutation hand.claims cs) (claims ∙ sym (released_claims settle r)) (IsPermutation-refl hand.claims))
@@ -111,17 +112,17 @@ module _ {J : Type 0} where
       f
 
   pub releases_sound : (scale : Scale) (u : UnderWay) (w : Parts J) (hand : Part) (settle : Bool) (r : Release J)
-      → w.slice.tables.scale ≡ scale
+      → w.catalog.scale ≡ scale → AreSlicesOf w.catalog w.slices.items
       → All (IsSoundMessage scale u) w.inbox → All (IsSoundItem scale w.log u) w.outbox → length w.desk.sessions.items ≡ 64
       → ((number : ℕ) (session : SessionDesk J) → slice_get w.desk.sessions.items number ≡ Some session → IsSessionOf number session)
       → r.pass.session < 64 → r.pass.asks.number ≡ r.number → IsAnswerIn w.log r.answer
-      → All (All (IsGiven settle)) r.held → length r.held ≤ 4
+      → All (AreGiven settle) r.held → length r.held ≤ 4
       → hand.pending ≡ unanswered_release r ∷ [] → AreServed w.desk (hand.pending ++ (lots w).pending)
       → WeighAlike (lots w).tokens []
       → IsSoundWith scale nothing (releasing settle r w)
-  releases_sound scale u w hand settle r scale_is inbox outbox seats sessions session number answer given few pending served tokens =
+  releases_sound scale u w hand settle r scale_is slices inbox outbox seats sessions session number answer given few pending served tokens =
       let items = items_released settle r in
-      puts_sound scale u w hand items (ending (length r.held)) (nothing_met J (length r.held)) scale_is inbox outbox
+      puts_sound scale u w hand items (ending (length r.held)) (nothing_met J (length r.held)) scale_is slices inbox outbox
       (All-cons (IsSoundItem scale w.log u) _ (map (push_of settle) r.held) (session, (number, answer)) (pushes_sound J scale w.log u settle r.held given))
       (ending_sound J scale u (length r.held) few) seats sessions
       (subst (λ us. IsPermutation hand.pending us) (pending ∙ sym (released_pending settle r)) (IsPermutation-refl hand.pending))

@@ -16,6 +16,7 @@ use Rattle.world.specs.declared.desk.SessionDesk.{SessionDesk}
 use Rattle.world.specs.declared.flight.Item.TheVariants as item
 use Rattle.world.specs.declared.flight.ReplyItem.{ReplyItem}
 use Rattle.world.specs.declared.world.Parts.{Parts}
+use Rattle.world.specs.Parted.{joined_in}
 use Rattle.world.specs.Flights.{nothing, join, part_item, unanswered_reply, place_answered}
 use Rattle.world.specs.Sound.{IsSoundWith, IsSoundReply, IsAnswerIn, flight}
 use Rattle.world.specs.Events.{with_sessions}
@@ -34,11 +35,12 @@ module _ {J : Type 0} where
   of_sessions : (old new : Parts J) (sessions : List (SessionDesk J)) → with_sessions old sessions new
       → new ≡ record old { desk = record old.desk { sessions = new.desk.sessions } }
   of_sessions old new sessions h = λ i. record {
-    slice = h.0 i;
-    inbox = h.1.0 i;
-    outbox = h.1.1.0 i;
-    desk = record { admitted = h.1.1.1.1.0 i; sessions = new.desk.sessions; active = h.1.1.1.1.1.0 i };
-    log = h.1.1.1.0 i;
+    catalog = h.0 i;
+    slices = h.1.0 i;
+    inbox = h.1.1.0 i;
+    outbox = h.1.1.1.0 i;
+    desk = record { admitted = h.1.1.1.1.1.0 i; sessions = new.desk.sessions; active = h.1.1.1.1.1.1.0 i };
+    log = h.1.1.1.1.0 i;
   }
 
   module _ (scale : Scale) (w : Parts J) (told : ReplyItem J) (h : IsSoundWith scale (part_item (item.Reply told)) w) (s : IsSoundReply w.log told)
@@ -50,7 +52,7 @@ module _ {J : Type 0} where
         let session : SessionDesk J = record desk { pass = Some told.pass } in
         let u : Unanswered = unanswered_reply told in
         let rest = flight w in
-        let sessions_are = same.1.1.1.1.1.1 in
+        let sessions_are = same.1.1.1.1.1.1.1 in
         let all = slice_set w.desk.sessions.items place session in
         let alone : AreAlone all rest.pending = answered_alone w.desk.sessions.items u rest.pending desk session place is refl refl h.balance.alone h.balance.many in
         let many : AreMany all rest.pending = answered_many w.desk.sessions.items u rest.pending desk session place is refl refl h.balance.alone h.balance.many in
@@ -58,6 +60,7 @@ module _ {J : Type 0} where
         let next : Parts J = record w { desk = record w.desk { sessions = new.desk.sessions } } in
         let sound : IsSoundWith scale nothing next = record {
           scale_is = h.scale_is;
+          slices = h.slices;
           under_way = h.under_way;
           inbox = h.inbox;
           outbox = h.outbox;
@@ -73,13 +76,13 @@ module _ {J : Type 0} where
         subst (λ v. IsSoundWith scale nothing v) (sym (of_sessions w new all same)) sound
 
     pub replies_fits : (opening : Database) (history : List Step) (executor : ℕ)
-        → FitsPart opening history w.log w.slice w.desk.admitted (join (part_item (item.Reply told)) (flight w))
+        → FitsPart opening history w.log (joined_in w) w.desk.admitted (join (part_item (item.Reply told)) (flight w))
         → Fits opening (history ++ step (Send executor) (Answered told.pass.session told.number told.answer) ∷ []) new
     replies_fits opening history executor f =
         let u : Unanswered = unanswered_reply told in
         let rest = flight w in
         let next : Parts J = record w { desk = record w.desk { sessions = new.desk.sessions } } in
-        let after = fits_answer opening history w.log w.slice w.desk.admitted rest.claims u rest executor told.answer
+        let after = fits_answer opening history w.log (joined_in w) w.desk.admitted rest.claims u rest executor told.answer
         (is_answer_to w.log told.age told.pass.session told.pass.asks.number told.pass.asks.request told.answer s.1.1) f in
         subst (λ v. Fits opening (history ++ step (Send executor) (Answered told.pass.session told.number told.answer) ∷ []) v) (sym (of_sessions w new _ same))
         (subst (λ n. Fits opening (history ++ step (Send executor) (Answered told.pass.session n told.answer) ∷ []) next) s.1.0 after)

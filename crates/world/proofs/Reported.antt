@@ -14,13 +14,14 @@ use Rattle.actions.specs.declared.work.Work.{Work}
 use Rattle.actions.specs.declared.work.Found.{Found}
 use Rattle.actions.specs.declared.acting.Ran.{Ran}
 use Rattle.actions.specs.declared.acting.Ran.TheVariants as ran
-use Rattle.actions.specs.Acting.{CanBeUndone, claims_of_ran}
+use Rattle.actions.specs.Acting.{claims_of_ran}
 use Rattle.actions.specs.Works.{HasDone}
 use Rattle.flow_graphs.specs.Progresses.{HoldsSome, works_of}
 use Rattle.rendezvous.specs.Awaited.{reported}
 use Rattle.world.specs.declared.flight.Flow.{Flow}
 use Rattle.world.specs.declared.flight.Report.{Report}
 use Rattle.world.specs.Flights.{part, join, parts, part_carried, part_met, unanswered_transaction}
+use Rattle.world.specs.Parted.{CanAllBeUndone}
 use Rattle.world.specs.Following.{found_by, found_in, held_by, held_in, refusal_of, refused_by, refused_still}
 use Rattle.world.specs.Sound.{UnderWay, IsWorkAt, IsSoundFlow, IsCarriedAt, IsSoundRan, IsSoundReport, IsSoundPhase}
 use Rattle.world.proofs.Joins.{IsSame, same-refl, same-trans, same-join, same-middle}
@@ -93,7 +94,7 @@ module _ {J : Type 0} where
   module _ (scale : Scale) (u : UnderWay) where
     -- an action that ran has done this work, and all of it can be taken back
     abbrev pub HasRan : Work → Ran J → Type 0
-    HasRan work (ran.Done claims found) = HasDone scale work found claims × All CanBeUndone claims
+    HasRan work (ran.Done claims found) = HasDone scale work found claims × CanAllBeUndone claims
     HasRan work (ran.Died group holder) = Unit {0}
     HasRan work ran.NoMemory = Unit {0}
 
@@ -107,7 +108,7 @@ module _ {J : Type 0} where
     ran_at place work (ran.Done claims found) at h =
         let other = h.1.0 in
         let same : h.0 ≡ work = cc in
-        subst (λ (w : Work). HasDone scale w found claims × All CanBeUndone claims) same h.1.1
+        subst (λ (w : Work). HasDone scale w found claims × CanAllBeUndone claims) same h.1.1
     ran_at place work (ran.Died group holder) at h = tt
     ran_at place work ran.NoMemory at h = tt
 
@@ -207,16 +208,16 @@ module _ {J : Type 0} where
     all_done place (work ∷ works) [] h none = absurd h
     all_done place (work ∷ works) (r ∷ reports) h none = one_done work works reports r.ran h.0.1 (all_done (suc place) works reports h.1) none
 
-    pub all_undo : (place : ℕ) (works : List Work) (reports : List (Report J)) → HaveReported place works reports → All (All CanBeUndone) (held_in reports)
-    all_undo place [] [] h = All-nil (All CanBeUndone)
+    pub all_undo : (place : ℕ) (works : List Work) (reports : List (Report J)) → HaveReported place works reports → All CanAllBeUndone (held_in reports)
+    all_undo place [] [] h = All-nil CanAllBeUndone
     all_undo place [] (r ∷ reports) h = absurd h
     all_undo place (work ∷ works) [] h = absurd h
-    all_undo place (work ∷ works) (r ∷ reports) h = All-append (All CanBeUndone) (held_by r.ran) (held_in reports) (one_undo r.ran h.0.1) (all_undo (suc place) works reports h.1)
+    all_undo place (work ∷ works) (r ∷ reports) h = All-append CanAllBeUndone (held_by r.ran) (held_in reports) (one_undo r.ran h.0.1) (all_undo (suc place) works reports h.1)
       where
-        one_undo : (own : Ran J) → HasRan work own → All (All CanBeUndone) (held_by own)
-        one_undo (ran.Done claims found) has = All-cons (All CanBeUndone) claims [] has.1 (All-nil (All CanBeUndone))
-        one_undo (ran.Died group holder) has = All-nil (All CanBeUndone)
-        one_undo ran.NoMemory has = All-nil (All CanBeUndone)
+        one_undo : (own : Ran J) → HasRan work own → All CanAllBeUndone (held_by own)
+        one_undo (ran.Done claims found) has = All-cons CanAllBeUndone claims [] has.1 (All-nil CanAllBeUndone)
+        one_undo (ran.Died group holder) has = All-nil CanAllBeUndone
+        one_undo ran.NoMemory has = All-nil CanAllBeUndone
 
     -- each that holds claims holds some
     pub all_hold : ((work : Work) (found : Found) (claims : List Claiming) → HasDone scale work found claims → HoldsSome claims)

@@ -14,6 +14,7 @@ use Rattle.world.specs.declared.flight.Message.{Message}
 use Rattle.world.specs.declared.flight.Report.{Report}
 use Rattle.world.specs.declared.flight.Item.{Item}
 use Rattle.world.specs.declared.world.Parts.{Parts}
+use Rattle.world.specs.Parted.{joined_in}
 use Rattle.world.specs.Flights.{Token, Part, nothing, join, parts, part_message, part_item, part_met}
 use Rattle.world.specs.Sound.{IsSoundWith, IsSoundMessage, IsSoundItem, IsBalanced, WeighAlike, awaited, flight, is_here, reported_to}
 use Rattle.world.specs.Worlds.{FitsPart, Fits}
@@ -40,6 +41,7 @@ module _ {J : Type 0} where
       let next : Parts J = record mid { inbox = mid.inbox ++ message ∷ [] } in
       record {
         scale_is = h.scale_is;
+        slices = h.slices;
         under_way = h.under_way;
         inbox = All-push (IsSoundMessage scale h.under_way) mid.inbox message h.inbox fine;
         outbox = h.outbox;
@@ -50,9 +52,9 @@ module _ {J : Type 0} where
       }
 
   pub pushes_fits : (opening : Database) (history : List Step) (mid : Parts J) (message : Message J)
-      → FitsPart opening history mid.log mid.slice mid.desk.admitted (join (part_message message) (flight mid)) → Fits opening history (record mid { inbox = mid.inbox ++ message ∷ [] })
+      → FitsPart opening history mid.log (joined_in mid) mid.desk.admitted (join (part_message message) (flight mid)) → Fits opening history (record mid { inbox = mid.inbox ++ message ∷ [] })
   pushes_fits opening history mid message f =
-      fits_same opening history mid.log mid.slice mid.desk.admitted (join (part_message message) (flight mid)) (flight (record mid { inbox = mid.inbox ++ message ∷ [] }))
+      fits_same opening history mid.log (joined_in mid) mid.desk.admitted (join (part_message message) (flight mid)) (flight (record mid { inbox = mid.inbox ++ message ∷ [] }))
       (same-sym _ _ (message_put mid message)) f
 
   -- the item, put back
@@ -65,6 +67,7 @@ module _ {J : Type 0} where
       → IsSoundWith scale nothing (record mid { outbox = mid.outbox ++ item ∷ [] })
   put_back_sound scale mid item h fine = record {
     scale_is = h.scale_is;
+    slices = h.slices;
     under_way = h.under_way;
     inbox = h.inbox;
     outbox = All-push (IsSoundItem scale mid.log h.under_way) mid.outbox item h.outbox fine;
@@ -75,9 +78,9 @@ module _ {J : Type 0} where
   }
 
   pub put_back_fits : (opening : Database) (history : List Step) (mid : Parts J) (item : Item J)
-      → FitsPart opening history mid.log mid.slice mid.desk.admitted (join (part_item item) (flight mid)) → Fits opening history (record mid { outbox = mid.outbox ++ item ∷ [] })
+      → FitsPart opening history mid.log (joined_in mid) mid.desk.admitted (join (part_item item) (flight mid)) → Fits opening history (record mid { outbox = mid.outbox ++ item ∷ [] })
   put_back_fits opening history mid item f =
-      fits_same opening history mid.log mid.slice mid.desk.admitted (join (part_item item) (flight mid)) (flight (record mid { outbox = mid.outbox ++ item ∷ [] })) (item_back mid item) f
+      fits_same opening history mid.log (joined_in mid) mid.desk.admitted (join (part_item item) (flight mid)) (flight (record mid { outbox = mid.outbox ++ item ∷ [] })) (item_back mid item) f
 
   -- ---- what has met
 

@@ -49,10 +49,10 @@ module _ {J : Type 0} where
 
   -- so the desk does not refuse it
   pub unrefused : (desk : SessionDesk J) (asked : Request) (old : Parts J) (scale : Scale) (accepted : Unit {0}) (busy : Bool)
-      → is_some desk.pass ≡ true → scale ≡ old.slice.tables.scale → Ok accepted ≡ check_of scale asked → busy ≡ is_some old.desk.active → busy ≡ false
+      → is_some desk.pass ≡ true → scale ≡ old.catalog.scale → Ok accepted ≡ check_of scale asked → busy ≡ is_some old.desk.active → busy ≡ false
       → refusal_at desk asked old ≡ None
   unrefused desk asked old scale accepted busy there same checked told idle =
-      not_refused desk.pass (check_of old.slice.tables.scale asked) accepted (is_some old.desk.active) there
+      not_refused desk.pass (check_of old.catalog.scale asked) accepted (is_some old.desk.active) there
       (ap (λ (s : Scale). check_of s asked) (sym same) ∙ sym checked) (sym told ∙ idle)
 
   -- what is done with a request that is not refused

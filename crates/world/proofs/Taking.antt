@@ -1,16 +1,18 @@
 -- A message is taken and worked on.
-use Rattle.std.proofs.Common.{◌≡◌, ℕ, List, [], ◌∷◌, ◌++◌, sym, ◌∙◌, ap, subst}
-use Rattle.std.specs.Prelude.{All}
+use Rattle.std.proofs.Common.{◌≡◌, ℕ, List, [], ◌∷◌, ◌++◌, sym, ap, subst}
+use Rattle.std.specs.Prelude.{All, Vec}
+use Rattle.std.specs.declared.alloc.Global.{Global}
 use Rattle.std.proofs.lemmas.List.Elements.{All-head, All-tail, All-append}
 use Rattle.schema.specs.declared.scale.Scale.{Scale}
 use Rattle.schema.specs.Database.{Database}
 use Rattle.history.specs.declared.event.Event.TheVariants.{Take}
 use Rattle.history.specs.declared.event.EventAnswer.TheVariants.{Took}
 use Rattle.history.specs.History.{Step, step}
-use Rattle.slices.specs.Sliced.{Sliced}
+use Rattle.slices.specs.Sliced.{AreSlicesOf, Sliced, joined}
 use Rattle.world.specs.declared.flight.Message.{Message}
 use Rattle.world.specs.declared.flight.Item.{Item}
 use Rattle.world.specs.declared.world.Parts.{Parts}
+use Rattle.world.specs.Parted.{joined_in}
 use Rattle.world.specs.Flights.{nothing, join, parts, part_message, part_item}
 use Rattle.world.specs.Sound.{IsSoundWith, IsSoundMessage, IsSoundItem, IsBalanced, flight}
 use Rattle.world.specs.Events.{Works, TakesMessage}
@@ -28,6 +30,7 @@ module _ {J : Type 0} where
       let all = subst (λ ms. All (IsSoundMessage scale h.under_way) ms) is h.inbox in (
         record {
           scale_is = h.scale_is;
+          slices = h.slices;
           under_way = h.under_way;
           inbox = All-tail (IsSoundMessage scale h.under_way) message rest all;
           outbox = h.outbox;
@@ -40,18 +43,19 @@ module _ {J : Type 0} where
       )
 
   -- the message's work is done
-  worked_sound : (scale : Scale) (mid : Parts J) (message : Message J) (items : List (Item J)) (slice : Sliced)
-      → Works message mid.slice items slice
+  worked_sound : (scale : Scale) (mid : Parts J) (message : Message J) (items : List (Item J)) (slices : Vec Sliced Global) → AreSlicesOf mid.catalog slices.items
+      → Works message (joined_in mid) items (joined mid.catalog slices.items)
       → (h : IsSoundWith scale (part_message message) mid) → IsSoundMessage scale h.under_way message
-      → IsSoundWith scale nothing (record mid { slice = slice; outbox = mid.outbox ++ items })
-  worked_sound scale mid message items slice works h sound =
+      → IsSoundWith scale nothing (record mid { slices = slices; outbox = mid.outbox ++ items })
+  worked_sound scale mid message items slices are works h sound =
       let u = h.under_way in
-      let moved : Parts J = record mid { slice = slice } in
+      let moved : Parts J = record mid { slices = slices } in
       let rest = flight mid in
       let fine : All (IsSoundItem scale mid.log u) items =
       subst (λ s. All (IsSoundItem s mid.log u) items) h.scale_is (works.fine u mid.log (subst (λ s. IsSoundMessage s u message) (sym h.scale_is) sound)) in
       record {
-        scale_is = works.kept.scale ∙ h.scale_is;
+        scale_is = h.scale_is;
+        slices = are;
         under_way = u;
         inbox = h.inbox;
         outbox = All-append (IsSoundItem scale mid.log u) mid.outbox items h.outbox fine;
@@ -63,27 +67,27 @@ module _ {J : Type 0} where
             (ap (λ us. us ++ rest.pending) works.pending) (ap (λ ts. ts ++ rest.tokens) works.tokens) h.balance);
       }
 
-  worked_fits : (opening : Database) (history : List Step) (mid : Parts J) (message : Message J) (items : List (Item J)) (slice : Sliced)
-      → Works message mid.slice items slice
-      → FitsPart opening history mid.log mid.slice mid.desk.admitted (join (part_message message) (flight mid))
-      → Fits opening history (record mid { slice = slice; outbox = mid.outbox ++ items })
-  worked_fits opening history mid message items slice works f =
-      let moved : Parts J = record mid { slice = slice } in
-      fits_same opening history mid.log slice mid.desk.admitted (join (parts part_item items) (flight mid)) (flight (record moved { outbox = moved.outbox ++ items })) (same-sym _ _ (items_put moved items))
-      (fits_work opening history mid.log mid.slice slice mid.desk.admitted (part_message message) (parts part_item items) (flight mid) works.kept works.pending f)
+  worked_fits : (opening : Database) (history : List Step) (mid : Parts J) (message : Message J) (items : List (Item J)) (slices : Vec Sliced Global)
+      → Works message (joined_in mid) items (joined mid.catalog slices.items)
+      → FitsPart opening history mid.log (joined_in mid) mid.desk.admitted (join (part_message message) (flight mid))
+      → Fits opening history (record mid { slices = slices; outbox = mid.outbox ++ items })
+  worked_fits opening history mid message items slices works f =
+      let moved : Parts J = record mid { slices = slices } in
+      fits_same opening history mid.log (joined_in moved) mid.desk.admitted (join (parts part_item items) (flight mid)) (flight (record moved { outbox = moved.outbox ++ items })) (same-sym _ _ (items_put moved items))
+      (fits_work opening history mid.log (joined_in mid) (joined_in moved) mid.desk.admitted (part_message message) (parts part_item items) (flight mid) works.kept works.pending f)
 
   pub takes_sound : (scale : Scale) (old : Parts J) (message : Message J) (rest : List (Message J)) (new : Parts J) → old.inbox ≡ message ∷ rest
       → TakesMessage message (record old { inbox = rest }) new → IsSoundWith scale nothing old → IsSoundWith scale nothing new
   takes_sound scale old message rest new is takes h =
       let hand = message_in_hand scale old message rest is h in
-      subst (λ w. IsSoundWith scale nothing w) (sym takes.1.1.0) (worked_sound scale (record old { inbox = rest }) message takes.0 takes.1.0 takes.1.1.1 hand.0 hand.1)
+      subst (λ w. IsSoundWith scale nothing w) (sym takes.1.1.0) (worked_sound scale (record old { inbox = rest }) message takes.0 takes.1.0 takes.1.1.1.0 takes.1.1.1.1 hand.0 hand.1)
 
   pub takes_fits : (old : Parts J) (message : Message J) (rest : List (Message J)) (new : Parts J) → old.inbox ≡ message ∷ rest
       → TakesMessage message (record old { inbox = rest }) new → (executor : ℕ) → Advances old (step (Take executor) Took ∷ []) new
   takes_fits old message rest new is takes executor opening history f =
       let mid : Parts J = record old { inbox = rest } in
-      let taken = subst (λ p. FitsPart opening history old.log old.slice old.desk.admitted p) (message_taken old message rest is) f in
-      let next : Parts J = record mid { slice = takes.1.0; outbox = mid.outbox ++ takes.0 } in
+      let taken = subst (λ p. FitsPart opening history old.log (joined_in old) old.desk.admitted p) (message_taken old message rest is) f in
+      let next : Parts J = record mid { slices = takes.1.0; outbox = mid.outbox ++ takes.0 } in
       subst (λ w. Fits opening (history ++ step (Take executor) Took ∷ []) w) (sym takes.1.1.0)
-      (fits_quiet opening history next.log next.slice next.desk.admitted (flight next) (Take executor) Took tt
-      (worked_fits opening history mid message takes.0 takes.1.0 takes.1.1.1 taken))
+      (fits_quiet opening history next.log (joined_in next) next.desk.admitted (flight next) (Take executor) Took tt
+      (worked_fits opening history mid message takes.0 takes.1.0 takes.1.1.1.1 taken))

@@ -7,11 +7,11 @@ use Rattle.std.proofs.lemmas.List.Elements.{All-nil, All-cons, All-head, All-tai
 use Rattle.schema.specs.declared.scale.Scale.{Scale}
 use Rattle.commit_log.specs.declared.entry.Entry.{Entry}
 use Rattle.tickets.specs.Claims.{Claiming, all_claims}
-use Rattle.slices.specs.Sliced.{Sliced, SliceKeeps}
+use Rattle.slices.specs.Sliced.{AreSlicesOf, Joined, Sliced, SlicesKeep, joined}
 use Rattle.actions.specs.declared.work.Work.{Work}
 use Rattle.actions.specs.declared.acting.Ran.{Ran}
 use Rattle.actions.specs.declared.acting.Ran.TheVariants as ran
-use Rattle.actions.specs.Acting.{IsRanOf, claims_of_ran}
+use Rattle.actions.specs.Acting.{claims_of_ran}
 use Rattle.actions.specs.Works.{CanDo}
 use Rattle.world.specs.declared.flight.Act.{Act as AnyAct}
 use Rattle.world.specs.declared.flight.Flow.{Flow}
@@ -23,7 +23,8 @@ use Rattle.world.specs.declared.world.Parts.{Parts}
 use Rattle.world.specs.Flights.{Acting, Part, part, join, parts, part_carried, part_item, acting_from, unanswered_transaction}
 use Rattle.world.specs.Following.{acts_from, acts_of}
 use Rattle.world.specs.Sound.{IsCarriedAt, IsSoundAct, IsSoundItem, IsSoundRan, IsSoundStart, IsWorkAt, UnderWay}
-use Rattle.world.specs.Events.{TakesMessage, Works}
+use Rattle.world.specs.Parted.{joined_in}
+use Rattle.world.specs.Events.{ComesOf, TakesMessage, Works}
 use Rattle.world.proofs.Keeping.{more, stays}
 
 -- actions that carry nothing have their tokens alone
@@ -79,31 +80,31 @@ module _ {J : Type 0} where
   -- ---- each message
 
   -- a transaction that starts puts the actions of its first phase
-  pub starts : (flow : Flow J) (works : Vec Work Global) (slice : Sliced) → 1 ≤ length works.items → Works (Start flow works) slice (acts_of flow works.items) slice
-  starts flow works slice some =
+  pub starts : (flow : Flow J) (works : Vec Work Global) (slices : Joined) → 1 ≤ length works.items → Works (Start flow works) slices (acts_of flow works.items) slices
+  starts flow works slices some =
       let held = all_claims flow.transaction.held in
       let are = part_acts flow works.items some in
       record {
         put = refl;
-        kept = subst (λ (p : Part). SliceKeeps held slice p.claims slice) (sym are) (stays held slice);
+        kept = subst (λ (p : Part). SlicesKeep held slices p.claims slices) (sym are) (stays held slices);
         pending = ap (λ (p : Part). p.pending) are;
         tokens = ap (λ (p : Part). p.tokens) are;
-        fine = λ u log sound. acts_fine slice.tables.scale log u flow works.items sound;
+        fine = λ u log sound. acts_fine slices.tables.scale log u flow works.items sound;
       }
 
-  ran_soundly : (u : UnderWay) (place : ℕ) (work : Work) (one : Ran J) (old : Sliced) → IsWorkAt u place work → IsRanOf old work one → IsSoundRan old.tables.scale u place one
+  ran_soundly : (u : UnderWay) (place : ℕ) (work : Work) (one : Ran J) (old : Joined) → IsWorkAt u place work → ComesOf old work one → IsSoundRan old.tables.scale u place one
   ran_soundly u place work (ran.Done claims found) old here of = (work, (here, of))
   ran_soundly u place work (ran.Died group holder) old here of = tt
   ran_soundly u place work ran.NoMemory old here of = tt
 
   -- an action that runs puts its report
-  pub acts : (act : AnyAct J) (one : Ran J) (old new : Sliced) → SliceKeeps [] old (claims_of_ran one) new → IsRanOf old act.work one
+  pub acts : (act : AnyAct J) (one : Ran J) (old new : Joined) → SlicesKeep [] old (claims_of_ran one) new → ComesOf old act.work one
       → Works (Act act) old (item.Report (record { place = act.place; flow = act.flow; ran = one }) ∷ []) new
   acts act one old new kept of =
       let carried = part_carried act.flow in
       record {
         put = (one, (refl, of));
-        kept = subst (λ (claims : List Claiming). SliceKeeps carried.claims old claims new) (sym (append-nil (carried.claims ++ claims_of_ran one)))
+        kept = subst (λ (claims : List Claiming). SlicesKeep carried.claims old claims new) (sym (append-nil (carried.claims ++ claims_of_ran one)))
             (more carried.claims (claims_of_ran one) old new kept);
         pending = append-nil carried.pending;
         tokens = refl;
@@ -113,7 +114,7 @@ module _ {J : Type 0} where
       }
 
   -- claims whose work is committed are given back
-  pub settles : (claims : List Claiming) (old new : Sliced) → SliceKeeps claims old [] new → Works {J = J} (Settle claims) old (item.Ended ∷ []) new
+  pub settles : (claims : List Claiming) (old new : Joined) → SlicesKeep claims old [] new → Works {J = J} (Settle claims) old (item.Ended ∷ []) new
   settles claims old new kept = record {
     put = refl;
     kept = kept;
@@ -123,7 +124,7 @@ module _ {J : Type 0} where
   }
 
   -- claims whose work is taken back are given back
-  pub undoes : (claims : List Claiming) (old new : Sliced) → SliceKeeps claims old [] new → Works {J = J} (Undo claims) old (item.Ended ∷ []) new
+  pub undoes : (claims : List Claiming) (old new : Joined) → SlicesKeep claims old [] new → Works {J = J} (Undo claims) old (item.Ended ∷ []) new
   undoes claims old new kept = record {
     put = refl;
     kept = kept;
@@ -132,16 +133,17 @@ module _ {J : Type 0} where
     fine = λ u log fine. one_fine old.tables.scale log u item.Ended tt;
   }
 
-  -- the message's items stand at the outbox's end, and nothing else changes but the rows
-  pub takes : (message same : Message J) (old : Parts J) (items outbox : List (Item J)) (slice : Sliced) → message ≡ same
-      → outbox ≡ old.outbox ++ items → Works same old.slice items slice → TakesMessage message old (record old { slice = slice; outbox = outbox })
-  takes message same old items outbox slice is put works = (
+  -- the message's items stand at the outbox's end, and nothing else changes but the slices
+  pub takes : (message same : Message J) (old : Parts J) (items outbox : List (Item J)) (slices : Vec Sliced Global) → message ≡ same
+      → outbox ≡ old.outbox ++ items → AreSlicesOf old.catalog slices.items → Works same (joined_in old) items (joined old.catalog slices.items)
+      → TakesMessage message old (record old { slices = slices; outbox = outbox })
+  takes message same old items outbox slices is put are works = (
     items,
     (
-      slice,
+      slices,
       (
-        ap (λ (all : List (Item J)). record old { slice = slice; outbox = all }) put,
-        subst (λ (m : Message J). Works m old.slice items slice) (sym is) works,
+        ap (λ (all : List (Item J)). record old { slices = slices; outbox = all }) put,
+        (are, subst (λ (m : Message J). Works m (joined_in old) items (joined old.catalog slices.items)) (sym is) works),
       ),
     ),
   )

@@ -1,6 +1,7 @@
 -- What one event does.
-use Rattle.std.specs.Prelude.{◌≡◌, ◌<◌, ◌≤◌, ℕ, ◌+◌, ◌-◌, Bool, true, false, List, [], ◌∷◌, ◌++◌, Option, Some, None, All, nat_lt, length, map, replicate, slice_set, ◌⊎◌}
-use Rattle.std.specs.List.{slice_get}
+use Rattle.std.specs.Prelude.{◌≡◌, ◌<◌, ◌≤◌, ℕ, ◌+◌, ◌-◌, Bool, true, false, List, [], ◌∷◌, ◌++◌, Option, Some, None, All, Vec, nat_lt, length, map, replicate, slice_set, ◌⊎◌}
+use Rattle.std.specs.List.{Contains, slice_get}
+use Rattle.std.specs.declared.alloc.Global.{Global}
 use Rattle.schema.specs.Database.{Database}
 use Rattle.schema.specs.declared.scale.Scale.{Scale}
 use Rattle.requests.specs.declared.request.Request.{Request}
@@ -10,6 +11,7 @@ use Rattle.requests.specs.declared.refusal.Refusal.{Refusal}
 use Rattle.requests.specs.declared.refusal.Refusal.TheVariants as refusal
 use Rattle.requests.specs.Check.{IsAccepted}
 use Rattle.requests.specs.Replies.{ShowsStatus}
+use Rattle.groups.specs.declared.wishes.Wish.{Wish}
 use Rattle.tickets.specs.Claims.{Claiming, all_claims}
 use Rattle.commit_log.specs.declared.entry.Entry.{Entry}
 use Rattle.commit_log.specs.declared.log_book.AppendFault.{AppendFault}
@@ -19,14 +21,15 @@ use Rattle.commit_log.specs.Items.{item as item_of}
 use Rattle.commit_log.specs.Passing.{after_item, after_refusal}
 use Rattle.history.specs.declared.event.EventAnswer.{EventAnswer}
 use Rattle.history.specs.declared.event.EventAnswer.TheVariants.{Sent, Full, Logged, Answered}
-use Rattle.slices.specs.Sliced.{Sliced, SliceKeeps}
+use Rattle.slices.specs.Sliced.{AreSlicesOf, Joined, Sliced, SlicesKeep, joined}
 use Rattle.phases.specs.Following.{Follows, HaveAllDone}
 use Rattle.phases.specs.declared.phase.Gathered.{Gathered}
 use Rattle.phases.specs.declared.phase.Gathered.TheVariants.{Next, Finish, RollBack}
 use Rattle.actions.specs.declared.acting.Ran.{Ran}
+use Rattle.actions.specs.declared.acting.Ran.TheVariants as ran
 use Rattle.actions.specs.declared.work.Found.{Found}
-use Rattle.actions.specs.Acting.{CanBeSettled, CanBeUndone, IsRanOf}
-use Rattle.actions.specs.Works.{CanDo, HasDone}
+use Rattle.actions.specs.declared.work.Work.{Work}
+use Rattle.actions.specs.Works.{CanDo, HasDone, wishes_of}
 use Rattle.flow_graphs.specs.declared.graphs.Progress.{Progress}
 use Rattle.flow_graphs.specs.Progresses.{IsReached, works_of}
 use Rattle.rendezvous.specs.Awaited.{awaited_from}
@@ -43,6 +46,7 @@ use Rattle.world.specs.declared.flight.Item.{Item}
 use Rattle.world.specs.declared.flight.Item.TheVariants as item
 use Rattle.world.specs.declared.world.Parts.{Parts}
 use Rattle.world.specs.Flights.{parts, part_message, part_item}
+use Rattle.world.specs.Parted.{CanAllBeSettled, CanAllBeUndone, joined_in}
 use Rattle.world.specs.Following.{CarriesFirst, acts_of, committing, ending, entry_of, found_in, held_in, holding, is_settled, refusal_of, refused, release, releasing, putting, with_active}
 use Rattle.world.specs.Sound.{IsSoundMessage, IsSoundItem, UnderWay}
 
@@ -60,20 +64,27 @@ LeadsTo progress found g =
 module _ {J : Type 0} where
   -- ---- a message is worked on
 
+  -- What comes of this work in the slice of its warehouse: it was done under the claims, all of which can be undone; or it
+  -- wished for a group some ticket of which is out.
+  abbrev pub ComesOf : Joined → Work → Ran J → Type 0
+  ComesOf slices work (ran.Done claims found) = HasDone slices.tables.scale work found claims × CanAllBeUndone claims
+  ComesOf slices work (ran.Died group holder) = (wish : Wish) × (Contains (wishes_of work) wish × ((wish.group ≡ group) × (slices.free group < 8)))
+  ComesOf slices work ran.NoMemory = Unit {0}
+
   -- Which items a message's work puts: the actions of the first phase, in the order of their places; the report of an
   -- action, with what came of it; or that an action has given its claims back.
-  abbrev pub PutsItems : Sliced → Message J → List (Item J) → Type 0
-  PutsItems slice (Start flow works) items = items ≡ acts_of flow works.items
-  PutsItems slice (Act act) items =
-      (ran : Ran J) × ((items ≡ item.Report (record { place = act.place; flow = act.flow; ran = ran }) ∷ []) × IsRanOf slice act.work ran)
-  PutsItems slice (Settle claims) items = items ≡ item.Ended ∷ []
-  PutsItems slice (Undo claims) items = items ≡ item.Ended ∷ []
+  abbrev pub PutsItems : Joined → Message J → List (Item J) → Type 0
+  PutsItems slices (Start flow works) items = items ≡ acts_of flow works.items
+  PutsItems slices (Act act) items =
+      (ran : Ran J) × ((items ≡ item.Report (record { place = act.place; flow = act.flow; ran = ran }) ∷ []) × ComesOf slices act.work ran)
+  PutsItems slices (Settle claims) items = items ≡ item.Ended ∷ []
+  PutsItems slices (Undo claims) items = items ≡ item.Ended ∷ []
 
   -- What a message does to the rows, and the items that it puts: what is committed is kept; the items have with them the
   -- transactions and the tokens that came with the message; and they are as sound as it is.
-  pub record Works (message : Message J) (old : Sliced) (items : List (Item J)) (new : Sliced) : Type 0 where
+  pub record Works (message : Message J) (old : Joined) (items : List (Item J)) (new : Joined) : Type 0 where
     pub put : PutsItems old message items
-    pub kept : SliceKeeps (part_message message).claims old (parts part_item items).claims new
+    pub kept : SlicesKeep (part_message message).claims old (parts part_item items).claims new
     pub pending : (parts part_item items).pending ≡ (part_message message).pending
     pub tokens : (parts part_item items).tokens ≡ (part_message message).tokens
     pub fine : (u : UnderWay) (log : List Entry) → IsSoundMessage old.tables.scale u message → All (IsSoundItem old.tables.scale log u) items
@@ -82,14 +93,16 @@ module _ {J : Type 0} where
   abbrev pub CanWork : Scale → Message J → Type 0
   CanWork scale (Start flow works) = (1 ≤ length works.items) × ((length works.items ≤ 4) × All (CanDo scale) works.items)
   CanWork scale (Act act) = CanDo scale act.work
-  CanWork scale (Settle claims) = All CanBeSettled claims
-  CanWork scale (Undo claims) = All CanBeUndone claims
+  CanWork scale (Settle claims) = CanAllBeSettled claims
+  CanWork scale (Undo claims) = CanAllBeUndone claims
 
-  -- the items that the message's work puts stand at the outbox's end, and nothing else changes but the rows
+  -- the items that the message's work puts stand at the outbox's end, and nothing else changes but the slices, which are still
+  -- those of all warehouses
   abbrev pub TakesMessage : Message J → Parts J → Parts J → Type 0
   TakesMessage message old new =
-      (items : List (Item J)) × ((slice : Sliced)
-      × ((new ≡ record old { slice = slice; outbox = old.outbox ++ items }) × Works message old.slice items slice))
+      (items : List (Item J)) × ((slices : Vec Sliced Global)
+      × ((new ≡ record old { slices = slices; outbox = old.outbox ++ items })
+      × (AreSlicesOf old.catalog slices.items × Works message (joined_in old) items (joined old.catalog slices.items))))
 
   -- ---- a message is pushed
 
@@ -177,8 +190,8 @@ module _ {J : Type 0} where
 
   abbrev pub with_sessions : Parts J → List (SessionDesk J) → Parts J → Type 0
   with_sessions old sessions new =
-      (new.slice ≡ old.slice) × ((new.inbox ≡ old.inbox) × ((new.outbox ≡ old.outbox) × ((new.log ≡ old.log)
-      × ((new.desk.admitted ≡ old.desk.admitted) × ((new.desk.active ≡ old.desk.active) × (new.desk.sessions.items ≡ sessions))))))
+      (new.catalog ≡ old.catalog) × ((new.slices ≡ old.slices) × ((new.inbox ≡ old.inbox) × ((new.outbox ≡ old.outbox) × ((new.log ≡ old.log)
+      × ((new.desk.admitted ≡ old.desk.admitted) × ((new.desk.active ≡ old.desk.active) × (new.desk.sessions.items ≡ sessions)))))))
 
   -- the session's pass is at the desk again
   abbrev pub Replies : ReplyItem J → Parts J → EventAnswer → Parts J → Type 0

@@ -1,4 +1,5 @@
 pub mod Flights
+pub mod Parted
 pub mod Sound
 pub mod Following
 pub mod Events

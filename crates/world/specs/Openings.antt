@@ -11,9 +11,10 @@ use Rattle.history.specs.Schedules.{Plays}
 use Rattle.world.specs.declared.desk.SessionDesk.{SessionDesk}
 use Rattle.world.specs.declared.opening.OpenFault.{OpenFault}
 use Rattle.world.specs.declared.opening.OpenFault.TheVariants.{NoMemory, BadExecutors, NotConsistent}
-use Rattle.slices.specs.Sliced.{at_rest}
+use Rattle.slices.specs.Sliced.{AreSlicesOf, all_at_rest}
 use Rattle.world.specs.declared.simulating.Simulation.{Simulation}
 use Rattle.world.specs.declared.world.Parts.{Parts}
+use Rattle.world.specs.Parted.{joined_in}
 use Rattle.world.specs.Worlds.{HappenInTurn, tables_now}
 
 -- NotConsistent names the least condition that these tables break
@@ -50,10 +51,11 @@ module _ {J : Type 0} where
   abbrev pub session_with : Passing × Seating → SessionDesk J
   session_with lane = record { seat = lane.1; pass = Some lane.0 }
 
-  -- A world on these tables in which nothing has happened: all tickets are at home, queues and log are empty, no transaction
-  -- was admitted, and each of 64 sessions has its pass at the desk and has asked nothing.
+  -- A world on these tables in which nothing has happened: it has a slice for each warehouse, all tickets are at home, queues
+  -- and log are empty, no transaction was admitted, and each of 64 sessions has its pass at the desk and has asked nothing.
   pub record IsNew (tables : Database) (w : Parts J) : Type 0 where
-    pub slice : w.slice ≡ at_rest tables
+    pub slices : AreSlicesOf w.catalog w.slices.items
+    pub rows : joined_in w ≡ all_at_rest tables
     pub inbox : w.inbox ≡ []
     pub outbox : w.outbox ≡ []
     pub log : w.log ≡ []

@@ -8,6 +8,7 @@ use Rattle.requests.specs.declared.answer.Answer.{Answer}
 use Rattle.requests.specs.declared.answer.Answer.TheVariants.{Done, Refused}
 use Rattle.requests.specs.Check.{IsAccepted}
 use Rattle.tickets.specs.Claims.{Claiming, all_claims}
+use Rattle.slices.specs.Sliced.{AreSlicesOf}
 use Rattle.commit_log.specs.declared.entry.Entry.{Entry}
 use Rattle.commit_log.specs.Claimed.{IsCarriedOut}
 use Rattle.commit_log.specs.Passing.{Passing}
@@ -15,7 +16,6 @@ use Rattle.history.specs.History.{HasReply, is_of}
 use Rattle.actions.specs.declared.work.Work.{Work}
 use Rattle.actions.specs.declared.acting.Ran.{Ran}
 use Rattle.actions.specs.declared.acting.Ran.TheVariants as ran
-use Rattle.actions.specs.Acting.{CanBeSettled, CanBeUndone}
 use Rattle.actions.specs.Works.{CanDo, HasDone}
 use Rattle.flow_graphs.specs.declared.graphs.Progress.{Progress}
 use Rattle.flow_graphs.specs.Progresses.{HoldsSome, IsReached, works_of}
@@ -36,6 +36,7 @@ use Rattle.world.specs.declared.flight.Item.{Item}
 use Rattle.world.specs.declared.flight.Item.TheVariants as item
 use Rattle.world.specs.declared.world.Parts.{Parts}
 use Rattle.world.specs.Flights.{Token, Acting, Committing, Ending, Part, join, parts, part_message, part_item, part_met}
+use Rattle.world.specs.Parted.{CanAllBeSettled, CanAllBeUndone}
 
 -- an answer that is done names an entry with its reply
 abbrev pub IsAnswerIn : List Entry → Answer → Type 0
@@ -100,12 +101,12 @@ module _ {J : Type 0} where
   abbrev pub IsSoundMessage : Scale → UnderWay → Message J → Type 0
   IsSoundMessage scale u (message.Start flow works) = IsSoundStart scale u flow works.items
   IsSoundMessage scale u (message.Act act) = IsSoundAct scale u act
-  IsSoundMessage scale u (message.Settle claims) = All CanBeSettled claims
-  IsSoundMessage scale u (message.Undo claims) = All CanBeUndone claims
+  IsSoundMessage scale u (message.Settle claims) = CanAllBeSettled claims
+  IsSoundMessage scale u (message.Undo claims) = CanAllBeUndone claims
 
   -- an action that ran did the work of its place, and all of it can be taken back
   abbrev pub IsSoundRan : Scale → UnderWay → ℕ → Ran J → Type 0
-  IsSoundRan scale u place (ran.Done claims found) = (work : Work) × (IsWorkAt u place work × (HasDone scale work found claims × All CanBeUndone claims))
+  IsSoundRan scale u place (ran.Done claims found) = (work : Work) × (IsWorkAt u place work × (HasDone scale work found claims × CanAllBeUndone claims))
   IsSoundRan scale u place (ran.Died group holder) = Unit {0}
   IsSoundRan scale u place ran.NoMemory = Unit {0}
 
@@ -117,7 +118,7 @@ module _ {J : Type 0} where
     pub asked : IsAskedBy commit.transaction
     pub accepted : IsAccepted scale commit.transaction.request
     pub carried_out : (opening : Database) → IsCarriedOut opening commit.transaction.request (all_claims commit.transaction.held) commit.reply
-    pub undo : All (All CanBeUndone) commit.transaction.held
+    pub undo : All CanAllBeUndone commit.transaction.held
     pub few : length commit.transaction.held ≤ 4
 
   abbrev pub IsSoundReply : List Entry → ReplyItem J → Type 0
@@ -150,7 +151,7 @@ module _ {J : Type 0} where
   pub record IsSoundPhase (scale : Scale) (u : UnderWay) (slots : List (Option (Report J))) : Type 0 where
     pub reached : IsReached scale u.request u.progress (all_claims u.held)
     pub hold : All HoldsSome u.held
-    pub undo : All (All CanBeUndone) u.held
+    pub undo : All CanAllBeUndone u.held
     pub many : length slots ≡ length (works_of u.progress)
     pub reports : (place : ℕ) (r : Report J) → slice_get slots place ≡ Some (Some r) → (r.place ≡ place) × IsSoundReport scale u r
     pub awaits : 1 ≤ length (awaited_from 0 slots)
@@ -184,9 +185,11 @@ module _ {J : Type 0} where
         → count_by (is_of number) under_way.pending + (if is_here session then 1 else 0) ≡ 1
     pub many : length under_way.pending + count_by is_here desk.sessions.items ≡ 64
 
-  -- What the world keeps, with this in hand: each thing under way is sound, and of one transaction.
+  -- What the world keeps, with this in hand: there is a slice for each warehouse of this scale, in order; and each thing under
+  -- way is sound, and of one transaction.
   pub record IsSoundWith (scale : Scale) (hand : Part) (w : Parts J) : Type 0 where
-    pub scale_is : w.slice.tables.scale ≡ scale
+    pub scale_is : w.catalog.scale ≡ scale
+    pub slices : AreSlicesOf w.catalog w.slices.items
     pub under_way : UnderWay
     pub inbox : All (IsSoundMessage scale under_way) w.inbox
     pub outbox : All (IsSoundItem scale w.log under_way) w.outbox

@@ -21,7 +21,7 @@ use Rattle.history.specs.declared.event.EventAnswer.{EventAnswer}
 use Rattle.history.specs.declared.event.EventAnswer.TheVariants.{Accepted, Took, Answered, Nothing}
 use Rattle.history.specs.History.{Step, step, is_of}
 use Rattle.history.specs.Fits.{Fits as HistoryFits}
-use Rattle.slices.specs.Sliced.{Sliced, everywhere, standing}
+use Rattle.slices.specs.Sliced.{Joined, all_standing, everywhere}
 use Rattle.schema.specs.declared.scale.Scale.{Scale}
 use Rattle.actions.specs.declared.work.Work.{Work}
 use Rattle.flow_graphs.specs.Progresses.{IsReached, works_of}
@@ -33,6 +33,7 @@ use Rattle.world.specs.declared.flight.Message.TheVariants.{Start}
 use Rattle.world.specs.declared.flight.Item.{Item}
 use Rattle.world.specs.declared.world.Parts.{Parts}
 use Rattle.world.specs.Flights.{Part}
+use Rattle.world.specs.Parted.{joined_in}
 use Rattle.world.specs.Sound.{IsSessionOf, flight}
 use Rattle.world.specs.Events.{TakesMessage, SendsItem}
 
@@ -44,11 +45,11 @@ tables_now opening log = tables_after opening (requests_of log)
 
 -- A history fits an opening, a log and what is under way: so it does by the log alone, and the tables that the machine
 -- leaves are the committed ones while these claims are out.
-pub record FitsPart (opening : Database) (history : List Step) (log : List Entry) (slice : Sliced) (admitted : ℕ) (under_way : Part) : Type 0 where
+pub record FitsPart (opening : Database) (history : List Step) (log : List Entry) (slices : Joined) (admitted : ℕ) (under_way : Part) : Type 0 where
   pub told : HistoryFits opening history log (tables_now opening log) admitted under_way.pending
-  pub committed : AreCommitted everywhere (content (tables_now opening log)) (standing slice) under_way.claims
-  pub scale : slice.tables.scale ≡ opening.scale
-  pub items : slice.tables.items ≡ opening.items
+  pub committed : AreCommitted everywhere (content (tables_now opening log)) (all_standing slices) under_way.claims
+  pub scale : slices.tables.scale ≡ opening.scale
+  pub items : slices.tables.items ≡ opening.items
 
 -- events with their answers
 abbrev pub steps_of : List Event → List EventAnswer → List Step
@@ -68,7 +69,7 @@ refuses (Some pass) (Ok accepted) false = None
 
 module _ {J : Type 0} where
   abbrev pub Fits : Database → List Step → Parts J → Type 0
-  Fits opening history w = FitsPart opening history w.log w.slice w.desk.admitted (flight w)
+  Fits opening history w = FitsPart opening history w.log (joined_in w) w.desk.admitted (flight w)
 
   -- a history that fits before these events fits after them, with the events and their answers at its end
   abbrev pub Advances : Parts J → List Step → Parts J → Type 0
@@ -77,7 +78,7 @@ module _ {J : Type 0} where
   -- ---- submissions
 
   abbrev pub refusal_at : SessionDesk J → Request → Parts J → Option Refusal
-  refusal_at desk request w = refuses desk.pass (check_of w.slice.tables.scale request) (is_some w.desk.active)
+  refusal_at desk request w = refuses desk.pass (check_of w.catalog.scale request) (is_some w.desk.active)
 
   -- the inbox has room, and there is an age left
   abbrev pub can_admit : Parts J → Bool
@@ -97,7 +98,8 @@ module _ {J : Type 0} where
     pub here : desk.pass ≡ Some pass
     pub pass_is : flow.transaction.pass ≡ with_asks pass (asking number asked pass.seen pass.mine)
     pub works_are : works.items ≡ works_of flow.progress
-    pub slice : new.slice ≡ old.slice
+    pub catalog : new.catalog ≡ old.catalog
+    pub slices : new.slices ≡ old.slices
     pub inbox : new.inbox ≡ old.inbox ++ Start flow works ∷ []
     pub outbox : new.outbox ≡ old.outbox
     pub log : new.log ≡ old.log

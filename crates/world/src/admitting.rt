@@ -36,7 +36,7 @@ impl<J: commit_log::Naming + tickets::Naming> Parts<J> {
         if desk.pass.is_none() {
             return refused(session, number, Refusal::SessionBusy);
         }
-        if let Err(refusal) = check(&self.slice.tables().scale(), request) {
+        if let Err(refusal) = check(&self.catalog.scale(), request) {
             return refused(session, number, refusal);
         }
         if self.desk.active.is_some() {

@@ -4,7 +4,8 @@
 //!
 //! No thread owns a transaction. It is a flow graph: the actions of each phase go as messages to the
 //! executor that has the rows; what one reports meets the others of its phase; the last report brings the
-//! next phase, or the commit.
+//! next phase, or the commit. The rows of each warehouse are a slice of their own, and a message is worked on
+//! at the slice of its warehouse.
 #![tactic(auto)]
 
 mod admitting;

@@ -13,7 +13,7 @@ use crate::world::{Parts, World};
 use commit_log::{Log, LogBook, LogSeats, Pass, SessionSeat};
 use consistency::first_broken;
 use schema::{NoMemory, Tables};
-use slices::{Slice, open_groups};
+use slices::{cut, open_groups};
 use std::alloc::{AllocError, Global};
 use tickets::{GroupSeats, named_all};
 
@@ -121,11 +121,12 @@ impl<J: commit_log::Naming + tickets::Naming> World<J> {
         let inbox = Queue::open(alloc)?;
         let outbox = Queue::open(alloc)?;
         let (boxes, seats) = named_all::<J>(alloc, tables.scale().warehouses, groups)?;
-        let slice = Slice::open(alloc, tables, boxes)?;
+        let (catalog, slices) = cut(alloc, tables, boxes)?;
         let (book, lanes) = LogBook::<J>::open(alloc, log)?;
         let sessions = open_sessions(alloc, lanes)?;
         let parts = Parts {
-            slice,
+            catalog,
+            slices,
             inbox,
             outbox,
             desk: Desk {

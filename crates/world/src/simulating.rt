@@ -87,6 +87,6 @@ fn simulate_in<J: commit_log::Naming + tickets::Naming>(
     ensures quiet { IfOk result (λ s. EndsQuiet s.told.items → IsTrue (is_some s.tables)) }
 {
     let told = world.play(alloc, schedule)?;
-    let (log, tables) = world.close();
+    let (log, tables) = world.close()?;
     Ok(Simulation { told, log, tables })
 }

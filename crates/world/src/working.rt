@@ -1,5 +1,6 @@
 //! A message of the inbox is worked on.
-ghost use Rattle.std.specs.Prelude.{◌≤◌, ◌+◌, length};
+ghost use Rattle.std.specs.Prelude.{◌≡◌, ◌≤◌, ◌+◌, length};
+ghost use Rattle.slices.specs.Sliced.{AreSlicesOf};
 ghost use Rattle.world.specs.Events.{CanWork, TakesMessage};
 
 use crate::flight::{Act, Item, Message, Report};
@@ -7,32 +8,35 @@ use crate::world::Parts;
 use std::alloc::Global;
 
 impl<J: commit_log::Naming + tickets::Naming> Parts<J> {
-    // Works on a message.
+    // Works on a message, at the slice of its warehouse.
     pub(crate) fn work(&mut self, alloc: Global, message: Message<J>)
+        requires warehouses { J.warehouses ≡ self.old.catalog.scale.warehouses }
+        requires slices { AreSlicesOf self.old.catalog self.old.slices.items }
         requires room { length self.old.outbox + 4 ≤ 4096 }
-        requires can { CanWork self.old.slice.tables.scale message }
+        requires can { CanWork self.old.catalog.scale message }
         ensures { TakesMessage message self.old self.new }
     {
         match message {
             Message::Start(flow, works) => self.put_acts(flow, works),
             Message::Act(act) => {
-                // A slice has the tables of as many warehouses as it was named for.
-                let _tables = self.slice.tables();
                 let Act {
                     place,
                     age,
                     work,
                     flow,
                 } = act;
-                let ran = actions::act(alloc, &mut self.slice, age, work);
+                let home = work.home() as usize;
+                let ran = actions::act(alloc, &mut self.slices[home - 1], age, work);
                 self.outbox.put(Item::Report(Report { place, flow, ran }));
             }
             Message::Settle(claims) => {
-                actions::settle(&mut self.slice, claims);
+                let home = claims.home() as usize;
+                actions::settle(&mut self.slices[home - 1], claims);
                 self.outbox.put(Item::Ended);
             }
             Message::Undo(claims) => {
-                actions::undo(&mut self.slice, claims);
+                let home = claims.home() as usize;
+                actions::undo(&mut self.slices[home - 1], claims);
                 self.outbox.put(Item::Ended);
             }
         }

@@ -11,8 +11,9 @@ use crate::flight::{Item, Message};
 use crate::queue::Queue;
 use commit_log::{Entry, Log};
 use history::{Event, EventAnswer};
+use partitions::Catalog;
 use schema::{NoMemory, Tables};
-use slices::Slice;
+use slices::{Slice, copy_whole, whole};
 use std::alloc::Global;
 use std::marker::Model;
 
@@ -22,7 +23,10 @@ pub const INBOX: usize = 1024;
 /// What a world consists of.
 #[derive(Drop)]
 pub struct Parts<J: commit_log::Naming + tickets::Naming> {
-    pub slice: Slice<J>,
+    /// What the slices share.
+    pub catalog: Catalog,
+    /// One for each warehouse, in order.
+    pub slices: Vec<Slice<J>>,
     pub inbox: Queue<Message<J>, 1024>,
     pub outbox: Queue<Item<J>, 4096>,
     pub desk: Desk<J>,
@@ -45,12 +49,13 @@ impl<J: commit_log::Naming + tickets::Naming> Model for World<J> {
     ghost use Rattle.world.specs.Sound.{IsSoundWith};
     ghost use Rattle.std.specs.Coded.{codes};
     ghost use Rattle.groups.specs.contracts.content.Content as content;
+    ghost use Rattle.partitions.specs.contracts.catalog.Catalog as catalog;
     ghost use Rattle.schema.specs.contracts.tables.Tables as tables_kind;
     ghost use Rattle.world.specs.contracts.world.Parts as parts_kind;
 
     ghost Value = { Parts J };
 
-    ghost coded = { Prim.hlevel (codes, content.the_row.coded, tables_kind.the_row.coded) };
+    ghost coded = { Prim.hlevel (codes, catalog.the_row.coded, content.the_row.coded, tables_kind.the_row.coded) };
 
     ghost view = { λ w. w.parts };
 
@@ -58,13 +63,19 @@ impl<J: commit_log::Naming + tickets::Naming> Model for World<J> {
 }
 
 impl<J: commit_log::Naming + tickets::Naming> Parts<J> {
-    // The log's entries, and the rows as they stand.
-    fn into_log_and_rows(self) -> (Vec<Entry>, Tables)
+    // The log's entries, and the slices with what they share.
+    fn into_log_and_slices(self) -> (Vec<Entry>, Catalog, Vec<Slice<J>>)
         ensures log { result.0.items ≡ self.log }
-        ensures rows { result.1 ≡ self.slice.tables }
+        ensures catalog { result.1 ≡ self.catalog }
+        ensures slices { result.2.items ≡ self.slices.items }
     {
-        let Parts { slice, log, .. } = self;
-        (log.into_entries(), slice.into_tables())
+        let Parts {
+            catalog,
+            slices,
+            log,
+            ..
+        } = self;
+        (log.into_entries(), catalog, slices)
     }
 }
 
@@ -112,7 +123,7 @@ impl<J: commit_log::Naming + tickets::Naming> World<J> {
     /// The tables as the transactions of the log left them. They can be gathered exactly while no
     /// transaction is active, unless there is no memory; where no message can be taken and no item be sent, none
     /// is active.
-    pub fn gather(&self) -> Result<Tables, GatherFault>
+    pub fn gather(&self, alloc: Global) -> Result<Tables, GatherFault>
         ensures tables { IfOk result (λ tables. (opening : Database) (history : List Step) → Fits opening history self.now → tables ≡ tables_now opening self.now.log) }
         ensures idle { IsErrAnd result (λ fault. fault ≡ GatherFault.NotIdle) ↔ IsTrue (is_some self.now.desk.active) }
         ensures at_rest { IsAtRest self.now → self.now.desk.active ≡ None }
@@ -120,23 +131,28 @@ impl<J: commit_log::Naming + tickets::Naming> World<J> {
         if self.parts.desk.active.is_some() {
             return Err(GatherFault::NotIdle);
         }
-        match self.parts.slice.tables().try_clone() {
+        match copy_whole(alloc, &self.parts.catalog, &self.parts.slices) {
             Ok(tables) => Ok(tables),
             Err(NoMemory) => Err(GatherFault::NoMemory),
         }
     }
 
     /// Ends the world, and gives its log, and the tables as the transactions of the log left them: `None`
-    /// exactly where a transaction is active. It takes no memory, and copies no entry and no row.
-    pub fn close(self) -> (Vec<Entry>, Option<Tables>)
-        ensures log { result.0.items ≡ self.log }
-        ensures tables { (opening : Database) (history : List Step) → Fits opening history self → result.1 ≡ gathered (is_some self.desk.active) (tables_now opening self.log) }
-        ensures idle { IsTrue (is_some result.1) ↔ (self.desk.active ≡ None) }
+    /// exactly where a transaction is active. Entries and rows are moved, and none is copied. Nothing is
+    /// left after an error.
+    pub fn close(self) -> Result<(Vec<Entry>, Option<Tables>), NoMemory>
+        ensures log { IfOk result (λ left. left.0.items ≡ self.log) }
+        ensures tables { IfOk result (λ left. (opening : Database) (history : List Step) → Fits opening history self → left.1 ≡ gathered (is_some self.desk.active) (tables_now opening self.log)) }
+        ensures idle { IfOk result (λ left. IsTrue (is_some left.1) ↔ (self.desk.active ≡ None)) }
         ensures at_rest { IsAtRest self → self.desk.active ≡ None }
     {
         let is_idle = self.parts.desk.active.is_none();
-        let (entries, tables) = self.parts.into_log_and_rows();
-        (entries, if is_idle { Some(tables) } else { None })
+        let (entries, catalog, slices) = self.parts.into_log_and_slices();
+        if !is_idle {
+            return Ok((entries, None));
+        }
+        let tables = whole(catalog, slices)?;
+        Ok((entries, Some(tables)))
     }
 
     /// Whether no message can be taken and no item be sent. Then no transaction is active and no claim is

@@ -6,10 +6,11 @@ use Rattle.tickets.specs.Claims.{Claiming}
 use Rattle.tickets.specs.Places.{IsGroupOf}
 use Rattle.slices.specs.Sliced.{SliceKeeps}
 use Rattle.actions.specs.Acting.{CanBeUndone}
-use Rattle.actions.specs.Works.{wishes_of, AreGrantedFor, CanDo, HasDone}
+use Rattle.actions.specs.Works.{wishes_of, AreGrantedFor, AreWishesAt, CanDo, HasDone}
 use Rattle.actions.proofs.Accepted.{works_have_their_groups}
 use Rattle.actions.proofs.Kept as kept
 use Rattle.actions.proofs.Granted.{written_back}
+use Rattle.actions.proofs.Wished.{works_claim_at_home}
 use Rattle.actions.proofs.Wished as wished
 use Rattle.actions.proofs.acting.act.Goals as goal
 
@@ -17,6 +18,13 @@ pub grant_all-requires-clause-known : goal.grant_all-requires-clause-known
 grant_all-requires-clause-known g c =
     subst (λ n. All (IsGroupOf n) (groups_of (wishes_of c.args.work))) (sym c.requires.warehouses)
     (works_have_their_groups c.args.slice.now.tables.scale c.args.work c.requires.can)
+
+-- all that the work claims is at the slice's warehouse
+pub grant_all-requires-clause-home : goal.grant_all-requires-clause-home
+grant_all-requires-clause-home g c = subst (λ home. AreWishesAt home (wishes_of c.args.work)) c.requires.home (works_claim_at_home c.args.work)
+
+pub run-requires-clause-home : goal.run-requires-clause-home
+run-requires-clause-home g c = c.requires.home ∙ sym c.grant_all.ensures.kept.home
 
 pub returns-in_default-clause-kept : goal.returns-in_default-clause-kept
 returns-in_default-clause-kept g c = kept.stays [] c.args.slice.now

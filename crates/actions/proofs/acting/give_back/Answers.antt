@@ -1,8 +1,8 @@
-use Rattle.std.proofs.Common.{◌≡◌, [], ◌∷◌, List, subst, arith}
+use Rattle.std.proofs.Common.{◌≡◌, [], ◌∷◌, List, subst, sym, ◌∙◌, arith}
 use Rattle.std.specs.Prelude.{All}
 use Rattle.tickets.specs.Claims.{Claiming}
 use Rattle.tickets.proofs.Committed.{All-front}
-use Rattle.slices.specs.Sliced.{SliceKeeps}
+use Rattle.slices.specs.Sliced.{IsClaimAt, SliceKeeps}
 use Rattle.slices.proofs.Opened.{none_left}
 use Rattle.slices.proofs.Steps.{All-last}
 use Rattle.actions.specs.Acting.{CanBeSettled}
@@ -11,15 +11,21 @@ use Rattle.actions.proofs.acting.give_back.Goals as goal
 
 pub take_back-requires : goal.take_back-requires
 take_back-requires g c =
-    record { committed = All-last CanBeSettled c.pop.new.self.items c.in-Some.claim (subst (All CanBeSettled) c.in-Some.ensures.items c.loop-claim.invariant.settled) }
+    let start = c.args.slice.now.home in
+    record {
+      home = All-last (IsClaimAt start) c.pop.new.self.items c.in-Some.claim (subst (All (IsClaimAt start)) c.in-Some.ensures.items c.loop-claim.invariant.home) ∙ sym c.loop-claim.invariant.kept.home;
+      committed = All-last CanBeSettled c.pop.new.self.items c.in-Some.claim (subst (All CanBeSettled) c.in-Some.ensures.items c.loop-claim.invariant.settled);
+    }
 
 pub loop-claim-preserved : goal.loop-claim-preserved
 loop-claim-preserved g c =
     let rest = c.pop.new.self.items in
+    let start = c.args.slice.now.home in
     record {
       kept = kept.one_fewer rest c.in-Some.claim c.args.claims.items c.args.slice.now c.loop-claim.slice c.take_back.new.self
           (subst (λ (claims : List Claiming). SliceKeeps c.args.claims.items c.args.slice.now claims c.loop-claim.slice) c.in-Some.ensures.items c.loop-claim.invariant.kept) c.take_back.ensures.kept;
       settled = All-front CanBeSettled rest (c.in-Some.claim ∷ []) (subst (All CanBeSettled) c.in-Some.ensures.items c.loop-claim.invariant.settled);
+      home = All-front (IsClaimAt start) rest (c.in-Some.claim ∷ []) (subst (All (IsClaimAt start)) c.in-Some.ensures.items c.loop-claim.invariant.home);
     }
 
 pub returns : goal.returns

@@ -8,15 +8,17 @@ use Rattle.schema.specs.Database.{Database}
 use Rattle.indexes.specs.Namesakes.{Keyed}
 use Rattle.indexes.specs.NameOrder.{last_of, first_of}
 use Rattle.requests.specs.declared.reply.PaymentReply.{PaymentReply}
+use Rattle.partitions.specs.Parts.{Part}
 use Rattle.groups.specs.Groups.{group_of_customer}
 use Rattle.groups.specs.Laws.{with_customer}
 use Rattle.tickets.specs.Claims.{Claiming, leaving}
-use Rattle.slices.specs.Sliced.{Sliced}
+use Rattle.slices.specs.Sliced.{Sliced, part_in}
 use Rattle.slices.specs.Undo.{AreNamesAt}
 use Rattle.machine.specs.Chosen.{chosen}
 use Rattle.machine.proofs.ChosenRows.{chosen_there}
 use Rattle.machine.proofs.PaidRows.{customer_paid-is}
 use Rattle.actions.proofs.Done as done
+use Rattle.actions.proofs.Homes.{customer_known}
 use Rattle.actions.proofs.Kept as kept
 use Rattle.actions.proofs.paying.pay_customer.Goals as goal
 
@@ -24,8 +26,8 @@ pub returns-in_default-clause-paid : goal.returns-in_default-clause-paid
 returns-in_default-clause-paid g c =
     let p = c.args.payment.now in
     let t = c.args.slice.now.tables in
-    let seen = c.tables-2.ensures.tables ∙ ap (λ (s : Sliced). s.tables) c.look.ensures.same.0 in
-    let none : None ≡ chosen c.tables-2.result.now.customers p.customer_home p.customer = sym (ap (option_map (λ found. (found.0, found.1.now))) c.in_default.is) ∙ c.chosen.ensures in
+    let seen = ap (λ (p : Part). p.tables) c.partition.ensures.rows ∙ ap (λ (s : Sliced). s.tables) c.look.ensures.same.0 in
+    let none : None ≡ chosen c.partition.result.now.tables.customers p.customer_home p.customer = sym (ap (option_map (λ found. (found.0, found.1.now))) c.in_default.is) ∙ c.chosen.ensures in
     done.no_customer p t c.args.customers.now c.requires.claim c.requires.fresh c.look.ensures.left c.look.new.claim c.look.ensures.same.1
     (sym (none ∙ ap (λ (s : Database). chosen s.customers p.customer_home p.customer) seen))
 
@@ -33,7 +35,7 @@ pub returns-in_default-2-clause-paid : goal.returns-in_default-2-clause-paid
 returns-in_default-2-clause-paid g c =
     let p = c.args.payment.now in
     let t = c.args.slice.now.tables in
-    let seen = c.tables-2.ensures.tables ∙ ap (λ (s : Sliced). s.tables) c.look.ensures.same.0 in
+    let seen = ap (λ (p : Part). p.tables) c.partition.ensures.rows ∙ ap (λ (s : Sliced). s.tables) c.look.ensures.same.0 in
     done.customer_out p t c.args.customers.now c.requires.claim c.requires.fresh c.look.ensures.left c.look.new.claim c.in-Some.key c.in-Some.row.now c.look.ensures.same.1
     (sym (c.in-Some.ensures ∙ ap (λ (s : Database). chosen s.customers p.customer_home p.customer) seen))
     (sym c.in_ok-row.ensures ∙ c.in_default-2.is)
@@ -43,15 +45,15 @@ pub put_customer-requires-clause-group : goal.put_customer-requires-clause-group
 put_customer-requires-clause-group g c =
     let p = c.args.payment.now in
     let found : Keyed = (c.in-Some.key, c.in-Some.row.now) in
-    let there = chosen_there c.tables-2.result.now.customers p.customer_home p.customer found (sym c.in-Some.ensures) in
+    let there = chosen_there c.partition.result.now.tables.customers p.customer_home p.customer found (sym c.in-Some.ensures) in
     ap (λ (k : Claiming). k.group) c.look.ensures.same.1 ∙ c.requires.claim.group ∙ sym (ap group_of_customer there.1)
 
 pub put_customer-requires-clause-there : goal.put_customer-requires-clause-there
 put_customer-requires-clause-there g c =
     let p = c.args.payment.now in
     let found : Keyed = (c.in-Some.key, c.in-Some.row.now) in
-    let there = chosen_there c.tables-2.result.now.customers p.customer_home p.customer found (sym c.in-Some.ensures) in
-    subst (λ (s : Database). IsTrue (map.contains_key s.customers c.in-Some.key)) c.tables-2.ensures.tables (ap is_some there.0)
+    let there = chosen_there c.partition.result.now.tables.customers p.customer_home p.customer found (sym c.in-Some.ensures) in
+    subst (λ (q : Part). IsTrue (map.contains_key q.tables.customers c.in-Some.key)) c.partition.ensures.rows (ap is_some there.0)
 
 -- a payment changes no name
 pub put_customer-requires-clause-names : goal.put_customer-requires-clause-names
@@ -61,9 +63,9 @@ put_customer-requires-clause-names g c =
     let row = c.in-Some.row.now in
     let new = c.in-Some-2.row in
     let found : Keyed = (key, row) in
-    let there = chosen_there c.tables-2.result.now.customers p.customer_home p.customer found (sym c.in-Some.ensures) in
+    let there = chosen_there c.partition.result.now.tables.customers p.customer_home p.customer found (sym c.in-Some.ensures) in
     let paid = customer_paid-is row new (payment_note key p.home p.amount) (pos p.amount) (sym c.in_ok-row.ensures ∙ c.in-Some-2.is) in
-    subst (λ (s : Database). AreNamesAt s key new) c.tables-2.ensures.tables (ap last_of there.0 ∙ sym paid.last, ap first_of there.0 ∙ sym paid.first)
+    subst (λ (q : Part). AreNamesAt q.tables key new) c.partition.ensures.rows (ap last_of there.0 ∙ sym paid.last, ap first_of there.0 ∙ sym paid.first)
 
 pub returns-clause-paid : goal.returns-clause-paid
 returns-clause-paid g c =
@@ -72,7 +74,7 @@ returns-clause-paid g c =
     let key = c.in-Some.key in
     let row = c.in-Some.row.now in
     let new = c.in-Some-2.row in
-    let seen = c.tables-2.ensures.tables ∙ ap (λ (s : Sliced). s.tables) c.look.ensures.same.0 in
+    let seen = ap (λ (p : Part). p.tables) c.partition.ensures.rows ∙ ap (λ (s : Sliced). s.tables) c.look.ensures.same.0 in
     done.customer_is_paid p t c.args.customers.now c.requires.claim c.requires.fresh c.look.ensures.left c.put_customer.new.claim key row new c.payment_reply-reply.result
     (sym (c.in-Some.ensures ∙ ap (λ (s : Database). chosen s.customers p.customer_home p.customer) seen))
     (sym c.in_ok-row.ensures ∙ c.in-Some-2.is)
@@ -86,11 +88,10 @@ returns-clause-payer g c =
     let p = c.args.payment.now in
     let key = c.in-Some.key in
     let found : Keyed = (key, c.in-Some.row.now) in
-    let there = chosen_there c.tables-2.result.now.customers p.customer_home p.customer found (sym c.in-Some.ensures) in
-    let both = c.tables-2.ensures.tables ∙ sym c.tables.ensures.tables in
-    let held = subst (λ (s : Database). IsTrue (map.contains_key s.customers key)) both (ap is_some there.0) in
-    let has : IsTrue (has_customer c.tables.result.now.scale key) = sym (c.scale-scale.ensures.within.customers key) ∙ held in
-    let seen = c.tables.ensures.tables ∙ ap (λ (s : Sliced). s.tables) c.look.ensures.same.0 in
+    let there = chosen_there c.partition.result.now.tables.customers p.customer_home p.customer found (sym c.in-Some.ensures) in
+    let held = subst (λ (q : Part). IsTrue (map.contains_key q.tables.customers key)) c.partition.ensures.rows (ap is_some there.0) in
+    let has = customer_known (part_in c.look.new.self) key c.partition.ensures.part held in
+    let seen : c.look.new.self.tables ≡ c.args.slice.now.tables = ap (λ (s : Sliced). s.tables) c.look.ensures.same.0 in
     let shown = there.1 ∙ ap (λ (r : PaymentReply). customer_key p.customer_home r.c_id) (sym c.payment_reply-reply.ensures) in
     subst (λ k. IsTrue (has_customer c.args.slice.now.tables.scale k)) shown (subst (λ (s : Database). IsTrue (has_customer s.scale key)) seen has)
 

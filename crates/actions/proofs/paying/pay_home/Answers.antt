@@ -3,6 +3,7 @@ use Rattle.std.specs.Prelude.{pos}
 use Rattle.std.proofs.lemmas.Int.{ints}
 use Rattle.std.specs.FinMap as map
 use Rattle.schema.specs.Database.{Database}
+use Rattle.partitions.specs.Parts.{Part}
 use Rattle.groups.specs.Content.{content}
 use Rattle.groups.specs.Laws.{with_warehouse, with_district}
 use Rattle.tickets.specs.Claims.{leaving}
@@ -22,8 +23,8 @@ returns-in_default-2-clause-paid g c =
     let d = c.in-Some-district.district_row.now in
     let looked : c.look.new.self.tables ≡ t = ap (λ (s : Sliced). s.tables) c.look.ensures.same.0 in
     let again : c.look-2.new.self.tables ≡ t = ap (λ (s : Sliced). s.tables) c.look-2.ensures.same.0 ∙ looked in
-    let w_read : map.get t.warehouses p.home.w_id ≡ Some w = sym (c.in-Some.ensures ∙ ap (λ (s : Database). map.get s.warehouses p.home.w_id) (c.tables.ensures.tables ∙ again)) in
-    let d_read : map.get t.districts p.home ≡ Some d = sym (c.in-Some-district.ensures ∙ ap (λ (s : Database). map.get s.districts p.home) (c.tables-2.ensures.tables ∙ again)) in
+    let w_read : map.get t.warehouses p.home.w_id ≡ Some w = sym (c.in-Some.ensures ∙ ap (λ (s : Database). map.get s.warehouses p.home.w_id) (ap (λ (p : Part). p.tables) c.partition.ensures.rows ∙ again)) in
+    let d_read : map.get t.districts p.home ≡ Some d = sym (c.in-Some-district.ensures ∙ ap (λ (s : Database). map.get s.districts p.home) (ap (λ (p : Part). p.tables) c.partition-2.ensures.rows ∙ again)) in
     let amount : c.new-amount.result ≡ pos p.amount = omega (arith, ints) in
     done.home_out p t c.args.warehouse.now c.args.district.now c.requires.warehouse_claim c.requires.district_claim c.requires.warehouse_fresh c.requires.district_fresh
     c.look.ensures.left (c.look-2.ensures.left ∙ ap (λ (s : Database). content s c.args.district.now.group) looked)
@@ -50,8 +51,8 @@ returns-clause-paid g c =
     let new_d = c.in-Some-3.new_district in
     let looked : c.look.new.self.tables ≡ t = ap (λ (s : Sliced). s.tables) c.look.ensures.same.0 in
     let again : c.look-2.new.self.tables ≡ t = ap (λ (s : Sliced). s.tables) c.look-2.ensures.same.0 ∙ looked in
-    let w_read : map.get t.warehouses p.home.w_id ≡ Some w = sym (c.in-Some.ensures ∙ ap (λ (s : Database). map.get s.warehouses p.home.w_id) (c.tables.ensures.tables ∙ again)) in
-    let d_read : map.get t.districts p.home ≡ Some d = sym (c.in-Some-district.ensures ∙ ap (λ (s : Database). map.get s.districts p.home) (c.tables-2.ensures.tables ∙ again)) in
+    let w_read : map.get t.warehouses p.home.w_id ≡ Some w = sym (c.in-Some.ensures ∙ ap (λ (s : Database). map.get s.warehouses p.home.w_id) (ap (λ (p : Part). p.tables) c.partition.ensures.rows ∙ again)) in
+    let d_read : map.get t.districts p.home ≡ Some d = sym (c.in-Some-district.ensures ∙ ap (λ (s : Database). map.get s.districts p.home) (ap (λ (p : Part). p.tables) c.partition-2.ensures.rows ∙ again)) in
     let amount : c.new-amount.result ≡ pos p.amount = omega (arith, ints) in
     let paid = done.home_paid p t c.args.warehouse.now c.args.district.now c.requires.warehouse_claim c.requires.district_claim c.requires.warehouse_fresh c.requires.district_fresh
     c.look.ensures.left (c.look-2.ensures.left ∙ ap (λ (s : Database). content s c.args.district.now.group) looked)

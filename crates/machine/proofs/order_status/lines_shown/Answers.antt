@@ -10,12 +10,12 @@ abbrev shown : List (OrderLineKey × OrderLine) → List StatusLine
 shown rows = map (λ line. spec.status_line line.1) rows
 
 pub loop-row-init : goal.loop-row-init
-loop-row-init c =
+loop-row-init g c =
     ap (λ lines. lines ++ shown c.into_iter-row-iterator.result) c.new-lines.ensures.items
     ∙ ap shown (c.into_iter-row-iterator.ensures.into_iter_gives ∙ c.lines_of-row-items.ensures.rows)
 
 pub loop-row-preserved : goal.loop-row-preserved
-loop-row-preserved c =
+loop-row-preserved g c =
     let left : c.loop-row.row-iterator ≡ (c.in-Some.field-0-0.now, c.in-Some.row.now) ∷ c.next.new.self = c.in-Some.ensures.steps in
     ap (λ lines. lines ++ shown c.next.new.self) c.in_ok-push.ensures.items
     ∙ append_assoc c.loop-row.lines.items (c.status_line.result ∷ []) (shown c.next.new.self)
@@ -24,7 +24,7 @@ loop-row-preserved c =
     ∙ c.loop-row.invariant
 
 pub returns : goal.returns
-returns c =
+returns g c =
     c.new.ensures ∙ sym (append-nil c.loop-row.lines.items)
     ∙ ap (λ rows. c.loop-row.lines.items ++ shown rows) (sym c.in-None.ensures.steps.0)
     ∙ c.loop-row.invariant

@@ -5,8 +5,8 @@ use Rattle.slices.proofs.kept.put_all_back.Given as goal
 -- what is left to be put back makes what all would have made
 abbrev pub invariant-loop-kept : goal.invariant-loop-kept
 invariant-loop-kept l = record {
-  tables : all_put_back l.undo.items l.tables ≡ all_put_back l.initial.undo.items l.initial.tables;
-  kept : All (IsKept l.tables) l.undo.items;
+  rows : record l.partition { tables = all_put_back l.undo.items l.partition.tables } ≡ record l.initial.partition { tables = all_put_back l.initial.undo.items l.initial.partition.tables };
+  kept : All (IsKept l.partition.home l.partition.tables) l.undo.items;
 }
 
 abbrev pub decreases-loop-kept : goal.decreases-loop-kept

@@ -11,7 +11,7 @@ returns-clause-simulates g c = λ opening new fits.
     let played = c.in_ok-told.ensures.plays in
     let last = c.play.new.self in
     let after = played.1.1.1 opening [] fits in
-    let log = c.close-log.ensures.log in
+    let log = c.in_ok-log.ensures.log in
     record {
       first = c.args.world;
       last = last;
@@ -25,5 +25,5 @@ returns-clause-simulates g c = λ opening new fits.
         fits = after.told;
       });
       log = log;
-      tables = c.close-log.ensures.tables opening played.0 after ∙ ap (λ (l : List Entry). gathered (is_some last.desk.active) (tables_now opening l)) (sym log);
+      tables = c.in_ok-log.ensures.tables opening played.0 after ∙ ap (λ (l : List Entry). gathered (is_some last.desk.active) (tables_now opening l)) (sym log);
     }

@@ -19,11 +19,11 @@ invariant_of-result g c =
     let grounds = c.loop-ticket_box.grounds.items in
     let none : c.loop-ticket_box.ticket_box-iterator.rest.items ≡ [] = none_left c.loop-ticket_box.ticket_box-iterator.rest.items (let long = c.loop-ticket_box.ticket_box-iterator.rest.ok in omega (arith, c.in-None.ensures.steps.0, long)) in
     let all = sym (append-nil (map box_of grounds)) ∙ sym (ap (λ l. map box_of grounds ++ l) none) ∙ c.loop-ticket_box.invariant.boxes in
-    (sym c.requires.warehouses, opened_grounds c.args.tables c.args.boxes.items grounds c.requires.boxes all c.loop-ticket_box.invariant.idle, c.in_ok-names.ensures, c.in_ok-latest.ensures)
+    (sym c.requires.warehouses, opened_grounds c.args.partition c.args.boxes.items grounds c.requires.boxes all c.loop-ticket_box.invariant.idle, c.in_ok-names.ensures, c.in_ok-latest.ensures)
 
 pub returns : goal.returns
 returns g c =
     let grounds = c.loop-ticket_box.grounds.items in
     let none : c.loop-ticket_box.ticket_box-iterator.rest.items ≡ [] = none_left c.loop-ticket_box.ticket_box-iterator.rest.items (let long = c.loop-ticket_box.ticket_box-iterator.rest.ok in omega (arith, c.in-None.ensures.steps.0, long)) in
     let all = sym (append-nil (map box_of grounds)) ∙ sym (ap (λ l. map box_of grounds ++ l) none) ∙ c.loop-ticket_box.invariant.boxes in
-    opened_at_rest c.args.tables c.args.boxes.items grounds c.requires.boxes all c.loop-ticket_box.invariant.idle
+    opened_at_rest c.args.partition c.args.boxes.items grounds c.requires.boxes all c.loop-ticket_box.invariant.idle

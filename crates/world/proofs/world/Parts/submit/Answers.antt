@@ -1,4 +1,4 @@
-use Rattle.std.proofs.Common.{◌≡◌, length, refl, ap, ◌∙◌, arith, inl, true, false}
+use Rattle.std.proofs.Common.{◌≡◌, length, refl, arith, inl, true, false}
 use Rattle.std.specs.Prelude.{slice_get}
 use Rattle.world.specs.Worlds.{can_admit}
 use Rattle.world.proofs.Submitting.{can_ask, found, full, has_all, is_there, spent, submits, unrefused}
@@ -13,8 +13,7 @@ returns-then-len-ge-INBOX g c =
     let looked = c.in-Some.ensures.lookup in
     let at = found old.desk.sessions.items c.deref.result.now c.args.session desk c.deref.ensures.value looked.3.0 looked.1 in
     let there = is_there desk.pass c.is_none.result c.is_none.ensures c.if-is_none.false in
-    let scale = c.scale.ensures.value ∙ ap (λ t. t.scale) c.tables.ensures.tables in
-    let none = unrefused desk asked old c.scale.result c.in_default-check.field-0 c.is_some.result there scale c.in_default-check.ensures c.is_some.ensures c.if-is_some.false in
+    let none = unrefused desk asked old c.scale.result c.in_default-check.field-0 c.is_some.result there c.scale.ensures c.in_default-check.ensures c.is_some.ensures c.if-is_some.false in
     let cannot : can_admit old ≡ false = elim c.then-len-ge-INBOX.branch [
       | then-len-ge-INBOX-via-then-len-ge-INBOX w ↦ full (length old.inbox) 1024 old.desk.admitted 18446744073709551615 (omega arith)
       | then-len-ge-INBOX-via-else-len-ge-INBOX+then-self w ↦ spent (length old.inbox) 1024 old.desk.admitted 18446744073709551615 (omega arith)
@@ -38,8 +37,7 @@ returns-in-Err-admit g c =
     let looked = c.in-Some.ensures.lookup in
     let at = found old.desk.sessions.items c.deref.result.now c.args.session desk c.deref.ensures.value looked.3.0 looked.1 in
     let there = is_there desk.pass c.is_none.result c.is_none.ensures c.if-is_none.false in
-    let scale = c.scale.ensures.value ∙ ap (λ t. t.scale) c.tables.ensures.tables in
-    let none = unrefused desk asked old c.scale.result c.in_default-check.field-0 c.is_some.result there scale c.in_default-check.ensures c.is_some.ensures c.if-is_some.false in
+    let none = unrefused desk asked old c.scale.result c.in_default-check.field-0 c.is_some.result there c.scale.ensures c.in_default-check.ensures c.is_some.ensures c.if-is_some.false in
     let can : can_admit old ≡ true =
     has_all (length old.inbox) 1024 old.desk.admitted 18446744073709551615 (omega arith) (omega arith) in
     submits (slice_get old.desk.sessions.items c.args.session) desk c.args.session c.args.number asked old c.refused-in-Err-admit.result c.admit.new.self true at none can

@@ -1,9 +1,18 @@
-use Rattle.std.proofs.Common.{[], ◌∷◌, sym, subst}
+use Rattle.std.proofs.Common.{◌≤◌, [], ◌∷◌, sym, subst}
+use Rattle.std.specs.Prelude.{All, IsTrue}
+use Rattle.std.proofs.lemmas.List.Elements.{All-nil}
+use Rattle.schema.specs.Scale.{has_warehouse}
+use Rattle.slices.specs.Sliced.{IsClaimAt}
+use Rattle.actions.specs.Acting.{claims_of_ran}
+use Rattle.actions.specs.Works.{CanDo}
+use Rattle.actions.proofs.Accepted.{works_are_at_warehouses}
 use Rattle.world.specs.declared.flight.Item.TheVariants as item
 use Rattle.world.specs.declared.flight.Message.{Message}
 use Rattle.world.specs.declared.flight.Message.TheVariants.{Act, Settle, Undo}
 use Rattle.world.specs.Events.{CanWork, Works}
 use Rattle.world.specs.Following.{acts_of}
+use Rattle.world.specs.Parted.{CanAllBeSettled, CanAllBeUndone, joined_in}
+use Rattle.world.proofs.Parted.{all_keep, claims_at_home, comes_of, ran_at_home, warehouse_within}
 use Rattle.world.proofs.Works.{acts, settles, starts, takes, undoes}
 use Rattle.world.proofs.world.Parts.work.Goals as goal
 
@@ -12,13 +21,16 @@ returns-in-Start g c =
     let old = c.args.self.now in
     let flow = c.in-Start.flow in
     let works = c.in-Start.works in
-    let some = (subst (λ (m : Message g.row.J.Denot). CanWork old.slice.tables.scale m) c.in-Start.is c.requires.can).0 in (
+    let some = (subst (λ (m : Message g.row.J.Denot). CanWork old.catalog.scale m) c.in-Start.is c.requires.can).0 in (
       acts_of flow works.items,
       (
-        old.slice,
+        old.slices,
         (
           c.put_acts.ensures,
-          subst (λ (m : Message g.row.J.Denot). Works m old.slice (acts_of flow works.items) old.slice) (sym c.in-Start.is) (starts flow works old.slice some),
+          (
+            c.requires.slices,
+            subst (λ (m : Message g.row.J.Denot). Works m (joined_in old) (acts_of flow works.items) (joined_in old)) (sym c.in-Start.is) (starts flow works (joined_in old) some),
+          ),
         ),
       ),
     )
@@ -26,19 +38,41 @@ returns-in-Start g c =
 pub returns-in-Act : goal.returns-in-Act
 returns-in-Act g c =
     let old = c.args.self.now in
+    let act = c.in-Act.act in
     let ran = c.act-ran.result in
-    takes c.args.message (Act c.in-Act.act) old (item.Report (record { place = c.in-Act.act.place; flow = c.in-Act.act.flow; ran = ran }) ∷ []) c.put.new.self c.act-ran.new.slice c.in-Act.is
-    c.put.ensures
-    (acts c.in-Act.act ran old.slice c.act-ran.new.slice c.act-ran.ensures.kept c.act-ran.ensures.done)
+    let slice = c.index_mut.result.now in
+    let home = c.home-home.result in
+    let can : CanDo old.catalog.scale act.work = subst (λ (m : Message g.row.J.Denot). CanWork old.catalog.scale m) c.in-Act.is c.requires.can in
+    let within = warehouse_within old.catalog.scale home (subst (λ n. IsTrue (has_warehouse old.catalog.scale n)) (sym c.home-home.ensures) (works_are_at_warehouses old.catalog.scale act.work can)) in
+    let at_home : All (IsClaimAt home) (claims_of_ran ran) = subst (λ n. All (IsClaimAt n) (claims_of_ran ran)) (sym c.home-home.ensures) (ran_at_home slice act.work ran c.act-ran.ensures.done) in
+    let kept = all_keep old.catalog old.slices.items c.requires.slices home slice within.0 within.1 c.index_mut.ensures.value c.act-ran.new.slice [] (claims_of_ran ran)
+    (All-nil (IsClaimAt home)) at_home c.act-ran.ensures.kept in
+    let comes = comes_of old.catalog old.slices.items c.requires.slices home slice within.0 within.1 c.index_mut.ensures.value act.work ran (sym c.home-home.ensures) c.act-ran.ensures.done in
+    takes c.args.message (Act act) old (item.Report (record { place = act.place; flow = act.flow; ran = ran }) ∷ []) c.put.new.self _ c.in-Act.is c.put.ensures
+    kept.0 (acts act ran (joined_in old) _ kept.1 comes)
 
 pub returns-in-Settle : goal.returns-in-Settle
 returns-in-Settle g c =
     let old = c.args.self.now in
-    takes c.args.message (Settle c.in-Settle.claims) old (item.Ended ∷ []) c.put-in-Settle.new.self c.settle.new.slice c.in-Settle.is
-    c.put-in-Settle.ensures (settles c.in-Settle.claims old.slice c.settle.new.slice c.settle.ensures)
+    let claims = c.in-Settle.claims in
+    let slice = c.index_mut-in-Settle.result.now in
+    let home = c.home-home-in-Settle.result in
+    let can : CanAllBeSettled claims = subst (λ (m : Message g.row.J.Denot). CanWork old.catalog.scale m) c.in-Settle.is c.requires.can in
+    let last : home ≤ old.catalog.scale.warehouses = subst (λ n. home ≤ n) c.requires.warehouses c.home-home-in-Settle.ensures.known.1 in
+    let kept = all_keep old.catalog old.slices.items c.requires.slices home slice c.home-home-in-Settle.ensures.known.0 last c.index_mut-in-Settle.ensures.value c.settle.new.slice claims []
+    (claims_at_home claims home c.home-home-in-Settle.ensures.home can.1) (All-nil (IsClaimAt home)) c.settle.ensures in
+    takes c.args.message (Settle claims) old (item.Ended ∷ []) c.put-in-Settle.new.self _ c.in-Settle.is c.put-in-Settle.ensures
+    kept.0 (settles claims (joined_in old) _ kept.1)
 
 pub returns-in-Undo : goal.returns-in-Undo
 returns-in-Undo g c =
     let old = c.args.self.now in
-    takes c.args.message (Undo c.in-Undo.claims) old (item.Ended ∷ []) c.put-in-Undo.new.self c.undo.new.slice c.in-Undo.is
-    c.put-in-Undo.ensures (undoes c.in-Undo.claims old.slice c.undo.new.slice c.undo.ensures)
+    let claims = c.in-Undo.claims in
+    let slice = c.index_mut-in-Undo.result.now in
+    let home = c.home-home-in-Undo.result in
+    let can : CanAllBeUndone claims = subst (λ (m : Message g.row.J.Denot). CanWork old.catalog.scale m) c.in-Undo.is c.requires.can in
+    let last : home ≤ old.catalog.scale.warehouses = subst (λ n. home ≤ n) c.requires.warehouses c.home-home-in-Undo.ensures.known.1 in
+    let kept = all_keep old.catalog old.slices.items c.requires.slices home slice c.home-home-in-Undo.ensures.known.0 last c.index_mut-in-Undo.ensures.value c.undo.new.slice claims []
+    (claims_at_home claims home c.home-home-in-Undo.ensures.home can.1) (All-nil (IsClaimAt home)) c.undo.ensures in
+    takes c.args.message (Undo claims) old (item.Ended ∷ []) c.put-in-Undo.new.self _ c.in-Undo.is c.put-in-Undo.ensures
+    kept.0 (undoes claims (joined_in old) _ kept.1)

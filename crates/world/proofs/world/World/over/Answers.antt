@@ -1,16 +1,17 @@
 use Rattle.std.proofs.Common.{refl, sym, ap, subst, ◌∙◌, arith, None}
 use Rattle.schema.specs.Database.{Database}
+use Rattle.partitions.specs.Parts.{Shared}
 use Rattle.groups.specs.Content.{content}
 use Rattle.tickets.specs.LogSeats.{SeatsTell}
 use Rattle.tickets.specs.Places.{AreInPlace}
 use Rattle.slices.specs.Openings.{AreBoxesOf}
 use Rattle.slices.proofs.Opened.{opened_groups_have_boxes}
 use Rattle.world.specs.declared.world.Parts.{Parts}
-use Rattle.world.proofs.Opened.{opened_fits, opened_new, opened_sound, seats_tell}
+use Rattle.world.proofs.Opened.{cut_slices, opened_fits, opened_new, opened_sound, seats_tell}
 use Rattle.world.proofs.world.World.over.Goals as goal
 
-pub open-requires-3-clause-boxes : goal.open-requires-3-clause-boxes
-open-requires-3-clause-boxes g c =
+pub cut-requires-clause-boxes : goal.cut-requires-clause-boxes
+cut-requires-clause-boxes g c =
     let boxed = c.in_ok-boxes.ensures in
     let in_place : AreInPlace c.args.tables.scale.warehouses c.in_ok-boxes.seats = subst (λ s. AreInPlace s.warehouses c.in_ok-boxes.seats) c.scale.ensures.value boxed.places in
     subst (AreBoxesOf c.args.tables) (sym boxed.boxes) (opened_groups_have_boxes c.args.tables c.args.opening.groups.items c.in_ok-boxes.seats c.requires.opened in_place boxed.contents)
@@ -24,27 +25,35 @@ new-requires-clause-opening g c =
 
 pub invariant_of-result : goal.invariant_of-result
 invariant_of-result g c =
-    let scale = ap (λ (t : Database). t.scale) c.requires.opening in (
+    let cut = c.in_ok-catalog in
+    let scale = ap (λ (t : Database). t.scale) c.requires.opening in
+    let slices = cut_slices c.args.tables cut.catalog cut.slices.items c.scale.ensures.within cut.ensures.catalog cut.ensures.slices in (
       opened_sound g.J.Naming-1.opening.scale c.in_ok-book.lanes.items _ (record { many = omega (arith, c.in_ok-book.lanes.ok.0, c.in_ok-book.ensures.count); each = c.in_ok-book.ensures.sessions })
-          (ap (λ s. s.tables.scale) c.in_ok-slice.ensures ∙ sym scale) c.in_ok-inbox.ensures c.in_ok-outbox.ensures refl c.in_ok-sessions.ensures,
+          (ap (λ (s : Shared). s.scale) cut.ensures.catalog ∙ sym scale) slices.0 c.in_ok-inbox.ensures c.in_ok-outbox.ensures refl c.in_ok-sessions.ensures,
       c.requires.warehouses ∙ sym (ap (λ s. s.warehouses) scale),
     )
 
 pub returns-clause-fits : goal.returns-clause-fits
 returns-clause-fits g c =
+    let cut = c.in_ok-catalog in
+    let slices = cut_slices c.args.tables cut.catalog cut.slices.items c.scale.ensures.within cut.ensures.catalog cut.ensures.slices in
     let parts : Parts g.row.J.Denot = record {
-      slice = c.in_ok-slice.slice;
+      catalog = cut.catalog;
+      slices = cut.slices;
       inbox = c.in_ok-inbox.inbox;
       outbox = c.in_ok-outbox.outbox;
       desk = record { admitted = 0; sessions = c.in_ok-sessions.sessions; active = None };
       log = c.new.result;
     } in
-    opened_fits c.args.tables c.requires.consistent parts c.in_ok-slice.slice c.new.result c.in_ok-slice.ensures c.new.ensures c.in_ok-inbox.ensures c.in_ok-outbox.ensures refl
+    opened_fits c.args.tables c.requires.consistent parts c.new.result slices.1 c.new.ensures c.in_ok-inbox.ensures c.in_ok-outbox.ensures refl
 
 pub returns-clause-new : goal.returns-clause-new
 returns-clause-new g c =
+    let cut = c.in_ok-catalog in
+    let slices = cut_slices c.args.tables cut.catalog cut.slices.items c.scale.ensures.within cut.ensures.catalog cut.ensures.slices in
     let parts : Parts g.row.J.Denot = record {
-      slice = c.in_ok-slice.slice;
+      catalog = cut.catalog;
+      slices = cut.slices;
       inbox = c.in_ok-inbox.inbox;
       outbox = c.in_ok-outbox.outbox;
       desk = record { admitted = 0; sessions = c.in_ok-sessions.sessions; active = None };
@@ -52,4 +61,4 @@ returns-clause-new g c =
     } in
     opened_new c.args.tables c.in_ok-book.lanes.items parts
     (record { many = omega (arith, c.in_ok-book.lanes.ok.0, c.in_ok-book.ensures.count); each = c.in_ok-book.ensures.sessions })
-    c.in_ok-slice.ensures c.in_ok-inbox.ensures c.in_ok-outbox.ensures c.new.ensures refl refl c.in_ok-sessions.ensures
+    slices.0 slices.1 c.in_ok-inbox.ensures c.in_ok-outbox.ensures c.new.ensures refl refl c.in_ok-sessions.ensures

@@ -1,0 +1,6 @@
+pub mod Slots
+pub mod Parts
+pub mod Partitions
+pub mod Splits
+pub mod Appends
+pub mod Laws

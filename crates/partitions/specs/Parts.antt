@@ -1,0 +1,123 @@
+-- Tables parted by warehouse, and made whole again.
+use Rattle.std.specs.Prelude.{◌≡◌, ℕ, ◌+◌, ◌<◌, Bool, ◌&&◌, ◌==◌, List, length, map, slice_index_or, IsTrue}
+use Rattle.std.specs.List.{flat_map}
+use Rattle.std.specs.declared.cmp.Ordering.{Ordering}
+use Rattle.std.specs.Ordering.{nat_cmp}
+use Rattle.std.specs.FinMap as table
+use Rattle.rows.specs.Keys.{district_of_customer}
+use Rattle.rows.specs.Ranged.{is_between}
+use Rattle.rows.specs.declared.keys.DistrictKey.{DistrictKey}
+use Rattle.rows.specs.declared.keys.StockKey.{StockKey}
+use Rattle.rows.specs.declared.keys.CustomerKey.{CustomerKey}
+use Rattle.rows.specs.declared.keys.OrderKey.{OrderKey}
+use Rattle.rows.specs.declared.keys.OrderLineKey.{OrderLineKey}
+use Rattle.rows.specs.declared.records.Item.{Item}
+use Rattle.schema.specs.declared.scale.Scale.{Scale}
+use Rattle.schema.specs.EachRow.{EachRow}
+use Rattle.schema.specs.Scale.{has_item, has_warehouse, warehouse_ids}
+use Rattle.schema.specs.Database.{Database, PayersKnown, OrdersNumbered, OrdersHaveCustomers, NewOrdersHaveOrders, LinesHaveOrders, LinesNumbered, LinesHaveItems, LinesHaveSuppliers}
+
+-- what all parts share: the scale of the tables, and ITEM
+pub record Shared : Type 0 where
+  pub scale : Scale
+  pub items : table.FinMap nat_cmp Item
+
+abbrev pub shared_of : Database → Shared
+shared_of t = record { scale = t.scale; items = t.items }
+
+-- the rows of one warehouse, as tables that have no others, and what all parts share
+pub record Part : Type 0 where
+  pub home : ℕ
+  pub tables : Database
+
+-- ---- one part
+
+abbrev pub is_of : ℕ → ℕ → Bool
+is_of home warehouse = warehouse == home
+
+abbrev pub has_district_of : ℕ → DistrictKey → Bool
+has_district_of home key = is_of home key.w_id && is_between 1 10 key.d_id
+
+abbrev pub has_stock_of : Scale → ℕ → StockKey → Bool
+has_stock_of scale home key = is_of home key.w_id && has_item scale key.i_id
+
+abbrev pub has_customer_of : Scale → ℕ → CustomerKey → Bool
+has_customer_of scale home key = has_district_of home (district_of_customer key) && is_between 1 scale.customers key.c_id
+
+-- It is a warehouse of the scale. The keys of five tables are exactly those of the scale's that are the warehouse's, those of
+-- ITEM all of the scale's, and no others are another warehouse's; and rows refer to others as the scale's rules say.
+pub record IsPart (p : Part) : Type 0 where
+  pub home : IsTrue (has_warehouse p.tables.scale p.home)
+  pub items : (key : ℕ) → table.contains_key p.tables.items key ≡ has_item p.tables.scale key
+  pub warehouses : (key : ℕ) → table.contains_key p.tables.warehouses key ≡ is_of p.home key
+  pub districts : (key : DistrictKey) → table.contains_key p.tables.districts key ≡ has_district_of p.home key
+  pub stocks : (key : StockKey) → table.contains_key p.tables.stocks key ≡ has_stock_of p.tables.scale p.home key
+  pub customers : (key : CustomerKey) → table.contains_key p.tables.customers key ≡ has_customer_of p.tables.scale p.home key
+  pub histories : (key : DistrictKey) → table.contains_key p.tables.histories key ≡ has_district_of p.home key
+  pub orders_here : EachRow (λ (key : OrderKey) _. is_of p.home key.w_id) p.tables.orders
+  pub new_orders_here : EachRow (λ (key : OrderKey) _. is_of p.home key.w_id) p.tables.new_orders
+  pub lines_here : EachRow (λ (key : OrderLineKey) _. is_of p.home key.w_id) p.tables.lines
+  pub payers_known : PayersKnown p.tables
+  pub orders_numbered : OrdersNumbered p.tables
+  pub orders_have_customers : OrdersHaveCustomers p.tables
+  pub new_orders_have_orders : NewOrdersHaveOrders p.tables
+  pub lines_have_orders : LinesHaveOrders p.tables
+  pub lines_numbered : LinesNumbered p.tables
+  pub lines_have_items : LinesHaveItems p.tables
+  pub lines_have_suppliers : LinesHaveSuppliers p.tables
+
+-- ---- the parts of tables
+
+-- what of the tables is one warehouse's
+abbrev pub part_of : Database → ℕ → Part
+part_of t home = record {
+  home = home;
+  tables = record {
+    scale = t.scale;
+    items = t.items;
+    warehouses = table.retain_keys t.warehouses (is_of home);
+    districts = table.retain_keys t.districts (λ key. is_of home key.w_id);
+    stocks = table.retain_keys t.stocks (λ key. is_of home key.w_id);
+    customers = table.retain_keys t.customers (λ key. is_of home key.w_id);
+    histories = table.retain_keys t.histories (λ key. is_of home key.w_id);
+    orders = table.retain_keys t.orders (λ key. is_of home key.w_id);
+    new_orders = table.retain_keys t.new_orders (λ key. is_of home key.w_id);
+    lines = table.retain_keys t.lines (λ key. is_of home key.w_id);
+  };
+}
+
+-- those of all its warehouses, in order
+abbrev pub parts_of : Database → List Part
+parts_of t = map (part_of t) (warehouse_ids t.scale)
+
+-- ---- and the whole again
+
+-- the rows of one table that the parts have, each of its own warehouse
+abbrev pub rows_of_all : {K X : Type 0} {R : K → K → Ordering} → (K → ℕ) → (Database → table.FinMap R X) → List Part → table.FinMap R X
+rows_of_all own rows parts = table.from_entries (flat_map (λ p. table.entries (table.retain_keys (rows p.tables) (λ key. is_of p.home (own key)))) parts)
+
+-- tables of what the parts have, and of what they share
+abbrev pub whole_of : Shared → List Part → Database
+whole_of shared parts = record {
+  scale = shared.scale;
+  items = shared.items;
+  warehouses = rows_of_all (λ key. key) (λ t. t.warehouses) parts;
+  districts = rows_of_all (λ key. key.w_id) (λ t. t.districts) parts;
+  stocks = rows_of_all (λ key. key.w_id) (λ t. t.stocks) parts;
+  customers = rows_of_all (λ key. key.w_id) (λ t. t.customers) parts;
+  histories = rows_of_all (λ key. key.w_id) (λ t. t.histories) parts;
+  orders = rows_of_all (λ key. key.w_id) (λ t. t.orders) parts;
+  new_orders = rows_of_all (λ key. key.w_id) (λ t. t.new_orders) parts;
+  lines = rows_of_all (λ key. key.w_id) (λ t. t.lines) parts;
+}
+
+-- a part of the warehouse whose place this is, from 0, with this scale and these items
+pub record IsPartAt (shared : Shared) (place : ℕ) (p : Part) : Type 0 where
+  pub home : p.home ≡ place + 1
+  pub scale : p.tables.scale ≡ shared.scale
+  pub items : p.tables.items ≡ shared.items
+
+-- the parts of all warehouses of the scale, in order
+pub record ArePartsOf (shared : Shared) (parts : List Part) : Type 0 where
+  pub many : length parts ≡ shared.scale.warehouses
+  pub each : (place : ℕ) (d : Part) → place < length parts → IsPartAt shared place (slice_index_or parts place d)

@@ -1,0 +1,38 @@
+-- Where the rows of districts and of customers stand, among those that are here.
+use Rattle.std.specs.Prelude.{◌≡◌, ℕ, ◌+◌, ◌-◌, ◌*◌, ◌<◌, ◌≤◌, Option, Some, None, is_some, if◌then◌else◌}
+use Rattle.std.specs.Option.{option_map}
+use Rattle.std.specs.FinMap as map
+use Rattle.rows.specs.Keys.{district_of_customer}
+use Rattle.rows.specs.Ranged.{is_between}
+use Rattle.rows.specs.declared.keys.DistrictKey.{DistrictKey}
+use Rattle.rows.specs.declared.keys.CustomerKey.{CustomerKey}
+use Rattle.schema.specs.Database.{Database, customer_of_order, OrdersNumbered}
+use Rattle.schema.specs.EachRow.{EachRow}
+use Rattle.partitions.specs.Parts.{has_district_of}
+
+-- the place of a district among those whose rows are here, in the order of their keys
+abbrev pub Slots : Type 0
+Slots = DistrictKey → Option ℕ
+
+-- the place of a customer, where each of these districts has so many
+abbrev pub customer_slot_by : Slots → ℕ → CustomerKey → Option ℕ
+customer_slot_by slot customers key =
+    if is_between 1 customers key.c_id then option_map (λ place. place * customers + (key.c_id - 1)) (slot (district_of_customer key)) else None
+
+-- no two districts have one place
+abbrev pub AreApart : Slots → Type 0
+AreApart slot = (one other : DistrictKey) (place : ℕ) → slot one ≡ Some place → slot other ≡ Some place → one ≡ other
+
+-- The places of so many districts, and the rows that are here: of each district there are all customers, and each order
+-- names one of them, and its number is one that orders have.
+pub record AreRows (slot : Slots) (districts : ℕ) (t : Database) : Type 0 where
+  pub few : districts ≤ 640
+  pub within : (home : DistrictKey) (place : ℕ) → slot home ≡ Some place → place < districts
+  pub apart : AreApart slot
+  pub customers : (key : CustomerKey) → map.contains_key t.customers key ≡ is_some (customer_slot_by slot t.scale.customers key)
+  pub orders : EachRow (λ key row. is_some (customer_slot_by slot t.scale.customers (customer_of_order key row))) t.orders
+  pub numbered : OrdersNumbered t
+
+-- the places of the ten districts of one warehouse
+abbrev pub home_slot : ℕ → Slots
+home_slot home key = if has_district_of home key then Some (key.d_id - 1) else None

@@ -1,0 +1,44 @@
+ghost use Rattle.std.specs.Prelude.{IfOk};
+ghost use Rattle.partitions.specs.Partitions.{AreSameHomeRows};
+
+use schema::{
+    Customer, District, HistoryList, NewOrder, NoMemory, Order, OrderKey, OrderLine, OrderLineKey,
+    Stock, Warehouse,
+};
+use std::collections::BTreeMap;
+
+/// The rows of one warehouse. Those of four tables, whose keys are the scale's, stand in ascending order of
+/// their keys, without them.
+#[derive(Drop)]
+pub struct HomeRows {
+    pub warehouse: Warehouse,
+    /// By D_ID.
+    pub districts: Vec<District>,
+    /// By S_I_ID.
+    pub stocks: Vec<Stock>,
+    /// By (C_D_ID, C_ID).
+    pub customers: Vec<Customer>,
+    /// By H_D_ID.
+    pub histories: Vec<HistoryList>,
+    pub orders: BTreeMap<OrderKey, Order>,
+    pub new_orders: BTreeMap<OrderKey, NewOrder>,
+    pub lines: BTreeMap<OrderLineKey, OrderLine>,
+}
+
+impl HomeRows {
+    /// Equal rows. Want of memory leaves nothing behind.
+    pub fn try_clone(&self) -> Result<HomeRows, NoMemory>
+        ensures { IfOk result (AreSameHomeRows self.now) }
+    {
+        Ok(HomeRows {
+            warehouse: self.warehouse.try_clone()?,
+            districts: self.districts.clone()?,
+            stocks: self.stocks.clone()?,
+            customers: self.customers.clone()?,
+            histories: self.histories.clone()?,
+            orders: self.orders.clone()?,
+            new_orders: self.new_orders.clone()?,
+            lines: self.lines.clone()?,
+        })
+    }
+}

@@ -1,0 +1,73 @@
+ghost use Rattle.std.specs.Prelude.{◌≡◌, ℕ, ◌+◌, IfOk};
+ghost use Rattle.schema.specs.declared.scale.Scale.{Scale};
+ghost use Rattle.schema.specs.declared.table_rows.TableRows.{TableRows};
+ghost use Rattle.schema.specs.Rows.{HasCounts};
+ghost use Rattle.partitions.specs.Splits.{AreRowsOfWarehouses, AreHomesFrom, IsHomeAt, HasHome};
+
+use crate::home_rows::HomeRows;
+use crate::splits::{split, split_map};
+use schema::{
+    Customer, District, HistoryList, Item, NewOrder, NoMemory, Order, OrderKey, OrderLine,
+    OrderLineKey, Scale, Stock, TableRows, Warehouse,
+};
+use std::alloc::Global;
+use std::collections::BTreeMap;
+
+/// The rows of each table but ITEM, split into those of each warehouse, the last warehouse's first.
+#[derive(Drop)]
+pub(crate) struct Homes {
+    pub(crate) warehouses: Vec<Warehouse>,
+    pub(crate) districts: Vec<Vec<District>>,
+    pub(crate) stocks: Vec<Vec<Stock>>,
+    pub(crate) customers: Vec<Vec<Customer>>,
+    pub(crate) histories: Vec<Vec<HistoryList>>,
+    pub(crate) orders: Vec<BTreeMap<OrderKey, Order>>,
+    pub(crate) new_orders: Vec<BTreeMap<OrderKey, NewOrder>>,
+    pub(crate) lines: Vec<BTreeMap<OrderLineKey, OrderLine>>,
+}
+
+impl Homes {
+    /// The rows of ITEM, and those of the other tables, split one table after the other. An error drops them.
+    pub(crate) fn split(
+        alloc: Global,
+        scale: Scale,
+        rows: TableRows,
+    ) -> Result<(Vec<Item>, Homes), NoMemory>
+        requires counts { HasCounts scale rows }
+        requires within { AreRowsOfWarehouses scale rows }
+        ensures items { IfOk result (λ made. made.0.items ≡ rows.items.items) }
+        ensures homes { IfOk result (λ made. AreHomesFrom scale rows 0 made.1) }
+    {
+        let count = scale.warehouses as usize;
+        let mut warehouses = rows.warehouses;
+        warehouses.reverse();
+        let homes = Homes {
+            warehouses,
+            districts: split(alloc, rows.districts, 10, count)?,
+            stocks: split(alloc, rows.stocks, scale.items as usize, count)?,
+            customers: split(alloc, rows.customers, 10 * scale.customers as usize, count)?,
+            histories: split(alloc, rows.histories, 10, count)?,
+            orders: split_map(alloc, rows.orders, scale.warehouses)?,
+            new_orders: split_map(alloc, rows.new_orders, scale.warehouses)?,
+            lines: split_map(alloc, rows.lines, scale.warehouses)?,
+        };
+        Ok((rows.items, homes))
+    }
+
+    /// Takes the rows of the first warehouse that is left.
+    pub(crate) fn take_first(&mut self) -> HomeRows
+        requires { HasHome self.old }
+        ensures { (scale : Scale) (rows : TableRows) (place : ℕ) → AreHomesFrom scale rows place self.old → IsHomeAt scale rows place result × AreHomesFrom scale rows (place + 1) self.new }
+    {
+        HomeRows {
+            warehouse: self.warehouses.pop().unwrap(),
+            districts: self.districts.pop().unwrap(),
+            stocks: self.stocks.pop().unwrap(),
+            customers: self.customers.pop().unwrap(),
+            histories: self.histories.pop().unwrap(),
+            orders: self.orders.pop().unwrap(),
+            new_orders: self.new_orders.pop().unwrap(),
+            lines: self.lines.pop().unwrap(),
+        }
+    }
+}

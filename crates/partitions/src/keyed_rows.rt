@@ -1,0 +1,66 @@
+ghost use Rattle.std.specs.Prelude.{◌≡◌, ◌+◌, ◌^◌, ◌<◌, ℕ, length, is_some, IfSome, Some};
+ghost use Rattle.std.specs.Option.{option_copied};
+ghost use Rattle.std.specs.FinMap as map;
+ghost use Rattle.std.specs.List.{slice_get};
+ghost use Rattle.schema.specs.Scale.{customer_key};
+ghost use Rattle.schema.specs.Database.{rows_where, is_of_order};
+ghost use Rattle.partitions.specs.Slots.{AreRows};
+
+use schema::{Customer, CustomerKey, DistrictKey, Order, OrderKey, OrderLine, OrderLineKey, Scale};
+use std::collections::BTreeMap;
+use std::collections::btree_map::Range;
+
+/// Rows of customers, orders and lines that are asked for by their keys: those of all tables, or of a part of
+/// them.
+pub trait Rows {
+    ghost use Rattle.std.specs.Prelude.{ℕ};
+    ghost use Rattle.schema.specs.Database.{Database};
+    ghost use Rattle.partitions.specs.Slots.{Slots};
+
+    /// The rows that are here, as tables.
+    ghost tables: { Self → Database };
+    /// How many districts' rows are here.
+    ghost districts: { Self → ℕ };
+    /// The places of these districts.
+    ghost slot: { Self → Slots };
+
+    /// The scale of the tables whose rows these are.
+    fn scale(&self) -> Scale
+        ensures value { result ≡ (tables self.now).scale }
+        ensures rows { AreRows (slot self.now) (districts self.now) (tables self.now) };
+
+    /// How many districts' rows are here: 10 to 640.
+    fn district_count(&self) -> u32
+        ensures { result ≡ districts self.now };
+
+    /// The district at a place.
+    fn district_at(&self, place: u32) -> DistrictKey
+        requires { place < districts self.now }
+        ensures { slot self.now result ≡ Some place };
+
+    /// The place of a district; `None` where its rows are not here.
+    fn district_slot(&self, home: DistrictKey) -> Option<usize>
+        ensures { result ≡ slot self.now home };
+
+    /// The customers of a district, by C_ID from 1; `None` where its rows are not here.
+    fn customers_of(&self, home: DistrictKey) -> Option<&[Customer]>
+        ensures district { is_some result ≡ is_some (slot self.now home) }
+        ensures rows { IfSome result (λ rows. (c : ℕ) → slice_get rows.now c ≡ map.get (tables self.now).customers (customer_key home (c + 1))) };
+
+    /// The row of the customer, `None` where there is none here.
+    fn customer(&self, key: CustomerKey) -> Option<&Customer>
+        ensures { option_copied result ≡ map.get (tables self.now).customers key };
+
+    /// All orders that are here, by their keys.
+    fn orders(&self) -> &BTreeMap<OrderKey, Order>
+        ensures { map.from_entries result.now.entries ≡ (tables self.now).orders };
+
+    /// The row of the order, `None` where there is none here.
+    fn order(&self, key: OrderKey) -> Option<&Order>
+        ensures { option_copied result ≡ map.get (tables self.now).orders key };
+
+    /// The lines of the order, by OL_NUMBER.
+    fn lines_of(&self, order: OrderKey) -> Range<'_, OrderLineKey, OrderLine>
+        ensures rows { result ≡ rows_where (is_of_order order) (tables self.now).lines }
+        ensures fits { length result < 2 ^ 63 };
+}

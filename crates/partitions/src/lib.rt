@@ -1,0 +1,22 @@
+//! The rows of one warehouse, parted from those of the others: what is dense stands dense, and ITEM is shared.
+#![tactic(auto)]
+
+mod appends;
+mod catalog;
+mod cutting;
+mod home_rows;
+mod homes;
+mod joining;
+mod keyed_rows;
+mod laws;
+mod partition;
+mod partition_rows;
+mod splits;
+mod table_rows;
+
+pub use catalog::Catalog;
+pub use cutting::cut;
+pub use joining::whole;
+pub use keyed_rows::Rows;
+pub use laws::{cut_parts_make_the_tables, whole_has_each_part};
+pub use partition::Partition;

@@ -1,0 +1,225 @@
+ghost use Rattle.std.specs.Prelude.{◌≡◌, ◌+◌, ◌^◌, ◌<◌, ℕ, length, IsTrue, is_some, IfSome, IfOk, OnOk, OnErr};
+ghost use Rattle.std.specs.Option.{option_copied};
+ghost use Rattle.std.specs.FinMap as map;
+ghost use Rattle.std.specs.List.{slice_get};
+ghost use Rattle.schema.specs.Scale.{has_customer, customer_key};
+ghost use Rattle.schema.specs.Database.{with_payment, without_payment, rows_where, is_of_order};
+ghost use Rattle.partitions.specs.Parts.{IsPart, has_district_of};
+ghost use Rattle.partitions.specs.Slots.{customer_slot_by, home_slot};
+
+use crate::Catalog;
+use crate::home_rows::HomeRows;
+use schema::{
+    Customer, CustomerKey, District, DistrictKey, History, NoMemory, Order, OrderKey, OrderLine,
+    OrderLineKey, Scale, Warehouse,
+};
+use std::collections::BTreeMap;
+use std::collections::btree_map::Range;
+use std::marker::Model;
+use std::mem;
+
+/// The rows of one warehouse, and what all partitions share: seen as tables that have no rows of other
+/// warehouses.
+#[derive(Drop)]
+pub struct Partition {
+    pub(crate) catalog: Catalog,
+    pub(crate) home: u32,
+    pub(crate) rows: HomeRows,
+}
+
+impl Model for Partition {
+    ghost use Rattle.std.specs.Prelude.{refl};
+    ghost use Rattle.std.specs.Coded.{code_by, coded×, coded_ℕ};
+    ghost use Rattle.schema.specs.contracts.tables.Tables as tables_kind;
+    ghost use Rattle.partitions.specs.Parts.{Part};
+    ghost use Rattle.partitions.specs.Partitions.{part, FitsPart};
+
+    ghost Value = { Part };
+
+    ghost coded = { code_by _
+        (coded× coded_ℕ tables_kind.the_row.coded)
+        (λ p. (p.home, p.tables))
+        (λ p. record { home = p.0; tables = p.1 })
+        (λ _. refl) };
+
+    ghost view = { λ p. part p.catalog p.home p.rows };
+
+    ghost invariant = { λ p. FitsPart p.catalog p.home p.rows };
+}
+
+impl Partition {
+    /// An equal partition, which shares the items. Want of memory leaves nothing behind.
+    pub fn try_clone(&self) -> Result<Partition, NoMemory>
+        ensures { IfOk result (λ copy. copy ≡ self.now) }
+    {
+        let catalog = self.catalog.share()?;
+        let rows = self.rows.try_clone()?;
+        Ok(Partition {
+            catalog,
+            home: self.home,
+            rows,
+        })
+    }
+
+    /// The W_ID of the warehouse whose rows these are.
+    pub fn home(&self) -> u32
+        ensures home { result ≡ self.now.home }
+        ensures part { IsPart self.now }
+    {
+        self.home
+    }
+
+    /// The scale of the tables that this is a part of.
+    pub fn scale(&self) -> Scale
+        ensures value { result ≡ self.now.tables.scale }
+        ensures part { IsPart self.now }
+    {
+        self.catalog.scale()
+    }
+
+    /// The row of the warehouse; `None` for other warehouses. So for the other tables.
+    pub fn warehouse(&self, w_id: u32) -> Option<&Warehouse>
+        ensures { option_copied result ≡ map.get self.now.tables.warehouses w_id }
+    {
+        if w_id == self.home {
+            Some(&self.rows.warehouse)
+        } else {
+            None
+        }
+    }
+
+    pub fn district(&self, key: DistrictKey) -> Option<&District>
+        ensures { option_copied result ≡ map.get self.now.tables.districts key }
+    {
+        self.rows.districts.get(self.slot_of_district(key)?)
+    }
+
+    pub fn customer(&self, key: CustomerKey) -> Option<&Customer>
+        ensures { option_copied result ≡ map.get self.now.tables.customers key }
+    {
+        self.rows.customers.get(self.slot_of_customer(key)?)
+    }
+
+    /// The row of the order, `None` where there is none here.
+    pub fn order(&self, key: OrderKey) -> Option<&Order>
+        ensures { option_copied result ≡ map.get self.now.tables.orders key }
+    {
+        self.rows.orders.get(&key)
+    }
+
+    /// All orders of the warehouse, by their keys.
+    pub fn orders(&self) -> &BTreeMap<OrderKey, Order>
+        ensures { map.from_entries result.now.entries ≡ self.now.tables.orders }
+    {
+        &self.rows.orders
+    }
+
+    /// The lines of the order, by OL_NUMBER.
+    pub fn lines_of(&self, order: OrderKey) -> Range<'_, OrderLineKey, OrderLine>
+        ensures rows { result ≡ rows_where (is_of_order order) self.now.tables.lines }
+        ensures fits { length result < 2 ^ 63 }
+    {
+        let first = OrderLineKey {
+            w_id: order.w_id,
+            d_id: order.d_id,
+            o_id: order.o_id,
+            number: 0,
+        };
+        let last = OrderLineKey {
+            number: u32::MAX,
+            ..first
+        };
+        self.rows.lines.range(first..=last)
+    }
+
+    /// The customers of the district, by C_ID from 1; `None` where it is none of the warehouse's.
+    pub fn customers_of(&self, home: DistrictKey) -> Option<&[Customer]>
+        ensures district { is_some result ≡ has_district_of self.now.home home }
+        ensures rows { IfSome result (λ rows. (c : ℕ) → slice_get rows.now c ≡ map.get self.now.tables.customers (customer_key home (c + 1))) }
+    {
+        let slot = self.slot_of_district(home)?;
+        let customers = self.scale().customers as usize;
+        self.rows
+            .customers
+            .get(slot * customers..(slot + 1) * customers)
+    }
+
+    /// Puts a row in place of the warehouse's, and gives that. So for the next two tables.
+    pub fn replace_warehouse(&mut self, w_id: u32, row: Warehouse) -> Option<Warehouse>
+        requires { IsTrue (map.contains_key self.old.tables.warehouses w_id) }
+        ensures tables { self.new ≡ record self.old { tables = record self.old.tables { warehouses = map.insert self.old.tables.warehouses w_id row } } }
+        ensures was { result ≡ map.get self.old.tables.warehouses w_id }
+    {
+        if w_id == self.home {
+            Some(mem::replace(&mut self.rows.warehouse, row))
+        } else {
+            None
+        }
+    }
+
+    pub fn replace_district(&mut self, key: DistrictKey, row: District) -> Option<District>
+        requires { IsTrue (map.contains_key self.old.tables.districts key) }
+        ensures tables { self.new ≡ record self.old { tables = record self.old.tables { districts = map.insert self.old.tables.districts key row } } }
+        ensures was { result ≡ map.get self.old.tables.districts key }
+    {
+        let slot = self.slot_of_district(key)?;
+        Some(mem::replace(&mut self.rows.districts[slot], row))
+    }
+
+    pub fn replace_customer(&mut self, key: CustomerKey, row: Customer) -> Option<Customer>
+        requires { IsTrue (map.contains_key self.old.tables.customers key) }
+        ensures tables { self.new ≡ record self.old { tables = record self.old.tables { customers = map.insert self.old.tables.customers key row } } }
+        ensures was { result ≡ map.get self.old.tables.customers key }
+    {
+        let slot = self.slot_of_customer(key)?;
+        Some(mem::replace(&mut self.rows.customers[slot], row))
+    }
+
+    /// Adds a payment at the end of the district's list; an error changes nothing. The payer may belong to
+    /// another warehouse.
+    pub fn push_history(&mut self, key: DistrictKey, row: History) -> Result<(), NoMemory>
+        requires district { IsTrue (map.contains_key self.old.tables.districts key) }
+        requires payer { IsTrue (has_customer self.old.tables.scale row.customer) }
+        ensures ok { OnOk result (self.new ≡ record self.old { tables = record self.old.tables { histories = with_payment self.old.tables.histories key row } }) }
+        ensures err { OnErr result (self.new ≡ self.old) }
+    {
+        match self.slot_of_district(key) {
+            Some(slot) => self.rows.histories[slot].push(row),
+            None => Ok(()),
+        }
+    }
+
+    /// Takes the last payment of the district's list away, if there is one. It takes no memory.
+    pub fn pop_history(&mut self, key: DistrictKey)
+        requires { IsTrue (map.contains_key self.old.tables.districts key) }
+        ensures { self.new ≡ record self.old { tables = record self.old.tables { histories = without_payment self.old.tables.histories key } } }
+    {
+        if let Some(slot) = self.slot_of_district(key) {
+            self.rows.histories[slot].pop();
+        }
+    }
+
+    /// The place of the district's row among the warehouse's, from 0; `None` where it is none of the warehouse's.
+    pub(crate) fn slot_of_district(&self, key: DistrictKey) -> Option<usize>
+        ensures { result ≡ home_slot self.now.home key }
+    {
+        if key.w_id == self.home && (1..=10).contains(&key.d_id) {
+            Some(key.d_id as usize - 1)
+        } else {
+            None
+        }
+    }
+
+    // The place of the customer's row, likewise.
+    fn slot_of_customer(&self, key: CustomerKey) -> Option<usize>
+        ensures { result ≡ customer_slot_by (home_slot self.now.home) self.now.tables.scale.customers key }
+    {
+        let district = self.slot_of_district(key.district())?;
+        let customers = self.scale().customers;
+        if (1..=customers).contains(&key.c_id) {
+            Some(district * customers as usize + (key.c_id as usize - 1))
+        } else {
+            None
+        }
+    }
+}

@@ -1,0 +1,54 @@
+use crate::{Partition, Rows};
+use schema::{Customer, CustomerKey, DistrictKey, Order, OrderKey, OrderLine, OrderLineKey, Scale};
+use std::collections::BTreeMap;
+use std::collections::btree_map::Range;
+
+/// The rows of one warehouse: of its ten districts.
+impl Rows for Partition {
+    ghost use Rattle.partitions.specs.Slots.{home_slot};
+
+    ghost tables = { λ p. p.tables };
+
+    ghost districts = { λ p. 10 };
+
+    ghost slot = { λ p. home_slot p.home };
+
+    fn scale(&self) -> Scale {
+        Partition::scale(self)
+    }
+
+    fn district_count(&self) -> u32 {
+        10
+    }
+
+    fn district_at(&self, place: u32) -> DistrictKey {
+        DistrictKey {
+            w_id: self.home(),
+            d_id: place + 1,
+        }
+    }
+
+    fn district_slot(&self, home: DistrictKey) -> Option<usize> {
+        self.slot_of_district(home)
+    }
+
+    fn customers_of(&self, home: DistrictKey) -> Option<&[Customer]> {
+        Partition::customers_of(self, home)
+    }
+
+    fn customer(&self, key: CustomerKey) -> Option<&Customer> {
+        Partition::customer(self, key)
+    }
+
+    fn orders(&self) -> &BTreeMap<OrderKey, Order> {
+        Partition::orders(self)
+    }
+
+    fn order(&self, key: OrderKey) -> Option<&Order> {
+        Partition::order(self, key)
+    }
+
+    fn lines_of(&self, order: OrderKey) -> Range<'_, OrderLineKey, OrderLine> {
+        Partition::lines_of(self, order)
+    }
+}

@@ -1,0 +1,56 @@
+use crate::Rows;
+use schema::{
+    Customer, CustomerKey, DistrictKey, Order, OrderKey, OrderLine, OrderLineKey, Scale, Tables,
+};
+use std::collections::BTreeMap;
+use std::collections::btree_map::Range;
+
+impl Rows for Tables {
+    ghost use Rattle.std.specs.Prelude.{◌*◌};
+    ghost use Rattle.schema.specs.Scale.{district_slot};
+
+    ghost tables = { λ t. t };
+
+    ghost districts = { λ t. t.scale.warehouses * 10 };
+
+    ghost slot = { λ t. district_slot t.scale };
+
+    fn scale(&self) -> Scale {
+        self.scale()
+    }
+
+    fn district_count(&self) -> u32 {
+        self.scale().warehouses * 10
+    }
+
+    fn district_at(&self, place: u32) -> DistrictKey {
+        DistrictKey {
+            w_id: place / 10 + 1,
+            d_id: place % 10 + 1,
+        }
+    }
+
+    fn district_slot(&self, home: DistrictKey) -> Option<usize> {
+        self.scale().district_slot(home)
+    }
+
+    fn customers_of(&self, home: DistrictKey) -> Option<&[Customer]> {
+        self.customers_of(home)
+    }
+
+    fn customer(&self, key: CustomerKey) -> Option<&Customer> {
+        self.customer(key)
+    }
+
+    fn orders(&self) -> &BTreeMap<OrderKey, Order> {
+        &self.rows().orders
+    }
+
+    fn order(&self, key: OrderKey) -> Option<&Order> {
+        self.order(key)
+    }
+
+    fn lines_of(&self, order: OrderKey) -> Range<'_, OrderLineKey, OrderLine> {
+        self.lines_of(order)
+    }
+}

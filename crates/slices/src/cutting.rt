@@ -1,0 +1,63 @@
+//! Tables are cut into slices, and slices make them whole again.
+ghost use Rattle.std.specs.Prelude.{◌≡◌, map, IfOk};
+ghost use Rattle.partitions.specs.Parts.{shared_of, parts_of};
+ghost use Rattle.slices.specs.Openings.{AreBoxesOf};
+ghost use Rattle.slices.specs.Sliced.{at_rest, joined, AreSlicesOf};
+
+use crate::Slice;
+use partitions::Catalog;
+use schema::{NoMemory, Tables};
+use std::alloc::Global;
+use tickets::{GROUPS_PER_WAREHOUSE, Naming, TicketBox};
+
+/// A slice for each warehouse of the tables, in order, with the boxes of its groups. The rows are moved, and
+/// none is copied. Nothing is left after an error.
+pub fn cut<J: Naming>(
+    alloc: Global,
+    tables: Tables,
+    mut boxes: Vec<TicketBox<J>>,
+) -> Result<(Catalog, Vec<Slice<J>>), NoMemory>
+    requires warehouses { J.warehouses ≡ tables.scale.warehouses }
+    requires boxes { AreBoxesOf tables boxes.items }
+    ensures catalog { IfOk result (λ made. made.0 ≡ shared_of tables) }
+    ensures slices { IfOk result (λ made. made.1.items ≡ map at_rest (parts_of tables)) }
+{
+    let (catalog, mut parts) = partitions::cut(alloc, tables)?;
+    let mut slices = Vec::with_capacity(alloc, parts.len())?;
+    // The last warehouse first, whose boxes are the last.
+    while let Some(partition) = parts.pop() {
+        let own = boxes.split_off(parts.len() * GROUPS_PER_WAREHOUSE)?;
+        slices.push(Slice::open(alloc, partition, own)?)?;
+    }
+    slices.reverse();
+    Ok((catalog, slices))
+}
+
+/// The tables that the slices make, with their rows as they stand. The rows are moved, and none is copied.
+/// Nothing is left after an error.
+pub fn whole<J: Naming>(catalog: Catalog, slices: Vec<Slice<J>>) -> Result<Tables, NoMemory>
+    requires { AreSlicesOf catalog slices.items }
+    ensures { IfOk result (λ tables. tables ≡ (joined catalog slices.items).tables) }
+{
+    let mut parts = Vec::with_capacity(*slices.allocator(), slices.len())?;
+    for slice in slices {
+        parts.push(slice.into_partition())?;
+    }
+    partitions::whole(catalog, parts)
+}
+
+/// Tables equal to those that the slices make. The slices stay, and nothing more is left after an error.
+pub fn copy_whole<J: Naming>(
+    alloc: Global,
+    catalog: &Catalog,
+    slices: &[Slice<J>],
+) -> Result<Tables, NoMemory>
+    requires { AreSlicesOf catalog.now slices.now }
+    ensures { IfOk result (λ tables. tables ≡ (joined catalog.now slices.now).tables) }
+{
+    let mut parts = Vec::with_capacity(alloc, slices.len())?;
+    for slice in slices {
+        parts.push(slice.partition().try_clone()?)?;
+    }
+    partitions::whole(catalog.share()?, parts)
+}

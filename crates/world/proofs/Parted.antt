@@ -1,0 +1,97 @@
+-- The slice of a warehouse, and all slices.
+use Rattle.std.proofs.Common.{◌≡◌, ℕ, ◌+◌, ◌-◌, ◌<◌, ◌≤◌, zero, suc, true, false, List, [], ◌∷◌, length, sym, ap, subst, ◌∙◌, cond, leb, arith}
+use Rattle.std.specs.Prelude.{All, IsTrue, slice_index_or, slice_set}
+use Rattle.std.proofs.lemmas.Bool.{and_parts, eq-eqb, leb-true, ne_eqb}
+use Rattle.std.proofs.lemmas.List.Elements.{All-contains, All-nil}
+use Rattle.schema.specs.declared.scale.Scale.{Scale}
+use Rattle.schema.specs.Scale.{has_warehouse}
+use Rattle.partitions.specs.Parts.{Shared, IsPartAt}
+use Rattle.requests.specs.declared.group.Group.{Group}
+use Rattle.groups.specs.declared.wishes.Wish.{Wish}
+use Rattle.groups.specs.Groups.{warehouse_of}
+use Rattle.tickets.specs.Claims.{Claiming}
+use Rattle.slices.specs.Sliced.{AreOfOneHome, AreSlicesOf, IsClaimAt, SliceKeeps, Sliced, SlicesKeep, at_home, free_at, free_in, joined, part_in}
+use Rattle.slices.proofs.Joined.{one_slice_keeps_all}
+use Rattle.actions.specs.declared.acting.Ran.{Ran}
+use Rattle.actions.specs.declared.acting.Ran.TheVariants as ran
+use Rattle.actions.specs.declared.work.Work.{Work}
+use Rattle.actions.specs.Acting.{IsRanOf, claims_of_ran}
+use Rattle.actions.specs.Works.{HasDone, home_of, wishes_of}
+use Rattle.actions.proofs.Wished.{works_are_done_at_home, works_claim_at_home}
+use Rattle.world.specs.Events.{ComesOf}
+
+-- ---- a slice among all
+
+-- The tickets of a group are with the slice of its warehouse, where the slices are those of warehouses in order.
+free_at_home : (slices : List Sliced) (first place : ℕ) (d : Sliced) (group : Group)
+    → ((k : ℕ) (d : Sliced) → k < length slices → (slice_index_or slices k d).home ≡ first + k)
+    → place < length slices → warehouse_of group ≡ first + place
+    → free_in slices group ≡ free_at (slice_index_or slices place d).free group
+free_at_home [] first place d group homes inside here = absurd (omega (arith, inside))
+free_at_home (s ∷ slices) first zero d group homes inside here =
+    let own : at_home s.home group ≡ true = eq-eqb (warehouse_of group) s.home (here ∙ sym (homes 0 d inside)) in
+    ap (λ b. cond b (free_at s.free group) (free_in slices group)) own
+free_at_home (s ∷ slices) first (suc place) d group homes inside here =
+    let other : at_home s.home group ≡ false = ne_eqb (warehouse_of group) s.home (λ same. absurd (omega (arith, same, here, homes 0 d (omega (arith, inside))))) in
+    let later : (k : ℕ) → first + suc k ≡ suc first + k = λ k. omega arith in
+    ap (λ b. cond b (free_at s.free group) (free_in slices group)) other
+    ∙ free_at_home slices (suc first) place d group (λ k e below. homes (suc k) e (omega (arith, below)) ∙ later k) (omega (arith, inside)) (here ∙ later place)
+
+-- A warehouse of the scale, and its slice.
+module _ (shared : Shared) (slices : List Sliced) (are : AreSlicesOf shared slices) (home : ℕ) (slice : Sliced)
+    (first : 1 ≤ home) (last : home ≤ shared.scale.warehouses) (is : slice ≡ slice_index_or slices (home - 1) slice) where
+  inside : home - 1 < length slices
+  inside = omega (arith, are.many, first, last)
+
+  next : (home - 1) + 1 ≡ home
+  next = omega (arith, first)
+
+  here : IsPartAt shared (home - 1) (part_in slice)
+  here = subst (λ (s : Sliced). IsPartAt shared (home - 1) (part_in s)) (sym is) (are.each (home - 1) slice inside)
+
+  pub scale_is : slice.tables.scale ≡ shared.scale
+  scale_is = here.scale
+
+  -- what it keeps, all keep
+  pub all_keep : (new : Sliced) (before after : List Claiming) → All (IsClaimAt home) before → All (IsClaimAt home) after → SliceKeeps before slice after new
+      → AreSlicesOf shared (slice_set slices (home - 1) new) × SlicesKeep before (joined shared slices) after (joined shared (slice_set slices (home - 1) new))
+  all_keep new before after held made keeps =
+      one_slice_keeps_all shared slices (home - 1) slice new before after are inside
+      (subst (λ n. All (IsClaimAt n) before) (sym next) held) (subst (λ n. All (IsClaimAt n) after) (sym next) made)
+      (subst (λ (s : Sliced). SliceKeeps before s after new) is keeps)
+
+  -- as many of its groups' tickets are at home as with it
+  free_here : (group : Group) → warehouse_of group ≡ home → free_in slices group ≡ free_at slice.free group
+  free_here group own =
+      let homes : (k : ℕ) (d : Sliced) → k < length slices → (slice_index_or slices k d).home ≡ 1 + k = λ k d below. omega (arith, (are.each k d below).home) in
+      free_at_home slices 1 (home - 1) slice group homes inside (omega (arith, own, next)) ∙ ap (λ (s : Sliced). free_at s.free group) (sym is)
+
+  -- what comes of work there, comes of it in all
+  pub comes_of : {J : Type 0} (work : Work) (one : Ran J) → home_of work ≡ home → IsRanOf slice work one → ComesOf (joined shared slices) work one
+  comes_of work (ran.Done claims found) own of =
+      let done = subst (λ (s : Scale). HasDone s work found claims) scale_is of.0 in
+      (done, (of.1, (works_are_done_at_home shared.scale work found claims done).1))
+  comes_of work (ran.Died group holder) own (wish, wished, same, out) =
+      let at : warehouse_of wish.group ≡ home_of work = All-contains (λ (w : Wish). warehouse_of w.group ≡ home_of work) (wishes_of work) wish (works_claim_at_home work) wished in
+      (wish, (wished, (same, omega (arith, out, free_here group (ap warehouse_of (sym same) ∙ at ∙ own)))))
+  comes_of work ran.NoMemory own of = tt
+
+-- the warehouses of the scale are numbered from 1
+pub warehouse_within : (scale : Scale) (home : ℕ) → IsTrue (has_warehouse scale home) → (1 ≤ home) × (home ≤ scale.warehouses)
+warehouse_within scale home has =
+    let parts = and_parts (leb 1 home) (leb home scale.warehouses) has in
+    (leb-true 1 home parts.0, leb-true home scale.warehouses parts.1)
+
+-- ---- the claims of one action
+
+-- those of an action that ran are on groups of its warehouse
+pub ran_at_home : {J : Type 0} (slice : Sliced) (work : Work) (one : Ran J) → IsRanOf slice work one → All (IsClaimAt (home_of work)) (claims_of_ran one)
+ran_at_home slice work (ran.Done claims found) of = (works_are_done_at_home slice.tables.scale work found claims of.0).0
+ran_at_home slice work (ran.Died group holder) of = All-nil (IsClaimAt (home_of work))
+ran_at_home slice work ran.NoMemory of = All-nil (IsClaimAt (home_of work))
+
+-- where they are on groups of one warehouse, all are on groups of that of the first
+pub claims_at_home : (claims : List Claiming) (home : ℕ) → ((d : Claiming) → home ≡ warehouse_of (slice_index_or claims 0 d).group) → AreOfOneHome claims
+    → All (IsClaimAt home) claims
+claims_at_home [] home is none = absurd none
+claims_at_home (claim ∷ claims) home is at = subst (λ n. All (IsClaimAt n) (claim ∷ claims)) (sym (is claim)) at

@@ -1,0 +1,18 @@
+-- The slices of a world as one, and the claims of an action, which go back to one of them.
+use Rattle.std.specs.Prelude.{List, All}
+use Rattle.tickets.specs.Claims.{Claiming}
+use Rattle.slices.specs.Sliced.{AreOfOneHome, Joined, joined}
+use Rattle.actions.specs.Acting.{CanBeSettled, CanBeUndone}
+use Rattle.world.specs.declared.world.Parts.{Parts}
+
+-- what all slices have together
+abbrev pub joined_in : {J : Type 0} → Parts J → Joined
+joined_in w = joined w.catalog w.slices.items
+
+-- they are on groups of one warehouse, and all that was done under them can be taken back
+abbrev pub CanAllBeUndone : List Claiming → Type 0
+CanAllBeUndone claims = All CanBeUndone claims × AreOfOneHome claims
+
+-- they are on groups of one warehouse, and what they left is committed
+abbrev pub CanAllBeSettled : List Claiming → Type 0
+CanAllBeSettled claims = All CanBeSettled claims × AreOfOneHome claims
