@@ -26,10 +26,10 @@ done
 # log takes the next.
 with_refused serving::want_of_memory_is_answered 587
 
-# Two sets, a list of events and a world with its 64 sessions take 2,286 allocations to make. Then a payment takes three at
+# Two sets, a list of events and a world with its 64 sessions take 2,306 allocations to make. Then a payment takes three at
 # its submission, five in the actions of its first phase, one to gather what they found, two to begin the second phase,
 # two in its action, one to gather that, and one as it is logged: here the first of each but the last action's.
-for number in 2287 2290 2295 2296 2300 2301; do
+for number in 2307 2310 2315 2316 2320 2321; do
     with_refused worlds::want_of_memory_is_taken_back "$number"
 done
 
