@@ -5,7 +5,7 @@
 set -euo pipefail
 cd "$(dirname "${BASH_SOURCE[0]}")"
 
-examples/check.sh
+scenarios/run
 
 # with_refused TEST NUMBER: the test passes though the allocation of that number is refused.
 with_refused() {
