@@ -32,7 +32,7 @@ def changed(records, changes):
     for change in changes:
         mark, record = change[:2], change[2:]
         if mark == "+ ":
-            after.append(record)
+            after += each_record(record)
             continue
         if mark not in ("- ", "  ") or record not in records[at:]:
             raise Mistake(f"no such record to change: {change}")
@@ -40,6 +40,15 @@ def changed(records, changes):
         after += records[at:place] + ([record] if mark == "  " else [])
         at = place + 1
     return after + records[at:]
+
+
+def each_record(record):
+    """The record, or one for each number where it has `{FIRST..LAST}` for a field."""
+    numbers = re.search(r"\{(\d+)\.\.(\d+)\}", record)
+    if numbers is None:
+        return [record]
+    before, after = record[: numbers.start()], record[numbers.end() :]
+    return [f"{before}{number}{after}" for number in range(int(numbers[1]), int(numbers[2]) + 1)]
 
 
 def changes_between(before, after):
