@@ -22,16 +22,22 @@ fn two_payments<J: Naming>(
     requires asks { (session : ℕ) → session < 64 → J.asks session ≡ table_of seats.asks session }
 {
     let (mut log, mut sessions) = StepLog::<J>::open(alloc, seats, tables)?;
-    let home = district_key(1, 1);
     let (pass, seat) = sessions.pop().expect(rt, "session 63");
-    let paid = payment(home, customer_key(1, 1, 1), 100);
+    let paid = payment(1, 100);
     let (first, reply) = append(rt, &mut log, pass, seat, &paid);
     let (pass, seat) = sessions.pop().expect(rt, "session 62");
-    let refused = payment(home, customer_key(1, 1, 6), 100);
-    let (second, rollback) = append(rt, &mut log, pass, seat, &refused);
+    let nobodys = payment(6, 100);
+    let (second, rollback) = append(rt, &mut log, pass, seat, &nobodys);
     assert_eq!(rt; rollback, Reply::RolledBack(Fault::NoCustomer));
-    let balance = shown(rt, reply).balance.get();
+    let balance = balance(rt, reply);
     Ok((first, second, balance, ytd(rt, &log)))
+}
+
+fn balance(rt: &impl Abort, reply: Reply) -> i64 {
+    match reply {
+        Reply::Payment(shown) => shown.balance.get(),
+        other => panic!(rt; "{other:?}"),
+    }
 }
 
 // The session asks and logs its first request; then its seat and the log agree with its pass.
@@ -69,7 +75,7 @@ fn ytd<J: Naming>(rt: &impl Abort, log: &StepLog<J>) -> i64 {
 #[test]
 fn payments_are_logged_in_turn(rt: HostRuntime) -> Result<(), Fail> {
     let seats = LogSeats::open(rt.alloc())?;
-    let tables = set_k(rt.alloc())?;
+    let tables = two_warehouses(rt.alloc())?;
     let told = two_payments::<Brand>(&rt, rt.alloc(), seats, tables)?;
     assert_eq!(rt; told, (0, 1, -1_100, 50_100));
     Ok(())
@@ -161,8 +167,8 @@ fn pay<J: Naming>(
 #[test]
 fn two_threads_pay(rt: HostRuntime) -> Result<(), Fail> {
     let seats = LogSeats::open(rt.alloc())?;
-    let tables = set_k(rt.alloc())?;
-    let request = payment(district_key(1, 1), customer_key(1, 1, 1), 100);
+    let tables = two_warehouses(rt.alloc())?;
+    let request = payment(1, 100);
     let told = paid_in_threads::<Brand, HostRuntime>(&rt, rt.alloc(), seats, tables, &request, 20);
     assert_eq!(rt; told, Some((40, 40, 40, 54_000)));
     Ok(())

@@ -66,7 +66,7 @@ fn put_and_undone<J: Naming>(
 
 #[test]
 fn a_row_is_put_and_undone(rt: HostRuntime) -> Result<(), Fail> {
-    let tables = set_k(rt.alloc())?;
+    let tables = two_warehouses(rt.alloc())?;
     let openings = open_groups(rt.alloc(), &tables)?;
     let told = put_and_undone::<Brand>(rt.alloc(), tables, openings);
     assert_eq!(rt; told, Some((50_000, 7, 50_000, 63)));
