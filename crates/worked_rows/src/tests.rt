@@ -1,5 +1,5 @@
 use machine::Plain;
-use requests::{Choice, Fault, Payment, PaymentReply, Reply, Request};
+use requests::{Choice, Fault, Payment, PaymentReply, Reply, Request, Shown};
 use schema::{
     Credit, CustomerKey, DistrictKey, History, HistoryList, Moment, NoMemory, TableRows, Tables,
 };
@@ -48,7 +48,7 @@ fn carry_out(rt: &impl Abort, plain: &mut Plain, request: &Request) -> Result<Re
 
 fn shown(rt: &impl Abort, reply: Reply) -> PaymentReply {
     match reply {
-        Reply::Payment(shown) => shown,
+        Reply::Done(Shown::Payment(shown)) => shown,
         other => panic!(rt; "{other:?}"),
     }
 }

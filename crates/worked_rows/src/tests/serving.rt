@@ -33,7 +33,7 @@ fn shows_balance_at_its_place(answer: &Answer) -> bool {
     match answer {
         Answer::Done {
             place,
-            reply: Reply::Payment(shown),
+            reply: Reply::Done(Shown::Payment(shown)),
         } => shown.balance.get() == -1_100 - 100 * i64::from(*place),
         _ => false,
     }

@@ -17,7 +17,7 @@ pub(super) fn order_status(customer: Choice) -> Request {
 
 pub(super) fn status(rt: &impl Abort, reply: Reply) -> OrderStatusReply {
     match reply {
-        Reply::OrderStatus(shown) => shown,
+        Reply::Done(Shown::OrderStatus(shown)) => shown,
         other => panic!(rt; "{other:?}"),
     }
 }
