@@ -8,6 +8,7 @@ extern char *getenv(const char *name);
 extern long strtol(const char *text, char **end, int base);
 extern int creat(const char *path, unsigned mode);
 extern int close(int file);
+extern int *__errno_location(void);
 extern void *__libc_malloc(size bytes);
 extern void *__libc_calloc(size count, size bytes);
 extern void *__libc_realloc(void *block, size bytes);
@@ -28,6 +29,7 @@ static int is_refused(void) {
     if (__atomic_add_fetch(&asked, 1, __ATOMIC_SEQ_CST) != refused)
         return 0;
     close(creat(getenv("REFUSED_FILE"), 0600));
+    *__errno_location() = NO_MEMORY;
     return 1;
 }
 
