@@ -3,12 +3,6 @@ import pathlib
 import re
 
 COMMENTS = """
-slices/Grounds|grounded|a group as a slice keeps it
-slices/Grounds|sliced|a slice of these rows and groups, as contracts see it
-slices/Sliced|joined|what the slices have together, with what they share
-slices/Sliced|all_standing|all slices, as the laws of what is committed see them
-slices/Undo|group_of_kept|the group in which a step was
-slices/Undo|all_put_back_in|once all steps are, the last one first
 transactions/Payment|FindsHome|by what was found: the rows are missing, or a sum would leave its range, or both rows are paid
 transactions/Payment|FindsCustomer|by what was found: there is no such customer, or a sum would leave its range, or the customer's row is paid
 groups/Modes|exclusively|a wish to change what the group has
