@@ -10,7 +10,7 @@ use Rattle.requests.specs.declared.answer.Answer.TheVariants.{Done, Refused}
 use Rattle.requests.specs.declared.refusal.Refusal.{Refusal}
 use Rattle.requests.specs.declared.refusal.Refusal.TheVariants as refusal
 use Rattle.requests.specs.Check.{IsAccepted}
-use Rattle.requests.specs.Replies.{ShowsStatus}
+use Rattle.requests.specs.Replies.{ShowsLines}
 use Rattle.groups.specs.declared.wishes.Wish.{Wish}
 use Rattle.tickets.specs.Claims.{Claiming, all_claims}
 use Rattle.commit_log.specs.declared.entry.Entry.{Entry}
@@ -174,12 +174,12 @@ module _ {J : Type 0} where
       let t = commit.transaction in
       releasing false (release t (after_refusal why (length w.log) t.pass) (Refused (why_refused why)) t.held) w
 
-  -- A full log refuses every entry; but there may be no memory for an answer that shows an order.
+  -- A full log refuses every entry; but there may be no memory for an answer that shows the lines of an order.
   abbrev pub Commits : CommitItem J → Parts J → EventAnswer → Parts J → Type 0
   Commits commit old (Logged place) new = (place ≡ length old.log) × ((length old.log < 16777216) × (new ≡ logging commit old))
   Commits commit old Sent new =
       (why : AppendFault) × ((why ≡ fault.LogFull → 16777216 ≤ length old.log)
-      × ((16777216 ≤ length old.log → (why ≡ fault.LogFull) ⊎ ShowsStatus commit.reply) × (new ≡ refusing commit why old)))
+      × ((16777216 ≤ length old.log → (why ≡ fault.LogFull) ⊎ ShowsLines commit.reply) × (new ≡ refusing commit why old)))
   Commits commit old answer new = ⊥
 
   -- What is asked of a commit: the request was carried out under the transaction's claims with this reply.

@@ -28,8 +28,8 @@ use Rattle.world.specs.declared.world.Parts.{Parts}
 
 -- its claims are settled, unless it was rolled back
 abbrev pub is_settled : Reply → Bool
+is_settled (reply.Done shown) = true
 is_settled (reply.RolledBack fault) = false
-is_settled _ = true
 
 -- the first who died comes before want of memory
 abbrev pub earlier_death : Refusal → Group → ℕ → Refusal

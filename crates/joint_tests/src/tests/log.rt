@@ -35,7 +35,7 @@ fn two_payments<J: Naming>(
 
 fn balance(rt: &impl Abort, reply: Reply) -> i64 {
     match reply {
-        Reply::Payment(shown) => shown.balance.get(),
+        Reply::Done(Shown::Payment(shown)) => shown.balance.get(),
         other => panic!(rt; "{other:?}"),
     }
 }

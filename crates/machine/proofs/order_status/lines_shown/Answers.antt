@@ -2,7 +2,7 @@ use Rattle.std.proofs.Common.{◌≡◌, ◌++◌, List, [], ◌∷◌, map, sym
 use Rattle.std.proofs.lemmas.List.{append-nil, append_assoc}
 use Rattle.rows.specs.declared.keys.OrderLineKey.{OrderLineKey}
 use Rattle.rows.specs.declared.records.OrderLine.{OrderLine}
-use Rattle.requests.specs.declared.reply.StatusLine.{StatusLine}
+use Rattle.requests.specs.declared.order_status.StatusLine.{StatusLine}
 use Rattle.machine.specs.OrderStatus as spec
 use Rattle.machine.proofs.order_status.lines_shown.Goals as goal
 
