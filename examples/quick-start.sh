@@ -58,7 +58,8 @@ for name in "${names[@]}"; do
         echo "$word"
     done > "$made/cases/$name.args"
 done
-(cd crates/tpcc && rt try --seconds 600 --cases "$top/$made/cases") > "$made/printed" 2> "$made/told" || {
+(cd crates/tpcc && rt try --seconds 600 --cases "$top/$made/cases") > "$made/printed" 2> "$made/told" || true
+grep -q "^cases=${#names[@]} ended=${#names[@]} " "$made/told" || {
     cat "$made/told"
     exit 1
 }
