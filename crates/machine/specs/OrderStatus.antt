@@ -34,6 +34,7 @@ status_line row = record {
 abbrev pub status_order : ℕ → Order → List StatusLine → StatusOrder
 status_order o_id row lines = record { o_id = o_id; entry_d = row.entry_d; carrier_id = row.carrier_id; lines = lines }
 
+-- the key of the customer's order of this number
 abbrev pub key_of_order : CustomerKey → ℕ → OrderKey
 key_of_order customer o_id = record { w_id = customer.w_id; d_id = customer.d_id; o_id = o_id }
 

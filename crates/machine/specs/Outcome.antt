@@ -5,6 +5,7 @@ use Rattle.requests.specs.declared.reply.Reply.TheVariants.{Done, RolledBack}
 use Rattle.requests.specs.declared.reply.Shown.{Shown}
 use Rattle.requests.specs.declared.reply.Fault.{Fault}
 
+-- the tables that a transaction leaves, and its reply
 pub record Outcome : Type 0 where
   pub tables : Database
   pub reply : Reply

@@ -31,6 +31,7 @@ pub record ChangesItsRowsAlone (p : Payment) (old new : Database) : Type 0 where
   pub new_orders : new.new_orders ≡ old.new_orders
   pub lines : new.lines ≡ old.lines
 
+-- no payment changes a row but its own four
 abbrev pub PaymentIsLocal : Type 0
 PaymentIsLocal = (t : Database) (p : Payment) → ChangesItsRowsAlone p t (payment t p).tables
 

@@ -18,6 +18,7 @@ pub record Grounded : Type 0 where
   pub room : ℕ
   pub holder : ℕ
 
+-- a group as a slice keeps it
 abbrev pub grounded : Boxed → List Kept → ℕ → ℕ → Grounded
 grounded ticket_box undo room holder = record { ticket_box = ticket_box; undo = undo; room = room; holder = holder }
 
@@ -25,6 +26,7 @@ grounded ticket_box undo room holder = record { ticket_box = ticket_box; undo = 
 abbrev pub tickets_in : Grounded → ℕ
 tickets_in ground = tickets_home ground.ticket_box.mode ground.ticket_box.shared
 
+-- a slice of these rows and groups, as contracts see it
 abbrev pub sliced : Part → List Grounded → Sliced
 sliced rows grounds = record { home = rows.home; tables = rows.tables; free = map tickets_in grounds }
 

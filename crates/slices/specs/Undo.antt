@@ -43,6 +43,7 @@ pub record ChangesGroup (group : Group) (change : Content → Content) (old new 
 
 -- ---- one step
 
+-- the group in which a step was
 abbrev pub group_of_kept : Kept → Group
 group_of_kept (Warehouse w_id row) = group_of_warehouse w_id
 group_of_kept (District key row) = group_of_district key
@@ -75,6 +76,7 @@ pub record IsStep (group : Group) (change : Content → Content) (kept : Kept) (
 
 -- ---- all steps, the last one first
 
+-- once all steps are, the last one first
 abbrev pub all_put_back_in : List Kept → Content → Content
 all_put_back_in [] content = content
 all_put_back_in (kept ∷ undo) content = put_back_in kept (all_put_back_in undo content)
