@@ -126,6 +126,8 @@ def main():
     with Costs() as costs:
         if not run("the gate's own tests", "-m", "unittest", "discover", "-q", "-s", "gate"):
             fail("one of the gate's own tests failed")
+        if not run("the definitions that the documents quote", "docs/quotes.py"):
+            fail("a quote is stale")
         if not run("part 1 of 4: the scenarios by a program that is built without its proofs", "scenarios/run"):
             fail("a scenario failed")
         say("part 2 of 4: every crate and its tests proved from nothing; must-fail edits; the tests")
