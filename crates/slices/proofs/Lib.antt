@@ -1,4 +1,3 @@
-pub mod Names
 pub mod Steps
 pub mod Seen
 pub mod Homes

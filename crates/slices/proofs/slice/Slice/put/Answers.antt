@@ -1,4 +1,4 @@
-use Rattle.std.proofs.Common.{[], ◌∷◌, Result, Ok, Err, OnErr, set, refl, ap, subst, sym, ◌∙◌}
+use Rattle.std.proofs.Common.{◌≡◌, [], ◌∷◌, Result, Ok, Err, OnErr, set, refl, ap, subst, sym, ◌∙◌}
 use Rattle.partitions.specs.Parts.{Part}
 use Rattle.requests.specs.declared.group.Group.{Group}
 use Rattle.groups.specs.Content.{content}
@@ -11,10 +11,20 @@ use Rattle.slices.specs.Undo.{IsStep}
 use Rattle.slices.proofs.Keeps.{IsWritten, put_keeps, room_keeps}
 use Rattle.slices.proofs.slice.Slice.put.Given as given
 use Rattle.slices.proofs.slice.Slice.put.Goals as goal
+use Rattle.slices.proofs.slice.Slice.put.Goals.{After-make_room}
 
 always_err : {T E P : Type 0} (result : Result T E) → P → OnErr result P
 always_err (Ok x) p = tt
 always_err (Err e) p = p
+
+-- only room was made
+roomy : (g : given.Over) (c : After-make_room g)
+    → IsSlice g.J.Naming.warehouses c.self.inside.rows (set c.self.inside.grounds.items c.place_of_claim.result c.make_room.new.self)
+    × (sliced c.self.inside.rows (set c.self.inside.grounds.items c.place_of_claim.result c.make_room.new.self) ≡ c.args.self.now)
+roomy g c =
+    let room = room_keeps g.J.Naming.warehouses c.self.inside.rows c.self.inside.grounds.items c.args.claim.now.group c.place_of_claim.result c.index_mut-ground.result.now c.make_room.new.self
+    c.self.invariant c.place_of_claim.ensures.known c.place_of_claim.ensures.place c.index_mut-ground.ensures.value c.make_room.ensures.ticket_box c.make_room.ensures.undo in
+    (room.0, room.1 ∙ c.self.view_is)
 
 -- the step was done, and what takes it back is kept
 written : (g : given.Over) (c : goal.After-self-2-1 g)
@@ -32,29 +42,20 @@ written g c =
     e.left e.out (e.claim ∙ ap (leaving c.args.claim.now) has) (e.ticket_box ∙ ap (with_left c.make_room.new.self.ticket_box) has) e.undo
 
 pub invariant_of-self : goal.invariant_of-self
-invariant_of-self g c =
-    let room = room_keeps g.J.Naming.warehouses c.self.inside.rows c.self.inside.grounds.items c.args.claim.now.group c.place_of_claim.result c.index_mut-ground.result.now c.make_room.new.self
-    c.self.invariant c.place_of_claim.ensures.known c.place_of_claim.ensures.place c.index_mut-ground.ensures.value c.make_room.ensures.ticket_box c.make_room.ensures.undo in
-    room.0
+invariant_of-self g c = (roomy g (goal.at.invariant_of-self g c).After-make_room).0
 
 pub returns-in_err-make_room-clause-err : goal.returns-in_err-make_room-clause-err
-returns-in_err-make_room-clause-err g c =
-    let room = room_keeps g.J.Naming.warehouses c.self.inside.rows c.self.inside.grounds.items c.args.claim.now.group c.place_of_claim.result c.index_mut-ground.result.now c.make_room.new.self
-    c.self.invariant c.place_of_claim.ensures.known c.place_of_claim.ensures.place c.index_mut-ground.ensures.value c.make_room.ensures.ticket_box c.make_room.ensures.undo in
-    always_err c.from_residual.result (room.1 ∙ c.self.view_is, refl)
+returns-in_err-make_room-clause-err g c = always_err c.from_residual.result ((roomy g (goal.at.returns-in_err-make_room-clause-err g c).After-make_room).1, refl)
 
 pub invariant_of-self-in_err-kept : goal.invariant_of-self-in_err-kept
 invariant_of-self-in_err-kept g c =
-    let room = room_keeps g.J.Naming.warehouses c.self.inside.rows c.self.inside.grounds.items c.args.claim.now.group c.place_of_claim.result c.index_mut-ground.result.now c.make_room.new.self
-    c.self.invariant c.place_of_claim.ensures.known c.place_of_claim.ensures.place c.index_mut-ground.ensures.value c.make_room.ensures.ticket_box c.make_room.ensures.undo in
-    subst (λ (p : Part). IsSlice g.J.Naming.warehouses p (set c.self.inside.grounds.items c.place_of_claim.result c.make_room.new.self)) (sym c.in_err-kept.ensures.err) room.0
+    subst (λ (p : Part). IsSlice g.J.Naming.warehouses p (set c.self.inside.grounds.items c.place_of_claim.result c.make_room.new.self)) (sym c.in_err-kept.ensures.err)
+    (roomy g (goal.at.invariant_of-self-in_err-kept g c).After-make_room).0
 
 pub returns-in_err-kept-clause-err : goal.returns-in_err-kept-clause-err
 returns-in_err-kept-clause-err g c =
-    let room = room_keeps g.J.Naming.warehouses c.self.inside.rows c.self.inside.grounds.items c.args.claim.now.group c.place_of_claim.result c.index_mut-ground.result.now c.make_room.new.self
-    c.self.invariant c.place_of_claim.ensures.known c.place_of_claim.ensures.place c.index_mut-ground.ensures.value c.make_room.ensures.ticket_box c.make_room.ensures.undo in
     let same = ap (λ (p : Part). sliced p (set c.self.inside.grounds.items c.place_of_claim.result c.make_room.new.self)) c.in_err-kept.ensures.err in
-    always_err c.from_residual-in_err-kept.result (same ∙ room.1 ∙ c.self.view_is, refl)
+    always_err c.from_residual-in_err-kept.result (same ∙ (roomy g (goal.at.returns-in_err-kept-clause-err g c).After-make_room).1, refl)
 
 pub invariant_of-self-2 : goal.invariant_of-self-2
 invariant_of-self-2 g c = (written g c).invariant
