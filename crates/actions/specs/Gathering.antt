@@ -2,12 +2,13 @@
 use Rattle.std.specs.Prelude.{Option}
 use Rattle.rows.specs.declared.keys.CustomerKey.{CustomerKey}
 use Rattle.schema.specs.Scale.{customer_key}
-use Rattle.requests.specs.declared.request.Payment.{Payment}
+use Rattle.requests.specs.declared.payment.Payment.{Payment}
 use Rattle.requests.specs.declared.reply.Fault.TheVariants.{NoCustomer, Range}
-use Rattle.requests.specs.declared.reply.OrderStatusReply.{OrderStatusReply}
-use Rattle.requests.specs.declared.reply.StatusOrder.{StatusOrder}
+use Rattle.requests.specs.declared.order_status.OrderStatusReply.{OrderStatusReply}
+use Rattle.requests.specs.declared.order_status.StatusOrder.{StatusOrder}
 use Rattle.requests.specs.declared.reply.Reply.{Reply}
-use Rattle.requests.specs.declared.reply.Reply.TheVariants.{OrderStatus, RolledBack}
+use Rattle.requests.specs.declared.reply.Reply.TheVariants.{Done, RolledBack}
+use Rattle.requests.specs.declared.reply.Shown.TheVariants.{OrderStatus}
 use Rattle.machine.specs.Payment.{history_row}
 use Rattle.actions.specs.declared.gathering.HomePaid.{HomePaid}
 use Rattle.actions.specs.declared.gathering.HomePaid.TheVariants as h
@@ -40,5 +41,5 @@ reply_shown key customer order = record {
 
 -- An Order-Status whose customer isn't there is rolled back.
 abbrev pub status_gathered : CustomerShown → Option StatusOrder → Reply
-status_gathered (s.Shown key customer) order = OrderStatus (reply_shown key customer order)
+status_gathered (s.Shown key customer) order = Done (OrderStatus (reply_shown key customer order))
 status_gathered s.Missing order = RolledBack NoCustomer

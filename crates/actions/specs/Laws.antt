@@ -6,15 +6,16 @@ use Rattle.rows.specs.declared.records.History.{History}
 use Rattle.schema.specs.declared.scale.Scale.{Scale}
 use Rattle.schema.specs.Scale.{has_customer, has_district, has_warehouse}
 use Rattle.schema.specs.Database.{Database}
-use Rattle.requests.specs.declared.request.Payment.{Payment}
-use Rattle.requests.specs.declared.request.OrderStatus.{OrderStatus}
+use Rattle.requests.specs.declared.payment.Payment.{Payment}
+use Rattle.requests.specs.declared.order_status.OrderStatus.{OrderStatus}
 use Rattle.requests.specs.declared.request.Request.{Request}
 use Rattle.requests.specs.declared.request.Request.TheVariants as request
 use Rattle.requests.specs.declared.reply.Fault.{Fault}
 use Rattle.requests.specs.declared.reply.Fault.TheVariants.{NoCustomer}
-use Rattle.requests.specs.declared.reply.PaymentReply.{PaymentReply}
-use Rattle.requests.specs.declared.reply.StatusOrder.{StatusOrder}
+use Rattle.requests.specs.declared.payment.PaymentReply.{PaymentReply}
+use Rattle.requests.specs.declared.order_status.StatusOrder.{StatusOrder}
 use Rattle.requests.specs.declared.reply.Reply.TheVariants as reply
+use Rattle.requests.specs.declared.reply.Shown.TheVariants as kind
 use Rattle.requests.specs.Check.{IsAccepted}
 use Rattle.groups.specs.Footprint.{footprint, groups_of}
 use Rattle.tickets.specs.Claims.{Claiming, leaving}
@@ -41,7 +42,7 @@ PaymentsAreCarriedOut =
     (warehouse district customers history : Claiming)
     → IsHomePaid p home warehouse district → IsCustomerPaid p customer customers
     → gathered p home customer ≡ Next row shown → IsPaymentAdded p row history
-    → IsCarriedOut opening (request.Payment p) (warehouse ∷ district ∷ customers ∷ history ∷ []) (reply.Payment shown)
+    → IsCarriedOut opening (request.Payment p) (warehouse ∷ district ∷ customers ∷ history ∷ []) (reply.Done (kind.Payment shown))
 
 -- Where what was found calls for a rollback, the payment was carried out with this fault as its reply.
 abbrev pub RolledBackPaymentsAreCarriedOut : Type 0
@@ -59,7 +60,7 @@ OrderStatusesAreCarriedOut =
     (opening : Database) (o : OrderStatus) (key : CustomerKey) (customer : StatusCustomer) (order : Option StatusOrder)
     (customers orders : Claiming)
     → IsCustomerShown o (Shown key customer) customers → IsOrderShown key order orders
-    → IsCarriedOut opening (request.OrderStatus o) (customers ∷ orders ∷ []) (reply.OrderStatus (reply_shown key customer order))
+    → IsCarriedOut opening (request.OrderStatus o) (customers ∷ orders ∷ []) (reply.Done (kind.OrderStatus (reply_shown key customer order)))
 
 -- Where its customer isn't there, it was carried out with that fault as its reply.
 abbrev pub RolledBackOrderStatusesAreCarriedOut : Type 0

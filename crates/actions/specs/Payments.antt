@@ -13,8 +13,8 @@ use Rattle.schema.specs.Scale.{customer_key, has_customer}
 use Rattle.indexes.specs.Namesakes.{Customers}
 use Rattle.requests.specs.declared.group.Group.{Group}
 use Rattle.requests.specs.declared.group.Group.TheVariants as g
-use Rattle.requests.specs.declared.request.Payment.{Payment}
-use Rattle.requests.specs.declared.reply.PaymentReply.{PaymentReply}
+use Rattle.requests.specs.declared.payment.Payment.{Payment}
+use Rattle.requests.specs.declared.payment.PaymentReply.{PaymentReply}
 use Rattle.groups.specs.Content.Content.{OfWarehouse, OfDistrict, OfCustomers, OfHistory}
 use Rattle.groups.specs.declared.wishes.Mode.TheVariants.{Exclusive}
 use Rattle.tickets.specs.Claims.{Claiming}

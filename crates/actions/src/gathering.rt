@@ -3,7 +3,7 @@ ghost use Rattle.actions.specs.Gathering.{gathered, status_gathered};
 
 use amounts::Cents;
 use machine::history_row;
-use requests::{Fault, OrderStatusReply, Payment, PaymentReply, Reply, StatusOrder};
+use requests::{Fault, OrderStatusReply, Payment, PaymentReply, Reply, Shown, StatusOrder};
 use schema::{CustomerKey, History, Text};
 
 /// What a payment finds of its home warehouse and district.
@@ -97,13 +97,15 @@ pub fn gather_shown(found: CustomerShown, order: Option<StatusOrder>) -> Reply
 {
     match found {
         CustomerShown::Missing => Reply::RolledBack(Fault::NoCustomer),
-        CustomerShown::Shown { key, customer } => Reply::OrderStatus(OrderStatusReply {
-            c_id: key.c_id,
-            first: customer.first,
-            middle: customer.middle,
-            last: customer.last,
-            balance: customer.balance,
-            order,
-        }),
+        CustomerShown::Shown { key, customer } => Reply::Done(Shown::OrderStatus(
+            OrderStatusReply {
+                c_id: key.c_id,
+                first: customer.first,
+                middle: customer.middle,
+                last: customer.last,
+                balance: customer.balance,
+                order,
+            },
+        )),
     }
 }

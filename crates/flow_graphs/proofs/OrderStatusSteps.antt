@@ -5,10 +5,10 @@ use Rattle.schema.specs.declared.scale.Scale.{Scale}
 use Rattle.schema.specs.Database.{Database}
 use Rattle.requests.specs.declared.request.Request.{Request}
 use Rattle.requests.specs.declared.request.Request.TheVariants as request
-use Rattle.requests.specs.declared.request.OrderStatus.{OrderStatus}
+use Rattle.requests.specs.declared.order_status.OrderStatus.{OrderStatus}
 use Rattle.requests.specs.declared.reply.Fault.TheVariants.{NoCustomer}
 use Rattle.requests.specs.declared.reply.Reply.TheVariants as reply
-use Rattle.requests.specs.declared.reply.StatusOrder.{StatusOrder}
+use Rattle.requests.specs.declared.order_status.StatusOrder.{StatusOrder}
 use Rattle.tickets.specs.Claims.{Claiming, all_claims}
 use Rattle.commit_log.specs.Claimed.{IsCarriedOut}
 use Rattle.phases.specs.Following.{HaveAllDone}

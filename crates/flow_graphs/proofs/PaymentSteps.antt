@@ -5,10 +5,11 @@ use Rattle.schema.specs.declared.scale.Scale.{Scale}
 use Rattle.schema.specs.Database.{Database}
 use Rattle.requests.specs.declared.request.Request.{Request}
 use Rattle.requests.specs.declared.request.Request.TheVariants as request
-use Rattle.requests.specs.declared.request.Payment.{Payment}
+use Rattle.requests.specs.declared.payment.Payment.{Payment}
 use Rattle.requests.specs.declared.reply.Fault.{Fault}
-use Rattle.requests.specs.declared.reply.PaymentReply.{PaymentReply}
+use Rattle.requests.specs.declared.payment.PaymentReply.{PaymentReply}
 use Rattle.requests.specs.declared.reply.Reply.TheVariants as reply
+use Rattle.requests.specs.declared.reply.Shown.TheVariants as kind
 use Rattle.tickets.specs.Claims.{Claiming, all_claims}
 use Rattle.commit_log.specs.Claimed.{IsCarriedOut}
 use Rattle.phases.specs.Following.{HaveAllDone}
@@ -116,13 +117,13 @@ row_done scale p row (Added ∷ []) ((history ∷ []) ∷ []) done = (history, r
 
 pub row_finished : (scale : Scale) (asked : Request) (given : Paid) (held : List Claiming) (claims : List (List Claiming)) (found : List Found)
     → IsPaid scale asked given held → HaveAllDone (HasDone scale) (row_added given) found claims
-    → (opening : Database) → IsCarriedOut opening asked (held ++ all_claims claims) (reply.Payment given.reply)
+    → (opening : Database) → IsCarriedOut opening asked (held ++ all_claims claims) (reply.Done (kind.Payment given.reply))
 row_finished scale asked given held claims found known done opening =
     let p = given.payment in
     let added = row_done scale p given.row found claims done in
     let all : held ++ all_claims claims ≡ known.warehouse ∷ known.district ∷ known.customers ∷ added.0 ∷ [] =
     ap (λ xs. xs ++ all_claims claims) known.claims ∙ ap (λ xs. known.warehouse ∷ known.district ∷ known.customers ∷ all_claims xs) added.1 in
-    subst (λ r. IsCarriedOut opening r (held ++ all_claims claims) (reply.Payment given.reply)) (sym known.is)
-    (subst (λ xs. IsCarriedOut opening (request.Payment p) xs (reply.Payment given.reply)) (sym all)
+    subst (λ r. IsCarriedOut opening r (held ++ all_claims claims) (reply.Done (kind.Payment given.reply))) (sym known.is)
+    (subst (λ xs. IsCarriedOut opening (request.Payment p) xs (reply.Done (kind.Payment given.reply))) (sym all)
     (payments_are_carried_out opening p known.home known.customer given.row given.reply known.warehouse known.district known.customers added.0
     known.home_paid known.customer_paid known.next added.2))

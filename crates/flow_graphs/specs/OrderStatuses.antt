@@ -2,9 +2,9 @@
 use Rattle.std.specs.Prelude.{◌≡◌, List, [], ◌∷◌, Option}
 use Rattle.schema.specs.declared.scale.Scale.{Scale}
 use Rattle.requests.specs.declared.request.Request.{Request}
-use Rattle.requests.specs.declared.request.OrderStatus.{OrderStatus}
+use Rattle.requests.specs.declared.order_status.OrderStatus.{OrderStatus}
 use Rattle.requests.specs.declared.request.Request.TheVariants as request
-use Rattle.requests.specs.declared.reply.StatusOrder.{StatusOrder}
+use Rattle.requests.specs.declared.order_status.StatusOrder.{StatusOrder}
 use Rattle.requests.specs.Check.{IsAccepted}
 use Rattle.tickets.specs.Claims.{Claiming}
 use Rattle.actions.specs.declared.work.Work.{Work}

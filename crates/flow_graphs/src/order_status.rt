@@ -3,7 +3,7 @@ ghost use Rattle.std.specs.Prelude.{◌≡◌, ◌++◌, [], ◌∷◌, List, Op
 ghost use Rattle.schema.specs.declared.scale.Scale.{Scale};
 ghost use Rattle.schema.specs.Database.{Database};
 ghost use Rattle.requests.specs.declared.request.Request.{Request};
-ghost use Rattle.requests.specs.declared.reply.StatusOrder.{StatusOrder as AnyStatusOrder};
+ghost use Rattle.requests.specs.declared.order_status.StatusOrder.{StatusOrder as AnyStatusOrder};
 ghost use Rattle.tickets.specs.Claims.{Claiming, all_claims};
 ghost use Rattle.commit_log.specs.Claimed.{IsCarriedOut};
 ghost use Rattle.phases.specs.Following.{Follows, HaveAllDone};

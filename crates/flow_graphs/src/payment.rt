@@ -15,7 +15,7 @@ ghost use Rattle.flow_graphs.specs.Payments.{AreRowsFound, rows_paid, row_added,
 use crate::doing::Doing;
 use actions::{CustomerPaid, Found, HomePaid, Work, gather_paid};
 use phases::{Gathered, Known, Last, Never, Phase, Then};
-use requests::{Payment, PaymentReply, Reply};
+use requests::{Payment, PaymentReply, Reply, Shown};
 use schema::{History, NoMemory};
 use std::alloc::Global;
 
@@ -158,6 +158,6 @@ impl Phase<Doing, Paid, Never> for AddRow {
             → Follows (λ (never : AnyNever) all. Unit {0}) (λ all reply. (opening : Database) → IsCarriedOut opening request all reply) (held ++ all_claims claims) result }
     {
         drop(found);
-        Gathered::Finish(Reply::Payment(given.reply))
+        Gathered::Finish(Reply::Done(Shown::Payment(given.reply)))
     }
 }
