@@ -8,8 +8,8 @@ use Rattle.commit_log.specs.Asks.{asking}
 use Rattle.commit_log.specs.Passing.{Passing, Seating, seating, with_asks}
 use Rattle.requests.specs.declared.request.Request.{Request}
 use Rattle.requests.specs.Check.{IsAccepted}
-use Rattle.actions.specs.declared.work.Work.{Work}
-use Rattle.flow_graphs.specs.Progresses.{IsReached, works_of}
+use Rattle.transactions.specs.declared.work.Work.{Work}
+use Rattle.transactions.specs.Progresses.{IsReached, works_of}
 use Rattle.world.specs.declared.desk.Active.TheVariants.{Acting}
 use Rattle.world.specs.declared.desk.SessionDesk.{SessionDesk}
 use Rattle.world.specs.declared.flight.Message.TheVariants.{Start}

@@ -22,13 +22,13 @@ use Rattle.groups.specs.Content.{content}
 use Rattle.tickets.specs.Claims.{Claiming, all_claims}
 use Rattle.tickets.specs.Committed.{AreCommitted}
 use Rattle.slices.specs.Sliced.{all_standing, everywhere}
-use Rattle.actions.specs.declared.work.Work.{Work}
-use Rattle.actions.specs.Works.{CanDo}
-use Rattle.flow_graphs.specs.declared.graphs.Progress.{Progress}
-use Rattle.flow_graphs.specs.Progresses.{HoldsSome, IsReached, works_of}
-use Rattle.flow_graphs.specs.ProgressLaws.{can_all, within}
+use Rattle.transactions.specs.declared.work.Work.{Work}
+use Rattle.transactions.specs.Works.{CanDo}
+use Rattle.transactions.specs.declared.progress.Progress.{Progress}
+use Rattle.transactions.specs.Progresses.{HoldsSome, IsReached, works_of}
+use Rattle.transactions.proofs.Reached.{can_all, within, some_actions}
 use Rattle.rendezvous.specs.Awaited.{awaited_from, reported}
-use Rattle.flow_graphs.proofs.Counts.{few_actions, some_actions}
+use Rattle.transactions.proofs.Counts.{few_actions}
 use Rattle.world.specs.declared.desk.Active.{Active}
 use Rattle.world.specs.declared.desk.Active.TheVariants as active
 use Rattle.world.specs.declared.desk.SessionDesk.{SessionDesk}

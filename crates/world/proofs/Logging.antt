@@ -24,7 +24,7 @@ use Rattle.history.specs.History.{Step, step, Unanswered}
 use Rattle.history.specs.Laws.{with_place}
 use Rattle.history.proofs.Recorded.{slice_get-front, slice_get-last}
 use Rattle.slices.specs.Sliced.{AreOfOneHome, IsClaimAt}
-use Rattle.actions.specs.Acting.{CanBeSettled}
+use Rattle.transactions.specs.Acting.{CanBeSettled}
 use Rattle.world.specs.declared.desk.Active.TheVariants as active
 use Rattle.world.specs.declared.flight.Item.{Item}
 use Rattle.world.specs.declared.flight.Item.TheVariants as item

@@ -18,18 +18,15 @@ use Rattle.requests.specs.declared.refusal.Refusal.TheVariants as refusal
 use Rattle.tickets.specs.Claims.{Claiming, all_claims}
 use Rattle.commit_log.specs.Claimed.{IsCarriedOut}
 use Rattle.history.specs.History.{Step}
-use Rattle.phases.specs.Following.{Follows, HaveAllDone}
-use Rattle.phases.specs.declared.phase.Gathered.{Gathered}
-use Rattle.phases.specs.declared.phase.Gathered.TheVariants.{Next, Finish, RollBack}
-use Rattle.actions.specs.declared.work.Work.{Work}
-use Rattle.actions.specs.declared.work.Found.{Found}
-use Rattle.actions.specs.Works.{HasDone}
-use Rattle.actions.proofs.Wished.{works_have_wishes, works_have_a_claim_for_each_wish}
-use Rattle.flow_graphs.specs.declared.graphs.Progress.{Progress}
-use Rattle.flow_graphs.specs.Progresses.{HoldsSome, IsReached, works_of}
-use Rattle.flow_graphs.specs.ProgressLaws.{can_all}
-use Rattle.flow_graphs.proofs.Accepted.{accepted}
-use Rattle.flow_graphs.proofs.Counts.{some_actions}
+use Rattle.transactions.specs.Works.{HaveAllDone, HasDone}
+use Rattle.transactions.specs.Progresses.{Follows, FollowsFrom, HoldsSome, IsReached, works_of}
+use Rattle.transactions.specs.declared.progress.Gathered.{Gathered}
+use Rattle.transactions.specs.declared.progress.Gathered.TheVariants.{Next, Finish, RollBack}
+use Rattle.transactions.specs.declared.work.Work.{Work}
+use Rattle.transactions.specs.declared.work.Found.{Found}
+use Rattle.transactions.proofs.Wished.{works_have_wishes, works_have_a_claim_for_each_wish}
+use Rattle.transactions.specs.declared.progress.Progress.{Progress}
+use Rattle.transactions.proofs.Reached.{can_all, accepted, some_actions}
 use Rattle.rendezvous.specs.Awaited.{awaited_from, reported}
 use Rattle.rendezvous.proofs.Awaiting.{all_awaited, report_takes_one_number, none_awaited}
 use Rattle.world.specs.declared.desk.Active.{Active}
@@ -45,7 +42,7 @@ use Rattle.world.specs.Parted.{CanAllBeUndone, joined_in}
 use Rattle.world.specs.Flights.{Acting, Committing, Part, part, nothing, join, parts, acting_from, part_item, part_met, part_report, part_transaction, unanswered_transaction}
 use Rattle.world.specs.Following.{acts_of, committing, found_in, held_in, holding, refusal_of, refused, releasing, with_active, IfCarried}
 use Rattle.world.specs.Sound.{IsSoundWith, IsSoundMessage, IsSoundItem, IsSoundReport, IsSoundPhase, IsSoundFlow, IsSoundStart, IsSoundCommit, IsAskedBy, IsBalanced, UnderWay, WeighAlike, awaited, flight, reported_to}
-use Rattle.world.specs.Events.{LeadsTo, MeetsAs, MeetsUnless, ReportsInto, goes_on}
+use Rattle.world.specs.Events.{MeetsAs, MeetsUnless, ReportsInto, goes_on}
 use Rattle.world.specs.Worlds.{FitsPart}
 use Rattle.world.proofs.Joins.{IsSame, same-refl, same-sym, same-trans, same-join, join-assoc, join-nothing}
 use Rattle.world.proofs.Balances.{fly, fly_last, in_inbox, in_outbox, balanced_same}
@@ -356,17 +353,17 @@ module _ {J : Type 0} where
         all_held : all_claims u.held ++ all_claims (held_in reports) ≡ all_claims t.held
         all_held = sym (all_claims-append u.held (held_in reports)) ∙ ap all_claims (sym held_is)
 
-        follows : (g : Gathered Progress) → refusal_of None reports ≡ None → LeadsTo flow.progress (found_in reports) g → GoesOn scale (part_report r) w (goes_on t g w)
+        follows : (g : Gathered) → refusal_of None reports ≡ None → FollowsFrom flow.progress (found_in reports) g → GoesOn scale (part_report r) w (goes_on t g w)
         follows g none leads = by g (leads scale u.request (all_claims u.held) (held_in reports) reached done)
           where
             reached : IsReached scale u.request flow.progress (all_claims u.held)
             reached = subst (λ p. IsReached scale u.request p (all_claims u.held)) (sym sound_flow.progress) at.reached
 
-            done : HaveAllDone (HasDone scale) (works_of flow.progress) (found_in reports) (held_in reports)
-            done = subst (λ p. HaveAllDone (HasDone scale) (works_of p) (found_in reports) (held_in reports)) (sym sound_flow.progress) (all_done scale u 0 (works_of u.progress) reports have none)
+            done : HaveAllDone scale (works_of flow.progress) (found_in reports) (held_in reports)
+            done = subst (λ p. HaveAllDone scale (works_of p) (found_in reports) (held_in reports)) (sym sound_flow.progress) (all_done scale u 0 (works_of u.progress) reports have none)
 
-            by : (g : Gathered Progress)
-                → Follows (IsReached scale u.request) (λ claims shown. (opening : Database) → IsCarriedOut opening u.request claims shown) (all_claims u.held ++ all_claims (held_in reports)) g
+            by : (g : Gathered)
+                → Follows scale u.request (all_claims u.held ++ all_claims (held_in reports)) g
                 → GoesOn scale (part_report r) w (goes_on t g w)
             by (Next progress) is = next progress (subst (λ cs. IsReached scale u.request progress cs) all_held is)
             by (Finish shown) is = commits shown (λ opening. subst (λ cs. IsCarriedOut opening u.request cs shown) all_held (is opening))

@@ -21,8 +21,8 @@ use Rattle.tickets.proofs.Committed as kept
 use Rattle.commit_log.specs.declared.entry.Entry.{Entry}
 use Rattle.commit_log.specs.Passing.{Passing, Seating, new_pass, new_seat}
 use Rattle.history.proofs.Fitting.{empty_history_fits}
-use Rattle.phases.specs.declared.graph.Stage.TheVariants.{Here}
-use Rattle.flow_graphs.specs.declared.graphs.Progress.TheVariants as progress
+use Rattle.transactions.specs.declared.payment.Progress.TheVariants.{PayRows}
+use Rattle.transactions.specs.declared.progress.Progress.TheVariants as progress
 use Rattle.slices.specs.Openings.{AreOpenedFor, IsBoxOf}
 use Rattle.slices.specs.Sliced.{Sliced, AreSlicesOf, all_at_rest, all_standing, at_rest, everywhere, joined}
 use Rattle.slices.proofs.Joined.{cut_slices_are_at_rest}
@@ -64,7 +64,7 @@ no_payment = record { home = record { w_id = 1; d_id = 1 }; customer_home = reco
 
 -- a transaction, where there is none
 none_under_way : UnderWay
-none_under_way = record { request = request.Payment no_payment; progress = progress.Payment (Here (record { payment = no_payment })); held = [] }
+none_under_way = record { request = request.Payment no_payment; progress = progress.Payment (PayRows no_payment); held = [] }
 
 found_in : {X Y : Type 0} (f : X → Y) (o : Option X) (y : Y) (x : X) → option_map f o ≡ Some y → o ≡ Some x → y ≡ f x
 found_in f o y x found is = cc

@@ -12,12 +12,12 @@ use Rattle.groups.specs.Groups.{warehouse_of}
 use Rattle.tickets.specs.Claims.{Claiming}
 use Rattle.slices.specs.Sliced.{AreOfOneHome, AreSlicesOf, IsClaimAt, SliceKeeps, Sliced, SlicesKeep, at_home, free_at, free_in, joined, part_in}
 use Rattle.slices.proofs.Joined.{one_slice_keeps_all}
-use Rattle.actions.specs.declared.acting.Ran.{Ran}
-use Rattle.actions.specs.declared.acting.Ran.TheVariants as ran
-use Rattle.actions.specs.declared.work.Work.{Work}
-use Rattle.actions.specs.Acting.{IsRanOf, claims_of_ran}
-use Rattle.actions.specs.Works.{HasDone, home_of, wishes_of}
-use Rattle.actions.proofs.Wished.{works_are_done_at_home, works_claim_at_home}
+use Rattle.transactions.specs.declared.acting.Ran.{Ran}
+use Rattle.transactions.specs.declared.acting.Ran.TheVariants as ran
+use Rattle.transactions.specs.declared.work.Work.{Work}
+use Rattle.transactions.specs.Acting.{IsRanOf, claims_of_ran}
+use Rattle.transactions.specs.Works.{HasDone, home_of, wishes_of}
+use Rattle.transactions.proofs.Wished.{works_are_done_at_home, works_claim_at_home}
 use Rattle.world.specs.Events.{ComesOf}
 
 -- ---- a slice among all

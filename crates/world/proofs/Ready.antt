@@ -6,11 +6,10 @@ use Rattle.std.proofs.lemmas.List.{length-map, length-set}
 use Rattle.schema.specs.declared.scale.Scale.{Scale}
 use Rattle.schema.specs.Database.{Database}
 use Rattle.tickets.specs.Claims.{Claiming}
-use Rattle.phases.specs.Following.{HaveAllDone}
-use Rattle.actions.specs.declared.work.Work.{Work}
-use Rattle.actions.specs.Works.{HasDone}
-use Rattle.flow_graphs.specs.Progresses.{works_of}
-use Rattle.flow_graphs.proofs.Counts.{some_actions}
+use Rattle.transactions.specs.Works.{HaveAllDone, HasDone}
+use Rattle.transactions.specs.declared.work.Work.{Work}
+use Rattle.transactions.specs.Progresses.{works_of}
+use Rattle.transactions.proofs.Reached.{some_actions}
 use Rattle.world.specs.declared.flight.Flow.{Flow}
 use Rattle.world.specs.declared.flight.Message.{Message}
 use Rattle.world.specs.declared.flight.Message.TheVariants.{Start, Act, Settle, Undo}
@@ -57,7 +56,7 @@ module _ {J : Type 0} where
         room = omega (arith, ap (λ (held : List (List Claiming)). length held) same.held, few, many);
         done = λ none. (
           scale,
-          subst (λ ws. HaveAllDone (HasDone scale) ws (found_in all) (held_in all)) (are ∙ ap works_of (sym same.progress)) (all_done scale u 0 (work ∷ works) all h none),
+          subst (λ ws. HaveAllDone scale ws (found_in all) (held_in all)) (are ∙ ap works_of (sym same.progress)) (all_done scale u 0 (work ∷ works) all h none),
         );
       } in
       subst (λ (o : Option (Flow J)). IfCarried o (CanMeetFor all)) (sym carried.1.0) goes

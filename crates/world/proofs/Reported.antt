@@ -9,14 +9,13 @@ use Rattle.schema.specs.declared.scale.Scale.{Scale}
 use Rattle.requests.specs.declared.refusal.Refusal.{Refusal}
 use Rattle.requests.specs.declared.refusal.Refusal.TheVariants as refusal
 use Rattle.tickets.specs.Claims.{Claiming, all_claims}
-use Rattle.phases.specs.Following.{HaveAllDone}
-use Rattle.actions.specs.declared.work.Work.{Work}
-use Rattle.actions.specs.declared.work.Found.{Found}
-use Rattle.actions.specs.declared.acting.Ran.{Ran}
-use Rattle.actions.specs.declared.acting.Ran.TheVariants as ran
-use Rattle.actions.specs.Acting.{claims_of_ran}
-use Rattle.actions.specs.Works.{HasDone}
-use Rattle.flow_graphs.specs.Progresses.{HoldsSome, works_of}
+use Rattle.transactions.specs.Works.{HaveAllDone, HasDone}
+use Rattle.transactions.specs.declared.work.Work.{Work}
+use Rattle.transactions.specs.declared.work.Found.{Found}
+use Rattle.transactions.specs.declared.acting.Ran.{Ran}
+use Rattle.transactions.specs.declared.acting.Ran.TheVariants as ran
+use Rattle.transactions.specs.Acting.{claims_of_ran}
+use Rattle.transactions.specs.Progresses.{HoldsSome, works_of}
 use Rattle.rendezvous.specs.Awaited.{reported}
 use Rattle.world.specs.declared.flight.Flow.{Flow}
 use Rattle.world.specs.declared.flight.Report.{Report}
@@ -194,15 +193,15 @@ module _ {J : Type 0} where
     -- ---- what they found and hold
 
     one_done : (work : Work) (works : List Work) (reports : List (Report J)) (own : Ran J) → HasRan work own
-        → (refusal_of None reports ≡ None → HaveAllDone (HasDone scale) works (found_in reports) (held_in reports))
+        → (refusal_of None reports ≡ None → HaveAllDone scale works (found_in reports) (held_in reports))
         → refusal_of (refused_by None own) reports ≡ None
-        → HaveAllDone (HasDone scale) (work ∷ works) (found_by own ++ found_in reports) (held_by own ++ held_in reports)
+        → HaveAllDone scale (work ∷ works) (found_by own ++ found_in reports) (held_by own ++ held_in reports)
     one_done work works reports (ran.Done claims found) has rest none = (has.0, rest none)
     one_done work works reports (ran.Died group holder) has rest none = absurd (stays_refused (refusal.Died group holder) reports none)
     one_done work works reports ran.NoMemory has rest none = absurd (stays_refused refusal.NoMemory reports none)
 
     pub all_done : (place : ℕ) (works : List Work) (reports : List (Report J)) → HaveReported place works reports → refusal_of None reports ≡ None
-        → HaveAllDone (HasDone scale) works (found_in reports) (held_in reports)
+        → HaveAllDone scale works (found_in reports) (held_in reports)
     all_done place [] [] h none = tt
     all_done place [] (r ∷ reports) h none = absurd h
     all_done place (work ∷ works) [] h none = absurd h

@@ -5,15 +5,14 @@ use Rattle.schema.specs.declared.scale.Scale.{Scale}
 use Rattle.requests.specs.declared.refusal.Refusal.{Refusal}
 use Rattle.requests.specs.declared.refusal.Refusal.TheVariants as refusal
 use Rattle.tickets.specs.Claims.{Claiming}
-use Rattle.phases.specs.Following.{HaveAllDone}
-use Rattle.phases.specs.declared.phase.Gathered.{Gathered}
-use Rattle.phases.specs.declared.phase.Gathered.TheVariants.{Next, Finish, RollBack}
-use Rattle.flow_graphs.specs.declared.graphs.Progress.{Progress}
-use Rattle.actions.specs.declared.work.Found.{Found}
-use Rattle.actions.specs.declared.acting.Ran.{Ran}
-use Rattle.actions.specs.declared.acting.Ran.TheVariants as ran
-use Rattle.actions.specs.Works.{HasDone}
-use Rattle.flow_graphs.specs.Progresses.{works_of}
+use Rattle.transactions.specs.Works.{HaveAllDone, HasDone}
+use Rattle.transactions.specs.declared.progress.Gathered.{Gathered}
+use Rattle.transactions.specs.declared.progress.Gathered.TheVariants.{Next, Finish, RollBack}
+use Rattle.transactions.specs.declared.progress.Progress.{Progress}
+use Rattle.transactions.specs.declared.work.Found.{Found}
+use Rattle.transactions.specs.declared.acting.Ran.{Ran}
+use Rattle.transactions.specs.declared.acting.Ran.TheVariants as ran
+use Rattle.transactions.specs.Progresses.{HasFound, works_of}
 use Rattle.world.specs.declared.desk.Active.{Active}
 use Rattle.world.specs.declared.flight.Flow.{Flow}
 use Rattle.world.specs.declared.flight.Report.{Report}
@@ -142,17 +141,17 @@ module _ {J : Type 0} where
 
   -- where it isn't refused, its actions have done their work
   pub sorted_done : (reports : List (Report J)) (last : Flow J) (start : Option Refusal) (found : List Found) → CanMeet reports → IsSorted reports last → refusal_of start reports ≡ None → found ≡ found_in reports
-      → (scale : Scale) × (claims : List (List Claiming)) × HaveAllDone (HasDone scale) (works_of last.progress) found claims
+      → HasFound last.progress found
   sorted_done reports last start found can sorted none is_found =
       let from_none : refusal_of None reports ≡ None = ap (λ o. refusal_of o reports) (sym (not_refused start reports none)) ∙ none in
       carried_both reports (CanMeetFor reports) (λ f. last ≡ record f { transaction = holding f.transaction (held_in reports) })
-      ((scale : Scale) × (claims : List (List Claiming)) × HaveAllDone (HasDone scale) (works_of last.progress) found claims)
+      (HasFound last.progress found)
       (λ f meets is.
       let done = meets.done from_none in (
         done.0,
         held_in reports,
-        subst (λ fs. HaveAllDone (HasDone done.0) (works_of last.progress) fs (held_in reports)) (sym is_found)
-            (subst (λ (x : Flow J). HaveAllDone (HasDone done.0) (works_of x.progress) (found_in reports) (held_in reports)) (sym is) done.1),
+        subst (λ fs. HaveAllDone done.0 (works_of last.progress) fs (held_in reports)) (sym is_found)
+            (subst (λ (x : Flow J). HaveAllDone done.0 (works_of x.progress) (found_in reports) (held_in reports)) (sym is) done.1),
       )) can sorted
 
   -- want of memory is answered only where no one died
@@ -208,7 +207,7 @@ module _ {J : Type 0} where
   unless_active None reports f a old new (inl h) = inl h
   unless_active None reports f a old new (inr h) = inr (h.0, (h.1.0, h.1.1 ∙ goes_alike h.0))
     where
-      goes_alike : (g : Gathered Progress) → goes_on (holding f.transaction (held_in reports)) g (with_active a old) ≡ goes_on (holding f.transaction (held_in reports)) g old
+      goes_alike : (g : Gathered) → goes_on (holding f.transaction (held_in reports)) g (with_active a old) ≡ goes_on (holding f.transaction (held_in reports)) g old
       goes_alike (Next progress) = refl
       goes_alike (Finish shown) = refl
       goes_alike (RollBack fault) = refl

@@ -8,11 +8,11 @@ use Rattle.schema.specs.declared.scale.Scale.{Scale}
 use Rattle.commit_log.specs.declared.entry.Entry.{Entry}
 use Rattle.tickets.specs.Claims.{Claiming, all_claims}
 use Rattle.slices.specs.Sliced.{AreSlicesOf, Joined, Sliced, SlicesKeep, joined}
-use Rattle.actions.specs.declared.work.Work.{Work}
-use Rattle.actions.specs.declared.acting.Ran.{Ran}
-use Rattle.actions.specs.declared.acting.Ran.TheVariants as ran
-use Rattle.actions.specs.Acting.{claims_of_ran}
-use Rattle.actions.specs.Works.{CanDo}
+use Rattle.transactions.specs.declared.work.Work.{Work}
+use Rattle.transactions.specs.declared.acting.Ran.{Ran}
+use Rattle.transactions.specs.declared.acting.Ran.TheVariants as ran
+use Rattle.transactions.specs.Acting.{claims_of_ran}
+use Rattle.transactions.specs.Works.{CanDo}
 use Rattle.world.specs.declared.flight.Act.{Act as AnyAct}
 use Rattle.world.specs.declared.flight.Flow.{Flow}
 use Rattle.world.specs.declared.flight.Item.{Item}

@@ -22,16 +22,15 @@ use Rattle.commit_log.specs.Passing.{after_item, after_refusal}
 use Rattle.history.specs.declared.event.EventAnswer.{EventAnswer}
 use Rattle.history.specs.declared.event.EventAnswer.TheVariants.{Sent, Full, Logged, Answered}
 use Rattle.slices.specs.Sliced.{AreSlicesOf, Joined, Sliced, SlicesKeep, joined}
-use Rattle.phases.specs.Following.{Follows, HaveAllDone}
-use Rattle.phases.specs.declared.phase.Gathered.{Gathered}
-use Rattle.phases.specs.declared.phase.Gathered.TheVariants.{Next, Finish, RollBack}
-use Rattle.actions.specs.declared.acting.Ran.{Ran}
-use Rattle.actions.specs.declared.acting.Ran.TheVariants as ran
-use Rattle.actions.specs.declared.work.Found.{Found}
-use Rattle.actions.specs.declared.work.Work.{Work}
-use Rattle.actions.specs.Works.{CanDo, HasDone, wishes_of}
-use Rattle.flow_graphs.specs.declared.graphs.Progress.{Progress}
-use Rattle.flow_graphs.specs.Progresses.{IsReached, works_of}
+use Rattle.transactions.specs.Works.{HaveAllDone, CanDo, HasDone, wishes_of}
+use Rattle.transactions.specs.Progresses.{FollowsFrom, works_of}
+use Rattle.transactions.specs.declared.progress.Gathered.{Gathered}
+use Rattle.transactions.specs.declared.progress.Gathered.TheVariants.{Next, Finish, RollBack}
+use Rattle.transactions.specs.declared.acting.Ran.{Ran}
+use Rattle.transactions.specs.declared.acting.Ran.TheVariants as ran
+use Rattle.transactions.specs.declared.work.Found.{Found}
+use Rattle.transactions.specs.declared.work.Work.{Work}
+use Rattle.transactions.specs.declared.progress.Progress.{Progress}
 use Rattle.rendezvous.specs.Awaited.{awaited_from}
 use Rattle.world.specs.declared.desk.Active.TheVariants.{Acting, Ending}
 use Rattle.world.specs.declared.desk.SessionDesk.{SessionDesk}
@@ -54,13 +53,6 @@ use Rattle.world.specs.Sound.{IsSoundMessage, IsSoundItem, UnderWay}
 abbrev pub why_refused : AppendFault → Refusal
 why_refused fault.NoMemory = refusal.NoMemory
 why_refused fault.LogFull = refusal.LogFull
-
--- what the phase's actions found leads to this
-abbrev pub LeadsTo : Progress → List Found → Gathered Progress → Type 0
-LeadsTo progress found g =
-    (scale : Scale) (asked : Request) (held : List Claiming) (claims : List (List Claiming))
-    → IsReached scale asked progress held → HaveAllDone (HasDone scale) (works_of progress) found claims
-    → Follows (IsReached scale asked) (λ all shown. (opening : Database) → IsCarriedOut opening asked all shown) (held ++ all_claims claims) g
 
 module _ {J : Type 0} where
   -- ---- a message is worked on
@@ -115,7 +107,7 @@ module _ {J : Type 0} where
   -- ---- a phase has met
 
   -- The actions of the next phase are put, and nothing is reported yet; or the transaction is to be logged.
-  abbrev pub goes_on : Transaction J → Gathered Progress → Parts J → Parts J
+  abbrev pub goes_on : Transaction J → Gathered → Parts J → Parts J
   goes_on t (Next progress) old =
       putting (acts_of (record { transaction = t; progress = progress }) (works_of progress)) (Some (Acting (replicate (length (works_of progress)) None))) old
   goes_on t (Finish shown) old = committing t shown old
@@ -124,7 +116,7 @@ module _ {J : Type 0} where
   -- What follows of what was found is done, unless there is no memory for it: then the transaction is refused.
   abbrev pub GathersInto : Progress → List Found → Transaction J → Parts J → Parts J → Type 0
   GathersInto progress found t old new =
-      (new ≡ releasing false (refused t refusal.NoMemory) old) ⊎ ((g : Gathered Progress) × (LeadsTo progress found g × (new ≡ goes_on t g old)))
+      (new ≡ releasing false (refused t refusal.NoMemory) old) ⊎ ((g : Gathered) × (FollowsFrom progress found g × (new ≡ goes_on t g old)))
 
   -- One action has died or found no memory, and the transaction is refused; or all have done their work.
   abbrev pub MeetsUnless : Option Refusal → List (Report J) → Flow J → Parts J → Parts J → Type 0
@@ -139,7 +131,7 @@ module _ {J : Type 0} where
   -- what is asked of them
   pub record CanMeetFor (reports : List (Report J)) (flow : Flow J) : Type 0 where
     pub room : length flow.transaction.held + length reports ≤ 4
-    pub done : refusal_of None reports ≡ None → (scale : Scale) × HaveAllDone (HasDone scale) (works_of flow.progress) (found_in reports) (held_in reports)
+    pub done : refusal_of None reports ≡ None → (scale : Scale) × HaveAllDone scale (works_of flow.progress) (found_in reports) (held_in reports)
 
   -- what is asked of the reports of a phase, by the transaction that the first of them carries
   abbrev pub CanMeet : List (Report J) → Type 0

@@ -4,8 +4,8 @@ use Rattle.requests.specs.declared.answer.Answer.{Answer}
 use Rattle.requests.specs.declared.answer.Answer.TheVariants.{Done, Refused}
 use Rattle.tickets.specs.Claims.{Claiming, all_claims}
 use Rattle.history.specs.History.{Unanswered}
-use Rattle.actions.specs.declared.work.Work.{Work}
-use Rattle.actions.specs.Acting.{claims_of_ran}
+use Rattle.transactions.specs.declared.work.Work.{Work}
+use Rattle.transactions.specs.Acting.{claims_of_ran}
 use Rattle.world.specs.declared.flight.Transaction.{Transaction}
 use Rattle.world.specs.declared.flight.Flow.{Flow}
 use Rattle.world.specs.declared.flight.Message.{Message}

@@ -10,10 +10,10 @@ use Rattle.requests.specs.declared.refusal.Refusal.TheVariants as refusal
 use Rattle.tickets.specs.Claims.{Claiming}
 use Rattle.commit_log.specs.declared.entry.Entry.{Entry}
 use Rattle.commit_log.specs.Passing.{Passing}
-use Rattle.actions.specs.declared.work.Work.{Work}
-use Rattle.actions.specs.declared.work.Found.{Found}
-use Rattle.actions.specs.declared.acting.Ran.{Ran}
-use Rattle.actions.specs.declared.acting.Ran.TheVariants.{Done, Died, NoMemory}
+use Rattle.transactions.specs.declared.work.Work.{Work}
+use Rattle.transactions.specs.declared.work.Found.{Found}
+use Rattle.transactions.specs.declared.acting.Ran.{Ran}
+use Rattle.transactions.specs.declared.acting.Ran.TheVariants.{Done, Died, NoMemory}
 use Rattle.world.specs.declared.desk.Active.{Active}
 use Rattle.world.specs.declared.desk.Active.TheVariants.{Acting, Committing, Ending}
 use Rattle.world.specs.declared.flight.Transaction.{Transaction}

@@ -2,7 +2,7 @@
 use Rattle.std.specs.Prelude.{List, All}
 use Rattle.tickets.specs.Claims.{Claiming}
 use Rattle.slices.specs.Sliced.{AreOfOneHome, Joined, joined}
-use Rattle.actions.specs.Acting.{CanBeSettled, CanBeUndone}
+use Rattle.transactions.specs.Acting.{CanBeSettled, CanBeUndone}
 use Rattle.world.specs.declared.world.Parts.{Parts}
 
 -- what all slices have together

@@ -13,12 +13,12 @@ use Rattle.commit_log.specs.declared.entry.Entry.{Entry}
 use Rattle.commit_log.specs.Claimed.{IsCarriedOut}
 use Rattle.commit_log.specs.Passing.{Passing}
 use Rattle.history.specs.History.{HasReply, is_of}
-use Rattle.actions.specs.declared.work.Work.{Work}
-use Rattle.actions.specs.declared.acting.Ran.{Ran}
-use Rattle.actions.specs.declared.acting.Ran.TheVariants as ran
-use Rattle.actions.specs.Works.{CanDo, HasDone}
-use Rattle.flow_graphs.specs.declared.graphs.Progress.{Progress}
-use Rattle.flow_graphs.specs.Progresses.{HoldsSome, IsReached, works_of}
+use Rattle.transactions.specs.declared.work.Work.{Work}
+use Rattle.transactions.specs.declared.acting.Ran.{Ran}
+use Rattle.transactions.specs.declared.acting.Ran.TheVariants as ran
+use Rattle.transactions.specs.Works.{CanDo, HasDone}
+use Rattle.transactions.specs.declared.progress.Progress.{Progress}
+use Rattle.transactions.specs.Progresses.{HoldsSome, IsReached, works_of}
 use Rattle.rendezvous.specs.Awaited.{awaited_from, reported}
 use Rattle.world.specs.declared.desk.Active.{Active}
 use Rattle.world.specs.declared.desk.Active.TheVariants as active

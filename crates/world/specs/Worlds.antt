@@ -23,8 +23,8 @@ use Rattle.history.specs.History.{Step, step, is_of}
 use Rattle.history.specs.Fits.{Fits as HistoryFits}
 use Rattle.slices.specs.Sliced.{Joined, all_standing, everywhere}
 use Rattle.schema.specs.declared.scale.Scale.{Scale}
-use Rattle.actions.specs.declared.work.Work.{Work}
-use Rattle.flow_graphs.specs.Progresses.{IsReached, works_of}
+use Rattle.transactions.specs.declared.work.Work.{Work}
+use Rattle.transactions.specs.Progresses.{IsReached, works_of}
 use Rattle.world.specs.declared.desk.Active.TheVariants.{Acting}
 use Rattle.world.specs.declared.desk.SessionDesk.{SessionDesk}
 use Rattle.world.specs.declared.flight.Flow.{Flow}

@@ -11,12 +11,11 @@ use crate::flight::{Flow, Message, Transaction};
 use crate::held::Held;
 use crate::world::{INBOX, Parts};
 use commit_log::Pass;
-use flow_graphs::{Asked, Graphs};
 use history::EventAnswer;
-use phases::Graph;
 use requests::{Answer, Refusal, Request, check};
 use schema::NoMemory;
 use std::alloc::Global;
+use transactions::Progress;
 
 impl<J: commit_log::Naming + tickets::Naming> Parts<J> {
     // A session submits a request.
@@ -68,10 +67,7 @@ impl<J: commit_log::Naming + tickets::Naming> Parts<J> {
         ensures err { OnErr result (self.new ≡ self.old) }
     {
         let own = request.try_clone()?;
-        let asked = Asked {
-            request: request.try_clone()?,
-        };
-        let progress = Graphs.begin(asked);
+        let progress = Progress::begin(request.try_clone()?);
         let Phase { works, meeting } = Phase::begin(alloc, &progress)?;
         let held = Held::open(alloc)?;
         let age = self.desk.admitted;

@@ -1,16 +1,14 @@
 //! A phase begins.
 ghost use Rattle.std.specs.Prelude.{◌≡◌, ◌≤◌, ◌+◌, ◌++◌, length, replicate, IfOk, None, Some};
-ghost use Rattle.flow_graphs.specs.Progresses.{works_of};
+ghost use Rattle.transactions.specs.Progresses.{works_of};
 ghost use Rattle.world.specs.Following.{acts_of};
 
 use crate::flight::{Act, Flow, Item, Message, Report};
 use crate::world::Parts;
-use actions::Work;
-use flow_graphs::{Graphs, Progress, phases_have_actions};
-use phases::Graph;
 use rendezvous::Meeting;
 use schema::NoMemory;
 use std::alloc::Global;
+use transactions::{Progress, Work, phases_have_actions};
 
 /// The actions of a phase that begins: what they do, by place, and where they meet.
 #[derive(Drop)]
@@ -26,7 +24,7 @@ impl<J: commit_log::Naming + tickets::Naming> Phase<J> {
         ensures meeting { IfOk result (λ phase. phase.meeting ≡ replicate (length phase.works.items) None) }
     {
         phases_have_actions();
-        let works = Graphs.works(alloc, progress)?;
+        let works = progress.works(alloc)?;
         let meeting = Meeting::open(alloc, works.len())?;
         Ok(Phase { works, meeting })
     }

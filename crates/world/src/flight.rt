@@ -1,10 +1,9 @@
 //! What is under way: messages to the executor, and items of its outbox.
 use crate::held::Held;
-use actions::{Ran, Work};
 use commit_log::Pass;
-use flow_graphs::Progress;
 use requests::{Answer, Reply, Request};
 use tickets::Claims;
+use transactions::{Progress, Ran, Work};
 
 /// A transaction on its way, with its session's pass.
 #[derive(Drop)]

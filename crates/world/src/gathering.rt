@@ -1,10 +1,6 @@
 //! All actions of a phase have reported: what they found is gathered, and what follows is done.
-ghost use Rattle.std.specs.Prelude.{◌≡◌, ◌≤◌, ◌+◌, ◌++◌, [], List, length, vec_capacity, None, Some};
-ghost use Rattle.schema.specs.declared.scale.Scale.{Scale};
-ghost use Rattle.tickets.specs.Claims.{Claiming};
-ghost use Rattle.phases.specs.Following.{HaveAllDone};
-ghost use Rattle.actions.specs.Works.{HasDone};
-ghost use Rattle.flow_graphs.specs.Progresses.{works_of};
+ghost use Rattle.std.specs.Prelude.{◌≡◌, ◌≤◌, ◌+◌, ◌++◌, [], length, vec_capacity, None, Some};
+ghost use Rattle.transactions.specs.Progresses.{HasFound};
 ghost use Rattle.world.specs.Following as spec;
 ghost use Rattle.world.specs.Following.{CarriesFirst, found_in, held_in, holding, refusal_of};
 ghost use Rattle.world.specs.Events.{CanMeet, GathersInto, MeetsAs};
@@ -15,12 +11,10 @@ use crate::flight::{CommitItem, Flow, Item, Report, Transaction};
 use crate::held::Held;
 use crate::sending::Release;
 use crate::world::Parts;
-use actions::{Found, Ran};
-use flow_graphs::{Graphs, Progress};
-use phases::{Gathered, Graph};
 use rendezvous::Results;
 use requests::{Refusal, Reply};
 use std::alloc::Global;
+use transactions::{Found, Gathered, Progress, Ran};
 
 impl<J: commit_log::Naming + tickets::Naming> Parts<J> {
     // All actions of a phase have reported. The first death by place is answered, and else want of memory;
@@ -55,10 +49,10 @@ impl<J: commit_log::Naming + tickets::Naming> Parts<J> {
     )
         requires room { length self.old.outbox + 8 ≤ 4096 }
         requires held { length transaction.held ≤ 4 }
-        requires done { (scale : Scale) × (claims : List (List Claiming)) × HaveAllDone (HasDone scale) (works_of progress) found.items claims }
+        requires done { HasFound progress found.items }
         ensures { GathersInto progress found.items transaction self.old self.new }
     {
-        match Graphs.gather(progress, found) {
+        match progress.gather(found) {
             Gathered::Next(progress) => match Phase::begin(alloc, &progress) {
                 Ok(Phase { works, meeting }) => {
                     self.desk.active = Some(Active::Acting(meeting));

@@ -1,11 +1,11 @@
 //! What the actions of a transaction hold.
 ghost use Rattle.std.specs.Prelude.{◌≡◌, ◌<◌, [], ◌∷◌, ◌++◌, length, IfOk};
 
-use flow_graphs::MOST_ACTIONS;
 use schema::NoMemory;
 use std::alloc::Global;
 use std::marker::Model;
 use tickets::{Claims, Naming};
+use transactions::MOST_ACTIONS;
 
 /// The claims of actions that have done their work, by place, with room for those of all that a transaction
 /// has. Only its opening takes memory.

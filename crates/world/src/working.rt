@@ -26,17 +26,17 @@ impl<J: commit_log::Naming + tickets::Naming> Parts<J> {
                     flow,
                 } = act;
                 let home = work.home() as usize;
-                let ran = actions::act(alloc, &mut self.slices[home - 1], age, work);
+                let ran = transactions::act(alloc, &mut self.slices[home - 1], age, work);
                 self.outbox.put(Item::Report(Report { place, flow, ran }));
             }
             Message::Settle(claims) => {
                 let home = claims.home() as usize;
-                actions::settle(&mut self.slices[home - 1], claims);
+                transactions::settle(&mut self.slices[home - 1], claims);
                 self.outbox.put(Item::Ended);
             }
             Message::Undo(claims) => {
                 let home = claims.home() as usize;
-                actions::undo(&mut self.slices[home - 1], claims);
+                transactions::undo(&mut self.slices[home - 1], claims);
                 self.outbox.put(Item::Ended);
             }
         }

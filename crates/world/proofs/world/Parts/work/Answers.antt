@@ -3,9 +3,9 @@ use Rattle.std.specs.Prelude.{All, IsTrue}
 use Rattle.std.proofs.lemmas.List.Elements.{All-nil}
 use Rattle.schema.specs.Scale.{has_warehouse}
 use Rattle.slices.specs.Sliced.{IsClaimAt}
-use Rattle.actions.specs.Acting.{claims_of_ran}
-use Rattle.actions.specs.Works.{CanDo}
-use Rattle.actions.proofs.Accepted.{works_are_at_warehouses}
+use Rattle.transactions.specs.Acting.{claims_of_ran}
+use Rattle.transactions.specs.Works.{CanDo}
+use Rattle.transactions.proofs.Wished.{works_are_at_warehouses}
 use Rattle.world.specs.declared.flight.Item.TheVariants as item
 use Rattle.world.specs.declared.flight.Message.{Message}
 use Rattle.world.specs.declared.flight.Message.TheVariants.{Act, Settle, Undo}

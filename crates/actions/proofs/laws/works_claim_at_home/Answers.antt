@@ -1,5 +1,0 @@
-use Rattle.actions.proofs.Wished as law
-use Rattle.actions.proofs.laws.works_claim_at_home.Goals as goal
-
-pub returns : goal.returns
-returns c = law.works_claim_at_home

@@ -1,5 +1,0 @@
-pub mod PaymentSteps
-pub mod OrderStatusSteps
-pub mod Gathering
-pub mod Counts
-pub mod Accepted

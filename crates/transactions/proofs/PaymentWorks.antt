@@ -1,0 +1,176 @@
+-- What a payment's actions need and claim, and where; and who is paid.
+use Rattle.std.proofs.Common.{◌≡◌, ◌≢◌, ◌≤◌, zero, suc, true, List, [], ◌∷◌, ◌++◌, length, map, IsTrue, refl, sym, ap, subst, ◌∙◌, arith}
+use Rattle.std.specs.Prelude.{All}
+use Rattle.std.proofs.lemmas.Bool.{and_parts, and_from, not-false}
+use Rattle.std.proofs.lemmas.List.Elements.{All-nil, All-cons, All-from_recursion}
+use Rattle.rows.specs.declared.keys.CustomerKey.{CustomerKey}
+use Rattle.rows.specs.Ranged.{is_between}
+use Rattle.schema.specs.declared.scale.Scale.{Scale}
+use Rattle.schema.specs.Scale.{has_warehouse, has_customer}
+use Rattle.requests.specs.declared.group.Group.TheVariants.{Warehouse, District, Customers, History as HistoryGroup}
+use Rattle.requests.specs.declared.request.Request.{Request}
+use Rattle.requests.specs.declared.request.Request.TheVariants as request
+use Rattle.requests.specs.declared.payment.Payment.{Payment}
+use Rattle.requests.specs.declared.refusal.Refusal.TheVariants.{BadWarehouse, BadDistrict, BadLines, BadQuantity, BadSupply, BadAmount, BadThreshold, BadCarrier}
+use Rattle.requests.specs.Check.{applies, IsAccepted}
+use Rattle.groups.specs.declared.wishes.Wish.{Wish}
+use Rattle.groups.specs.Footprint.{exclusively, footprint, groups_of, payment_footprint}
+use Rattle.groups.specs.Groups.{warehouse_of}
+use Rattle.tickets.specs.Claims.{Claiming}
+use Rattle.tickets.specs.Places.{IsGroupOf}
+use Rattle.transactions.specs.declared.payment.Work.{Work}
+use Rattle.transactions.specs.declared.payment.Work.TheVariants.{PayHome, PayCustomer, AddPayment}
+use Rattle.transactions.specs.declared.payment.Found.{Found}
+use Rattle.transactions.specs.declared.payment.HomePaid.TheVariants as h
+use Rattle.transactions.specs.declared.payment.CustomerPaid.TheVariants as c
+use Rattle.transactions.specs.declared.payment.Paid.{Paid}
+use Rattle.transactions.specs.declared.payment.Progress.{Progress}
+use Rattle.transactions.specs.declared.payment.Progress.TheVariants.{PayRows, AddRow}
+use Rattle.transactions.specs.declared.work.Work.TheVariants as any_work
+use Rattle.transactions.specs.Granted.{AreSomeOf, AreWishesAt, wish_of}
+use Rattle.transactions.specs.Payment.{CanDo, HasDone, IsReached, home_of, paid_with, wishes_of, works_of}
+use Rattle.transactions.specs.PaymentLaws.{AcceptedPaymentsHaveTheirDistrict, GatheredPayersAreKnown}
+use Rattle.transactions.specs.Works.{CanDo as AnyCanDo, all_wishes}
+use Rattle.transactions.proofs.InScale.{between, not_first}
+use Rattle.transactions.proofs.Footprints.{AreApart, all_are_some, exclusive_wish, first_are_some, one_wish}
+
+-- ---- what an accepted payment names is there
+
+record IsInScale (scale : Scale) (p : Payment) : Type 0 where
+  warehouse : has_warehouse scale p.home.w_id ≡ true
+  payers_warehouse : has_warehouse scale p.customer_home.w_id ≡ true
+  district : is_between 1 10 p.home.d_id ≡ true
+  payers_district : is_between 1 10 p.customer_home.d_id ≡ true
+
+in_scale : (scale : Scale) (p : Payment) → IsAccepted scale (request.Payment p) → IsInScale scale p
+in_scale scale p accepted =
+    let others = BadLines ∷ BadQuantity ∷ BadSupply ∷ BadAmount ∷ BadThreshold ∷ BadCarrier ∷ [] in
+    let first = not_first (applies scale (request.Payment p)) BadWarehouse (BadDistrict ∷ others) accepted in
+    let second = not_first (applies scale (request.Payment p)) BadDistrict others first.1 in
+    let warehouses = and_parts (has_warehouse scale p.home.w_id) (has_warehouse scale p.customer_home.w_id) (not-false _ first.0) in
+    let districts = and_parts (is_between 1 10 p.home.d_id) (is_between 1 10 p.customer_home.d_id) (not-false _ second.0) in
+    record { warehouse = warehouses.0; payers_warehouse = warehouses.1; district = districts.0; payers_district = districts.1 }
+
+pub groups_there : (scale : Scale) (p : Payment) → IsAccepted scale (request.Payment p) → All (IsGroupOf scale.warehouses) (groups_of (payment_footprint p))
+groups_there scale p accepted =
+    let is = in_scale scale p accepted in
+    let warehouse = between 1 scale.warehouses p.home.w_id is.warehouse in
+    let district = between 1 10 p.home.d_id is.district in
+    let payers_warehouse = between 1 scale.warehouses p.customer_home.w_id is.payers_warehouse in
+    let payers_district = between 1 10 p.customer_home.d_id is.payers_district in
+    All-from_recursion (IsGroupOf scale.warehouses) (groups_of (payment_footprint p))
+    (warehouse, ((warehouse, district), ((payers_warehouse, payers_district), ((warehouse, district), tt))))
+
+pub accepted_payments_have_their_district : AcceptedPaymentsHaveTheirDistrict
+accepted_payments_have_their_district scale p accepted =
+    let is = in_scale scale p accepted in
+    and_from (has_warehouse scale p.home.w_id) (is_between 1 10 p.home.d_id) is.warehouse is.district
+
+-- ---- each action
+
+pub works_have_their_groups : (scale : Scale) (work : Work) → CanDo scale work → All (IsGroupOf scale.warehouses) (groups_of (wishes_of work))
+works_have_their_groups scale (PayHome p) accepted =
+    let is = in_scale scale p accepted in
+    let warehouse = between 1 scale.warehouses p.home.w_id is.warehouse in
+    let district = between 1 10 p.home.d_id is.district in
+    All-from_recursion (IsGroupOf scale.warehouses) (groups_of (wishes_of (PayHome p))) (warehouse, ((warehouse, district), tt))
+works_have_their_groups scale (PayCustomer p) accepted =
+    let is = in_scale scale p accepted in
+    let warehouse = between 1 scale.warehouses p.customer_home.w_id is.payers_warehouse in
+    let district = between 1 10 p.customer_home.d_id is.payers_district in
+    All-from_recursion (IsGroupOf scale.warehouses) (groups_of (wishes_of (PayCustomer p))) ((warehouse, district), tt)
+works_have_their_groups scale (AddPayment p row) can =
+    let is = in_scale scale p can.0 in
+    let warehouse = between 1 scale.warehouses p.home.w_id is.warehouse in
+    let district = between 1 10 p.home.d_id is.district in
+    All-from_recursion (IsGroupOf scale.warehouses) (groups_of (wishes_of (AddPayment p row))) ((warehouse, district), tt)
+
+pub works_are_at_warehouses : (scale : Scale) (work : Work) → CanDo scale work → IsTrue (has_warehouse scale (home_of work))
+works_are_at_warehouses scale (PayHome p) accepted = (in_scale scale p accepted).warehouse
+works_are_at_warehouses scale (PayCustomer p) accepted = (in_scale scale p accepted).payers_warehouse
+works_are_at_warehouses scale (AddPayment p row) can = (in_scale scale p can.0).warehouse
+
+pub works_have_wishes : (work : Work) → 1 ≤ length (wishes_of work)
+works_have_wishes (PayHome p) = omega arith
+works_have_wishes (PayCustomer p) = omega arith
+works_have_wishes (AddPayment p row) = omega arith
+
+pub works_claim_at_home : (work : Work) → AreWishesAt (home_of work) (wishes_of work)
+works_claim_at_home (PayHome p) =
+    All-cons (λ (w : Wish). warehouse_of w.group ≡ p.home.w_id) (exclusively (Warehouse p.home.w_id)) (exclusively (District p.home.w_id p.home.d_id) ∷ []) refl (one_wish p.home.w_id (exclusively (District p.home.w_id p.home.d_id)) refl)
+works_claim_at_home (PayCustomer p) = one_wish p.customer_home.w_id (exclusively (Customers p.customer_home.w_id p.customer_home.d_id)) refl
+works_claim_at_home (AddPayment p row) = one_wish p.home.w_id (exclusively (HistoryGroup p.home.w_id p.home.d_id)) refl
+
+-- no group is wished for twice
+pub works_wish_once : (work : Work) → AreApart (wishes_of work)
+works_wish_once (PayHome p) zero d less = All-nil _
+works_wish_once (PayHome p) (suc zero) d less =
+    All-cons (λ (before : Wish). before.group ≢ District p.home.w_id p.home.d_id) (exclusively (Warehouse p.home.w_id)) [] (λ same. absurd cc) (All-nil _)
+works_wish_once (PayHome p) (suc (suc k)) d less = absurd (omega arith)
+works_wish_once (PayCustomer p) zero d less = All-nil _
+works_wish_once (PayCustomer p) (suc k) d less = absurd (omega arith)
+works_wish_once (AddPayment p row) zero d less = All-nil _
+works_wish_once (AddPayment p row) (suc k) d less = absurd (omega arith)
+
+-- the claims are on the groups that it wished for
+pub done_on : (scale : Scale) (work : Work) (found : Found) (claims : List Claiming) → HasDone scale work found claims
+    → map (λ (claim : Claiming). claim.group) claims ≡ groups_of (wishes_of work)
+done_on scale (PayHome p) found claims done =
+    ap (map (λ (claim : Claiming). claim.group)) done.4 ∙ (λ i. done.5.warehouse_claim.group i ∷ done.5.district_claim.group i ∷ [])
+done_on scale (PayCustomer p) found claims done = ap (map (λ (claim : Claiming). claim.group)) done.3 ∙ (λ i. done.4.claim.group i ∷ [])
+done_on scale (AddPayment p row) found claims done = ap (map (λ (claim : Claiming). claim.group)) done.2 ∙ (λ i. done.3.claim.group i ∷ [])
+
+-- ---- who is paid
+
+pub gathered_payers_are_known : GatheredPayersAreKnown
+gathered_payers_are_known scale p (h.Paid warehouse district) (c.Paid reply) given found known =
+    let made : paid_with p reply warehouse district ≡ given = cc in
+    let P : CustomerKey → Type 0 = λ key. IsTrue (has_customer scale key) in
+    subst P (ap (λ (paid : Paid). paid.row.customer) made) known
+gathered_payers_are_known scale p h.Missing customer given found known = absurd cc
+gathered_payers_are_known scale p h.OutOfRange c.Missing given found known = absurd cc
+gathered_payers_are_known scale p h.OutOfRange c.OutOfRange given found known = absurd cc
+gathered_payers_are_known scale p h.OutOfRange (c.Paid reply) given found known = absurd cc
+gathered_payers_are_known scale p (h.Paid warehouse district) c.Missing given found known = absurd cc
+gathered_payers_are_known scale p (h.Paid warehouse district) c.OutOfRange given found known = absurd cc
+
+-- ---- each phase
+
+pub accepted : (scale : Scale) (asked : Request) (progress : Progress) (held : List Claiming) → IsReached scale asked progress held → IsAccepted scale asked
+accepted scale asked (PayRows p) held reached = reached.accepted
+accepted scale asked (AddRow given) held reached = reached.accepted
+
+pub some_actions : (progress : Progress) → 1 ≤ length (works_of progress)
+some_actions (PayRows p) = omega arith
+some_actions (AddRow given) = omega arith
+
+pub can_all : (scale : Scale) (asked : Request) (progress : Progress) (held : List Claiming) → IsReached scale asked progress held → All (AnyCanDo scale) (works_of progress)
+can_all scale asked (PayRows p) held known =
+    let accepted : IsAccepted scale (request.Payment p) = subst (IsAccepted scale) known.is known.accepted in
+    All-cons (AnyCanDo scale) (any_work.Payment (PayHome p)) (any_work.Payment (PayCustomer p) ∷ []) accepted
+    (All-cons (AnyCanDo scale) (any_work.Payment (PayCustomer p)) [] accepted (All-nil (AnyCanDo scale)))
+can_all scale asked (AddRow given) held known =
+    let p = given.payment in
+    All-cons (AnyCanDo scale) (any_work.Payment (AddPayment p given.row)) []
+    (subst (IsAccepted scale) known.is known.accepted, gathered_payers_are_known scale p known.home known.customer given known.next known.payer)
+    (All-nil (AnyCanDo scale))
+
+pub within : (scale : Scale) (asked : Request) (progress : Progress) (held : List Claiming) → IsReached scale asked progress held
+    → AreSomeOf (map wish_of held ++ all_wishes (works_of progress)) (footprint asked)
+within scale asked (PayRows p) held known =
+    subst (λ claims. AreSomeOf (map wish_of claims ++ all_wishes (works_of (PayRows p))) (footprint asked)) (sym known.none)
+    (subst (λ r. AreSomeOf (all_wishes (works_of (PayRows p))) (footprint r)) (sym known.is)
+    (first_are_some
+    (exclusively (Warehouse p.home.w_id) ∷ exclusively (District p.home.w_id p.home.d_id) ∷ exclusively (Customers p.customer_home.w_id p.customer_home.d_id) ∷ [])
+    (exclusively (HistoryGroup p.home.w_id p.home.d_id) ∷ [])))
+within scale asked (AddRow given) held known =
+    let p = given.payment in
+    let warehouse = exclusively (Warehouse p.home.w_id) in
+    let district = exclusively (District p.home.w_id p.home.d_id) in
+    let history = exclusively (HistoryGroup p.home.w_id p.home.d_id) in
+    subst (λ claims. AreSomeOf (map wish_of claims ++ all_wishes (works_of (AddRow given))) (footprint asked)) (sym known.claims)
+    (subst (λ r. AreSomeOf (wish_of known.warehouse ∷ wish_of known.district ∷ wish_of known.customers ∷ history ∷ []) (footprint r)) (sym known.is)
+    (all_are_some (wish_of known.warehouse ∷ wish_of known.district ∷ wish_of known.customers ∷ history ∷ []) (footprint (request.Payment p))
+    (ap (λ (w : Wish). w ∷ wish_of known.district ∷ wish_of known.customers ∷ history ∷ []) (exclusive_wish _ known.warehouse known.home_paid.warehouse_claim)
+    ∙ ap (λ (w : Wish). warehouse ∷ w ∷ wish_of known.customers ∷ history ∷ []) (exclusive_wish _ known.district known.home_paid.district_claim)
+    ∙ ap (λ (w : Wish). warehouse ∷ district ∷ w ∷ history ∷ []) (exclusive_wish _ known.customers known.customer_paid.claim))))

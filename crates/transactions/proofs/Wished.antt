@@ -1,0 +1,155 @@
+-- What actions wish for: claims that were granted for it, one after another, how many they are, and at which warehouse.
+use Rattle.std.proofs.Common.{◌≡◌, ◌≢◌, ℕ, zero, suc, ◌<◌, List, [], ◌∷◌, ◌++◌, length, refl, sym, ap, subst, ◌∙◌, arith}
+use Rattle.std.specs.Prelude.{◌+◌, Some, None, All, map, take, slice_get}
+use Rattle.std.specs.List.{AllByRecursion}
+use Rattle.std.proofs.lemmas.List.{length-map, take_more}
+use Rattle.std.proofs.lemmas.List.Elements.{All-head, All-tail, All-from_recursion}
+use Rattle.std.proofs.lemmas.Option.{slice_get_within, get_or_from_slice_get}
+use Rattle.schema.specs.declared.scale.Scale.{Scale}
+use Rattle.requests.specs.declared.group.Group.{Group}
+use Rattle.groups.specs.Footprint.{groups_of}
+use Rattle.groups.specs.Groups.{warehouse_of}
+use Rattle.groups.specs.declared.wishes.Wish.{Wish}
+use Rattle.tickets.specs.Claims.{Claiming}
+use Rattle.tickets.proofs.Committed.{All-front}
+use Rattle.slices.specs.Sliced.{Sliced, standing}
+use Rattle.slices.proofs.Steps.{All-last}
+use Rattle.transactions.specs.declared.work.Work.TheVariants.{Payment, OrderStatus}
+use Rattle.transactions.specs.declared.work.Work.{Work}
+use Rattle.transactions.specs.declared.work.Found.{Found}
+use Rattle.transactions.specs.Granted.{AreWishesAt, IsGrantedFor, AreGrantedFor, AreLeft}
+use Rattle.transactions.specs.Works.{home_of, wishes_of, HasDone}
+use Rattle.transactions.specs.Acting.{CanBeSettled, CanBeUndone, DiesOn}
+use Rattle.transactions.specs.Laws.{WorksAreAtWarehouses, WorksAreDoneAtHome, WorksClaimAtHome, WorksHaveAClaimForEachWish, WorksHaveTheirGroups, WorksHaveWishes}
+use Rattle.transactions.proofs.Footprints.{AreApart}
+use Rattle.transactions.proofs.Homes.{claims_here, of_one_home}
+use Rattle.transactions.proofs.PaymentWorks as payment
+use Rattle.transactions.proofs.OrderStatusWorks as order_status
+
+-- ---- the wish of a number
+
+-- what holds of the groups of all wishes holds of its group
+pub wished_at : (P : Group → Type 0) (wishes : List Wish) (k : ℕ) (wish : Wish) → All P (groups_of wishes) → slice_get wishes k ≡ Some wish → P wish.group
+wished_at P [] k wish all is = absurd cc
+wished_at P (w ∷ ws) zero wish all is = let same : w ≡ wish = cc in subst (λ (x : Wish). P x.group) same (All-head P w.group (groups_of ws) all)
+wished_at P (w ∷ ws) (suc k) wish all is = wished_at P ws k wish (All-tail P w.group (groups_of ws) all) is
+
+-- and it is for a group of the warehouse that all are for
+pub wished_here : (home : ℕ) (wishes : List Wish) (k : ℕ) (wish : Wish) → AreWishesAt home wishes → slice_get wishes k ≡ Some wish → warehouse_of wish.group ≡ home
+wished_here home wishes k wish here is =
+    subst (λ (w : Wish). warehouse_of w.group ≡ home) (get_or_from_slice_get wishes k wish wish is) (here k wish (slice_get_within wishes k wish is))
+
+-- it comes after those before it
+wishes_more : (wishes : List Wish) (k n : ℕ) (wish : Wish) → slice_get wishes k ≡ Some wish → n ≡ k + 1 → take n wishes ≡ take k wishes ++ wish ∷ []
+wishes_more wishes k n wish is next =
+    ap (λ m. take m wishes) next ∙ take_more wishes k wish (slice_get_within wishes k wish is)
+    ∙ ap (λ (w : Wish). take k wishes ++ w ∷ []) (get_or_from_slice_get wishes k wish wish is)
+
+-- with none of this number, those before it are all
+take_all : (wishes : List Wish) (k : ℕ) → slice_get wishes k ≡ None → take k wishes ≡ wishes
+take_all [] zero none = refl
+take_all [] (suc k) none = refl
+take_all (w ∷ ws) zero none = absurd cc
+take_all (w ∷ ws) (suc k) none = ap (λ xs. w ∷ xs) (take_all ws k none)
+
+-- ---- claims that are granted
+
+-- one more
+one_granted : (wishes : List Wish) (claims : List Claiming) (wish : Wish) (claim : Claiming)
+    → AreGrantedFor wishes claims → IsGrantedFor wish claim → AreGrantedFor (wishes ++ wish ∷ []) (claims ++ claim ∷ [])
+one_granted [] [] wish claim granted more = (more, tt)
+one_granted [] (c ∷ cs) wish claim granted more = absurd granted
+one_granted (w ∷ ws) [] wish claim granted more = absurd granted
+one_granted (w ∷ ws) (c ∷ cs) wish claim granted more = (granted.0, one_granted ws cs wish claim granted.1 more)
+
+pub granted_more : (wishes : List Wish) (k n : ℕ) (wish : Wish) (claims items : List Claiming) (claim : Claiming) → slice_get wishes k ≡ Some wish → n ≡ k + 1
+    → items ≡ claims ++ claim ∷ [] → AreGrantedFor (take k wishes) claims → IsGrantedFor wish claim → AreGrantedFor (take n wishes) items
+granted_more wishes k n wish claims items claim is next made granted more =
+    subst (λ ws. AreGrantedFor ws items) (sym (wishes_more wishes k n wish is next))
+    (subst (λ cs. AreGrantedFor (take k wishes ++ wish ∷ []) cs) (sym made) (one_granted (take k wishes) claims wish claim granted more))
+
+pub all_granted : (wishes : List Wish) (k : ℕ) (claims : List Claiming) → slice_get wishes k ≡ None → AreGrantedFor (take k wishes) claims → AreGrantedFor wishes claims
+all_granted wishes k claims none granted = subst (λ ws. AreGrantedFor ws claims) (take_all wishes k none) granted
+
+-- nothing was done under them, so that nothing is to be committed
+settled_each : (wishes : List Wish) (claims : List Claiming) → AreGrantedFor wishes claims → AllByRecursion CanBeSettled claims
+settled_each [] [] granted = tt
+settled_each [] (c ∷ cs) granted = absurd granted
+settled_each (w ∷ ws) [] granted = absurd granted
+settled_each (w ∷ ws) (c ∷ cs) granted = ((λ exclusive. sym granted.0.fresh.left), settled_each ws cs granted.1)
+
+pub granted_settled : (wishes : List Wish) (claims : List Claiming) → AreGrantedFor wishes claims → All CanBeSettled claims
+granted_settled wishes claims granted = All-from_recursion CanBeSettled claims (settled_each wishes claims granted)
+
+-- whatever was left under them can be taken back
+undone_each : (wishes : List Wish) (olds news : List Claiming) → AreGrantedFor wishes olds → AreLeft olds news → AllByRecursion CanBeUndone news
+undone_each wishes [] [] granted left = tt
+undone_each wishes [] (new ∷ news) granted left = absurd left
+undone_each wishes (old ∷ olds) [] granted left = absurd left
+undone_each [] (old ∷ olds) (new ∷ news) granted left = absurd granted
+undone_each (wish ∷ wishes) (old ∷ olds) (new ∷ news) granted left =
+    ((λ exclusive. ap (λ (c : Claiming). c.told) left.0 ∙ sym granted.0.fresh.back ∙ sym (ap (λ (c : Claiming). c.back) left.0)), undone_each wishes olds news granted.1 left.1)
+
+pub left_undone : (wishes : List Wish) (olds news : List Claiming) → AreGrantedFor wishes olds → AreLeft olds news → All CanBeUndone news
+left_undone wishes olds news granted left = All-from_recursion CanBeUndone news (undone_each wishes olds news granted left)
+
+-- before each of an action's wishes none is for its group
+works_wish_once : (work : Work) → AreApart (wishes_of work)
+works_wish_once (Payment work) = payment.works_wish_once work
+works_wish_once (OrderStatus work) = order_status.works_wish_once work
+
+pub apart_at : (work : Work) (k : ℕ) (wish : Wish) → slice_get (wishes_of work) k ≡ Some wish → All (λ (before : Wish). before.group ≢ wish.group) (take k (wishes_of work))
+apart_at work k wish is =
+    subst (λ (w : Wish). All (λ (before : Wish). before.group ≢ w.group) (take k (wishes_of work)))
+    (get_or_from_slice_get (wishes_of work) k wish wish is) (works_wish_once work k wish (slice_get_within (wishes_of work) k wish is))
+
+-- a group for which none of the wishes is up to this one
+pub others_more : (wishes : List Wish) (k n : ℕ) (wish : Wish) (other : Group) → slice_get wishes k ≡ Some wish → n ≡ k + 1
+    → All (λ (w : Wish). w.group ≢ other) (take n wishes) → All (λ (w : Wish). w.group ≢ other) (take k wishes) × (wish.group ≢ other)
+others_more wishes k n wish other is next all =
+    let parts = subst (All (λ (w : Wish). w.group ≢ other)) (wishes_more wishes k n wish is next) all in
+    (All-front (λ (w : Wish). w.group ≢ other) (take k wishes) (wish ∷ []) parts, All-last (λ (w : Wish). w.group ≢ other) (take k wishes) wish parts)
+
+-- who finds the group of a wish held, dies on it
+pub dies_on : (slice : Sliced) (wishes : List Wish) (k : ℕ) (wish : Wish) (group : Group) → slice_get wishes k ≡ Some wish → group ≡ wish.group
+    → (standing slice).free wish.group < 8 → DiesOn slice wishes group
+dies_on slice wishes k wish group is same held =
+    (wish, (k, slice_get_within wishes k wish is, get_or_from_slice_get wishes k wish wish is), sym same, subst (λ (g : Group). (standing slice).free g < 8) (sym same) held)
+
+-- ---- how many they are
+
+pub works_have_wishes : WorksHaveWishes
+works_have_wishes (Payment work) = payment.works_have_wishes work
+works_have_wishes (OrderStatus work) = order_status.works_have_wishes work
+
+-- the claims are on the groups that it wished for
+done_on : (scale : Scale) (work : Work) (found : Found) (claims : List Claiming) → HasDone scale work found claims
+    → map (λ (claim : Claiming). claim.group) claims ≡ groups_of (wishes_of work)
+done_on scale (Payment work) found claims done = payment.done_on scale work done.0 claims done.2
+done_on scale (OrderStatus work) found claims done = order_status.done_on scale work done.0 claims done.2
+
+pub works_have_a_claim_for_each_wish : WorksHaveAClaimForEachWish
+works_have_a_claim_for_each_wish scale work found claims done =
+    sym (length-map claims (λ (claim : Claiming). claim.group)) ∙ ap length (done_on scale work found claims done)
+    ∙ length-map (wishes_of work) (λ (wish : Wish). wish.group)
+
+-- ---- at which warehouse
+
+pub works_claim_at_home : WorksClaimAtHome
+works_claim_at_home (Payment work) = payment.works_claim_at_home work
+works_claim_at_home (OrderStatus work) = order_status.works_claim_at_home work
+
+pub works_have_their_groups : WorksHaveTheirGroups
+works_have_their_groups scale (Payment work) can = payment.works_have_their_groups scale work can
+works_have_their_groups scale (OrderStatus work) can = order_status.works_have_their_groups scale work can
+
+pub works_are_at_warehouses : WorksAreAtWarehouses
+works_are_at_warehouses scale (Payment work) can = payment.works_are_at_warehouses scale work can
+works_are_at_warehouses scale (OrderStatus work) can = order_status.works_are_at_warehouses scale work can
+
+pub works_are_done_at_home : WorksAreDoneAtHome
+works_are_done_at_home scale work found claims done =
+    let here = claims_here (home_of work) (wishes_of work) claims (done_on scale work found claims done) (works_claim_at_home work) in
+    let some = works_have_wishes work in
+    let many = works_have_a_claim_for_each_wish scale work found claims done in
+    (here, of_one_home (home_of work) claims (omega (arith, some, many)) here)

@@ -1,0 +1,5 @@
+use Rattle.transactions.proofs.Wished as law
+use Rattle.transactions.proofs.laws.works_are_done_at_home.Goals as goal
+
+pub returns : goal.returns
+returns c = law.works_are_done_at_home

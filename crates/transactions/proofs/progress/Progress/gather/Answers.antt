@@ -1,0 +1,10 @@
+use Rattle.std.proofs.Common.{subst, sym}
+use Rattle.transactions.specs.declared.progress.Progress.{Progress}
+use Rattle.transactions.specs.Progresses.{FollowsFrom, HasFound}
+use Rattle.transactions.proofs.progress.Progress.gather.Goals as goal
+
+pub gather-requires : goal.gather-requires
+gather-requires c = subst (λ (p : Progress). HasFound p c.args.found.items) c.in-Payment.is c.requires
+
+pub returns-in-Payment : goal.returns-in-Payment
+returns-in-Payment c = subst (λ (p : Progress). FollowsFrom p c.args.found.items c.gather.result) (sym c.in-Payment.is) c.gather.ensures

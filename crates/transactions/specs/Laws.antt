@@ -1,0 +1,99 @@
+-- What the transactions of all kinds keep.
+use Rattle.std.specs.Prelude.{◌≡◌, ◌≤◌, ◌+◌, List, ◌++◌, All, IsTrue, length, map}
+use Rattle.schema.specs.declared.scale.Scale.{Scale}
+use Rattle.schema.specs.Scale.{has_warehouse}
+use Rattle.schema.specs.Database.{Database}
+use Rattle.requests.specs.declared.request.Request.{Request}
+use Rattle.requests.specs.declared.reply.Fault.{Fault}
+use Rattle.requests.specs.declared.reply.Reply.TheVariants as reply
+use Rattle.requests.specs.Check.{IsAccepted}
+use Rattle.groups.specs.Footprint.{footprint, groups_of}
+use Rattle.tickets.specs.Claims.{Claiming, all_claims, leaving}
+use Rattle.tickets.specs.Places.{IsGroupOf}
+use Rattle.commit_log.specs.Claimed.{IsCarriedOut}
+use Rattle.slices.specs.Sliced.{IsClaimAt, AreOfOneHome}
+use Rattle.transactions.specs.declared.laws.TheConstants.{MOST_ACTIONS}
+use Rattle.transactions.specs.declared.work.Work.{Work}
+use Rattle.transactions.specs.declared.work.Found.{Found}
+use Rattle.transactions.specs.declared.progress.Progress.{Progress}
+use Rattle.transactions.specs.Granted.{AreSomeOf, AreWishesAt, wish_of}
+use Rattle.transactions.specs.Works.{CanDo, HasDone, all_wishes, home_of, wishes_of}
+use Rattle.transactions.specs.Progresses.{HoldsSome, IsReached, works_of}
+
+-- the claim once what was done under it is taken back
+abbrev pub undone : Claiming → Claiming
+undone claim = leaving claim claim.back
+
+-- A request that was rolled back was carried out under its claims also as they are once all is taken back.
+abbrev pub RolledBackClaimsCanBeUndone : Type 0
+RolledBackClaimsCanBeUndone =
+    (opening : Database) (r : Request) (claims : List Claiming) (fault : Fault)
+    → IsCarriedOut opening r claims (reply.RolledBack fault) → IsCarriedOut opening r (map undone claims) (reply.RolledBack fault)
+
+-- The groups that an accepted request claims are groups of the scale's warehouses.
+abbrev pub AcceptedRequestsHaveTheirGroups : Type 0
+AcceptedRequestsHaveTheirGroups =
+    (scale : Scale) (r : Request) → IsAccepted scale r → All (IsGroupOf scale.warehouses) (groups_of (footprint r))
+
+-- ---- what an action claims
+
+-- The groups that an action claims for work that it can do are groups of the scale's warehouses.
+abbrev pub WorksHaveTheirGroups : Type 0
+WorksHaveTheirGroups =
+    (scale : Scale) (work : Work) → CanDo scale work → All (IsGroupOf scale.warehouses) (groups_of (wishes_of work))
+
+-- Each work claims some group.
+abbrev pub WorksHaveWishes : Type 0
+WorksHaveWishes = (work : Work) → 1 ≤ length (wishes_of work)
+
+-- The claims under which work was done are as many as its wishes.
+abbrev pub WorksHaveAClaimForEachWish : Type 0
+WorksHaveAClaimForEachWish =
+    (scale : Scale) (work : Work) (found : Found) (claims : List Claiming)
+    → HasDone scale work found claims → length claims ≡ length (wishes_of work)
+
+-- ---- at which warehouse an action does its work
+
+-- The work that can be done is at a warehouse of the scale.
+abbrev pub WorksAreAtWarehouses : Type 0
+WorksAreAtWarehouses = (scale : Scale) (work : Work) → CanDo scale work → IsTrue (has_warehouse scale (home_of work))
+
+-- All that an action claims for its work is the warehouse's.
+abbrev pub WorksClaimAtHome : Type 0
+WorksClaimAtHome = (work : Work) → AreWishesAt (home_of work) (wishes_of work)
+
+-- The claims under which work was done are all on groups of the warehouse, and so of one warehouse.
+abbrev pub WorksAreDoneAtHome : Type 0
+WorksAreDoneAtHome =
+    (scale : Scale) (work : Work) (found : Found) (claims : List Claiming)
+    → HasDone scale work found claims → All (IsClaimAt (home_of work)) claims × AreOfOneHome claims
+
+-- ---- how far a transaction has come
+
+-- The actions of a phase can do their work.
+abbrev pub ActionsCanDoTheirWork : Type 0
+ActionsCanDoTheirWork =
+    (scale : Scale) (asked : Request) (progress : Progress) (held : List Claiming) → IsReached scale asked progress held
+    → All (CanDo scale) (works_of progress)
+
+-- What a transaction holds, and what the actions of its phase claim, is some of its request's footprint, each once.
+abbrev pub ClaimsAreOfTheFootprint : Type 0
+ClaimsAreOfTheFootprint =
+    (scale : Scale) (asked : Request) (progress : Progress) (held : List Claiming) → IsReached scale asked progress held
+    → AreSomeOf (map wish_of held ++ all_wishes (works_of progress)) (footprint asked)
+
+-- What is carried out is a request that its check accepts.
+abbrev pub ReachedRequestsAreAccepted : Type 0
+ReachedRequestsAreAccepted =
+    (scale : Scale) (asked : Request) (progress : Progress) (held : List Claiming) → IsReached scale asked progress held
+    → IsAccepted scale asked
+
+-- Each phase has an action.
+abbrev pub PhasesHaveActions : Type 0
+PhasesHaveActions = (progress : Progress) → 1 ≤ length (works_of progress)
+
+-- The actions of the phases before, with what each of them holds, and those of the phase are few in all.
+abbrev pub TransactionsHaveFewActions : Type 0
+TransactionsHaveFewActions =
+    (scale : Scale) (asked : Request) (progress : Progress) (held : List (List Claiming)) → IsReached scale asked progress (all_claims held)
+    → All HoldsSome held → length held + length (works_of progress) ≤ MOST_ACTIONS

@@ -1,0 +1,9 @@
+pub mod Granted
+pub mod Payment
+pub mod PaymentLaws
+pub mod OrderStatus
+pub mod OrderStatusLaws
+pub mod Works
+pub mod Progresses
+pub mod Acting
+pub mod Laws

@@ -1,0 +1,128 @@
+-- An Order-Status (clause 2.6.2.2): what its actions find, said of their claims alone, what they tell as committed; and its
+-- phases.
+use Rattle.std.specs.Prelude.{◌≡◌, ℕ, List, [], ◌∷◌, Option, Some, None, IsTrue}
+use Rattle.rows.specs.Keys.{district_of_customer}
+use Rattle.rows.specs.declared.keys.CustomerKey.{CustomerKey}
+use Rattle.rows.specs.declared.records.Customer.{Customer}
+use Rattle.schema.specs.declared.scale.Scale.{Scale}
+use Rattle.schema.specs.Scale.{has_district}
+use Rattle.schema.specs.Database.{Database}
+use Rattle.indexes.specs.Namesakes.{Customers, Keyed}
+use Rattle.requests.specs.declared.group.Group.TheVariants as g
+use Rattle.requests.specs.declared.order_status.OrderStatus.{OrderStatus}
+use Rattle.requests.specs.declared.request.Request.{Request}
+use Rattle.requests.specs.declared.request.Request.TheVariants as request
+use Rattle.requests.specs.declared.order_status.OrderStatusReply.{OrderStatusReply}
+use Rattle.requests.specs.declared.order_status.StatusOrder.{StatusOrder}
+use Rattle.requests.specs.Check.{IsAccepted}
+use Rattle.groups.specs.Content.{content}
+use Rattle.groups.specs.Content.Content.{OfCustomers}
+use Rattle.groups.specs.declared.wishes.Wish.{Wish}
+use Rattle.groups.specs.Footprint.{shared}
+use Rattle.tickets.specs.Claims.{Claiming}
+use Rattle.machine.specs.Chosen.{chosen}
+use Rattle.machine.specs.OrderStatus.{latest_shown}
+use Rattle.transactions.specs.declared.order_status.StatusCustomer.{StatusCustomer}
+use Rattle.transactions.specs.declared.order_status.StatusShown.{StatusShown}
+use Rattle.transactions.specs.declared.order_status.CustomerShown.{CustomerShown}
+use Rattle.transactions.specs.declared.order_status.CustomerShown.TheVariants.{Missing, Shown}
+use Rattle.transactions.specs.declared.order_status.Work.{Work}
+use Rattle.transactions.specs.declared.order_status.Work.TheVariants.{ShowCustomer, ShowOrder}
+use Rattle.transactions.specs.declared.order_status.Found.{Found}
+use Rattle.transactions.specs.declared.order_status.Found.TheVariants as found
+use Rattle.transactions.specs.declared.order_status.Progress.{Progress}
+use Rattle.transactions.specs.declared.order_status.Progress.TheVariants.{ReadCustomer, ReadOrder}
+use Rattle.transactions.specs.declared.work.Work.{Work as AnyWork}
+use Rattle.transactions.specs.declared.work.Work.TheVariants as any_work
+use Rattle.transactions.specs.declared.work.Found.{Found as AnyFound}
+use Rattle.transactions.specs.declared.work.Found.TheVariants as any_found
+use Rattle.transactions.specs.Granted.{IsAsked, IsSharedOn}
+
+-- ---- the customer
+
+-- what is shown of a customer's row (clause 2.6.3.4)
+abbrev pub status_customer : Customer → StatusCustomer
+status_customer row = record { first = row.first; middle = row.middle; last = row.last; balance = row.balance }
+
+-- what is found, where this one was chosen
+abbrev pub customer_shown : Option Keyed → CustomerShown
+customer_shown (Some c) = Shown c.0 (status_customer c.1)
+customer_shown None = Missing
+
+-- what an Order-Status found of its customer, among those of the district
+pub record IsCustomerShown (o : OrderStatus) (found : CustomerShown) (customers : Claiming) : Type 0 where
+  pub claim : IsSharedOn (g.Customers o.home.w_id o.home.d_id) customers
+  pub rows : Customers
+  pub told : customers.told ≡ OfCustomers rows
+  pub shown : found ≡ customer_shown (chosen rows o.home o.customer)
+
+-- ---- the customer's last order
+
+-- what it found of the last order: what every tables show of it that have in the group what the claim tells
+pub record IsOrderShown (key : CustomerKey) (order : Option StatusOrder) (orders : Claiming) : Type 0 where
+  pub claim : IsSharedOn (g.Orders key.w_id key.d_id) orders
+  pub shown : (t : Database) → content t orders.group ≡ orders.told → order ≡ latest_shown t key
+
+-- ---- the actions
+
+-- the warehouse at which the work is done
+abbrev pub home_of : Work → ℕ
+home_of (ShowCustomer o) = o.home.w_id
+home_of (ShowOrder key) = key.w_id
+
+-- the groups that an action claims for its work, and how
+abbrev pub wishes_of : Work → List Wish
+wishes_of (ShowCustomer o) = shared (g.Customers o.home.w_id o.home.d_id) ∷ []
+wishes_of (ShowOrder key) = shared (g.Orders key.w_id key.d_id) ∷ []
+
+-- What the work needs: it is of an Order-Status that the check accepts, and whose order it shows is of a district of the scale.
+abbrev pub CanDo : Scale → Work → Type 0
+CanDo scale (ShowCustomer o) = IsAccepted scale (request.OrderStatus o)
+CanDo scale (ShowOrder key) = IsTrue (has_district scale (district_of_customer key))
+
+-- The work found this, and was done under these claims.
+abbrev pub HasDone : Scale → Work → Found → List Claiming → Type 0
+HasDone scale (ShowCustomer o) one claims =
+    (customer : CustomerShown) × (customers : Claiming) × (one ≡ found.Customer customer) × (claims ≡ customers ∷ []) × IsCustomerShown o customer customers
+HasDone scale (ShowOrder key) one claims =
+    (order : Option StatusOrder) × (orders : Claiming) × (one ≡ found.Order order) × (claims ≡ orders ∷ []) × IsOrderShown key order orders
+
+-- ---- the phases
+
+-- the customer was read under this claim
+pub record IsStatusShown (scale : Scale) (asked : Request) (given : StatusShown) (held : List Claiming) : Type 0 where
+  pub order_status : OrderStatus
+  pub is : asked ≡ request.OrderStatus order_status
+  pub accepted : IsAccepted scale asked
+  pub customers : Claiming
+  pub claims : held ≡ customers ∷ []
+  pub shown : IsCustomerShown order_status (Shown given.key given.customer) customers
+
+-- what is known of how far an Order-Status has come, beside the claims of the phases before
+abbrev pub IsReached : Scale → Request → Progress → List Claiming → Type 0
+IsReached scale asked (ReadCustomer o) held = IsAsked scale asked (request.OrderStatus o) held
+IsReached scale asked (ReadOrder given) held = IsStatusShown scale asked given held
+
+-- what the actions of its phase do: the customer is read, and then the customer's last order
+abbrev pub works_of : Progress → List AnyWork
+works_of (ReadCustomer o) = any_work.OrderStatus (ShowCustomer o) ∷ []
+works_of (ReadOrder given) = any_work.OrderStatus (ShowOrder given.key) ∷ []
+
+-- what the first phase found, and the second
+abbrev pub IsCustomerFound : List AnyFound → Type 0
+IsCustomerFound items = (customer : CustomerShown) × (items ≡ any_found.OrderStatus (found.Customer customer) ∷ [])
+
+-- the second phase's action found this of the last order
+abbrev pub IsOrderFound : List AnyFound → Type 0
+IsOrderFound items = (order : Option StatusOrder) × (items ≡ any_found.OrderStatus (found.Order order) ∷ [])
+
+-- what is replied of the customer of that key, with the last order (clause 2.6.3.4)
+abbrev pub reply_shown : CustomerKey → StatusCustomer → Option StatusOrder → OrderStatusReply
+reply_shown key customer order = record {
+  c_id = key.c_id;
+  first = customer.first;
+  middle = customer.middle;
+  last = customer.last;
+  balance = customer.balance;
+  order = order;
+}

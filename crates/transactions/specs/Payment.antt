@@ -1,0 +1,230 @@
+-- A payment (clause 2.5.2.2): what its actions find and do, said of their claims alone, what they tell as committed and what
+-- they left; and its phases.
+use Rattle.std.specs.Prelude.{◌≡◌, ◌⊎◌, ℕ, pos, List, [], ◌∷◌, ◌++◌, Option, Some, None, unwrap_or, IsTrue}
+use Rattle.std.specs.FinMap as map
+use Rattle.rows.specs.PaymentNote.{payment_note}
+use Rattle.rows.specs.declared.keys.CustomerKey.{CustomerKey}
+use Rattle.rows.specs.declared.records.Warehouse.{Warehouse}
+use Rattle.rows.specs.declared.records.District.{District}
+use Rattle.rows.specs.declared.records.Customer.{Customer}
+use Rattle.rows.specs.declared.records.History.{History}
+use Rattle.schema.specs.declared.scale.Scale.{Scale}
+use Rattle.schema.specs.Scale.{customer_key, has_customer}
+use Rattle.indexes.specs.Namesakes.{Customers}
+use Rattle.requests.specs.declared.group.Group.TheVariants as g
+use Rattle.requests.specs.declared.payment.Payment.{Payment}
+use Rattle.requests.specs.declared.request.Request.{Request}
+use Rattle.requests.specs.declared.request.Request.TheVariants as request
+use Rattle.requests.specs.declared.reply.Fault.TheVariants.{NoCustomer, Range}
+use Rattle.requests.specs.declared.payment.PaymentReply.{PaymentReply}
+use Rattle.requests.specs.Check.{IsAccepted}
+use Rattle.groups.specs.Content.Content.{OfWarehouse, OfDistrict, OfCustomers, OfHistory}
+use Rattle.groups.specs.declared.wishes.Wish.{Wish}
+use Rattle.groups.specs.Footprint.{exclusively}
+use Rattle.tickets.specs.Claims.{Claiming}
+use Rattle.machine.specs.Chosen.{chosen}
+use Rattle.machine.specs.Payment.{warehouse_paid, district_paid, customer_paid, payment_reply, history_row}
+use Rattle.transactions.specs.declared.payment.HomePaid.{HomePaid}
+use Rattle.transactions.specs.declared.payment.HomePaid.TheVariants as h
+use Rattle.transactions.specs.declared.payment.CustomerPaid.{CustomerPaid}
+use Rattle.transactions.specs.declared.payment.CustomerPaid.TheVariants as c
+use Rattle.transactions.specs.declared.payment.Paid.{Paid}
+use Rattle.transactions.specs.declared.payment.Work.{Work}
+use Rattle.transactions.specs.declared.payment.Work.TheVariants.{PayHome, PayCustomer, AddPayment}
+use Rattle.transactions.specs.declared.payment.Found.{Found}
+use Rattle.transactions.specs.declared.payment.Found.TheVariants as found
+use Rattle.transactions.specs.declared.payment.Progress.{Progress}
+use Rattle.transactions.specs.declared.payment.Progress.TheVariants.{PayRows, AddRow}
+use Rattle.transactions.specs.declared.work.Work.{Work as AnyWork}
+use Rattle.transactions.specs.declared.work.Work.TheVariants as any_work
+use Rattle.transactions.specs.declared.work.Found.{Found as AnyFound}
+use Rattle.transactions.specs.declared.work.Found.TheVariants as any_found
+use Rattle.transactions.specs.declared.progress.Progress.TheVariants as any_progress
+use Rattle.transactions.specs.declared.progress.Gathered.{Gathered}
+use Rattle.transactions.specs.declared.progress.Gathered.TheVariants.{Next, RollBack}
+use Rattle.transactions.specs.Granted.{IsAsked, IsExclusiveOn}
+
+-- ---- the home warehouse and district
+
+-- one of the two rows isn't there, and nothing is done
+pub record IsHomeMissing (warehouse district : Claiming) : Type 0 where
+  pub none : (warehouse.told ≡ OfWarehouse None) ⊎ (district.told ≡ OfDistrict None)
+  pub warehouse_left : warehouse.left ≡ warehouse.told
+  pub district_left : district.left ≡ district.told
+
+-- both are there, a sum would leave its range, and nothing is done
+pub record IsHomeOutOfRange (p : Payment) (warehouse district : Claiming) : Type 0 where
+  pub warehouse_row : Warehouse
+  pub district_row : District
+  pub warehouse_told : warehouse.told ≡ OfWarehouse (Some warehouse_row)
+  pub district_told : district.told ≡ OfDistrict (Some district_row)
+  pub out : (warehouse_paid warehouse_row (pos p.amount) ≡ None) ⊎ (district_paid district_row (pos p.amount) ≡ None)
+  pub warehouse_left : warehouse.left ≡ warehouse.told
+  pub district_left : district.left ≡ district.told
+
+-- both are there and have these names, and left are both with the amount added
+pub record AreHomeRowsPaid (p : Payment) (warehouse_name district_name : List ℕ) (warehouse district : Claiming) : Type 0 where
+  pub warehouse_row : Warehouse
+  pub district_row : District
+  pub warehouse_told : warehouse.told ≡ OfWarehouse (Some warehouse_row)
+  pub district_told : district.told ≡ OfDistrict (Some district_row)
+  pub warehouse_named : warehouse_name ≡ warehouse_row.name
+  pub district_named : district_name ≡ district_row.name
+  pub new_warehouse : Warehouse
+  pub new_district : District
+  pub warehouse_made : warehouse_paid warehouse_row (pos p.amount) ≡ Some new_warehouse
+  pub district_made : district_paid district_row (pos p.amount) ≡ Some new_district
+  pub warehouse_left : warehouse.left ≡ OfWarehouse (Some new_warehouse)
+  pub district_left : district.left ≡ OfDistrict (Some new_district)
+
+-- by what was found: the rows are missing, or a sum would leave its range, or both rows are paid
+abbrev pub FindsHome : Payment → HomePaid → Claiming → Claiming → Type 0
+FindsHome p h.Missing warehouse district = IsHomeMissing warehouse district
+FindsHome p h.OutOfRange warehouse district = IsHomeOutOfRange p warehouse district
+FindsHome p (h.Paid warehouse_name district_name) warehouse district =
+    AreHomeRowsPaid p warehouse_name district_name warehouse district
+
+-- what a payment found of its home warehouse and district, and did there
+pub record IsHomePaid (p : Payment) (found : HomePaid) (warehouse district : Claiming) : Type 0 where
+  pub warehouse_claim : IsExclusiveOn (g.Warehouse p.home.w_id) warehouse
+  pub district_claim : IsExclusiveOn (g.District p.home.w_id p.home.d_id) district
+  pub rows : FindsHome p found warehouse district
+
+-- ---- the customer
+
+-- the customer's row with the amount paid, or none where a sum would leave its range
+abbrev pub payer_paid : Payment → CustomerKey → Customer → Option Customer
+payer_paid p key row = customer_paid row (payment_note key p.home p.amount) (pos p.amount)
+
+-- the district has no such customer, and nothing is done
+pub record IsCustomerMissing (p : Payment) (customers : Claiming) : Type 0 where
+  pub rows : Customers
+  pub told : customers.told ≡ OfCustomers rows
+  pub missing : chosen rows p.customer_home p.customer ≡ None
+  pub left : customers.left ≡ customers.told
+
+-- the customer is there, a sum would leave its range, and nothing is done
+pub record IsCustomerOutOfRange (p : Payment) (customers : Claiming) : Type 0 where
+  pub rows : Customers
+  pub key : CustomerKey
+  pub row : Customer
+  pub told : customers.told ≡ OfCustomers rows
+  pub there : chosen rows p.customer_home p.customer ≡ Some (key, row)
+  pub out : payer_paid p key row ≡ None
+  pub left : customers.left ≡ customers.told
+
+-- the customer is there, left is the customer's row with the amount paid, and the reply shows that
+pub record IsCustomerRowPaid (p : Payment) (reply : PaymentReply) (customers : Claiming) : Type 0 where
+  pub rows : Customers
+  pub key : CustomerKey
+  pub row : Customer
+  pub told : customers.told ≡ OfCustomers rows
+  pub there : chosen rows p.customer_home p.customer ≡ Some (key, row)
+  pub new_row : Customer
+  pub made : payer_paid p key row ≡ Some new_row
+  pub left : customers.left ≡ OfCustomers (map.insert rows key new_row)
+  pub shown : reply ≡ payment_reply key new_row
+
+-- by what was found: there is no such customer, or a sum would leave its range, or the customer's row is paid
+abbrev pub FindsCustomer : Payment → CustomerPaid → Claiming → Type 0
+FindsCustomer p c.Missing customers = IsCustomerMissing p customers
+FindsCustomer p c.OutOfRange customers = IsCustomerOutOfRange p customers
+FindsCustomer p (c.Paid reply) customers = IsCustomerRowPaid p reply customers
+
+-- what a payment found of its customer, and did there
+pub record IsCustomerPaid (p : Payment) (found : CustomerPaid) (customers : Claiming) : Type 0 where
+  pub claim : IsExclusiveOn (g.Customers p.customer_home.w_id p.customer_home.d_id) customers
+  pub rows : FindsCustomer p found customers
+
+-- a customer whose row is paid is one of the scale
+abbrev pub IsPayerKnown : Scale → Payment → CustomerPaid → Type 0
+IsPayerKnown scale p (c.Paid reply) = IsTrue (has_customer scale (customer_key p.customer_home reply.c_id))
+IsPayerKnown scale p _ = Unit {0}
+
+-- ---- the list of payments
+
+-- left is the home district's list with the row at its end
+pub record IsPaymentAdded (p : Payment) (row : History) (history : Claiming) : Type 0 where
+  pub claim : IsExclusiveOn (g.History p.home.w_id p.home.d_id) history
+  pub rows : Option (List History)
+  pub told : history.told ≡ OfHistory rows
+  pub left : history.left ≡ OfHistory (Some (unwrap_or rows [] ++ row ∷ []))
+
+-- ---- the actions
+
+-- the warehouse at which the work is done
+abbrev pub home_of : Work → ℕ
+home_of (PayHome p) = p.home.w_id
+home_of (PayCustomer p) = p.customer_home.w_id
+home_of (AddPayment p row) = p.home.w_id
+
+-- the groups that an action claims for its work, and how
+abbrev pub wishes_of : Work → List Wish
+wishes_of (PayHome p) = exclusively (g.Warehouse p.home.w_id) ∷ exclusively (g.District p.home.w_id p.home.d_id) ∷ []
+wishes_of (PayCustomer p) = exclusively (g.Customers p.customer_home.w_id p.customer_home.d_id) ∷ []
+wishes_of (AddPayment p row) = exclusively (g.History p.home.w_id p.home.d_id) ∷ []
+
+-- What the work needs: it is of a payment that the check accepts, and whom it names is one of the scale.
+abbrev pub CanDo : Scale → Work → Type 0
+CanDo scale (PayHome p) = IsAccepted scale (request.Payment p)
+CanDo scale (PayCustomer p) = IsAccepted scale (request.Payment p)
+CanDo scale (AddPayment p row) = IsAccepted scale (request.Payment p) × IsTrue (has_customer scale row.customer)
+
+-- The work found this, and was done under these claims.
+abbrev pub HasDone : Scale → Work → Found → List Claiming → Type 0
+HasDone scale (PayHome p) one claims =
+    (home : HomePaid) × (warehouse : Claiming) × (district : Claiming)
+    × (one ≡ found.Home home) × (claims ≡ warehouse ∷ district ∷ []) × IsHomePaid p home warehouse district
+HasDone scale (PayCustomer p) one claims =
+    (customer : CustomerPaid) × (customers : Claiming)
+    × (one ≡ found.Customer customer) × (claims ≡ customers ∷ []) × IsCustomerPaid p customer customers × IsPayerKnown scale p customer
+HasDone scale (AddPayment p row) one claims = (history : Claiming) × (one ≡ found.Added) × (claims ≡ history ∷ []) × IsPaymentAdded p row history
+
+-- ---- the phases
+
+-- a payment that has this reply, at a warehouse and a district of these names: its row of HISTORY names the customer whom the
+-- reply shows
+abbrev pub paid_with : Payment → PaymentReply → List ℕ → List ℕ → Paid
+paid_with p reply warehouse district = record {
+  payment = p;
+  row = history_row p (customer_key p.customer_home reply.c_id) warehouse district;
+  reply = reply;
+}
+
+-- What becomes of a payment that found this. A row that isn't there comes before a sum out of its range.
+abbrev pub gathered : Payment → HomePaid → CustomerPaid → Gathered
+gathered p (h.Paid warehouse district) (c.Paid reply) = Next (any_progress.Payment (AddRow (paid_with p reply warehouse district)))
+gathered p h.Missing _ = RollBack NoCustomer
+gathered p h.OutOfRange c.Missing = RollBack NoCustomer
+gathered p (h.Paid warehouse district) c.Missing = RollBack NoCustomer
+gathered p _ _ = RollBack Range
+
+-- the home rows and the customer's have been paid under these claims, and the row and the reply are what follows
+pub record IsPaid (scale : Scale) (asked : Request) (given : Paid) (held : List Claiming) : Type 0 where
+  pub is : asked ≡ request.Payment given.payment
+  pub accepted : IsAccepted scale asked
+  pub warehouse : Claiming
+  pub district : Claiming
+  pub customers : Claiming
+  pub claims : held ≡ warehouse ∷ district ∷ customers ∷ []
+  pub home : HomePaid
+  pub customer : CustomerPaid
+  pub home_paid : IsHomePaid given.payment home warehouse district
+  pub customer_paid : IsCustomerPaid given.payment customer customers
+  pub payer : IsPayerKnown scale given.payment customer
+  pub next : gathered given.payment home customer ≡ Next (any_progress.Payment (AddRow given))
+
+-- what is known of how far a payment has come, beside the claims of the phases before
+abbrev pub IsReached : Scale → Request → Progress → List Claiming → Type 0
+IsReached scale asked (PayRows p) held = IsAsked scale asked (request.Payment p) held
+IsReached scale asked (AddRow given) held = IsPaid scale asked given held
+
+-- what the actions of its phase do: place 0 pays the home rows, and place 1 the customer's; then the row is added
+abbrev pub works_of : Progress → List AnyWork
+works_of (PayRows p) = any_work.Payment (PayHome p) ∷ any_work.Payment (PayCustomer p) ∷ []
+works_of (AddRow given) = any_work.Payment (AddPayment given.payment given.row) ∷ []
+
+-- what the actions of the first phase found, in turn
+abbrev pub AreRowsFound : List AnyFound → Type 0
+AreRowsFound items =
+    (home : HomePaid) × (customer : CustomerPaid) × (items ≡ any_found.Payment (found.Home home) ∷ any_found.Payment (found.Customer customer) ∷ [])

@@ -1,0 +1,320 @@
+//! An Order-Status (clause 2.6): what its actions do and find, its phases, and its law. It reads its customer, and
+//! then the customer's last order (clause 2.6.2.2).
+ghost use Rattle.std.specs.Prelude.{◌≡◌, [], ◌∷◌, length, slice_get, IfOk, OnErr};
+ghost use Rattle.requests.specs.declared.group.Group.TheVariants as group;
+ghost use Rattle.slices.specs.Sliced.{SliceKeeps};
+ghost use Rattle.transactions.specs.declared.order_status.CustomerShown.{CustomerShown as AnyCustomerShown};
+ghost use Rattle.transactions.specs.declared.work.Found.TheVariants as any_found;
+ghost use Rattle.transactions.specs.declared.progress.Progress.TheVariants as any;
+ghost use Rattle.transactions.specs.Granted.{AreGrantedFor, AreLeft, IsSharedOn};
+ghost use Rattle.transactions.specs.OrderStatus.{CanDo, HasDone, IsCustomerFound, IsCustomerShown, IsOrderFound, IsOrderShown, home_of, reply_shown, wishes_of, works_of};
+ghost use Rattle.transactions.specs.OrderStatusLaws.{AcceptedStatusesHaveTheirDistrict, OrderStatusesAreCarriedOut, RolledBackOrderStatusesAreCarriedOut, ShownCustomersAreAtHome};
+ghost use Rattle.transactions.specs.Progresses.{FollowsFrom, HasFound};
+
+use crate::progress::Gathered;
+use crate::work::shared;
+use amounts::Cents;
+use groups::Wish;
+use machine::{chosen, latest_shown};
+use requests::{Fault, Group, OrderStatus, OrderStatusReply, Reply, Shown, StatusOrder};
+use schema::{CustomerKey, DistrictKey, NoMemory, Text};
+use slices::Slice;
+use std::alloc::Global;
+use tickets::{Claim, Naming};
+
+/// What an action of an Order-Status does.
+#[derive(Drop)]
+pub enum Work {
+    /// Its customer is read.
+    ShowCustomer(OrderStatus),
+    /// The customer's last order is read.
+    ShowOrder(CustomerKey),
+}
+
+/// What an action of an Order-Status found.
+#[derive(Drop)]
+pub enum Found {
+    Customer(CustomerShown),
+    /// `None` where the customer has no order.
+    Order(Option<StatusOrder>),
+}
+
+/// What Order-Status shows of a customer's row (clause 2.6.3.4).
+#[derive(Clone, Debug, PartialEq, Eq, Drop)]
+pub struct StatusCustomer {
+    pub first: Text<16>,
+    pub middle: Text<2>,
+    pub last: Text<16>,
+    /// C_BALANCE, in cents: -10^15 to 10^15.
+    pub balance: Cents,
+}
+
+/// What an Order-Status finds of its customer.
+#[derive(Clone, Debug, PartialEq, Eq, Drop)]
+pub enum CustomerShown {
+    /// The district has no such customer.
+    Missing,
+    /// Who was chosen, and what is shown of the row.
+    Shown {
+        key: CustomerKey,
+        customer: StatusCustomer,
+    },
+}
+
+/// How far an Order-Status has come: its phase, with what that was given.
+#[derive(Drop)]
+pub enum Progress {
+    /// Its customer is read.
+    ReadCustomer(OrderStatus),
+    /// The last order is read of the customer who was.
+    ReadOrder(StatusShown),
+}
+
+/// An Order-Status whose customer was read.
+#[derive(Drop)]
+pub struct StatusShown {
+    pub key: CustomerKey,
+    pub customer: StatusCustomer,
+}
+
+impl Work {
+    // The W_ID of the warehouse at which it is done.
+    pub(crate) fn home(&self) -> u32
+        ensures { result ≡ home_of self.now }
+    {
+        match self {
+            Work::ShowCustomer(asked) => asked.home.w_id,
+            Work::ShowOrder(key) => key.w_id,
+        }
+    }
+
+    // How many groups it claims.
+    pub(crate) fn wish_count(&self) -> usize
+        ensures { result ≡ length (wishes_of self.now) }
+    {
+        match self {
+            Work::ShowCustomer(_) => 1,
+            Work::ShowOrder(_) => 1,
+        }
+    }
+
+    // The wish of this number, from 0.
+    pub(crate) fn wish(&self, number: usize) -> Option<Wish>
+        ensures { result ≡ slice_get (wishes_of self.now) number }
+    {
+        let group = match self {
+            Work::ShowCustomer(asked) => {
+                let DistrictKey { w_id, d_id } = asked.home;
+                Group::Customers { w_id, d_id }
+            }
+            Work::ShowOrder(CustomerKey { w_id, d_id, .. }) => Group::Orders {
+                w_id: *w_id,
+                d_id: *d_id,
+            },
+        };
+        match number {
+            0 => Some(shared(group)),
+            _ => None,
+        }
+    }
+
+    // Does the work, in the slice of its warehouse, under the claims that were granted for it. It changes
+    // nothing.
+    pub(crate) fn run<J: Naming>(
+        self,
+        alloc: Global,
+        slice: &mut Slice<J>,
+        claims: &mut [Claim<J>],
+    ) -> Result<Found, NoMemory>
+        requires can { CanDo slice.old.tables.scale self }
+        requires home { home_of self ≡ slice.old.home }
+        requires granted { AreGrantedFor (wishes_of self) claims.old }
+        ensures kept { SliceKeeps claims.old slice.old claims.new slice.new }
+        ensures done { IfOk result (λ found. HasDone slice.old.tables.scale self found claims.new) }
+        ensures left { AreLeft claims.old claims.new }
+        ensures err { OnErr result (claims.new ≡ claims.old) }
+    {
+        match self {
+            Work::ShowCustomer(asked) => {
+                Ok(Found::Customer(show_customer(slice, &mut claims[0], &asked)))
+            }
+            Work::ShowOrder(key) => {
+                Ok(Found::Order(show_order(alloc, slice, &mut claims[0], key)?))
+            }
+        }
+    }
+}
+
+/// Shows the customer of an Order-Status, who is chosen by number or by last name. It takes no memory, and
+/// changes nothing.
+pub fn show_customer<J: Naming>(
+    slice: &mut Slice<J>,
+    customers: &mut Claim<J>,
+    asked: &OrderStatus,
+) -> CustomerShown
+    requires claim { IsSharedOn (group.Customers asked.now.home.w_id asked.now.home.d_id) customers.old }
+    requires home { asked.now.home.w_id ≡ slice.old.home }
+    ensures shown { IsCustomerShown asked.now result customers.new }
+    ensures same { (slice.new ≡ slice.old) × (customers.new ≡ customers.old) }
+{
+    customers.look_untouched();
+    slice.look(customers);
+    match chosen(
+        slice.partition(),
+        slice.names(),
+        asked.home,
+        &asked.customer,
+    ) {
+        None => CustomerShown::Missing,
+        Some((key, row)) => CustomerShown::Shown {
+            key,
+            customer: StatusCustomer {
+                first: row.first.copy(),
+                middle: row.middle.copy(),
+                last: row.last.copy(),
+                balance: row.balance,
+            },
+        },
+    }
+}
+
+/// Shows the customer's last order with its lines; `None` exactly where there is none. It changes nothing,
+/// and its lines alone take memory.
+pub fn show_order<J: Naming>(
+    alloc: Global,
+    slice: &mut Slice<J>,
+    orders: &mut Claim<J>,
+    key: CustomerKey,
+) -> Result<Option<StatusOrder>, NoMemory>
+    requires claim { IsSharedOn (group.Orders key.w_id key.d_id) orders.old }
+    requires home { key.w_id ≡ slice.old.home }
+    ensures shown { IfOk result (λ order. IsOrderShown key order orders.new) }
+    ensures same { (slice.new ≡ slice.old) × (orders.new ≡ orders.old) }
+{
+    orders.look_untouched();
+    slice.look(orders);
+    latest_shown(alloc, slice.partition(), slice.latest(), key)
+}
+
+impl Progress {
+    // What the actions of its phase do, by place. Want of memory leaves nothing behind.
+    pub(crate) fn works(&self, alloc: Global) -> Result<Vec<crate::Work>, NoMemory>
+        ensures { IfOk result (λ works. works.items ≡ works_of self.now) }
+    {
+        let work = match self {
+            Progress::ReadCustomer(asked) => Work::ShowCustomer(asked.clone()?),
+            Progress::ReadOrder(shown) => Work::ShowOrder(shown.key),
+        };
+        let mut works = Vec::with_capacity(alloc, 1)?;
+        works.push(crate::Work::OrderStatus(work))?;
+        Ok(works)
+    }
+
+    // What follows, by what its actions found, by place.
+    pub(crate) fn gather(self, found: Vec<crate::Found>) -> Gathered
+        requires { HasFound (any.OrderStatus self) found.items }
+        ensures { FollowsFrom (any.OrderStatus self) found.items result }
+    {
+        match self {
+            Progress::ReadCustomer(asked) => gather_customer(asked, found),
+            Progress::ReadOrder(shown) => gather_order(shown, found),
+        }
+    }
+}
+
+// The first phase has met: who was read, or that the customer isn't there.
+fn gather_customer(asked: OrderStatus, found: Vec<crate::Found>) -> Gathered
+    requires { HasFound (any.OrderStatus (Progress.ReadCustomer asked)) found.items }
+    ensures { FollowsFrom (any.OrderStatus (Progress.ReadCustomer asked)) found.items result }
+{
+    drop(asked);
+    match customer_found(found) {
+        CustomerShown::Missing => Gathered::RollBack(Fault::NoCustomer),
+        CustomerShown::Shown { key, customer } => Gathered::Next(crate::Progress::OrderStatus(
+            Progress::ReadOrder(StatusShown { key, customer }),
+        )),
+    }
+}
+
+// The second phase has met: the Order-Status is carried out.
+fn gather_order(shown: StatusShown, found: Vec<crate::Found>) -> Gathered
+    requires { HasFound (any.OrderStatus (Progress.ReadOrder shown)) found.items }
+    ensures { FollowsFrom (any.OrderStatus (Progress.ReadOrder shown)) found.items result }
+{
+    let order = order_found(found);
+    let said = reply_of(shown, order);
+    Gathered::Finish(Reply::Done(Shown::OrderStatus(said)))
+}
+
+// What is replied of this customer, with this as the last order.
+fn reply_of(shown: StatusShown, order: Option<StatusOrder>) -> OrderStatusReply
+    ensures { result ≡ reply_shown shown.key shown.customer order }
+{
+    OrderStatusReply {
+        c_id: shown.key.c_id,
+        first: shown.customer.first,
+        middle: shown.customer.middle,
+        last: shown.customer.last,
+        balance: shown.customer.balance,
+        order,
+    }
+}
+
+// What the first phase found.
+fn customer_found(mut found: Vec<crate::Found>) -> CustomerShown
+    requires { IsCustomerFound found.items }
+    ensures { found.items ≡ any_found.OrderStatus (Found.Customer result) ∷ [] }
+{
+    let Some(customer) = found.pop() else {
+        unreachable!()
+    };
+    match customer {
+        crate::Found::OrderStatus(customer) => customer_of_found(customer),
+        _ => unreachable!(),
+    }
+}
+
+fn customer_of_found(found: Found) -> CustomerShown
+    requires { (customer : AnyCustomerShown) × (found ≡ Found.Customer customer) }
+    ensures { found ≡ Found.Customer result }
+{
+    match found {
+        Found::Customer(customer) => customer,
+        Found::Order(_) => unreachable!(),
+    }
+}
+
+// What the second phase found.
+fn order_found(mut found: Vec<crate::Found>) -> Option<StatusOrder>
+    requires { IsOrderFound found.items }
+    ensures { found.items ≡ any_found.OrderStatus (Found.Order result) ∷ [] }
+{
+    let Some(order) = found.pop() else {
+        unreachable!()
+    };
+    match order {
+        crate::Found::OrderStatus(Found::Order(order)) => order,
+        _ => unreachable!(),
+    }
+}
+
+/// Where each action read its part, the Order-Status is carried out as the machine does it: the reply is the
+/// machine's, and nothing changes.
+pub fn order_statuses_are_carried_out()
+    ensures { OrderStatusesAreCarriedOut }
+{}
+
+/// Where the customer isn't there, the machine rolls the Order-Status back, with that fault.
+pub fn rolled_back_order_statuses_are_carried_out()
+    ensures { RolledBackOrderStatusesAreCarriedOut }
+{}
+
+/// The customer who is shown belongs to the district that was asked of, so the order is looked for there.
+pub fn shown_customers_are_at_home()
+    ensures { ShownCustomersAreAtHome }
+{}
+
+/// The scale has the home district of an accepted Order-Status.
+pub fn accepted_statuses_have_their_district()
+    ensures { AcceptedStatusesHaveTheirDistrict }
+{}

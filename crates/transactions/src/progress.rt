@@ -1,0 +1,66 @@
+//! How far a transaction has come, by kind, and what follows of what the actions of its phase found.
+ghost use Rattle.std.specs.Prelude.{◌≡◌, List, IfOk};
+ghost use Rattle.schema.specs.declared.scale.Scale.{Scale};
+ghost use Rattle.requests.specs.declared.request.Request.{Request as AnyRequest};
+ghost use Rattle.tickets.specs.Claims.{Claiming};
+ghost use Rattle.transactions.specs.Granted.{IsAsked};
+ghost use Rattle.transactions.specs.Progresses.{FollowsFrom, HasFound, IsReached, works_of};
+
+use crate::work::{Found, Work};
+use crate::{order_status, payment};
+use requests::{Fault, Reply, Request};
+use schema::NoMemory;
+use std::alloc::Global;
+
+/// How far a transaction has come: its phase, with what that was given.
+#[derive(Drop)]
+pub enum Progress {
+    Payment(payment::Progress),
+    OrderStatus(order_status::Progress),
+}
+
+/// What becomes of a transaction, by all that the actions of a phase found.
+#[derive(Drop)]
+pub enum Gathered {
+    /// The next phase.
+    Next(Progress),
+    /// It was carried out, with this reply.
+    Finish(Reply),
+    /// It was carried out, with this fault as its reply: all that was done is to be taken back.
+    RollBack(Fault),
+}
+
+impl Progress {
+    /// Where a transaction begins.
+    pub fn begin(request: Request) -> Progress
+        ensures { (scale : Scale) (asked : AnyRequest) (held : List Claiming) → IsAsked scale asked request held → IsReached scale asked result held }
+    {
+        match request {
+            Request::Payment(payment) => Progress::Payment(payment::Progress::PayRows(payment)),
+            Request::OrderStatus(asked) => {
+                Progress::OrderStatus(order_status::Progress::ReadCustomer(asked))
+            }
+        }
+    }
+
+    /// What the actions of its phase do, by place. Want of memory leaves nothing behind.
+    pub fn works(&self, alloc: Global) -> Result<Vec<Work>, NoMemory>
+        ensures { IfOk result (λ works. works.items ≡ works_of self.now) }
+    {
+        match self {
+            Progress::Payment(progress) => progress.works(alloc),
+            Progress::OrderStatus(progress) => progress.works(alloc),
+        }
+    }
+
+    /// What follows, by what the actions of its phase found, by place.
+    pub fn gather(self, found: Vec<Found>) -> Gathered
+        requires { HasFound self found.items }
+        ensures { FollowsFrom self found.items result }
+    {
+        match self {
+            Progress::Payment(progress) => progress.gather(found),
+            Progress::OrderStatus(progress) => progress.gather(found),
+        }
+    }
+}

@@ -1,0 +1,103 @@
+//! What the actions of all transactions do and find, by kind.
+ghost use Rattle.std.specs.Prelude.{◌≡◌, length, slice_get, IfOk, OnErr};
+ghost use Rattle.groups.specs.Footprint as footprint;
+ghost use Rattle.slices.specs.Sliced.{SliceKeeps};
+ghost use Rattle.transactions.specs.Granted.{AreGrantedFor, AreLeft};
+ghost use Rattle.transactions.specs.Works.{CanDo, HasDone, home_of, wishes_of};
+
+use crate::{order_status, payment};
+use groups::{Mode, Wish};
+use requests::Group;
+use schema::NoMemory;
+use slices::Slice;
+use std::alloc::Global;
+use tickets::{Claim, Naming};
+
+/// What an action does, with all that it needs for it.
+#[derive(Drop)]
+pub enum Work {
+    Payment(payment::Work),
+    OrderStatus(order_status::Work),
+}
+
+/// What an action found.
+#[derive(Drop)]
+pub enum Found {
+    Payment(payment::Found),
+    OrderStatus(order_status::Found),
+}
+
+impl Work {
+    /// The W_ID of the warehouse at which the action does its work. All that it claims is there.
+    pub fn home(&self) -> u32
+        ensures { result ≡ home_of self.now }
+    {
+        match self {
+            Work::Payment(work) => work.home(),
+            Work::OrderStatus(work) => work.home(),
+        }
+    }
+
+    /// How many groups the action claims for its work: at least one.
+    pub fn wish_count(&self) -> usize
+        ensures { result ≡ length (wishes_of self.now) }
+    {
+        match self {
+            Work::Payment(work) => work.wish_count(),
+            Work::OrderStatus(work) => work.wish_count(),
+        }
+    }
+
+    /// The wish of this number, from 0, of those that the action has for its work: a group, and how it is
+    /// claimed. They are no more than `wish_count`. It takes no memory.
+    pub fn wish(&self, number: usize) -> Option<Wish>
+        ensures { result ≡ slice_get (wishes_of self.now) number }
+    {
+        match self {
+            Work::Payment(work) => work.wish(number),
+            Work::OrderStatus(work) => work.wish(number),
+        }
+    }
+}
+
+// A wish to change the group.
+pub(crate) fn exclusively(group: Group) -> Wish
+    ensures { result ≡ footprint.exclusively group }
+{
+    Wish {
+        group,
+        mode: Mode::Exclusive,
+    }
+}
+
+// A wish to read the group.
+pub(crate) fn shared(group: Group) -> Wish
+    ensures { result ≡ footprint.shared group }
+{
+    Wish {
+        group,
+        mode: Mode::Shared,
+    }
+}
+
+/// Does the work, in the slice of its warehouse, under the claims that were granted for it. Want of memory
+/// leaves all as it was.
+pub fn run<J: Naming>(
+    alloc: Global,
+    slice: &mut Slice<J>,
+    claims: &mut [Claim<J>],
+    work: Work,
+) -> Result<Found, NoMemory>
+    requires can { CanDo slice.old.tables.scale work }
+    requires home { home_of work ≡ slice.old.home }
+    requires granted { AreGrantedFor (wishes_of work) claims.old }
+    ensures kept { SliceKeeps claims.old slice.old claims.new slice.new }
+    ensures done { IfOk result (λ found. HasDone slice.old.tables.scale work found claims.new) }
+    ensures left { AreLeft claims.old claims.new }
+    ensures err { OnErr result (claims.new ≡ claims.old) }
+{
+    match work {
+        Work::Payment(work) => Ok(Found::Payment(work.run(slice, claims)?)),
+        Work::OrderStatus(work) => Ok(Found::OrderStatus(work.run(alloc, slice, claims)?)),
+    }
+}
