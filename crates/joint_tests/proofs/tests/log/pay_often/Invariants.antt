@@ -1,5 +1,5 @@
 use Rattle.std.proofs.Common.{◌≡◌, ◌≤◌}
-use Rattle.worked_rows.proofs.tests.log.pay_often.Given as goal
+use Rattle.joint_tests.proofs.tests.log.pay_often.Given as goal
 
 abbrev pub invariant-loop-number : goal.invariant-loop-number
 invariant-loop-number g l = record {

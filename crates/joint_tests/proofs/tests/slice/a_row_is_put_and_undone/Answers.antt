@@ -4,7 +4,7 @@ use Rattle.tickets.specs.Openings.{opened}
 use Rattle.tickets.specs.Places.{place_of}
 use Rattle.tickets.specs.Unset.{no_table, nothing}
 use Rattle.tickets.proofs.OnePlace.{place_inside}
-use Rattle.worked_rows.proofs.tests.slice.a_row_is_put_and_undone.Goals as goal
+use Rattle.joint_tests.proofs.tests.slice.a_row_is_put_and_undone.Goals as goal
 
 pub put_and_undone-told-requires-clause-names : goal.put_and_undone-told-requires-clause-names
 put_and_undone-told-requires-clause-names g c = λ group d known.

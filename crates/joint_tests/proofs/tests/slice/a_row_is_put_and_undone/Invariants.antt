@@ -3,7 +3,7 @@ use Rattle.std.specs.Prelude.{slice_index_or}
 use Rattle.tickets.specs.Openings.{opened}
 use Rattle.tickets.specs.Places.{place_of}
 use Rattle.tickets.specs.Unset.{no_table, nothing}
-use Rattle.worked_rows.proofs.tests.slice.a_row_is_put_and_undone.Given as goal
+use Rattle.joint_tests.proofs.tests.slice.a_row_is_put_and_undone.Given as goal
 
 abbrev pub ghosts-put_and_undone : goal.ghosts-put_and_undone
 ghosts-put_and_undone g a = record {
