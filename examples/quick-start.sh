@@ -1,49 +1,88 @@
 #!/usr/bin/env bash
-# Proves and builds the program, has it serve two scripts at the same time, and replays the log. What is written stays
-# in examples/out.
+# Shows the main job of tpcc twice: after a minute or two by a program that is built without its proofs, and then by the
+# proved one, as far as it is let. What is written stays in examples/out.
 set -euo pipefail
 cd "$(dirname "${BASH_SOURCE[0]}")/.."
-mkdir -p examples/out
+top=$PWD
+made=examples/out
+rm -rf "$made/cases" "$made/shown"
+mkdir -p "$made/cases" "$made/shown"
+
+names=(1-run 2-replay 3-check)
+declare -A words=(
+    [1-run]="run examples/one-warehouse.csv examples/mixed-session.csv examples/names-session.csv --log $made/log.csv"
+    [2-replay]="replay examples/one-warehouse.csv $made/log.csv --tables $made/tables.csv"
+    [3-check]="check $made/tables.csv"
+)
 
 say() {
     printf '\n== %s\n' "$*"
 }
 
-# Tells of each library that was proved since the last call, while the program is built.
-told=" "
+# Shows what a command has printed and written.
+show() {
+    say "tpcc ${words[$1]}"
+    cat "$made/shown/$1"
+    case $1 in
+    1-run)
+        say "The log, $made/log.csv: what was carried out, in order"
+        cat "$made/log.csv"
+        ;;
+    2-replay)
+        say "The tables at its end, $made/tables.csv, where they differ from examples/one-warehouse.csv"
+        diff examples/one-warehouse.csv "$made/tables.csv" || true
+        ;;
+    esac
+}
+
+# Tells of each library once it is proved, until this script ends.
 tell_proved() {
-    local library name
-    for library in crates/*/out/rlib/*.rlib; do
-        name=$(basename "$library" .rlib)
-        if [ -e "$library" ] && [[ $told != *" $name "* ]]; then
-            told+="$name "
-            echo "   proved: $name, after $SECONDS s"
-        fi
+    local told=" " library name
+    while kill -0 $$ 2> /dev/null; do
+        for library in crates/*/out/rlib/*.rlib; do
+            name=$(basename "$library" .rlib)
+            if [ -e "$library" ] && [[ $told != *" $name "* ]]; then
+                told+="$name "
+                echo "   proved: $name, after $SECONDS s"
+            fi
+        done
+        sleep 2
     done
 }
 
-say "Proving and building tpcc. The first time this takes a quarter of an hour or more, since every crate is proved"
-echo "   that it stands on (the first line comes after some minutes); tpcc itself is the last. Later it takes seconds."
-(cd crates/tpcc && exec rt run -- run ../../examples/one-warehouse.csv ../../examples/mixed-session.csv \
-    ../../examples/names-session.csv --log ../../examples/out/log.csv) > examples/out/answers.csv &
-build=$!
-while kill -0 "$build" 2>/dev/null; do
-    tell_proved
-    sleep 2
+say "Building tpcc without its proofs, which takes a minute or two"
+for name in "${names[@]}"; do
+    : > "$made/cases/$name"
+    for word in ${words[$name]}; do
+        case $word in examples/*) word=$top/$word ;; esac
+        echo "$word"
+    done > "$made/cases/$name.args"
 done
-wait "$build"
+(cd crates/tpcc && rt try --seconds 600 --cases "$top/$made/cases") > "$made/printed" 2> "$made/told" || true
+grep -q "^cases=${#names[@]} ended=${#names[@]} " "$made/told" || {
+    cat "$made/told"
+    exit 1
+}
+for name in "${names[@]}"; do
+    awk -v name="$name" '/^== / { on = $2 == name; next } on' "$made/printed" > "$made/shown/$name"
+    show "$name"
+done
 
-say "tpcc run examples/one-warehouse.csv examples/mixed-session.csv examples/names-session.csv" \
-    "--log examples/out/log.csv"
-cat examples/out/answers.csv
+say "NOTHING IS PROVED of the program that has just run: it was built to be seen soon, with checks as it runs, and is gone."
+echo "   Now every crate is proved that tpcc stands on, and last tpcc itself: a quarter of an hour on four free processors,"
+echo "   longer beside other work, and seconds once it is done. The first line comes after some minutes. Ctrl-C ends it;"
+echo "   what was proved by then is kept."
+SECONDS=0
+tell_proved &
+teller=$!
+(cd crates/tpcc && rt run -- run ../../examples/one-warehouse.csv ../../examples/mixed-session.csv \
+    ../../examples/names-session.csv --log "../../$made/log.csv") > "$made/shown/1-run"
+kill "$teller"
 
-say "The log, examples/out/log.csv: what was carried out, in order"
-cat examples/out/log.csv
-
-say "tpcc replay examples/one-warehouse.csv examples/out/log.csv --tables examples/out/tables.csv"
-crates/tpcc/out/tpcc replay examples/one-warehouse.csv examples/out/log.csv --tables examples/out/tables.csv
-
-say "The tables after it, examples/out/tables.csv, where they differ from examples/one-warehouse.csv"
-diff examples/one-warehouse.csv examples/out/tables.csv || true
-
-say "From now on the program is crates/tpcc/out/tpcc; its --help tells its commands."
+say "PROVED: the same by crates/tpcc/out/tpcc, which stays"
+show 1-run
+for name in 2-replay 3-check; do
+    # shellcheck disable=SC2086
+    crates/tpcc/out/tpcc ${words[$name]} > "$made/shown/$name"
+    show "$name"
+done

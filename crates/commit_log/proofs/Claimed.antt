@@ -6,7 +6,7 @@ use Rattle.schema.specs.Database.{Database}
 use Rattle.requests.specs.declared.group.Group.{Group}
 use Rattle.requests.specs.declared.reply.Fault.{Fault}
 use Rattle.requests.specs.declared.reply.Reply.{Reply}
-use Rattle.requests.specs.declared.reply.Reply.TheVariants.{Payment, OrderStatus, RolledBack}
+use Rattle.requests.specs.declared.reply.Reply.TheVariants.{Done, RolledBack}
 use Rattle.requests.specs.Check.{IsAccepted}
 use Rattle.groups.specs.Content.{Content, content}
 use Rattle.machine.specs.Machine.{transaction, replies, tables_after}
@@ -22,9 +22,8 @@ use Rattle.commit_log.proofs.Legal.{replies-append, tables_after-append, map_pus
 
 -- the seats tell what is committed then
 seats_tell : (reply : Reply) (tables : Group → Content) (claims : List Claiming) (seats : List Committed) → SeatsTell tables seats → SeatsTell (contents_logged reply tables claims) (seats_logged reply claims seats)
+seats_tell (Done shown) tables claims seats tells = settled_tell tables seats claims tells
 seats_tell (RolledBack fault) tables claims seats tells = tells
-seats_tell (Payment shown) tables claims seats tells = settled_tell tables seats claims tells
-seats_tell (OrderStatus shown) tables claims seats tells = settled_tell tables seats claims tells
 
 pub kept_after : (opening : Database) (entries : List Entry) (seats : List Committed) (claims : List Claiming) (entry : Entry)
     → IsKept opening entries seats → All (IsToldIn seats) claims → IsAccepted opening.scale entry.request → IsCarriedOut opening entry.request claims entry.reply

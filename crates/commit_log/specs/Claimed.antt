@@ -4,7 +4,7 @@ use Rattle.schema.specs.Database.{Database}
 use Rattle.requests.specs.declared.group.Group.{Group}
 use Rattle.requests.specs.declared.request.Request.{Request}
 use Rattle.requests.specs.declared.reply.Reply.{Reply}
-use Rattle.requests.specs.declared.reply.Reply.TheVariants.{RolledBack}
+use Rattle.requests.specs.declared.reply.Reply.TheVariants.{Done, RolledBack}
 use Rattle.requests.specs.Check.{IsAccepted}
 use Rattle.groups.specs.Content.{Content, content}
 use Rattle.machine.specs.Machine.{transaction, replies, tables_after}
@@ -19,18 +19,18 @@ use Rattle.commit_log.specs.Log.{requests_of, replies_of}
 -- what is committed once a transaction with this reply is logged: a rolled back one changes nothing, and another leaves
 -- in each group what its exclusive claim left there
 abbrev pub contents_logged : Reply → (Group → Content) → List Claiming → Group → Content
+contents_logged (Done shown) contents claims = after_claims contents claims
 contents_logged (RolledBack fault) contents claims = contents
-contents_logged _ contents claims = after_claims contents claims
 
 -- its claims then: those of a transaction that was not rolled back tell what they left
 abbrev pub claims_logged : Reply → List Claiming → List Claiming
+claims_logged (Done shown) claims = all_settled claims
 claims_logged (RolledBack fault) claims = claims
-claims_logged _ claims = all_settled claims
 
 -- the seats of the log then
 abbrev pub seats_logged : Reply → List Claiming → List Committed → List Committed
+seats_logged (Done shown) claims seats = map (after_all claims) seats
 seats_logged (RolledBack fault) claims seats = seats
-seats_logged _ claims seats = map (after_all claims) seats
 
 -- ---- when a request was carried out
 

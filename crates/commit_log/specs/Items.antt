@@ -6,9 +6,11 @@ use Rattle.commit_log.specs.declared.entry.Entry.{Entry}
 use Rattle.commit_log.specs.declared.mine.Item.{Item}
 use Rattle.commit_log.specs.declared.mine.Mine.{Mine}
 
+-- the entry of this session, number, request and reply
 abbrev pub entry_of : ℕ → ℕ → Request → Reply → Entry
 entry_of session number request reply = record { session = session; number = number; request = request; reply = reply }
 
+-- the entry at this place, as its own session knows it
 abbrev pub item : ℕ → ℕ → Request → Reply → Item
 item place number request reply = record { place = place; number = number; request = request; reply = reply }
 

@@ -10,9 +10,11 @@ use Rattle.commit_log.specs.Items.{mine_of}
 use Rattle.commit_log.specs.Kept.{seat_at}
 use Rattle.commit_log.specs.LogTables.{LogTables}
 
+-- the table of the agreement on what the session has logged
 abbrev pub mine_table : Lane → TableId
 mine_table lane = lane.mine.agreement.table
 
+-- the table of the agreement on what the session asks
 abbrev pub asks_table : Lane → TableId
 asks_table lane = lane.asks.agreement.table
 

@@ -6,9 +6,11 @@ use Rattle.requests.specs.declared.reply.Reply.{Reply}
 use Rattle.machine.specs.Machine.{replies, tables_after}
 use Rattle.commit_log.specs.declared.entry.Entry.{Entry}
 
+-- what was asked, in log order
 abbrev pub requests_of : List Entry → List Request
 requests_of entries = map (λ entry. entry.request) entries
 
+-- what was replied, in log order
 abbrev pub replies_of : List Entry → List Reply
 replies_of entries = map (λ entry. entry.reply) entries
 

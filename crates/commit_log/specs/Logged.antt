@@ -13,5 +13,6 @@ pub record Booked : Type 0 where
   pub entries : List Entry
   pub spare : ℕ
 
+-- a book of these entries, with room for so many more
 abbrev pub booked : List Entry → ℕ → Booked
 booked entries spare = record { entries = entries; spare = spare }

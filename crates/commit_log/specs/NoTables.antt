@@ -5,6 +5,7 @@ use Rattle.std.specs.FinMap as map
 use Rattle.atomic_table.specs.Seated.{TableId}
 use Rattle.schema.specs.Database.{Database}
 
+-- tables of the least scale without a row: where a name has to name some, and none is meant
 abbrev pub no_tables : Database
 no_tables = record {
   scale = record {
@@ -31,5 +32,6 @@ no_tables = record {
   lines = map.empty;
 }
 
+-- no table of an agreement
 abbrev pub no_table : TableId
 no_table = record { words = 0; slots = 0; views_name = 0; atom = 0; block = 0; offset = 0; slot_names = [] }

@@ -6,6 +6,7 @@ use Rattle.commit_log.specs.declared.log_book.AppendFault.TheVariants.{NoMemory,
 use Rattle.commit_log.specs.declared.mine.Item.{Item}
 use Rattle.commit_log.specs.Asks.{nothing_asked}
 
+-- What a contract sees of a pass.
 pub record Passing : Type 0 where
   -- whose pass it is
   pub session : ℕ
@@ -18,6 +19,7 @@ pub record Passing : Type 0 where
   -- what the session asks with it
   pub asks : Asking
 
+-- the pass of this session, with these numbers
 abbrev pub passing : ℕ → ℕ → ℕ → List Item → Asking → Passing
 passing session seen reached mine asks = record { session = session; seen = seen; reached = reached; mine = mine; asks = asks }
 
@@ -47,12 +49,14 @@ IsRefused LogFull before after = (after ≡ after_refusal LogFull after.reached 
 abbrev pub having_met : Passing → Passing → Passing
 having_met pass other = passing pass.session (max pass.seen other.seen) (max pass.reached other.reached) pass.mine pass.asks
 
+-- What a contract sees of a session's seat.
 pub record Seating : Type 0 where
   -- whose seat it is
   pub session : ℕ
   -- what the session asks, and what its pass was when it asked
   pub asking : Asking
 
+-- the seat of this session, which asks this
 abbrev pub seating : ℕ → Asking → Seating
 seating session asking = record { session = session; asking = asking }
 

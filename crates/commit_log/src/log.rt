@@ -120,7 +120,7 @@ fn commit<J: Naming + tickets::Naming>(
 {
     seats.look_each(held);
     match reply {
+        Reply::Done(_) => seats.settle_each(held),
         Reply::RolledBack(_) => {}
-        Reply::Payment(_) | Reply::OrderStatus(_) => seats.settle_each(held),
     }
 }

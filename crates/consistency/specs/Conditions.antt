@@ -16,5 +16,6 @@ Tell [] t [] = Unit
 Tell (condition ∷ others) t (answer ∷ answers) = (IsTrue answer ↔ condition t) × Tell others t answers
 Tell _ t _ = ⊥
 
+-- there is an answer for each of the twelve conditions, true exactly where it holds
 abbrev pub AreExact : Database → List Bool → Type 0
 AreExact t answers = Tell conditions t answers

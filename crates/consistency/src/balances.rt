@@ -5,11 +5,8 @@ ghost use Rattle.schema.specs.Consistency.{amounts_of, is_payer, delivered, paid
 ghost use Rattle.consistency.specs.Totals.{IsWithin};
 ghost use Rattle.consistency.specs.Balances.{AreTotals, HasRoom, AreWithin, is_customer, receiver};
 
-use schema::{
-    CustomerKey, History, NoMemory, Order, OrderKey, OrderLine, OrderLineKey, Scale, Tables,
-};
+use schema::{CustomerKey, History, NoMemory, OrderLine, OrderLineKey, Scale, Tables};
 use std::alloc::Global;
-use std::collections::BTreeMap;
 
 /// Which of the conditions on C_BALANCE hold.
 #[derive(Clone, Copy, Debug)]
@@ -74,8 +71,8 @@ fn delivered_totals(tables: &Tables, alloc: Global) -> Result<Vec<i128>, NoMemor
     let scale = tables.scale();
     let rows = tables.rows();
     let mut totals = zeros(rows.customers.len(), alloc)?;
-    for (key, line) in rows.lines.iter() {
-        if let Some(customer) = receiver(&rows.orders, *key, line) {
+    for (key, line) in tables.lines() {
+        if let Some(customer) = receiver(tables, key, line) {
             credit(&mut totals, scale, customer, i64::from(line.amount.get()));
         }
     }
@@ -131,17 +128,13 @@ fn credit(totals: &mut [i128], scale: Scale, customer: CustomerKey, amount: i64)
 }
 
 // To whom the line was delivered, `None` where it was not.
-fn receiver(
-    orders: &BTreeMap<OrderKey, Order>,
-    key: OrderLineKey,
-    line: &OrderLine,
-) -> Option<CustomerKey>
-    ensures { result ≡ receiver orders.now key line.now }
+fn receiver(tables: &Tables, key: OrderLineKey, line: &OrderLine) -> Option<CustomerKey>
+    ensures { result ≡ receiver tables.now key line.now }
 {
     if line.delivery_d.is_none() {
         return None;
     }
-    let order = orders.get(&key.order())?;
+    let order = tables.order(key.order())?;
     Some(CustomerKey {
         w_id: key.w_id,
         d_id: key.d_id,

@@ -8,8 +8,7 @@ ghost use Rattle.schema.specs.Consistency.{NextOrderFollows, HasNoGap, IsFresh};
 ghost use Rattle.consistency.specs.OrderNumbers.{OfRow};
 
 use rows::{DistrictKey, OrderKey};
-use schema::{Scale, Tables};
-use std::collections::btree_map::Range;
+use schema::{Entries, Scale, Tables};
 
 /// Whether D_NEXT_O_ID - 1 is the greatest O_ID of each district, and its greatest NO_O_ID where it
 /// has one (clause 3.3.2.2).
@@ -85,13 +84,13 @@ fn is_fresh(tables: &Tables, home: DistrictKey) -> bool
 }
 
 // The greatest O_ID of these rows, `None` where there are none.
-fn greatest_number<X>(rows: Range<'_, OrderKey, X>) -> Option<u32>
+fn greatest_number<X>(rows: Entries<'_, OrderKey, X>) -> Option<u32>
     ensures { result ≡ reduce max (numbers rows.entry) }
 {
     rows.map(|(key, _)| key.o_id).max()
 }
 
-fn least_number<X>(rows: Range<'_, OrderKey, X>) -> Option<u32>
+fn least_number<X>(rows: Entries<'_, OrderKey, X>) -> Option<u32>
     ensures { result ≡ reduce min (numbers rows.entry) }
 {
     rows.map(|(key, _)| key.o_id).min()

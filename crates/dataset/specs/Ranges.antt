@@ -40,6 +40,7 @@ IsMoment seconds = seconds ≤ 253402300799
 
 -- ---- of a row
 
+-- street_1, street_2, city, state and zip
 pub record AddressInRange (a : Address) : Type 0 where
   pub street_1 : IsText 20 a.street_1
   pub street_2 : IsText 20 a.street_2
@@ -47,18 +48,21 @@ pub record AddressInRange (a : Address) : Type 0 where
   pub state : IsText 2 a.state
   pub zip : IsText 9 a.zip
 
+-- the columns of ITEM but for its key
 pub record ItemInRange (row : Item) : Type 0 where
   pub im_id : IsFrom 1 10000 row.im_id
   pub name : IsText 24 row.name
   pub price : IsFrom 1 99999 row.price
   pub item_data : IsText 50 row.data
 
+-- the columns of WAREHOUSE but for its key
 pub record WarehouseInRange (row : Warehouse) : Type 0 where
   pub name : IsText 10 row.name
   pub address : AddressInRange row.address
   pub tax : IsRate row.tax
   pub ytd : IsMoney row.ytd
 
+-- the columns of DISTRICT but for its key
 pub record DistrictInRange (row : District) : Type 0 where
   pub name : IsText 10 row.name
   pub address : AddressInRange row.address
@@ -71,6 +75,7 @@ pub record AreDistrictInfos (infos : List (List ℕ)) : Type 0 where
   pub ten : length infos ≡ 10
   pub texts : AllByRecursion (IsText 24) infos
 
+-- the columns of STOCK but for its key
 pub record StockInRange (row : Stock) : Type 0 where
   pub quantity : IsFrom 10 100 row.quantity
   pub dist : AreDistrictInfos row.dist
@@ -79,6 +84,7 @@ pub record StockInRange (row : Stock) : Type 0 where
   pub remote_cnt : IsCounter row.remote_cnt
   pub stock_data : IsText 50 row.data
 
+-- the columns of CUSTOMER but for its key
 pub record CustomerInRange (row : Customer) : Type 0 where
   pub first : IsText 16 row.first
   pub middle : IsText 2 row.middle
@@ -94,16 +100,19 @@ pub record CustomerInRange (row : Customer) : Type 0 where
   pub delivery_cnt : IsCounter row.delivery_cnt
   pub customer_data : IsText 500 row.data
 
+-- the columns of HISTORY but for the district's number and the payer's
 pub record HistoryInRange (row : History) : Type 0 where
   pub date : IsMoment row.date
   pub amount : IsMoney row.amount
   pub history_data : IsText 24 row.data
 
+-- the columns of ORDER but for its key and its customer
 pub record OrderInRange (row : Order) : Type 0 where
   pub entry_d : IsMoment row.entry_d
   pub carrier_id : IfSome row.carrier_id (IsFrom 1 10)
   pub ol_cnt : IsFrom 1 15 row.ol_cnt
 
+-- the columns of ORDER-LINE but for its key, its item and its warehouse
 pub record LineInRange (row : OrderLine) : Type 0 where
   pub delivery_d : IfSome row.delivery_d IsMoment
   pub quantity : IsFrom 1 10 row.quantity

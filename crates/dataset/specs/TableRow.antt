@@ -21,6 +21,7 @@ use Rattle.dataset.specs.declared.place.Place.TheVariants as at
 use Rattle.dataset.specs.Ranges.{ItemInRange, WarehouseInRange, DistrictInRange, StockInRange, CustomerInRange, IsPayment, IsOrderKey, IsOrder, IsLineKey, IsLine}
 use Rattle.dataset.specs.Records.{Field, item_fields, warehouse_fields, district_fields, stock_fields, customer_fields, history_fields, order_fields, new_order_fields, line_fields}
 
+-- a row of any of the nine tables, with its key
 pub data TableRow : Type 0 where
   OfItem : ℕ → Item → TableRow
   OfWarehouse : ℕ → Warehouse → TableRow
@@ -44,6 +45,7 @@ row_letter (OfOrder key row) = codes "O"
 row_letter (OfNewOrder key row) = codes "N"
 row_letter (OfLine key row) = codes "L"
 
+-- the record of the row: the letter of its table, its key and its columns
 abbrev pub row_fields : TableRow → List Field
 row_fields (OfItem key row) = item_fields key row
 row_fields (OfWarehouse key row) = warehouse_fields key row

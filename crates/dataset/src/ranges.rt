@@ -1,7 +1,6 @@
 //! The ranges of the columns, which the types of rows keep: functions that read each column, and
 //! change nothing.
 ghost use Rattle.std.specs.Prelude.{◌≡◌, ℕ, List, IfSome, map};
-ghost use Rattle.std.specs.BTreeMap.{IsOrdered};
 ghost use Rattle.std.specs.List.{AllByRecursion};
 ghost use Rattle.std.specs.Map.{values_of};
 ghost use Rattle.rows.specs.Text.{IsText};
@@ -11,8 +10,7 @@ use rows::{
     Address, CarrierId, Customer, District, History, Item, Moment, Order, OrderLine, Stock, Text,
     Warehouse,
 };
-use schema::{HistoryList, Tables};
-use std::collections::BTreeMap;
+use schema::{Entries, HistoryList, Tables};
 
 /// A row, or a list of them, whose columns have ranges.
 trait Columns {
@@ -34,8 +32,8 @@ pub fn columns_are_in_range(tables: &Tables)
     read_each(&rows.stocks);
     read_each(&rows.customers);
     read_each(&rows.histories);
-    read_values(&rows.orders);
-    read_values(&rows.lines);
+    read_values(tables.orders());
+    read_values(tables.lines());
 }
 
 fn read_each<T: Columns>(rows: &[T])
@@ -46,11 +44,10 @@ fn read_each<T: Columns>(rows: &[T])
     }
 }
 
-fn read_values<K: Ord, T: Columns>(rows: &BTreeMap<K, T>)
-    ensures in_range { AllByRecursion T.in_range (values_of rows.now.entries) }
-    ensures ordered { IsOrdered K.cmp rows.now }
+fn read_values<K: Copy + Drop, T: Columns>(rows: Entries<'_, K, T>)
+    ensures { AllByRecursion T.in_range (values_of rows.entry) }
 {
-    for (_, row) in rows.iter() {
+    for (_, row) in rows {
         row.read();
     }
 }

@@ -12,12 +12,15 @@ use Rattle.requests.specs.declared.group.Group.TheVariants.{Warehouse, District,
 
 -- ---- the group of each row, by its key
 
+-- a row of WAREHOUSE is a group of its own
 abbrev pub group_of_warehouse : ℕ → Group
 group_of_warehouse key = Warehouse key
 
+-- so is a row of DISTRICT
 abbrev pub group_of_district : DistrictKey → Group
 group_of_district key = District key.w_id key.d_id
 
+-- the customers of a district are a group
 abbrev pub group_of_customer : CustomerKey → Group
 group_of_customer key = Customers key.w_id key.d_id
 
@@ -25,6 +28,7 @@ group_of_customer key = Customers key.w_id key.d_id
 abbrev pub group_of_order : OrderKey → Group
 group_of_order key = Orders key.w_id key.d_id
 
+-- a line is in the group of its order, with all orders, new orders and lines of the district
 abbrev pub group_of_line : OrderLineKey → Group
 group_of_line key = Orders key.w_id key.d_id
 
@@ -38,6 +42,7 @@ group_of_stock key = Stock key.w_id (key.i_id % 64)
 
 -- ---- the order of groups
 
+-- the number of a group's kind, by which groups are ordered first
 abbrev pub kind_of : Group → ℕ
 kind_of (Warehouse w_id) = 0
 kind_of (District w_id d_id) = 1
@@ -46,6 +51,7 @@ kind_of (Orders w_id d_id) = 3
 kind_of (History w_id d_id) = 4
 kind_of (Stock w_id residue) = 5
 
+-- the warehouse that a group belongs to
 abbrev pub warehouse_of : Group → ℕ
 warehouse_of (Warehouse w_id) = w_id
 warehouse_of (District w_id d_id) = w_id

@@ -39,30 +39,37 @@ abbrev pub warehouse_in : Group → Content → ℕ → Option Warehouse
 warehouse_in group (OfWarehouse row) key = if is_same (group_of_warehouse key) group then row else None
 warehouse_in group _ key = None
 
+-- the row of DISTRICT that a group has at this key
 abbrev pub district_in : Group → Content → DistrictKey → Option District
 district_in group (OfDistrict row) key = if is_same (group_of_district key) group then row else None
 district_in group _ key = None
 
+-- the row of CUSTOMER that a group has at this key
 abbrev pub customer_in : Group → Content → CustomerKey → Option Customer
 customer_in group (OfCustomers rows) key = map.get rows key
 customer_in group _ key = None
 
+-- the row of ORDER that a group has at this key
 abbrev pub order_in : Group → Content → OrderKey → Option Order
 order_in group (OfOrders orders new_orders lines) key = map.get orders key
 order_in group _ key = None
 
+-- the row of NEW-ORDER that a group has at this key
 abbrev pub new_order_in : Group → Content → OrderKey → Option NewOrder
 new_order_in group (OfOrders orders new_orders lines) key = map.get new_orders key
 new_order_in group _ key = None
 
+-- the row of ORDER-LINE that a group has at this key
 abbrev pub line_in : Group → Content → OrderLineKey → Option OrderLine
 line_in group (OfOrders orders new_orders lines) key = map.get lines key
 line_in group _ key = None
 
+-- the list of payments that a group has of this district
 abbrev pub history_in : Group → Content → DistrictKey → Option (List History)
 history_in group (OfHistory rows) key = if is_same (group_of_history key) group then rows else None
 history_in group _ key = None
 
+-- the row of STOCK that a group has at this key
 abbrev pub stock_in : Group → Content → StockKey → Option Stock
 stock_in group (OfStock rows) key = map.get rows key
 stock_in group _ key = None
@@ -75,6 +82,7 @@ StandInOne {K} t table own found =
     (key : K) → (found (own key) (content t (own key)) key ≡ map.get table key)
     × ((group : Group) → group ≢ own key → found group (content t group) key ≡ None)
 
+-- so it is of each row of eight tables: its own group has it, and no other group has a row at its key
 pub record RowsStandInOneGroup (t : Database) : Type 0 where
   pub warehouses : StandInOne t t.warehouses group_of_warehouse warehouse_in
   pub districts : StandInOne t t.districts group_of_district district_in
@@ -85,6 +93,7 @@ pub record RowsStandInOneGroup (t : Database) : Type 0 where
   pub histories : StandInOne t t.histories group_of_history history_in
   pub stocks : StandInOne t t.stocks group_of_stock stock_in
 
+-- of all tables
 abbrev pub EachRowStandsInOneGroup : Type 0
 EachRowStandsInOneGroup = (t : Database) → RowsStandInOneGroup t
 
@@ -107,34 +116,42 @@ abbrev pub with_warehouse : Warehouse → Content → Content
 with_warehouse row (OfWarehouse _) = OfWarehouse (Some row)
 with_warehouse row other = other
 
+-- what a group has once this is its row of DISTRICT
 abbrev pub with_district : District → Content → Content
 with_district row (OfDistrict _) = OfDistrict (Some row)
 with_district row other = other
 
+-- what a group has once this is its row of CUSTOMER at the key
 abbrev pub with_customer : CustomerKey → Customer → Content → Content
 with_customer key row (OfCustomers rows) = OfCustomers (map.insert rows key row)
 with_customer key row other = other
 
+-- what a group has once this is its row of ORDER at the key
 abbrev pub with_order : OrderKey → Order → Content → Content
 with_order key row (OfOrders orders new_orders lines) = OfOrders (map.insert orders key row) new_orders lines
 with_order key row other = other
 
+-- what a group has once this is its row of NEW-ORDER at the key
 abbrev pub with_new_order : OrderKey → NewOrder → Content → Content
 with_new_order key row (OfOrders orders new_orders lines) = OfOrders orders (map.insert new_orders key row) lines
 with_new_order key row other = other
 
+-- what a group has once it has no row of NEW-ORDER at the key
 abbrev pub without_new_order : OrderKey → Content → Content
 without_new_order key (OfOrders orders new_orders lines) = OfOrders orders (map.remove new_orders key) lines
 without_new_order key other = other
 
+-- what a group has once this is its row of ORDER-LINE at the key
 abbrev pub with_line : OrderLineKey → OrderLine → Content → Content
 with_line key row (OfOrders orders new_orders lines) = OfOrders orders new_orders (map.insert lines key row)
 with_line key row other = other
 
+-- what a group has once this is its list of payments
 abbrev pub with_history : List History → Content → Content
 with_history rows (OfHistory _) = OfHistory (Some rows)
 with_history rows other = other
 
+-- what a group has once this is its row of STOCK at the key
 abbrev pub with_stock : StockKey → Stock → Content → Content
 with_stock key row (OfStock rows) = OfStock (map.insert rows key row)
 with_stock key row other = other
@@ -166,5 +183,6 @@ pub record PutsChangeOneGroup (t : Database) : Type 0 where
   pub stocks : (key : StockKey) (row : Stock)
       → ChangesOneGroup (group_of_stock key) (with_stock key row) t (record t { stocks = map.insert t.stocks key row })
 
+-- of all tables
 abbrev pub EachPutChangesOneGroup : Type 0
 EachPutChangesOneGroup = (t : Database) → PutsChangeOneGroup t

@@ -5,6 +5,8 @@
 mod content;
 mod grouping;
 mod laws;
+mod order_status;
+mod payment;
 mod wants;
 mod wishes;
 

@@ -15,6 +15,7 @@ abbrev pub IsLoggedBelow : ℕ → EventAnswer → Type 0
 IsLoggedBelow n (Logged place) = place < n
 IsLoggedBelow n answer = Unit {0}
 
+-- each answer that names a place of the log names one of its entries
 abbrev pub NamesEntries : List Entry → List Step → Type 0
 NamesEntries log history = All (λ s. IsLoggedBelow (length log) s.answer) history
 

@@ -16,6 +16,7 @@ pub record Step : Type 0 where
   pub event : Event
   pub answer : EventAnswer
 
+-- an event with this answer
 abbrev pub step : Event → EventAnswer → Step
 step event answer = record { event = event; answer = answer }
 
@@ -37,6 +38,7 @@ pub record Transaction : Type 0 where
   pub entries : List ℕ
   pub told : Option Acknowledged
 
+-- a transaction that was just admitted: it has no entry and no answer
 abbrev pub opened : ℕ → ℕ → ℕ → Request → ℕ → Transaction
 opened age session number request at = record {
   age = age;
@@ -60,6 +62,7 @@ with_entry session place t = record t { entries = if is_open session t then t.en
 abbrev pub with_answer : ℕ → ℕ → Answer → Transaction → Transaction
 with_answer session at answer t = record t { told = if is_open session t then Some (record { at = at; answer = answer }) else t.told }
 
+-- the transactions once the log's entry at this place, where there is one, is that of its session's open transaction
 abbrev pub noted_entry : Option Entry → ℕ → List Transaction → List Transaction
 noted_entry None place ts = ts
 noted_entry (Some entry) place ts = map (with_entry entry.session place) ts
@@ -73,6 +76,7 @@ noted log at (Send executor) (Logged place) ts = noted_entry (slice_get log plac
 noted log at (Send executor) (Answered session number answer) ts = map (with_answer session at answer) ts
 noted log at event answer ts = ts
 
+-- the transactions after these events, of which the first stands at this place in the history
 abbrev pub noted_all : List Entry → ℕ → List Step → List Transaction → List Transaction
 noted_all log at [] ts = ts
 noted_all log at (s ∷ history) ts = noted_all log (at + 1) history (noted log at s.event s.answer ts)
@@ -83,6 +87,7 @@ transactions log history = noted_all log 0 history []
 
 -- ---- each transaction is whole
 
+-- an entry stands at this place, with the session, the number and the request of the transaction
 abbrev pub HasEntry : List Entry → Transaction → ℕ → Type 0
 HasEntry log t place =
     (entry : Entry) × ((slice_get log place ≡ Some entry) × ((entry.session ≡ t.session) × ((entry.number ≡ t.number) × (entry.request ≡ t.request))))
@@ -93,6 +98,7 @@ HasEntries log t [] = Unit {0}
 HasEntries log t (place ∷ []) = HasEntry log t place
 HasEntries log t (place ∷ other ∷ places) = ⊥
 
+-- an entry stands at this place, with this reply
 abbrev pub HasReply : List Entry → ℕ → Reply → Type 0
 HasReply log place reply = (entry : Entry) × ((slice_get log place ≡ Some entry) × (entry.reply ≡ reply))
 
@@ -101,6 +107,7 @@ abbrev pub IsAnswerOf : List Entry → List ℕ → Answer → Type 0
 IsAnswerOf log entries (Done place reply) = (entries ≡ place ∷ []) × HasReply log place reply
 IsAnswerOf log entries (Refused refusal) = entries ≡ []
 
+-- where a transaction has an answer, its entries are those that the answer calls for
 abbrev pub IsTold : List Entry → List ℕ → Option Acknowledged → Type 0
 IsTold log entries None = Unit {0}
 IsTold log entries (Some told) = IsAnswerOf log entries told.answer
@@ -117,9 +124,11 @@ pub record Whole (log : List Entry) (ts : List Transaction) : Type 0 where
 
 -- ---- who was answered first stands first
 
+-- each of these places is before each of those
 abbrev pub Precedes : List ℕ → List ℕ → Type 0
 Precedes xs ys = All (λ x. All (λ y. x < y) ys) xs
 
+-- where this one was answered before the other was submitted, its entry is before the other's
 abbrev pub InOrder : Option Acknowledged → List ℕ → Transaction → Type 0
 InOrder None entries b = Unit {0}
 InOrder (Some told) entries b = told.at < b.submitted → Precedes entries b.entries
@@ -143,10 +152,12 @@ pub record Unanswered : Type 0 where
   pub request : Request
   pub entry : Option ℕ
 
+-- the first of some places, where there is one
 abbrev pub first_of : List ℕ → Option ℕ
 first_of [] = None
 first_of (place ∷ places) = Some place
 
+-- the transaction, as one without an answer
 abbrev pub unanswered : Transaction → Unanswered
 unanswered t = record { age = t.age; session = t.session; number = t.number; request = t.request; entry = first_of t.entries }
 

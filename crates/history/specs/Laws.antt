@@ -15,9 +15,11 @@ use Rattle.history.specs.declared.event.EventAnswer.TheVariants.{Accepted, Took,
 use Rattle.history.specs.History.{Step, step, Unanswered, HasReply, is_of}
 use Rattle.history.specs.Fits.{Fits}
 
+-- before any event, consistent tables and an empty log fit, with no transaction
 abbrev pub EmptyHistoryFits : Type 0
 EmptyHistoryFits = (opening : Database) → Consistent opening → Fits opening [] [] opening 0 []
 
+-- in which order the transactions without an answer are listed doesn't matter
 abbrev pub UnansweredInAnyOrder : Type 0
 UnansweredInAnyOrder =
     (opening : Database) (history : List Step) (log : List Entry) (tables : Database) (admitted : ℕ) (pending other : List Unanswered)
@@ -33,6 +35,7 @@ IsQuiet event Nothing = Unit {0}
 IsQuiet (Submit session number request) (Answered other n answer) = Unit {0}
 IsQuiet event answer = ⊥
 
+-- after an event that tells nothing of a transaction, what fitted still fits
 abbrev pub QuietEventFits : Type 0
 QuietEventFits =
     (opening : Database) (history : List Step) (log : List Entry) (tables : Database) (admitted : ℕ) (pending : List Unanswered)
@@ -44,6 +47,7 @@ QuietEventFits =
 abbrev pub new_one : ℕ → ℕ → ℕ → Request → Unanswered
 new_one age session number request = record { age = age; session = session; number = number; request = request; entry = None }
 
+-- after an admission of a session that has no transaction without an answer, there is one transaction more
 abbrev pub AdmissionFits : Type 0
 AdmissionFits =
     (opening : Database) (history : List Step) (log : List Entry) (tables : Database) (admitted : ℕ) (pending : List Unanswered)
@@ -64,6 +68,8 @@ pub record IsEntryOf (u : Unanswered) (tables : Database) (entry : Entry) : Type
   pub reply : entry.reply ≡ (transaction tables entry.request).reply
   pub none : u.entry ≡ None
 
+-- after an entry at the end of the log, of a transaction without an answer and with the machine's reply, the tables are
+-- the machine's next
 abbrev pub EntryFits : Type 0
 EntryFits =
     (opening : Database) (history : List Step) (log : List Entry) (tables : Database) (admitted : ℕ) (pending : List Unanswered)
@@ -77,6 +83,8 @@ abbrev pub IsAnswerTo : List Entry → Unanswered → Answer → Type 0
 IsAnswerTo log u (Done place reply) = (u.entry ≡ Some place) × HasReply log place reply
 IsAnswerTo log u (Refused refusal) = u.entry ≡ None
 
+-- after an answer that is the entry's, or a refusal where there is none, the transaction is among those without an
+-- answer no more
 abbrev pub AnswerFits : Type 0
 AnswerFits =
     (opening : Database) (history : List Step) (log : List Entry) (tables : Database) (admitted : ℕ) (pending : List Unanswered)

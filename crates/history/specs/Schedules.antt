@@ -17,6 +17,7 @@ pub record Round : Type 0 where
   pub took : EventAnswer
   pub sent : EventAnswer
 
+-- the two events of a round, with their answers
 abbrev pub steps_of_round : Round → List Step
 steps_of_round r = step (event.Take 0) r.took ∷ step (event.Send 0) r.sent ∷ []
 
@@ -24,6 +25,7 @@ steps_of_round r = step (event.Take 0) r.took ∷ step (event.Send 0) r.sent ∷
 abbrev pub IsIdle : Round → Type 0
 IsIdle r = (r.took ≡ Nothing) × (r.sent ≡ Nothing)
 
+-- something happened in it
 abbrev pub IsBusy : Round → Type 0
 IsBusy r = ¬ IsIdle r
 
@@ -35,6 +37,7 @@ told_in_round Full = []
 told_in_round Nothing = []
 told_in_round answer = told.Event answer ∷ []
 
+-- what is printed of a round
 abbrev pub told_of_round : Round → List Told
 told_of_round r = told_in_round r.took ++ told_in_round r.sent
 

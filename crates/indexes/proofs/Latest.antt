@@ -1,15 +1,12 @@
 -- The largest number of a customer's orders, as orders come and as the index keeps it.
-use Rattle.std.proofs.Common.{◌≡◌, ℕ, zero, suc, ◌*◌, ◌<◌, ◌≤◌, max, Bool, true, false, cond, ◌&&◌, ◌==◌, T, List, [], ◌∷◌, ◌++◌, take, drop, length, get_or, slice_get, slice_set, filter, replicate, Some, None, is_some, IsTrue, unwrap_or, inl, inr, refl, sym, ap, subst, ◌∙◌, arith}
-use Rattle.std.specs.List.{list_all, AllByRecursion}
-use Rattle.std.specs.List.Sorted.{IsStrictlySortedBy}
-use Rattle.std.specs.Map.{keys_of}
+use Rattle.std.proofs.Common.{◌≡◌, ℕ, zero, suc, ◌*◌, ◌<◌, ◌≤◌, max, Bool, true, false, cond, ◌&&◌, ◌==◌, List, [], ◌∷◌, ◌++◌, take, drop, length, get_or, slice_get, slice_set, filter, replicate, Some, None, is_some, IsTrue, unwrap_or, inl, inr, refl, sym, ap, subst, ◌∙◌, arith}
+use Rattle.std.specs.List.{list_all}
 use Rattle.std.specs.Option.{option_map_or, option_and_then}
-use Rattle.std.specs.declared.cmp.Ordering.{Ordering}
 use Rattle.std.specs.declared.cmp.Ordering.TheVariants.{Less, Equal, Greater}
-use Rattle.std.specs.Ordering.{is_eq, is_lt}
+use Rattle.std.specs.Ordering.{is_eq}
 use Rattle.std.specs.FinMap as map
-use Rattle.std.specs.FinMap.{entries, entries_sorted, get-entries, get-from_entries, entries-insert}
-use Rattle.std.specs.FinMap.Entries.{find, put, by_order, is_sorted, below_all}
+use Rattle.std.specs.FinMap.{entries, get-entries, entries-insert}
+use Rattle.std.specs.FinMap.Entries.{find, put, by_order}
 use Rattle.std.proofs.lemmas.Bool.Decides.{nat_tests}
 use Rattle.std.proofs.lemmas.List.{get_or-set_same, get_or-set_other, length-set, set-set, set-get_or, get_or-replicate, length-replicate, take_at, set_past}
 use Rattle.std.proofs.lemmas.Bool.{cases_lt}
@@ -22,8 +19,7 @@ use Rattle.schema.specs.EachRow.{EachRow}
 use Rattle.schema.specs.Database.{Database, is_order_id, customer_of_order}
 use Rattle.schema.specs.Consistency.{numbers, greatest}
 use Rattle.schema.proofs.KeyOrders.{orders_total, orders_exact}
-use Rattle.schema.proofs.EachRows.{EachRow-entries}
-use Rattle.schema.proofs.OrderedParts.{entries-ordered}
+use Rattle.schema.proofs.EachRows.{EachRow-table}
 use Rattle.partitions.specs.Slots.{Slots, AreApart, AreRows, customer_slot_by}
 use Rattle.indexes.specs.LatestOrder.{is_order_by, largest, latest}
 use Rattle.indexes.specs.LatestIndex.{FitsLatestBy, number_of, with_latest, raised}
@@ -201,29 +197,9 @@ put_back slot customers index c number =
 
 -- ---- what the index says
 
-all_below : {K X : Type 0} (R : K → K → Ordering) (x : K) (es : List (K × X)) → below_all R x es ≡ true → AllByRecursion (λ q. R x q ≡ Less) (keys_of es)
-all_below R x [] h = tt
-all_below R x (e ∷ es) h = (less _ (and_first _ _ h), all_below R x es (and_second _ _ h))
-  where
-    less : (o : Ordering) → is_lt o ≡ true → o ≡ Less
-    less Less h = refl
-    less Equal h = absurd cc
-    less Greater h = absurd cc
-
-strictly : {K X : Type 0} (R : K → K → Ordering) (es : List (K × X)) → is_sorted R es ≡ true → IsStrictlySortedBy R (keys_of es)
-unfolding IsStrictlySortedBy
-strictly R [] h = tt
-strictly R (e ∷ es) h = (all_below R e.0 es (and_first _ _ h), strictly R es (and_second _ _ h))
-
-from_T : (b : Bool) → T b → b ≡ true
-from_T true h = refl
-from_T false h = absurd h
-
 -- what holds of each order, holds of the entries
 each_entry : (t : Database) (test : OrderKey → Order → Bool) → EachRow test t.orders → IsTrue (list_all (λ (e : OrderKey × Order). test e.0 e.1) (entries t.orders))
-each_entry t test each =
-    (EachRow-entries orders_total orders_exact test (entries t.orders) (strictly order_cmp (entries t.orders) (from_T _ (entries_sorted t.orders)))).1
-    (λ key row found. each key row (get-entries t.orders key ∙ sym (get-from_entries orders_total (entries t.orders) key) ∙ found))
+each_entry t test = (EachRow-table orders_total orders_exact test t.orders).1
 
 none_of : (p q : OrderKey × Order → Bool) (es : List (OrderKey × Order)) → ((e : OrderKey × Order) → q e ≡ true → p e ≡ false) → list_all q es ≡ true → filter p es ≡ []
 none_of p q [] never all = refl
@@ -318,10 +294,6 @@ raised_all slot t index held c place at =
     let had = held c place at in
     let is : get_or index place 0 ≡ most c (entries t.orders) = (let m : get_or index place 0 ≡ max (get_or index place 0) 0 = omega arith in m) ∙ had.1 in
     slice_get-get_or index place 0 had.0 ∙ ap Some is
-
--- the rows of ORDER, as they are lent
-pub orders_lent : (t : Database) (lent : List (OrderKey × Order)) → map.from_entries lent ≡ t.orders → IsStrictlySortedBy order_cmp (keys_of lent) → lent ≡ entries t.orders
-orders_lent t lent same sorted = sym (entries-ordered orders_total lent sorted) ∙ ap entries same
 
 -- what a vector holds after its slice was written
 pub written : (new items : List ℕ) (count : ℕ) → length new ≡ count → take count (new ++ drop (length new) items) ≡ new

@@ -17,6 +17,7 @@ use Rattle.indexes.specs.Namesakes.{Keyed, text_cmp, is_namesake, IsMiddle}
 abbrev pub last_of : Option Customer → List ℕ
 last_of row = option_map_or (λ (r : Customer). r.last) row []
 
+-- C_FIRST of a row; nothing where there is no row
 abbrev pub first_of : Option Customer → List ℕ
 first_of row = option_map_or (λ (r : Customer). r.first) row []
 
@@ -33,6 +34,7 @@ pub record IsNameRun (last first : ℕ → List ℕ) (count : ℕ) (run : List �
 abbrev pub last_name : Database → DistrictKey → ℕ → List ℕ
 last_name t home place = last_of (map.get t.customers (customer_key home (place + 1)))
 
+-- C_FIRST of the customer at this place of the district, from 0
 abbrev pub first_name : Database → DistrictKey → ℕ → List ℕ
 first_name t home place = first_of (map.get t.customers (customer_key home (place + 1)))
 
@@ -51,6 +53,7 @@ FitsNames index t = FitsNamesBy (district_slot t.scale) index t
 abbrev pub last_at : List Customer → ℕ → List ℕ
 last_at rows place = last_of (slice_get rows place)
 
+-- C_FIRST of the row at this place of a list
 abbrev pub first_at : List Customer → ℕ → List ℕ
 first_at rows place = first_of (slice_get rows place)
 

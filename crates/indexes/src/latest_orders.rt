@@ -33,7 +33,7 @@ impl LatestOrders {
     {
         let customers = rows.scale().customers as usize;
         let mut numbers = zeros(rows.district_count() as usize * customers, alloc)?;
-        for (key, order) in rows.orders().iter() {
+        for (key, order) in rows.orders() {
             let customer = CustomerKey {
                 w_id: key.w_id,
                 d_id: key.d_id,

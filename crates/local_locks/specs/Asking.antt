@@ -23,6 +23,7 @@ use Rattle.local_locks.specs.Wishes.{wishes}
 abbrev pub claim_for : List Stand → Wish → Claiming
 claim_for stands wish = fresh wish.group wish.mode (left_in stands wish.group)
 
+-- what this holder holds for a wish
 abbrev pub held_for : Holder → Wish → Holding
 held_for by wish = record { by = by; group = wish.group; mode = wish.mode }
 
@@ -52,6 +53,7 @@ IsSettled claim = claim.mode ≡ Exclusive → claim.told ≡ claim.left
 abbrev pub kept_after : Claiming → Stand → Stand
 kept_after claim stand = record { group = stand.group; left = stand.left; back = if is_same stand.group claim.group then stand.left else stand.back }
 
+-- what stands in the groups once these claims are back, one after another
 abbrev pub all_kept_after : List Claiming → List Stand → List Stand
 all_kept_after [] stands = stands
 all_kept_after (claim ∷ claims) stands = all_kept_after claims (map (kept_after claim) stands)
@@ -68,6 +70,7 @@ leaving_in table group content = record table { stands = map (left_after group c
 
 -- ---- whose turn it is
 
+-- one who waits for these wants
 abbrev pub waiting : Holder → List Want → Waiting
 waiting by wants = record { by = by; wants = wants }
 
@@ -79,6 +82,7 @@ IsBefore a b = (a.age < b.age) ⊎ ((a.age ≡ b.age) × (a.place < b.place))
 abbrev pub StillWaits : List Holding → Waiting → Type 0
 StillWaits holdings waiting = MustWait holdings waiting.by.age waiting.wants
 
+-- if this one's turn comes before that holder's, it has to wait still
 abbrev pub WaitsIfBefore : List Holding → Holder → Waiting → Type 0
 WaitsIfBefore holdings by waiting = IsBefore waiting.by by → StillWaits holdings waiting
 

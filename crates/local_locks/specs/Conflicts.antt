@@ -9,6 +9,7 @@ use Rattle.groups.specs.declared.wishes.Mode.TheVariants.{Shared, Exclusive}
 use Rattle.groups.specs.declared.wants.Want.{Want}
 use Rattle.local_locks.specs.Locking.{Holding}
 
+-- whether it is the mode of a reader
 abbrev pub is_shared : Mode → Bool
 is_shared Shared = true
 is_shared Exclusive = false

@@ -14,18 +14,23 @@ use Rattle.local_locks.specs.Rulings.{Spot, conflicting_at}
 abbrev pub IsOpen : List Locked → Spot → Type 0
 IsOpen locks spot = conflicting_at locks spot.mode spot.number ≡ []
 
+-- what stands in the group of this place; of no group where there is no such place
 abbrev pub stand_at : List Stand → ℕ → Stand
 stand_at stands number = slice_index_or stands number (record { group = Warehouse 0; left = nothing; back = nothing })
 
+-- the claim that is granted for this place: nothing was done under it yet, and it tells what stands there
 abbrev pub claim_at : List Stand → Spot → Claiming
 claim_at stands spot = fresh (stand_at stands spot.number).group spot.mode (stand_at stands spot.number).left
 
+-- what this holder holds with it
 abbrev pub held_at : Holder → List Stand → Spot → Holding
 held_at by stands spot = holding (stand_at stands spot.number).group spot.mode by
 
+-- the two are at different places
 abbrev pub AreElsewhere : Spot → Spot → Type 0
 AreElsewhere a b = a.number ≢ b.number
 
+-- it is not at this place
 abbrev pub IsNotAt : ℕ → Spot → Type 0
 IsNotAt number spot = spot.number ≢ number
 

@@ -28,6 +28,7 @@ IsNotAlone group holding = holding.group ≡ group → holding.mode ≡ Shared
 abbrev pub IsUntouched : List Holding → Stand → Type 0
 IsUntouched holdings stand = All (IsNotAlone stand.group) holdings → stand.back ≡ stand.left
 
+-- so it is of each group
 abbrev pub AreUntouched : List Holding → List Stand → Type 0
 AreUntouched holdings stands = All (IsUntouched holdings) stands
 

@@ -40,9 +40,11 @@ pub record Locking : Type 0 where
 abbrev pub stand_for : List Stand → Group → Stand
 stand_for stands group = slice_index_or stands (place_in_warehouse group) (record { group = group; left = nothing; back = nothing })
 
+-- what is in this group's rows now
 abbrev pub left_in : List Stand → Group → Content
 left_in stands group = (stand_for stands group).left
 
+-- what is in this group's rows again once all that was done under the exclusive claim is taken back
 abbrev pub back_in : List Stand → Group → Content
 back_in stands group = (stand_for stands group).back
 
@@ -59,6 +61,7 @@ pub record AreStandsOf (warehouses w_id : ℕ) (stands : List Stand) : Type 0 wh
 
 -- ---- the opening
 
+-- what stands in the group of a ticket box
 abbrev pub stand_of : Boxed → Stand
 stand_of b = record { group = b.group; left = b.left; back = b.back }
 

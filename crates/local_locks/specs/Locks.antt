@@ -17,6 +17,7 @@ pub record Locked : Type 0 where
   pub ticket_box : Boxed
   pub holders : List Holder
 
+-- a lock of this box and these holders
 abbrev pub locked : Boxed → List Holder → Locked
 locked ticket_box holders = record { ticket_box = ticket_box; holders = holders }
 
@@ -25,6 +26,7 @@ abbrev pub Agree : Mode → Boxed → List Holder → Type 0
 Agree Shared b holders = (b ≡ sharing b.group b.left (length holders)) × (length holders ≤ 8)
 Agree Exclusive b holders = (b.shared ≡ 0) × (length holders ≡ 1)
 
+-- of a lock, the box and the holders agree
 abbrev pub IsLocked : Locked → Type 0
 IsLocked lock = Agree lock.ticket_box.mode lock.ticket_box lock.holders
 
@@ -45,12 +47,15 @@ given_out Exclusive b = lent b.group b.left
 
 -- ---- the table
 
+-- this holder holds a claim of this mode on the group
 abbrev pub holding : Group → Mode → Holder → Holding
 holding group mode by = record { by = by; group = group; mode = mode }
 
+-- what the holders of a lock hold
 abbrev pub holdings_of : Locked → List Holding
 holdings_of lock = map (holding lock.ticket_box.group lock.ticket_box.mode) lock.holders
 
+-- what stands in the lock's group
 abbrev pub stand_in : Locked → Stand
 stand_in lock = stand_of lock.ticket_box
 
@@ -60,12 +65,15 @@ pub record Parked : Type 0 where
   pub wants : List Want
   pub room : ℕ
 
+-- one who waits for these wants, with room for so many claims
 abbrev pub parked : Holder → List Want → ℕ → Parked
 parked by wants room = record { by = by; wants = wants; room = room }
 
+-- the same, as contracts see it
 abbrev pub waiting_of : Parked → Waiting
 waiting_of p = record { by = p.by; wants = p.wants }
 
+-- the table of these locks and of those who wait, as contracts see it
 abbrev pub locking : ℕ → List Locked → List Parked → Locking
 locking w_id locks waiters = record {
   w_id = w_id;

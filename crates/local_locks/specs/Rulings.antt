@@ -23,6 +23,7 @@ first_of Orders = 21
 first_of History = 31
 first_of Stock = 41
 
+-- how many groups of the kind each warehouse has
 abbrev pub count_of : Kind → ℕ
 count_of Warehouse = 1
 count_of District = 10
@@ -31,10 +32,12 @@ count_of Orders = 10
 count_of History = 10
 count_of Stock = 64
 
+-- the place of the first group of an extent
 abbrev pub first_place : Extent → ℕ
 first_place (One group) = place_in_warehouse group
 first_place (Every prefix) = first_of prefix.kind
 
+-- how many groups an extent has
 abbrev pub count_in : Extent → ℕ
 count_in (One group) = 1
 count_in (Every prefix) = count_of prefix.kind
@@ -44,6 +47,7 @@ pub record Spot : Type 0 where
   pub number : ℕ
   pub mode : Mode
 
+-- this place, wanted so
 abbrev pub spot : ℕ → Mode → Spot
 spot number mode = record { number = number; mode = mode }
 
@@ -52,6 +56,7 @@ unfoldable pub spots : ℕ → ℕ → Mode → List Spot
 spots first zero mode = []
 spots first (suc count) mode = spot first mode ∷ spots (suc first) count mode
 
+-- the places that a want covers, each wanted as it says
 abbrev pub spots_of : Want → List Spot
 spots_of want = spots (first_place want.extent) (count_in want.extent) want.mode
 
@@ -67,10 +72,12 @@ pub record Stops (locks : List Locked) (wanted : List Spot) (number : ℕ) (hold
   pub wants : Contains wanted (spot number mode)
   pub holds : Contains (conflicting_at locks mode number) holder
 
+-- somebody is in the way, and all who are are younger than this age
 pub record AllYounger (age : ℕ) (locks : List Locked) (wanted : List Spot) : Type 0 where
   pub some : (number : ℕ) × (holder : Holder) × Stops locks wanted number holder
   pub younger : (number : ℕ) (holder : Holder) → Stops locks wanted number holder → age < holder.age
 
+-- Somebody is in the way who is not younger than this age: at this place first, and there the oldest is of that age.
 pub record FirstNotYounger (age : ℕ) (locks : List Locked) (wanted : List Spot) (number oldest : ℕ) : Type 0 where
   pub some : (holder : Holder) × Stops locks wanted number holder × (holder.age ≡ oldest)
   pub older : oldest ≤ age

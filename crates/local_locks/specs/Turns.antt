@@ -18,6 +18,7 @@ IsParkedThere warehouses p = All (IsWanted warehouses) p.wants
 abbrev pub StaysParked : List Locked → Parked → Type 0
 StaysParked locks p = IsRuling p.by.age locks (flat_map spots_of p.wants) Waits
 
+-- if this one's turn comes before that holder's, it has to wait still
 abbrev pub StaysIfBefore : List Locked → Holder → Parked → Type 0
 StaysIfBefore locks by p = IsBefore p.by by → StaysParked locks p
 
@@ -39,5 +40,6 @@ chosen found this Waits = found
 chosen None this ruling = Some this
 chosen (Some other) this ruling = if is_before this.by other.by then Some this else Some other
 
+-- of who was found so far and this one, the one whose turn comes first
 abbrev pub sooner : Option Next → Next → Option Next
 sooner found this = chosen found this this.ruling

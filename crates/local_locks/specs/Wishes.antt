@@ -27,13 +27,16 @@ groups_under Orders w_id = numbered (λ d_id. g.Orders w_id d_id) 1 10
 groups_under History w_id = numbered (λ d_id. g.History w_id d_id) 1 10
 groups_under Stock w_id = numbered (λ residue. g.Stock w_id residue) 0 64
 
+-- the groups of an extent: one, or all of a kind in a warehouse, in the order of groups
 abbrev pub groups_in : Extent → List Group
 groups_in (One group) = group ∷ []
 groups_in (Every prefix) = groups_under prefix.kind prefix.w_id
 
+-- a wish for one of the groups of a want
 abbrev pub wish_of : Want → Group → Wish
 wish_of want group = record { group = group; mode = want.mode }
 
+-- the wishes that a want stands for, group by group
 abbrev pub wishes_in : Want → List Wish
 wishes_in want = map (wish_of want) (groups_in want.extent)
 
@@ -48,9 +51,11 @@ abbrev pub IsThere : ℕ → Extent → Type 0
 IsThere warehouses (One group) = IsGroupOf warehouses group
 IsThere warehouses (Every prefix) = Unit {0}
 
+-- the groups of the want are there
 abbrev pub IsWanted : ℕ → Want → Type 0
 IsWanted warehouses want = IsThere warehouses want.extent
 
+-- the warehouse of an extent
 abbrev pub home_of : Extent → ℕ
 home_of (One group) = warehouse_of group
 home_of (Every prefix) = prefix.w_id

@@ -18,7 +18,7 @@ use Rattle.schema.specs.Sums.{weight_at, sum_rows}
 use Rattle.schema.specs.Database.{Database, list_at}
 use Rattle.schema.specs.Consistency.{Consistent, amounts_of, is_payer, delivered, paid, WarehousesSumDistricts, NextOrdersFollow, NewOrdersHaveNoGap, DistrictsCountLines, WarehousesSumPayments, DistrictsSumPayments, BalancesAreOwed, BalancesArePaid}
 use Rattle.schema.proofs.KeyOrders.{districts_total, districts_exact, customers_total, customers_exact}
-use Rattle.requests.specs.declared.request.Payment.{Payment}
+use Rattle.requests.specs.declared.payment.Payment.{Payment}
 use Rattle.machine.specs.Payment.{posted, payment_row}
 use Rattle.machine.specs.PaymentLaws.{PaymentKeepsConsistency}
 use Rattle.machine.proofs.PaidRows.{IsPaidBy, warehouse_paid-is, district_paid-is, customer_paid-is}

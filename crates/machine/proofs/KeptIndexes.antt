@@ -3,7 +3,7 @@ use Rattle.std.proofs.Common.{◌≡◌, ℕ, List, Result, Ok, Err, OnOk, OnErr
 use Rattle.std.specs.Prelude.{pos}
 use Rattle.rows.specs.PaymentNote.{payment_note}
 use Rattle.schema.specs.Database.{Database}
-use Rattle.requests.specs.declared.request.Payment.{Payment}
+use Rattle.requests.specs.declared.payment.Payment.{Payment}
 use Rattle.indexes.specs.LatestIndex.{FitsLatest}
 use Rattle.indexes.specs.NameLaws.{SameNames}
 use Rattle.indexes.specs.NameOrder.{FitsNames}

@@ -14,11 +14,12 @@ use Rattle.schema.specs.Scale.{customer_key}
 use Rattle.schema.specs.Database.{Database, list_at}
 use Rattle.requests.specs.declared.group.Group.{Group}
 use Rattle.requests.specs.declared.group.Group.TheVariants as g
-use Rattle.requests.specs.declared.request.Payment.{Payment}
+use Rattle.requests.specs.declared.payment.Payment.{Payment}
 use Rattle.groups.specs.Groups.{group_of_warehouse, group_of_district, group_of_customer, group_of_history}
 use Rattle.groups.specs.Content.{content, AreAlikeIn}
 use Rattle.groups.specs.Content.Content.{OfHistory}
-use Rattle.groups.specs.Footprint.{payment_footprint, groups_of}
+use Rattle.groups.specs.Payment.{payment_footprint}
+use Rattle.groups.specs.Footprint.{groups_of}
 use Rattle.groups.specs.Laws.{ChangesOneGroup, with_warehouse, with_district, with_customer, with_history, warehouse_in, district_in, history_in}
 use Rattle.groups.proofs.RowsInGroups.{each_row_stands_in_one_group, same_row}
 use Rattle.groups.proofs.RowsPut.{each_put_changes_one_group}

@@ -8,7 +8,7 @@ use Rattle.rows.specs.declared.records.Warehouse.{Warehouse}
 use Rattle.rows.specs.declared.records.District.{District}
 use Rattle.rows.specs.declared.records.Customer.{Customer}
 use Rattle.rows.specs.declared.records.History.{History}
-use Rattle.requests.specs.declared.request.Payment.{Payment}
+use Rattle.requests.specs.declared.payment.Payment.{Payment}
 use Rattle.indexes.specs.Namesakes.{Keyed}
 use Rattle.machine.specs.Chosen.{chosen}
 use Rattle.machine.specs.Payment.{payment, paid, posted, payment_row, warehouse_paid, district_paid, customer_paid}

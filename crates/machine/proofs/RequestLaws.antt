@@ -6,11 +6,11 @@ use Rattle.groups.specs.Content.{content, AreAlikeIn}
 use Rattle.groups.specs.Footprint.{footprint, groups_of}
 use Rattle.requests.specs.declared.request.Request.{Request}
 use Rattle.requests.specs.declared.request.Request.TheVariants.{Payment, OrderStatus}
-use Rattle.requests.specs.Replies.{ShowsStatus}
+use Rattle.requests.specs.Replies.{ShowsLines}
 use Rattle.machine.specs.OrderStatus.{order_status}
 use Rattle.machine.specs.Machine.{transaction, tables_after}
 use Rattle.machine.specs.MachineLaws.{TransactionKeepsConsistency, RequestsKeepConsistency, TransactionReadsItsGroups, TransactionKeepsOtherGroups}
-use Rattle.machine.proofs.PaymentCases.{payment-cases, payment_local}
+use Rattle.machine.proofs.PaymentCases.{payment_local, payment_shows_no_lines}
 use Rattle.machine.proofs.PaymentGroups.{payment_reads_its_groups, payment_keeps_other_groups}
 use Rattle.machine.proofs.StatusGroups.{status_keeps_tables, status_reads_its_groups}
 use Rattle.machine.proofs.ConsistencyKept.{payment_keeps_consistency}
@@ -51,9 +51,7 @@ requests_keep_consistency t [] consistent = consistent
 requests_keep_consistency t (request ∷ requests) consistent =
     requests_keep_consistency (transaction t request).tables requests (transaction_keeps_consistency t request consistent)
 
--- a request that shows a status changes no table
-pub shown_status_keeps : (t : Database) (request : Request) → ShowsStatus (transaction t request).reply → (transaction t request).tables ≡ t
-shown_status_keeps t (Payment p) =
-    payment-cases t p (λ o. ShowsStatus o.reply → o.tables ≡ t) (λ fault shows. refl)
-    (λ key w new_w d new_d c new_c w_is d_is payer_is w_made d_made c_made shows. absurd shows)
-shown_status_keeps t (OrderStatus o) = λ shows. status_keeps_tables t o
+-- a request that shows the lines of an order changes no table
+pub shown_lines_keep : (t : Database) (request : Request) → ShowsLines (transaction t request).reply → (transaction t request).tables ≡ t
+shown_lines_keep t (Payment p) shows = absurd (payment_shows_no_lines t p shows)
+shown_lines_keep t (OrderStatus o) shows = status_keeps_tables t o

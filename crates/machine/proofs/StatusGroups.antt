@@ -13,13 +13,15 @@ use Rattle.schema.specs.Scale.{customer_key}
 use Rattle.schema.specs.Database.{Database, is_of_order}
 use Rattle.schema.specs.Consistency.{numbers}
 use Rattle.schema.proofs.KeyOrders.{orders_total, orders_exact, lines_total, lines_exact}
-use Rattle.requests.specs.declared.reply.Reply.TheVariants.{OrderStatus as Shown}
+use Rattle.requests.specs.declared.reply.Reply.TheVariants.{Done}
+use Rattle.requests.specs.declared.reply.Shown.TheVariants.{OrderStatus as StatusShown}
 use Rattle.requests.specs.declared.group.Group.{Group}
 use Rattle.requests.specs.declared.group.Group.TheVariants as g
 use Rattle.groups.specs.Groups.{group_of_order, group_of_line, is_same}
 use Rattle.groups.specs.Content.{Content, content, rows_of}
 use Rattle.groups.specs.Content.Content.{OfOrders}
-use Rattle.groups.specs.Footprint.{order_status_footprint, groups_of}
+use Rattle.groups.specs.OrderStatus.{order_status_footprint}
+use Rattle.groups.specs.Footprint.{groups_of}
 use Rattle.groups.specs.Laws.{order_in}
 use Rattle.groups.proofs.Parts.{entries-where}
 use Rattle.groups.proofs.RowsInGroups.{each_row_stands_in_one_group, same_row}
@@ -125,7 +127,7 @@ module _ (home : DistrictKey) where
     same_told (Some c) of_home =
         let is = of_home c refl in
         let shown : latest_shown s c.0 ≡ latest_shown t c.0 = ap (latest_shown s) is ∙ same_shown c.0.c_id ∙ ap (latest_shown t) (sym is) in
-        ap (λ order. Shown (status_reply c.0 c.1 order)) shown
+        ap (λ order. Done (StatusShown (status_reply c.0 c.1 order))) shown
 
 pub status_reads_its_groups : StatusReadsItsGroups
 status_reads_its_groups s t o alike =

@@ -11,14 +11,14 @@ use Rattle.schema.specs.Database.{Database}
 use Rattle.schema.specs.Consistency.{lines_of}
 use Rattle.indexes.specs.Namesakes.{Keyed}
 use Rattle.indexes.specs.LatestOrder.{latest}
-use Rattle.requests.specs.declared.request.OrderStatus.{OrderStatus}
-use Rattle.requests.specs.declared.reply.OrderStatusReply.{OrderStatusReply}
-use Rattle.requests.specs.declared.reply.StatusOrder.{StatusOrder}
-use Rattle.requests.specs.declared.reply.StatusLine.{StatusLine}
-use Rattle.requests.specs.declared.reply.Reply.TheVariants.{OrderStatus as Shown}
+use Rattle.requests.specs.declared.order_status.OrderStatus.{OrderStatus}
+use Rattle.requests.specs.declared.order_status.OrderStatusReply.{OrderStatusReply}
+use Rattle.requests.specs.declared.order_status.StatusOrder.{StatusOrder}
+use Rattle.requests.specs.declared.order_status.StatusLine.{StatusLine}
+use Rattle.requests.specs.declared.reply.Shown.TheVariants.{OrderStatus as StatusShown}
 use Rattle.requests.specs.declared.reply.Fault.TheVariants.{NoCustomer}
 use Rattle.machine.specs.Chosen.{chosen}
-use Rattle.machine.specs.Outcome.{Outcome, rolled_back}
+use Rattle.machine.specs.Outcome.{Outcome, done, rolled_back}
 
 -- what is shown of a line
 abbrev pub status_line : OrderLine → StatusLine
@@ -34,6 +34,7 @@ status_line row = record {
 abbrev pub status_order : ℕ → Order → List StatusLine → StatusOrder
 status_order o_id row lines = record { o_id = o_id; entry_d = row.entry_d; carrier_id = row.carrier_id; lines = lines }
 
+-- the key of the customer's order of this number
 abbrev pub key_of_order : CustomerKey → ℕ → OrderKey
 key_of_order customer o_id = record { w_id = customer.w_id; d_id = customer.d_id; o_id = o_id }
 
@@ -64,7 +65,7 @@ status_reply key row order = record {
 
 -- by the customer that was chosen
 abbrev pub status_told : Database → Option Keyed → Outcome
-status_told t (Some c) = record { tables = t; reply = Shown (status_reply c.0 c.1 (latest_shown t c.0)) }
+status_told t (Some c) = done t (StatusShown (status_reply c.0 c.1 (latest_shown t c.0)))
 status_told t None = rolled_back t NoCustomer
 
 -- what Order-Status leaves and answers: it changes nothing

@@ -1,9 +1,10 @@
 -- What every Order-Status does, said of its definition.
 use Rattle.std.specs.Prelude.{◌≡◌}
 use Rattle.schema.specs.Database.{Database}
-use Rattle.requests.specs.declared.request.OrderStatus.{OrderStatus}
+use Rattle.requests.specs.declared.order_status.OrderStatus.{OrderStatus}
 use Rattle.groups.specs.Content.{AreAlikeIn}
-use Rattle.groups.specs.Footprint.{order_status_footprint, groups_of}
+use Rattle.groups.specs.OrderStatus.{order_status_footprint}
+use Rattle.groups.specs.Footprint.{groups_of}
 use Rattle.machine.specs.OrderStatus.{order_status}
 
 -- no table changes

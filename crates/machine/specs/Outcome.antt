@@ -1,12 +1,18 @@
 -- What a transaction leaves and answers.
 use Rattle.schema.specs.Database.{Database}
 use Rattle.requests.specs.declared.reply.Reply.{Reply}
-use Rattle.requests.specs.declared.reply.Reply.TheVariants.{RolledBack}
+use Rattle.requests.specs.declared.reply.Reply.TheVariants.{Done, RolledBack}
+use Rattle.requests.specs.declared.reply.Shown.{Shown}
 use Rattle.requests.specs.declared.reply.Fault.{Fault}
 
+-- the tables that a transaction leaves, and its reply
 pub record Outcome : Type 0 where
   pub tables : Database
   pub reply : Reply
+
+-- these tables, and what is shown
+abbrev pub done : Database → Shown → Outcome
+done t shown = record { tables = t; reply = Done shown }
 
 -- a rollback changes nothing (clause 2.4.2.3)
 abbrev pub rolled_back : Database → Fault → Outcome

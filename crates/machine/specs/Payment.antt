@@ -14,13 +14,13 @@ use Rattle.rows.specs.declared.records.Customer.{Customer}
 use Rattle.rows.specs.declared.records.History.{History}
 use Rattle.rows.specs.declared.records.Credit.{Credit}
 use Rattle.rows.specs.declared.records.Credit.TheVariants.{Good, Bad}
-use Rattle.requests.specs.declared.request.Payment.{Payment}
-use Rattle.requests.specs.declared.reply.PaymentReply.{PaymentReply}
-use Rattle.requests.specs.declared.reply.Reply.TheVariants.{Payment as Paid}
+use Rattle.requests.specs.declared.payment.Payment.{Payment}
+use Rattle.requests.specs.declared.payment.PaymentReply.{PaymentReply}
+use Rattle.requests.specs.declared.reply.Shown.TheVariants.{Payment as Paid}
 use Rattle.requests.specs.declared.reply.Fault.TheVariants.{NoCustomer, Range}
 use Rattle.indexes.specs.Namesakes.{Keyed}
 use Rattle.machine.specs.Chosen.{chosen}
-use Rattle.machine.specs.Outcome.{Outcome, rolled_back}
+use Rattle.machine.specs.Outcome.{Outcome, done, rolled_back}
 
 -- W_YTD grows by the amount (clause 2.5.2.2)
 abbrev pub warehouse_paid : Warehouse → ℤ → Option Warehouse
@@ -76,15 +76,15 @@ payment_reply key c = record {
 
 -- all rows change at once, or none where a sum would leave its range
 abbrev pub posted : Database → Payment → CustomerKey → History → Option Warehouse → Option District → Option Customer → Outcome
-posted t p key row (Some w) (Some d) (Some c) = record {
-  tables = record t {
-    warehouses = map.insert t.warehouses p.home.w_id w;
-    districts = map.insert t.districts p.home d;
-    customers = map.insert t.customers key c;
-    histories = with_payment t.histories p.home row;
-  };
-  reply = Paid (payment_reply key c);
-}
+posted t p key row (Some w) (Some d) (Some c) =
+    done
+    (record t {
+      warehouses = map.insert t.warehouses p.home.w_id w;
+      districts = map.insert t.districts p.home d;
+      customers = map.insert t.customers key c;
+      histories = with_payment t.histories p.home row;
+    })
+    (Paid (payment_reply key c))
 posted t p key row _ _ _ = rolled_back t Range
 
 -- by the rows that are there; within the scale only the customer can be missing

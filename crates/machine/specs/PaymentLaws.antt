@@ -6,10 +6,11 @@ use Rattle.rows.specs.declared.keys.CustomerKey.{CustomerKey}
 use Rattle.schema.specs.Sums.{sum_rows}
 use Rattle.schema.specs.Database.{Database, IsWithinScale}
 use Rattle.schema.specs.Consistency.{amounts_of, Consistent}
-use Rattle.requests.specs.declared.request.Payment.{Payment}
+use Rattle.requests.specs.declared.payment.Payment.{Payment}
 use Rattle.requests.specs.declared.group.Group.{Group}
 use Rattle.groups.specs.Content.{content, AreAlikeIn, IsNoneOf}
-use Rattle.groups.specs.Footprint.{payment_footprint, groups_of}
+use Rattle.groups.specs.Payment.{payment_footprint}
+use Rattle.groups.specs.Footprint.{groups_of}
 use Rattle.machine.specs.Chosen.{chosen}
 use Rattle.machine.specs.Payment.{payment}
 
@@ -30,6 +31,7 @@ pub record ChangesItsRowsAlone (p : Payment) (old new : Database) : Type 0 where
   pub new_orders : new.new_orders ≡ old.new_orders
   pub lines : new.lines ≡ old.lines
 
+-- no payment changes a row but its own four
 abbrev pub PaymentIsLocal : Type 0
 PaymentIsLocal = (t : Database) (p : Payment) → ChangesItsRowsAlone p t (payment t p).tables
 

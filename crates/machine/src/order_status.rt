@@ -1,11 +1,15 @@
 ghost use Rattle.std.specs.Prelude.{◌≡◌, IfOk};
-ghost use Rattle.indexes.specs.LatestIndex.{FitsLatestBy};
+ghost use Rattle.indexes.specs.LatestIndex.{FitsLatest, FitsLatestBy};
+ghost use Rattle.indexes.specs.NameOrder.{FitsNames};
 ghost use Rattle.machine.specs.OrderStatus as spec;
 
-use indexes::LatestOrders;
+use crate::choosing::chosen;
+use indexes::{LatestOrders, NameIndex};
 use partitions::Rows;
-use requests::{Lines, OrderStatusReply, StatusLine, StatusOrder};
-use schema::{Customer, CustomerKey, NoMemory, OrderKey, OrderLine};
+use requests::{
+    Fault, Lines, OrderStatus, OrderStatusReply, Reply, Shown, StatusLine, StatusOrder,
+};
+use schema::{Customer, CustomerKey, NoMemory, OrderKey, OrderLine, Tables};
 use std::alloc::Global;
 
 /// What Order-Status shows of a customer's row, with what it shows of the customer's last order. It takes no
@@ -82,4 +86,24 @@ fn status_line(row: &OrderLine) -> StatusLine
         amount: row.amount,
         delivery_d: row.delivery_d,
     }
+}
+
+/// Shows a customer's last order. No table changes.
+pub(crate) fn tell(
+    alloc: Global,
+    tables: &Tables,
+    names: &NameIndex,
+    orders: &LatestOrders,
+    asked: &OrderStatus,
+) -> Result<Reply, NoMemory>
+    requires names { FitsNames names.now tables.now }
+    requires orders { FitsLatest orders.now tables.now }
+    ensures { IfOk result (λ reply. reply ≡ (spec.order_status tables.now asked.now).reply) }
+{
+    let Some((key, row)) = chosen(tables, names, asked.home, &asked.customer) else {
+        return Ok(Reply::RolledBack(Fault::NoCustomer));
+    };
+    let order = latest_shown(alloc, tables, orders, key)?;
+    let shown = status_reply(key, row, order);
+    Ok(Reply::Done(Shown::OrderStatus(shown)))
 }

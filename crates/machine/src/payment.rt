@@ -1,12 +1,16 @@
-ghost use Rattle.std.specs.Prelude.{◌≡◌, pos, IfOk};
+ghost use Rattle.std.specs.Prelude.{◌≡◌, Some, pos, IsTrue, IfOk, OnOk, OnErr};
+ghost use Rattle.std.specs.FinMap as map;
 ghost use Rattle.rows.specs.PaymentNote.{payment_note};
+ghost use Rattle.indexes.specs.NameOrder.{FitsNames};
 ghost use Rattle.machine.specs.Payment as spec;
 
+use crate::choosing::chosen;
 use amounts::Cents;
-use requests::{Payment, PaymentReply};
+use indexes::NameIndex;
+use requests::{Fault, Payment, PaymentReply, Reply, Shown};
 use schema::{
-    Credit, Customer, CustomerKey, District, DistrictKey, History, NoMemory, Text, Warehouse,
-    prepend_data,
+    Credit, Customer, CustomerKey, District, DistrictKey, History, NoMemory, Tables, Text,
+    Warehouse, prepend_data,
 };
 
 /// The warehouse's row after a payment, or `None` where its sum leaves its range.
@@ -113,4 +117,67 @@ pub fn payment_reply(key: CustomerKey, row: &Customer) -> PaymentReply
         balance: row.balance,
         data,
     }
+}
+
+/// Carries out a payment.
+pub(crate) fn pay(
+    tables: &mut Tables,
+    names: &NameIndex,
+    payment: &Payment,
+) -> Result<Reply, NoMemory>
+    requires names { FitsNames names.now tables.old }
+    ensures reply { IfOk result (λ reply. reply ≡ (spec.payment tables.old payment.now).reply) }
+    ensures tables { OnOk result (tables.new ≡ (spec.payment tables.old payment.now).tables) }
+    ensures err { OnErr result (tables.new ≡ tables.old) }
+{
+    let amount = Cents::new(i64::from(payment.amount));
+    let Some(warehouse) = tables.warehouse(payment.home.w_id) else {
+        return Ok(Reply::RolledBack(Fault::NoCustomer));
+    };
+    let Some(district) = tables.district(payment.home) else {
+        return Ok(Reply::RolledBack(Fault::NoCustomer));
+    };
+    let Some((key, customer)) = chosen(tables, names, payment.customer_home, &payment.customer)
+    else {
+        return Ok(Reply::RolledBack(Fault::NoCustomer));
+    };
+    let row = payment_row(payment, key, warehouse, district);
+    let Some(warehouse) = warehouse_paid(warehouse, amount)? else {
+        return Ok(Reply::RolledBack(Fault::Range));
+    };
+    let Some(district) = district_paid(district, amount)? else {
+        return Ok(Reply::RolledBack(Fault::Range));
+    };
+    let Some(customer) = customer_paid(customer, key, payment.home, payment.amount)? else {
+        return Ok(Reply::RolledBack(Fault::Range));
+    };
+    post(tables, payment, key, row, warehouse, district, customer)
+}
+
+// Changes all rows of a payment at once: what may want memory comes first.
+fn post(
+    tables: &mut Tables,
+    payment: &Payment,
+    key: CustomerKey,
+    row: History,
+    warehouse: Warehouse,
+    district: District,
+    customer: Customer,
+) -> Result<Reply, NoMemory>
+    requires warehouse_is_there { IsTrue (map.contains_key tables.old.warehouses payment.now.home.w_id) }
+    requires district_is_there { IsTrue (map.contains_key tables.old.districts payment.now.home) }
+    requires customer_is_there { IsTrue (map.contains_key tables.old.customers key) }
+    requires payer_is_the_customer { row.customer ≡ key }
+    ensures reply { IfOk result (λ reply. reply ≡
+        (spec.posted tables.old payment.now key row (Some warehouse) (Some district) (Some customer)).reply) }
+    ensures tables { OnOk result (tables.new ≡
+        (spec.posted tables.old payment.now key row (Some warehouse) (Some district) (Some customer)).tables) }
+    ensures err { OnErr result (tables.new ≡ tables.old) }
+{
+    let reply = payment_reply(key, &customer);
+    tables.push_history(payment.home, row)?;
+    tables.replace_warehouse(payment.home.w_id, warehouse);
+    tables.replace_district(payment.home, district);
+    tables.replace_customer(key, customer);
+    Ok(Reply::Done(Shown::Payment(reply)))
 }

@@ -13,12 +13,15 @@ use Rattle.partitions.specs.Parts.{Shared, Part, IsPart}
 
 -- ---- a warehouse's keys in order
 
+-- the keys of the warehouse's districts, ascending
 abbrev pub district_keys_of : ℕ → List DistrictKey
 district_keys_of home = grid district_key 10 (home ∷ [])
 
+-- the keys of its stock, ascending
 abbrev pub stock_keys_of : Scale → ℕ → List StockKey
 stock_keys_of scale home = grid stock_key scale.items (home ∷ [])
 
+-- the keys of its customers, ascending
 abbrev pub customer_keys_of : Scale → ℕ → List CustomerKey
 customer_keys_of scale home = grid customer_key scale.customers (district_keys_of home)
 

@@ -22,6 +22,7 @@ pub record Shared : Type 0 where
   pub scale : Scale
   pub items : table.FinMap nat_cmp Item
 
+-- what all parts of these tables share
 abbrev pub shared_of : Database → Shared
 shared_of t = record { scale = t.scale; items = t.items }
 
@@ -32,15 +33,19 @@ pub record Part : Type 0 where
 
 -- ---- one part
 
+-- the warehouse is this one
 abbrev pub is_of : ℕ → ℕ → Bool
 is_of home warehouse = warehouse == home
 
+-- the key is of one of the warehouse's ten districts
 abbrev pub has_district_of : ℕ → DistrictKey → Bool
 has_district_of home key = is_of home key.w_id && is_between 1 10 key.d_id
 
+-- the key is of its stock of an item of the scale
 abbrev pub has_stock_of : Scale → ℕ → StockKey → Bool
 has_stock_of scale home key = is_of home key.w_id && has_item scale key.i_id
 
+-- the key is of a customer of one of its districts
 abbrev pub has_customer_of : Scale → ℕ → CustomerKey → Bool
 has_customer_of scale home key = has_district_of home (district_of_customer key) && is_between 1 scale.customers key.c_id
 

@@ -6,9 +6,7 @@ ghost use Rattle.schema.specs.Scale.{customer_key};
 ghost use Rattle.schema.specs.Database.{rows_where, is_of_order};
 ghost use Rattle.partitions.specs.Slots.{AreRows};
 
-use schema::{Customer, CustomerKey, DistrictKey, Order, OrderKey, OrderLine, OrderLineKey, Scale};
-use std::collections::BTreeMap;
-use std::collections::btree_map::Range;
+use schema::{Customer, CustomerKey, DistrictKey, Lines, Order, OrderKey, Orders, Scale};
 
 /// Rows of customers, orders and lines that are asked for by their keys: those of all tables, or of a part of
 /// them.
@@ -52,15 +50,16 @@ pub trait Rows {
         ensures { option_copied result ≡ map.get (tables self.now).customers key };
 
     /// All orders that are here, by their keys.
-    fn orders(&self) -> &BTreeMap<OrderKey, Order>
-        ensures { map.from_entries result.now.entries ≡ (tables self.now).orders };
+    fn orders(&self) -> Orders<'_>
+        ensures rows { result ≡ map.entries (tables self.now).orders }
+        ensures fits { length result < 2 ^ 63 };
 
     /// The row of the order, `None` where there is none here.
     fn order(&self, key: OrderKey) -> Option<&Order>
         ensures { option_copied result ≡ map.get (tables self.now).orders key };
 
     /// The lines of the order, by OL_NUMBER.
-    fn lines_of(&self, order: OrderKey) -> Range<'_, OrderLineKey, OrderLine>
+    fn lines_of(&self, order: OrderKey) -> Lines<'_>
         ensures rows { result ≡ rows_where (is_of_order order) (tables self.now).lines }
         ensures fits { length result < 2 ^ 63 };
 }

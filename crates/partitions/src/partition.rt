@@ -10,11 +10,9 @@ ghost use Rattle.partitions.specs.Slots.{customer_slot_by, home_slot};
 use crate::Catalog;
 use crate::home_rows::HomeRows;
 use schema::{
-    Customer, CustomerKey, District, DistrictKey, History, NoMemory, Order, OrderKey, OrderLine,
-    OrderLineKey, Scale, Warehouse,
+    Customer, CustomerKey, District, DistrictKey, Entries, History, Lines, NoMemory, Order,
+    OrderKey, OrderLineKey, Orders, Scale, Warehouse,
 };
-use std::collections::BTreeMap;
-use std::collections::btree_map::Range;
 use std::marker::Model;
 use std::mem;
 
@@ -108,14 +106,15 @@ impl Partition {
     }
 
     /// All orders of the warehouse, by their keys.
-    pub fn orders(&self) -> &BTreeMap<OrderKey, Order>
-        ensures { map.from_entries result.now.entries ≡ self.now.tables.orders }
+    pub fn orders(&self) -> Orders<'_>
+        ensures rows { result ≡ map.entries self.now.tables.orders }
+        ensures fits { length result < 2 ^ 63 }
     {
-        &self.rows.orders
+        Entries::of_map(self.rows.orders.range(..))
     }
 
     /// The lines of the order, by OL_NUMBER.
-    pub fn lines_of(&self, order: OrderKey) -> Range<'_, OrderLineKey, OrderLine>
+    pub fn lines_of(&self, order: OrderKey) -> Lines<'_>
         ensures rows { result ≡ rows_where (is_of_order order) self.now.tables.lines }
         ensures fits { length result < 2 ^ 63 }
     {
@@ -129,7 +128,7 @@ impl Partition {
             number: u32::MAX,
             ..first
         };
-        self.rows.lines.range(first..=last)
+        Entries::of_map(self.rows.lines.range(first..=last))
     }
 
     /// The customers of the district, by C_ID from 1; `None` where it is none of the warehouse's.

@@ -1,7 +1,5 @@
 use crate::{Partition, Rows};
-use schema::{Customer, CustomerKey, DistrictKey, Order, OrderKey, OrderLine, OrderLineKey, Scale};
-use std::collections::BTreeMap;
-use std::collections::btree_map::Range;
+use schema::{Customer, CustomerKey, DistrictKey, Lines, Order, OrderKey, Orders, Scale};
 
 /// The rows of one warehouse: of its ten districts.
 impl Rows for Partition {
@@ -40,7 +38,7 @@ impl Rows for Partition {
         Partition::customer(self, key)
     }
 
-    fn orders(&self) -> &BTreeMap<OrderKey, Order> {
+    fn orders(&self) -> Orders<'_> {
         Partition::orders(self)
     }
 
@@ -48,7 +46,7 @@ impl Rows for Partition {
         Partition::order(self, key)
     }
 
-    fn lines_of(&self, order: OrderKey) -> Range<'_, OrderLineKey, OrderLine> {
+    fn lines_of(&self, order: OrderKey) -> Lines<'_> {
         Partition::lines_of(self, order)
     }
 }

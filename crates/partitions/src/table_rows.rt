@@ -1,9 +1,5 @@
 use crate::Rows;
-use schema::{
-    Customer, CustomerKey, DistrictKey, Order, OrderKey, OrderLine, OrderLineKey, Scale, Tables,
-};
-use std::collections::BTreeMap;
-use std::collections::btree_map::Range;
+use schema::{Customer, CustomerKey, DistrictKey, Lines, Order, OrderKey, Orders, Scale, Tables};
 
 impl Rows for Tables {
     ghost use Rattle.std.specs.Prelude.{◌*◌};
@@ -42,15 +38,15 @@ impl Rows for Tables {
         self.customer(key)
     }
 
-    fn orders(&self) -> &BTreeMap<OrderKey, Order> {
-        &self.rows().orders
+    fn orders(&self) -> Orders<'_> {
+        self.orders()
     }
 
     fn order(&self, key: OrderKey) -> Option<&Order> {
         self.order(key)
     }
 
-    fn lines_of(&self, order: OrderKey) -> Range<'_, OrderLineKey, OrderLine> {
+    fn lines_of(&self, order: OrderKey) -> Lines<'_> {
         self.lines_of(order)
     }
 }

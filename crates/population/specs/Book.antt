@@ -21,6 +21,7 @@ use Rattle.std.specs.declared.cmp.Ordering.TheVariants.{Less}
 abbrev pub Owned : Type 0
 Owned = OrderKey × ℕ
 
+-- so of a row of ORDER with its key
 abbrev pub owned : OrderKey × Order → Owned
 owned entry = (entry.0, entry.1.c_id)
 
@@ -52,6 +53,7 @@ pub record IsBook (scale : Scale) (orders : BTreeMap OrderKey Order) (new_orders
   pub new_orders_ordered : IsOrdered order_cmp new_orders
   pub lines_ordered : IsOrdered line_cmp lines
 
+-- of the three tables of an order book
 abbrev pub IsBookOf : Scale → OrderBook → Type 0
 IsBookOf scale book = IsBook scale book.orders book.new_orders book.lines
 

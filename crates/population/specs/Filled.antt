@@ -34,6 +34,7 @@ pub record IsFilled (scale : Scale) (count : ℕ) (districts : List District) (c
   pub owned : map owned orders.entries ≡ owned_from 0 owners
   pub book : IsBook scale orders new_orders lines
 
+-- of the tables of the districts that were filled so far
 abbrev pub AreFilled : Scale → ℕ → DistrictTables → Type 0
 AreFilled scale count tables =
     IsFilled scale count tables.districts.items tables.customers.items tables.histories.items tables.book.orders tables.book.new_orders tables.book.lines

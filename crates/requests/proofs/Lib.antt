@@ -1,1 +1,5 @@
+pub mod Found
+pub mod Checked
+pub mod PaymentReplies
+pub mod OrderStatusReplies
 pub mod SameReplies

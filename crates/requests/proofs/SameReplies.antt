@@ -1,32 +1,15 @@
 -- The comparison of replies is exact.
-use Rattle.std.proofs.Common.{rules, ◌≡◌, List}
+use Rattle.std.proofs.Common.{rules, ◌≡◌}
 use Rattle.std.specs.Bool.{Decides}
-use Rattle.std.specs.Cmp.Lexicographic.{pointwise, pointwise_decides}
-use Rattle.requests.specs.declared.reply.OrderStatusReply.{OrderStatusReply}
-use Rattle.requests.specs.declared.reply.PaymentReply.{PaymentReply}
 use Rattle.requests.specs.declared.reply.Reply.{Reply}
-use Rattle.requests.specs.declared.reply.StatusLine.{StatusLine}
-use Rattle.requests.specs.declared.reply.StatusOrder.{StatusOrder}
-use Rattle.requests.specs.contracts.reply.StatusLinePartialEq.TheImpl as line
-use Rattle.requests.specs.contracts.reply.StatusOrderPartialEq.TheImpl as order
-use Rattle.requests.specs.contracts.reply.OrderStatusReplyPartialEq.TheImpl as shown
-use Rattle.requests.specs.contracts.reply.PaymentReplyPartialEq.TheImpl as paid
+use Rattle.requests.specs.declared.reply.Shown.{Shown}
+use Rattle.requests.specs.contracts.reply.ShownPartialEq.TheImpl as shown
 use Rattle.requests.specs.contracts.reply.ReplyPartialEq.TheImpl as reply
+use Rattle.requests.proofs.PaymentReplies.{payment_decides}
+use Rattle.requests.proofs.OrderStatusReplies.{order_status_decides}
 
-line_decides : (a b : StatusLine) → Decides (line.ghosts.eq a b) (a ≡ b)
-line_decides a b = Prim.search rules
-
-pub lines_decide : (xs ys : List StatusLine) → Decides (pointwise line.ghosts.eq xs ys) (xs ≡ ys)
-lines_decide = pointwise_decides line_decides
-
-order_decides : (a b : StatusOrder) → Decides (order.ghosts.eq a b) (a ≡ b)
-order_decides a b = Prim.search (rules, lines_decide)
-
-shown_decides : (a b : OrderStatusReply) → Decides (shown.ghosts.eq a b) (a ≡ b)
-shown_decides a b = Prim.search (rules, order_decides)
-
-paid_decides : (a b : PaymentReply) → Decides (paid.ghosts.eq a b) (a ≡ b)
-paid_decides a b = Prim.search rules
+shown_decides : (a b : Shown) → Decides (shown.ghosts.eq a b) (a ≡ b)
+shown_decides a b = Prim.search (rules, payment_decides, order_status_decides)
 
 pub reply_decides : (a b : Reply) → Decides (reply.ghosts.eq a b) (a ≡ b)
-reply_decides a b = Prim.search (rules, paid_decides, shown_decides)
+reply_decides a b = Prim.search (rules, shown_decides)

@@ -8,6 +8,7 @@ use Rattle.requests.specs.declared.group.Group.TheVariants.{Warehouse, District,
 abbrev pub numbered_text : List ℕ → ℕ → ℕ → List ℕ
 numbered_text kind w_id number = kind ++ (codes "." ++ (decimal w_id ++ (codes "." ++ decimal number)))
 
+-- how a group is written: the letters of its kind, its warehouse and its number
 abbrev pub group_text : Group → List ℕ
 group_text (Warehouse w_id) = codes "WH" ++ (codes "." ++ decimal w_id)
 group_text (District w_id d_id) = numbered_text (codes "DI") w_id d_id

@@ -3,6 +3,7 @@ use Rattle.std.specs.Prelude.{ℕ}
 use Rattle.requests.specs.declared.refusal.Refusal.{Refusal}
 use Rattle.requests.specs.declared.refusal.Refusal.TheVariants.{BadWarehouse, BadDistrict, BadLines, BadQuantity, BadSupply, BadAmount, BadThreshold, BadCarrier, Busy, SessionBusy, Died, NoMemory, Closed, LogFull}
 
+-- the number of each refusal
 abbrev pub refusal_number : Refusal → ℕ
 refusal_number BadWarehouse = 1
 refusal_number BadDistrict = 2

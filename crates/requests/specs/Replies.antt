@@ -1,8 +1,16 @@
--- Kinds of replies.
+-- Which replies show the lines of an order: their copies alone take memory.
 use Rattle.requests.specs.declared.reply.Reply.{Reply}
-use Rattle.requests.specs.declared.reply.Reply.TheVariants.{OrderStatus}
+use Rattle.requests.specs.declared.reply.Reply.TheVariants.{Done, RolledBack}
+use Rattle.requests.specs.declared.reply.Shown.{Shown}
+use Rattle.requests.specs.declared.reply.Shown.TheVariants.{Payment, OrderStatus}
+use Rattle.requests.specs.OrderStatus.{ShowsOrder}
 
--- it is one of Order-Status
-abbrev pub ShowsStatus : Reply → Type 0
-ShowsStatus (OrderStatus shown) = Unit {0}
-ShowsStatus _ = ⊥
+-- what is shown has the lines of an order
+abbrev pub HasLines : Shown → Type 0
+HasLines (Payment shown) = ⊥
+HasLines (OrderStatus shown) = ShowsOrder shown
+
+-- the reply shows them
+abbrev pub ShowsLines : Reply → Type 0
+ShowsLines (Done shown) = HasLines shown
+ShowsLines (RolledBack fault) = ⊥

@@ -7,6 +7,8 @@ mod checks;
 mod group;
 mod last_name;
 mod lines;
+mod order_status;
+mod payment;
 mod refusal;
 mod reply;
 mod request;
@@ -17,9 +19,11 @@ pub use checks::check;
 pub use group::Group;
 pub use last_name::LastName;
 pub use lines::Lines;
+pub use order_status::{OrderStatus, OrderStatusReply, StatusLine, StatusOrder};
+pub use payment::{Payment, PaymentReply};
 pub use refusal::Refusal;
-pub use reply::{Fault, OrderStatusReply, PaymentReply, Reply, StatusLine, StatusOrder};
-pub use request::{Choice, OrderStatus, Payment, Request};
+pub use reply::{Fault, Reply, Shown};
+pub use request::{Choice, Request};
 pub use script::{MOST_REQUESTS, Script};
 
 #[cfg(test)]

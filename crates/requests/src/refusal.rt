@@ -21,7 +21,7 @@ pub enum Refusal {
     BadThreshold,
     /// The carrier is not 1 to 10.
     BadCarrier,
-    /// 64 transactions are active.
+    /// As many transactions are active as may be.
     Busy,
     /// The session's last request has no answer yet.
     SessionBusy,

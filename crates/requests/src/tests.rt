@@ -181,7 +181,7 @@ fn copies_are_equal(rt: HostRuntime) -> Result<(), Fail> {
     for request in &requests {
         assert_eq!(rt; request.try_clone()?, *request);
     }
-    let paid = Reply::Payment(PaymentReply {
+    let paid = Reply::Done(Shown::Payment(PaymentReply {
         c_id: 4,
         first: Text::parse("C")?,
         middle: Text::parse("OE")?,
@@ -190,7 +190,7 @@ fn copies_are_equal(rt: HostRuntime) -> Result<(), Fail> {
         discount: Rate::new(1_000),
         balance: Cents::new(-13_345),
         data: Text::parse("4 1 1 2 1 12345|")?,
-    });
+    }));
     let mut replies = Vec::new(rt.alloc());
     replies.push(paid)?;
     replies.push(Reply::RolledBack(Fault::NoCustomer))?;
@@ -207,14 +207,14 @@ fn copies_are_equal(rt: HostRuntime) -> Result<(), Fail> {
 }
 
 fn status(order: Option<StatusOrder>) -> Result<Reply, Fail> {
-    Ok(Reply::OrderStatus(OrderStatusReply {
+    Ok(Reply::Done(Shown::OrderStatus(OrderStatusReply {
         c_id: 5,
         first: Text::parse("D")?,
         middle: Text::parse("OE")?,
         last: Text::parse("BARBAROUGHT")?,
         balance: Cents::new(-1_000),
         order,
-    }))
+    })))
 }
 
 fn one_line(alloc: Global, delivery_d: Option<Moment>) -> Result<StatusOrder, NoMemory> {

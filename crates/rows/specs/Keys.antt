@@ -35,6 +35,7 @@ line_cmp a b =
 abbrev pub district_of_customer : CustomerKey → DistrictKey
 district_of_customer key = record { w_id = key.w_id; d_id = key.d_id }
 
+-- the district of an order
 abbrev pub district_of_order : OrderKey → DistrictKey
 district_of_order key = record { w_id = key.w_id; d_id = key.d_id }
 

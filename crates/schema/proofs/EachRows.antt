@@ -1,15 +1,16 @@
 -- A test of each entry of a list, against the test of each row of the table that they make.
-use Rattle.std.proofs.Common.{◌≡◌, ◌↔◌, ℕ, zero, suc, ◌<◌, Bool, true, false, cond, ◌&&◌, List, [], ◌∷◌, length, Some, None, refl, sym, ap, subst, ◌∙◌, arith, IsTrue}
+use Rattle.std.proofs.Common.{◌≡◌, ◌↔◌, ℕ, zero, suc, ◌<◌, Bool, true, false, cond, ◌&&◌, List, [], ◌∷◌, T, length, Some, None, refl, sym, ap, subst, ◌∙◌, arith, IsTrue}
 use Rattle.std.specs.List.{list_all, AllByRecursion, zip, slice_get}
 use Rattle.std.specs.List.Sorted.{IsStrictlySortedBy}
 use Rattle.std.specs.Option.{option_and_then}
 use Rattle.std.specs.Map.{keys_of}
 use Rattle.std.specs.declared.cmp.Ordering.{Ordering}
 use Rattle.std.specs.declared.cmp.Ordering.TheVariants.{Less, Equal, Greater}
-use Rattle.std.specs.Ordering.{eq_by_cmp, is_eq, ordering_reverse}
+use Rattle.std.specs.Ordering.{eq_by_cmp, is_eq, is_lt, ordering_reverse}
 use Rattle.std.specs.Cmp.{IsTotalOrder, eq_by_cmp_equiv}
+use Rattle.std.specs.FinMap as map
 use Rattle.std.specs.FinMap.{from_entries, get-from_entries, IsAntisymmetric}
-use Rattle.std.specs.FinMap.Entries.{find}
+use Rattle.std.specs.FinMap.Entries.{find, is_sorted, below_all}
 use Rattle.std.proofs.lemmas.Map.Keys.{sorted_head, sorted_tail}
 use Rattle.schema.specs.Dense.{place}
 use Rattle.schema.specs.EachRow.{EachRow}
@@ -27,6 +28,25 @@ is_equal : (r : Ordering) → is_eq r ≡ true → r ≡ Equal
 is_equal Less h = cc
 is_equal Equal h = refl
 is_equal Greater h = cc
+
+-- a table's entries are in order
+all_below : {K X : Type 0} (R : K → K → Ordering) (k : K) (es : List (K × X)) → IsTrue (below_all R k es) → AllByRecursion (λ q. R k q ≡ Less) (keys_of es)
+all_below R k [] h = tt
+all_below R k (e ∷ es) h = (less _ (first _ _ h), all_below R k es (second _ _ h))
+  where
+    less : (o : Ordering) → IsTrue (is_lt o) → o ≡ Less
+    less Less h = refl
+    less Equal h = absurd cc
+    less Greater h = absurd cc
+
+strictly : {K X : Type 0} (R : K → K → Ordering) (es : List (K × X)) → IsTrue (is_sorted R es) → IsStrictlySortedBy R (keys_of es)
+unfolding IsStrictlySortedBy
+strictly R [] h = tt
+strictly R (e ∷ es) h = (all_below R e.0 es (first _ _ h), strictly R es (second _ _ h))
+
+from_T : (b : Bool) → T b → IsTrue b
+from_T true h = refl
+from_T false h = absurd h
 
 later_is_other : {K : Type 0} {R : K → K → Ordering} → IsTotalOrder R → (k q : K) → R k q ≡ Less → eq_by_cmp R q k ≡ false
 later_is_other o k q h = ap is_eq (o.antisymm q k ∙ ap ordering_reverse h)
@@ -76,6 +96,13 @@ module _ {K X : Type 0} {R : K → K → Ordering} (o : IsTotalOrder R) (a : IsA
     λ h key row found. passes-found test es h key row (sym (get-from_entries o es key) ∙ found),
     λ h. passes-all test es sorted (λ key row found. h key row (get-from_entries o es key ∙ found)),
   )
+
+  -- and so is a test of a table's entries
+  pub EachRow-table : (test : K → X → Bool) (m : map.FinMap R X) → IsTrue (list_all (λ e. test e.0 e.1) (map.entries m)) ↔ EachRow test m
+  EachRow-table test m =
+      let same = λ (key : K). map.get-entries m key ∙ sym (get-from_entries o (map.entries m) key) in
+      let each = EachRow-entries test (map.entries m) (strictly R (map.entries m) (from_T _ (map.entries_sorted m))) in
+      (λ h key row found. each.0 h key row (sym (same key) ∙ found), λ h. each.1 (λ key row found. h key row (same key ∙ found)))
 
 passes-at : {X : Type 0} (test : X → Bool) (xs : List X) (n : ℕ) (x : X) → IsTrue (list_all test xs) → slice_get xs n ≡ Some x → IsTrue (test x)
 passes-at test [] n x h found = absurd cc

@@ -4,7 +4,7 @@ use Rattle.std.specs.List.{list_all, filter, AllByRecursion}
 use Rattle.std.specs.List.Sorted.{IsStrictlySortedBy}
 use Rattle.std.specs.Map.{keys_of}
 use Rattle.std.specs.BTreeMap.Range.{range_contains, entries_between}
-use Rattle.std.specs.declared.ops.Bound.TheVariants.{Included}
+use Rattle.std.specs.declared.ops.Bound.TheVariants.{Included, Unbounded}
 use Rattle.std.specs.declared.cmp.Ordering.{Ordering}
 use Rattle.std.specs.declared.cmp.Ordering.TheVariants.{Less, Equal, Greater}
 use Rattle.std.specs.Ordering.{nat_cmp, ordering_then, is_le, is_lt}
@@ -42,6 +42,15 @@ entries-ordered {R = R} o (e ∷ es) sorted =
     entries-insert o (from_entries es) e.0 e.1
     ∙ ap (put R e.0 e.1) (entries-ordered o es (sorted_tail R e.0 (keys_of es) sorted))
     ∙ put_first R e.0 e.1 es (sorted_head R e.0 (keys_of es) sorted)
+
+every_entry : {K X : Type 0} (R : K → K → Ordering) (es : List (K × X)) → entries_between R Unbounded Unbounded es ≡ es
+every_entry R [] = refl
+every_entry R (e ∷ es) = ap (λ l. e ∷ l) (every_entry R es)
+
+-- the part of an ordered map that leaves nothing out has the entries of the table that it makes
+pub whole_part : {K X : Type 0} {R : K → K → Ordering} → IsTotalOrder R → (es : List (K × X)) → IsStrictlySortedBy R (keys_of es)
+    → entries_between R Unbounded Unbounded es ≡ entries (from_entries {R = R} es)
+whole_part {R = R} o es sorted = every_entry R es ∙ sym (entries-ordered {R = R} o es sorted)
 
 first : (b c : Bool) → IsTrue (b && c) → IsTrue b
 first true c h = refl

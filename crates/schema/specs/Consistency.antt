@@ -46,6 +46,7 @@ new_orders_of t home = rows_where (is_of_district home) t.new_orders
 abbrev pub district_lines : Database → DistrictKey → List (OrderLineKey × OrderLine)
 district_lines t home = rows_where (λ key. is_of_district home (order_of_line key)) t.lines
 
+-- the lines of an order
 abbrev pub lines_of : Database → OrderKey → List (OrderLineKey × OrderLine)
 lines_of t order = rows_where (is_of_order order) t.lines
 
@@ -86,6 +87,7 @@ NextOrderFollows t home row =
     (row.next_o_id ≡ greatest (numbers (orders_of t home)) + 1)
     × (new_orders_of t home ≢ [] → row.next_o_id ≡ greatest (numbers (new_orders_of t home)) + 1)
 
+-- 2, of each district
 abbrev pub NextOrdersFollow : Database → Type 0
 NextOrdersFollow t = (home : DistrictKey) (row : District) → table.get t.districts home ≡ Some row → NextOrderFollows t home row
 
@@ -94,6 +96,7 @@ abbrev pub HasNoGap : Database → DistrictKey → Type 0
 HasNoGap t home = (first : ℕ) (others : List ℕ) → numbers (new_orders_of t home) ≡ first ∷ others
     → greatest (first ∷ others) + 1 ≡ least first others + length (first ∷ others)
 
+-- 3, of each district
 abbrev pub NewOrdersHaveNoGap : Database → Type 0
 NewOrdersHaveNoGap t = (home : DistrictKey) (row : District) → table.get t.districts home ≡ Some row → HasNoGap t home
 
@@ -101,6 +104,7 @@ NewOrdersHaveNoGap t = (home : DistrictKey) (row : District) → table.get t.dis
 abbrev pub CountsLines : Database → DistrictKey → Type 0
 CountsLines t home = sum (map (λ order. order.1.ol_cnt) (orders_of t home)) ≡ length (district_lines t home)
 
+-- 4, of each district
 abbrev pub DistrictsCountLines : Database → Type 0
 DistrictsCountLines t = (home : DistrictKey) (row : District) → table.get t.districts home ≡ Some row → CountsLines t home
 
@@ -138,6 +142,7 @@ BalancesAreOwed t = (key : CustomerKey) (row : Customer) → table.get t.custome
 abbrev pub IsFresh : Database → DistrictKey → Type 0
 IsFresh t home = length (orders_of t home) ≡ length (new_orders_of t home) + 2100
 
+-- 11, of each district
 abbrev pub OrdersAreFresh : Database → Type 0
 OrdersAreFresh t = (home : DistrictKey) (row : District) → table.get t.districts home ≡ Some row → IsFresh t home
 

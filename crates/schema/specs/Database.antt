@@ -24,6 +24,7 @@ use Rattle.schema.specs.declared.scale.Scale.{Scale}
 use Rattle.schema.specs.Scale.{has_item, has_warehouse, has_district, has_stock, has_customer}
 use Rattle.schema.specs.EachRow.{EachRow}
 
+-- HISTORY: the list of each district's payments, the oldest first
 abbrev pub HistoryTable : Type 0
 HistoryTable = map.FinMap district_cmp (List History)
 
@@ -43,6 +44,7 @@ without_last rows = take (length rows - 1) rows
 abbrev pub without_payment : HistoryTable → DistrictKey → HistoryTable
 without_payment histories key = map.insert histories key (without_last (list_at histories key))
 
+-- The nine tables, and how large they are: what a contract sees of them.
 pub record Database : Type 0 where
   pub scale : Scale
   pub items : map.FinMap nat_cmp Item
@@ -73,27 +75,35 @@ is_order_id number = is_between 1 9999999 number
 abbrev pub is_line_number : ℕ → Bool
 is_line_number number = is_between 1 15 number
 
+-- each payment names a customer of the scale
 abbrev pub PayersKnown : Database → Type 0
 PayersKnown t = EachRow (λ _ rows. are_payers_known t.scale rows) t.histories
 
+-- each O_ID is in its range
 abbrev pub OrdersNumbered : Database → Type 0
 OrdersNumbered t = EachRow (λ key _. is_order_id key.o_id) t.orders
 
+-- each order is of a customer of the scale, of its own district
 abbrev pub OrdersHaveCustomers : Database → Type 0
 OrdersHaveCustomers t = EachRow (λ key row. has_customer t.scale (customer_of_order key row)) t.orders
 
+-- each row of NEW-ORDER has its row of ORDER
 abbrev pub NewOrdersHaveOrders : Database → Type 0
 NewOrdersHaveOrders t = EachRow (λ key _. map.contains_key t.orders key) t.new_orders
 
+-- each line has its row of ORDER
 abbrev pub LinesHaveOrders : Database → Type 0
 LinesHaveOrders t = EachRow (λ key _. map.contains_key t.orders (order_of_line key)) t.lines
 
+-- each OL_NUMBER is in its range
 abbrev pub LinesNumbered : Database → Type 0
 LinesNumbered t = EachRow (λ key _. is_line_number key.number) t.lines
 
+-- each line is of an item of the scale
 abbrev pub LinesHaveItems : Database → Type 0
 LinesHaveItems t = EachRow (λ _ row. has_item t.scale row.i_id) t.lines
 
+-- each line is supplied by a warehouse of the scale
 abbrev pub LinesHaveSuppliers : Database → Type 0
 LinesHaveSuppliers t = EachRow (λ _ row. has_warehouse t.scale row.supply_w_id) t.lines
 
@@ -121,8 +131,10 @@ pub record IsWithinScale (t : Database) : Type 0 where
 abbrev pub rows_where : {K X : Type 0} {R : K → K → Ordering} → (K → Bool) → map.FinMap R X → List (K × X)
 rows_where test table = filter (λ e. test e.0) (map.entries table)
 
+-- the order is of this district
 abbrev pub is_of_district : DistrictKey → OrderKey → Bool
 is_of_district home key = (key.w_id == home.w_id) && (key.d_id == home.d_id)
 
+-- the line is of this order
 abbrev pub is_of_order : OrderKey → OrderLineKey → Bool
 is_of_order order key = (key.w_id == order.w_id) && ((key.d_id == order.d_id) && (key.o_id == order.o_id))

@@ -1,6 +1,7 @@
 pub mod Limits
 pub mod Dense
 pub mod EachRow
+pub mod Entries
 pub mod Scale
 pub mod Database
 pub mod Rows

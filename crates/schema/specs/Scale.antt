@@ -13,6 +13,7 @@ use Rattle.schema.specs.Dense.{grid}
 abbrev pub has_item : Scale → ℕ → Bool
 has_item scale item = is_between 1 scale.items item
 
+-- the scale has this warehouse
 abbrev pub has_warehouse : Scale → ℕ → Bool
 has_warehouse scale warehouse = is_between 1 scale.warehouses warehouse
 
@@ -30,44 +31,57 @@ has_customer scale key = has_district scale (district_of_customer key) && is_bet
 
 -- ---- these keys in order
 
+-- the numbers of the scale's items, ascending
 abbrev pub item_ids : Scale → List ℕ
 item_ids scale = range_with_len 1 scale.items
 
+-- those of its warehouses
 abbrev pub warehouse_ids : Scale → List ℕ
 warehouse_ids scale = range_with_len 1 scale.warehouses
 
+-- the key of a district of the warehouse
 abbrev pub district_key : ℕ → ℕ → DistrictKey
 district_key warehouse district = record { w_id = warehouse; d_id = district }
 
+-- the keys of all districts of the scale, ascending
 abbrev pub district_keys : Scale → List DistrictKey
 district_keys scale = grid district_key 10 (warehouse_ids scale)
 
+-- the key of a warehouse's stock of an item
 abbrev pub stock_key : ℕ → ℕ → StockKey
 stock_key warehouse item = record { w_id = warehouse; i_id = item }
 
+-- the keys of all stock of the scale, ascending
 abbrev pub stock_keys : Scale → List StockKey
 stock_keys scale = grid stock_key scale.items (warehouse_ids scale)
 
+-- the key of a customer of the district
 abbrev pub customer_key : DistrictKey → ℕ → CustomerKey
 customer_key home customer = record { w_id = home.w_id; d_id = home.d_id; c_id = customer }
 
+-- the keys of all customers of the scale, ascending
 abbrev pub customer_keys : Scale → List CustomerKey
 customer_keys scale = grid customer_key scale.customers (district_keys scale)
 
 -- ---- and the place of each among them, from 0
 
+-- the place of an item's row among those of the scale, from 0
 abbrev pub item_slot : Scale → ℕ → Option ℕ
 item_slot scale item = if has_item scale item then Some (item - 1) else None
 
+-- so of a warehouse
 abbrev pub warehouse_slot : Scale → ℕ → Option ℕ
 warehouse_slot scale warehouse = if has_warehouse scale warehouse then Some (warehouse - 1) else None
 
+-- so of a district, ten a warehouse
 abbrev pub district_slot : Scale → DistrictKey → Option ℕ
 district_slot scale key = if has_district scale key then Some ((key.w_id - 1) * 10 + (key.d_id - 1)) else None
 
+-- so of a warehouse's stock of an item
 abbrev pub stock_slot : Scale → StockKey → Option ℕ
 stock_slot scale key = if has_stock scale key then Some ((key.w_id - 1) * scale.items + (key.i_id - 1)) else None
 
+-- so of a customer
 abbrev pub customer_slot : Scale → CustomerKey → Option ℕ
 customer_slot scale key =
     if has_customer scale key then Some (((key.w_id - 1) * 10 + (key.d_id - 1)) * scale.customers + (key.c_id - 1)) else None

@@ -1,6 +1,7 @@
 //! The nine tables of the order-entry database, within their scale.
 #![tactic(auto)]
 
+mod entries;
 mod history_list;
 mod row_rules;
 mod scale;
@@ -8,6 +9,7 @@ mod scale_fault;
 mod table_rows;
 mod tables;
 
+pub use entries::{Entries, Lines, NewOrders, Orders};
 pub use history_list::HistoryList;
 pub use rows::{
     Address, BrandGeneric, CarrierId, Counter, Credit, Customer, CustomerKey, District,

@@ -7,12 +7,11 @@ ghost use Rattle.schema.specs.Scale.{has_district, customer_key};
 ghost use Rattle.schema.specs.Database.{IsWithinScale, with_payment, without_payment, rows_where, is_of_district, is_of_order};
 ghost use Rattle.schema.specs.Rows.{database, FitsScale, Breaks};
 
-use crate::{NoMemory, Scale, ScaleFault, TableRows};
+use crate::{Entries, Lines, NewOrders, NoMemory, Orders, Scale, ScaleFault, TableRows};
 use rows::{
     Customer, CustomerKey, District, DistrictKey, History, Item, NewOrder, Order, OrderKey,
     OrderLine, OrderLineKey, Stock, StockKey, Warehouse,
 };
-use std::collections::btree_map::Range;
 use std::marker::Model;
 use std::mem;
 
@@ -198,40 +197,58 @@ impl Tables {
         self.rows.lines.get(&key)
     }
 
+    /// All orders, by their keys.
+    pub fn orders(&self) -> Orders<'_>
+        ensures rows { result ≡ map.entries self.now.orders }
+        ensures fits { length result < 2 ^ 63 }
+    {
+        Entries::of_map(self.rows.orders.range(..))
+    }
+
+    /// All lines, by their keys.
+    pub fn lines(&self) -> Lines<'_>
+        ensures rows { result ≡ map.entries self.now.lines }
+        ensures fits { length result < 2 ^ 63 }
+    {
+        Entries::of_map(self.rows.lines.range(..))
+    }
+
     /// The orders of the district, by O_ID.
-    pub fn orders_of(&self, home: DistrictKey) -> Range<'_, OrderKey, Order>
+    pub fn orders_of(&self, home: DistrictKey) -> Orders<'_>
         ensures rows { result ≡ rows_where (is_of_district home) self.now.orders }
         ensures few { length result ≤ 9999999 }
     {
-        self.rows.orders.range(first_order(home)..=last_order(home))
+        Entries::of_map(self.rows.orders.range(first_order(home)..=last_order(home)))
     }
 
     /// The new orders of the district, by NO_O_ID.
-    pub fn new_orders_of(&self, home: DistrictKey) -> Range<'_, OrderKey, NewOrder>
+    pub fn new_orders_of(&self, home: DistrictKey) -> NewOrders<'_>
         ensures rows { result ≡ rows_where (is_of_district home) self.now.new_orders }
         ensures fits { length result < 2 ^ 63 }
     {
-        self.rows
-            .new_orders
-            .range(first_order(home)..=last_order(home))
+        Entries::of_map(
+            self.rows
+                .new_orders
+                .range(first_order(home)..=last_order(home)),
+        )
     }
 
     /// The lines of the order, by OL_NUMBER.
-    pub fn lines_of(&self, order: OrderKey) -> Range<'_, OrderLineKey, OrderLine>
+    pub fn lines_of(&self, order: OrderKey) -> Lines<'_>
         ensures rows { result ≡ rows_where (is_of_order order) self.now.lines }
         ensures fits { length result < 2 ^ 63 }
     {
-        self.rows.lines.range(first_line(order)..=last_line(order))
+        Entries::of_map(self.rows.lines.range(first_line(order)..=last_line(order)))
     }
 
     /// The lines of the district's orders, by O_ID and then by OL_NUMBER.
-    pub fn lines_of_district(&self, home: DistrictKey) -> Range<'_, OrderLineKey, OrderLine>
+    pub fn lines_of_district(&self, home: DistrictKey) -> Lines<'_>
         ensures rows { result ≡ rows_where (λ key. is_of_district home (order_of_line key)) self.now.lines }
         ensures fits { length result < 2 ^ 63 }
     {
         let first = first_line(first_order(home));
         let last = last_line(last_order(home));
-        self.rows.lines.range(first..=last)
+        Entries::of_map(self.rows.lines.range(first..=last))
     }
 
     /// The customers of the district, by C_ID from 1; `None` where the scale has no such district.

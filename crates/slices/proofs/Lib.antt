@@ -1,8 +1,6 @@
-pub mod Names
 pub mod Steps
 pub mod Seen
 pub mod Homes
-pub mod HomeRows
 pub mod Grounds
 pub mod Keeps
 pub mod Opened

@@ -19,7 +19,7 @@ use Rattle.tickets.proofs.OnePlace.{place_injective, place_inside}
 use Rattle.slices.specs.Grounds.{Grounded, grounded, tickets_in, sliced, IsGroundOf, AreGroundsOf}
 use Rattle.slices.specs.Openings.{AreOpenedFor, IsBoxOf, IsHomeBoxOf, AreHomeBoxesOf, OpenedGroupsHaveBoxes}
 use Rattle.slices.specs.Sliced.{at_rest}
-use Rattle.slices.specs.Undo.{all_put_back_in, IsKeptOf}
+use Rattle.slices.specs.Undo.{all_put_back_in, AreKept}
 
 -- ---- the grounds of a new slice
 
@@ -56,24 +56,24 @@ module _ (p : Part) (boxes : List Boxed) (grounds : List Grounded) (are : AreHom
       let inside : place < length boxes = omega (arith, as_long) in
       subst (IsHomeBoxOf p place) (ap (λ l. get_or l place d.ticket_box) (sym same) ∙ get_or-map box_of grounds place d d.ticket_box small) (are.each place d.ticket_box inside)
 
-  ground_of : (place : ℕ) (ground : Grounded) → IsHomeBoxOf p place ground.ticket_box → IsIdle ground → IsGroundOf p.home p.tables place ground
+  ground_of : (place : ℕ) (ground : Grounded) → IsHomeBoxOf p place ground.ticket_box → IsIdle ground → IsGroundOf p place ground
   ground_of place ground is none = record {
     known = is.known;
     here = is.here;
     place = is.place;
     left = ap (λ b. b.left) is.has;
     back = ap (λ b. b.back) is.has ∙ sym (ap (λ b. b.left) is.has) ∙ sym (ap (λ undo. all_put_back_in undo ground.ticket_box.left) none);
-    kept = subst (All (IsKeptOf p.home p.tables ground.ticket_box.group)) (sym none) (All-nil (IsKeptOf p.home p.tables ground.ticket_box.group));
+    kept = subst (λ undo. AreKept ground.ticket_box.group undo ground.ticket_box.left) (sym none) tt;
     idle = λ _. none;
   }
 
-  pub opened_grounds : AreGroundsOf p.home p.tables grounds
+  pub opened_grounds : AreGroundsOf p grounds
   opened_grounds = record {
     all_there = as_long ∙ are.all_there;
     each = λ place d small. ground_of place (get_or grounds place d) (box_at place d small) (idle place d small);
   }
 
-  pub opened_at_rest : sliced p.home p.tables grounds ≡ at_rest p
+  pub opened_at_rest : sliced p grounds ≡ at_rest p
   opened_at_rest =
       ap (λ free. record { home = p.home; tables = p.tables; free = free })
       (same_lists (map tickets_in grounds) (replicate 105 8) (length-map grounds tickets_in ∙ as_long ∙ are.all_there ∙ sym (length-replicate 105 eight_tickets)) each)

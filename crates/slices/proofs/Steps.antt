@@ -1,5 +1,5 @@
--- What each step does to the tables and to its group, and how it is taken back.
-use Rattle.std.proofs.Common.{◌≡◌, ℕ, cond, List, [], ◌∷◌, ◌++◌, Option, Some, None, IsTrue, is_some, take, unwrap_or, refl, sym, ap, subst, ◌∙◌, arith, length-append}
+-- What each step changes in its group, and how steps are taken back.
+use Rattle.std.proofs.Common.{◌≡◌, ℕ, List, [], ◌∷◌, ◌++◌, Option, Some, None, IsTrue, is_some, take, cond, refl, sym, ap, subst, ◌∙◌, arith, length-append}
 use Rattle.std.specs.Prelude.{All}
 use Rattle.std.specs.declared.cmp.Ordering.{Ordering}
 use Rattle.std.specs.declared.cmp.Ordering.TheVariants.{Less, Equal, Greater}
@@ -15,101 +15,119 @@ use Rattle.rows.specs.declared.records.Warehouse as warehouse
 use Rattle.rows.specs.declared.records.District as district
 use Rattle.rows.specs.declared.records.Customer as customer
 use Rattle.rows.specs.declared.records.History as payment
-use Rattle.schema.specs.Database.{Database, HistoryTable, list_at, with_payment, without_last, without_payment}
+use Rattle.schema.specs.Database.{Database, list_at, with_payment, without_last, without_payment}
 use Rattle.schema.proofs.KeyOrders.{districts_total, districts_exact, customers_total, customers_exact}
-use Rattle.indexes.specs.NameLaws.{SameNames}
 use Rattle.indexes.specs.NameOrder.{last_of, first_of}
-use Rattle.partitions.specs.Parts.{is_of, has_district_of, has_customer_of}
+use Rattle.partitions.specs.Parts.{Part}
 use Rattle.requests.specs.declared.group.Group.{Group}
 use Rattle.groups.specs.Groups.{group_of_warehouse, group_of_district, group_of_customer, group_of_history}
-use Rattle.groups.specs.Content.{Content}
+use Rattle.groups.specs.Content.{Content, content, rows_of}
+use Rattle.groups.specs.Content.Content.{OfWarehouse, OfDistrict, OfCustomers, OfHistory}
 use Rattle.groups.specs.Laws.{ChangesOneGroup, with_warehouse, with_district, with_customer}
 use Rattle.groups.proofs.Parts.{get-insert_here}
+use Rattle.groups.proofs.RowsInGroups.{each_row_stands_in_one_group}
 use Rattle.groups.proofs.RowsPut.{each_put_changes_one_group}
 use Rattle.slices.specs.declared.kept.Kept.{Kept}
 use Rattle.slices.specs.declared.kept.Kept.TheVariants as k
-use Rattle.slices.specs.Undo.{group_of_kept, put_back, put_back_in, all_put_back, all_put_back_in, AreNamesAt, IsKeptOf, with_payment_more}
-use Rattle.slices.proofs.Names.{put_names}
+use Rattle.slices.specs.Undo.{group_of_kept, put_back_in, all_put_back_in, AreKept, AreNamesAt, CanPutBack, ChangesGroup, IsStep, with_payment_more, with_payment_fewer}
 
 pub All-last : {X : Type 0} (P : X → Type 0) (xs : List X) (x : X) → All P (xs ++ x ∷ []) → P x
 All-last P [] x all = All-head P x [] all
 All-last P (first ∷ xs) x all = All-last P xs x (All-tail P first (xs ++ x ∷ []) all)
 
--- ---- one step is taken back
+-- ---- one group changes
 
--- the step's group has what the step's row makes of it, and no other group changes
-pub step_changes : (kept : Kept) (t : Database) → ChangesOneGroup (group_of_kept kept) (put_back_in kept) t (put_back kept t)
-step_changes (k.Warehouse w_id row) t = (each_put_changes_one_group t).warehouses w_id row
-step_changes (k.District key row) t = (each_put_changes_one_group t).districts key row
-step_changes (k.Customer key row) t = (each_put_changes_one_group t).customers key row
-step_changes (k.NoPayment key) t =
-    let put = (each_put_changes_one_group t).histories key (without_last (list_at t.histories key)) in
-    record { here = put.here; elsewhere = put.elsewhere }
+changes_to : (group : Group) (change : Content → Content) (p q : Part) (t : Database) → q ≡ record p { tables = t } → ChangesOneGroup group change p.tables t → t.scale ≡ p.tables.scale → t.items ≡ p.tables.items
+    → ChangesGroup group change p q
+changes_to group change p q t is contents scale items = subst (ChangesGroup group change p) (sym is) (record { contents = contents; home = refl; scale = scale; items = items })
 
-pub step_scale : (kept : Kept) (t : Database) → (put_back kept t).scale ≡ t.scale
-step_scale (k.Warehouse w_id row) t = refl
-step_scale (k.District key row) t = refl
-step_scale (k.Customer key row) t = refl
-step_scale (k.NoPayment key) t = refl
+pub no_change : (group : Group) (p : Part) → ChangesGroup group (λ c. c) p p
+no_change group p = record { contents = record { here = refl; elsewhere = λ _ _. refl }; home = refl; scale = refl; items = refl }
 
-pub step_items : (kept : Kept) (t : Database) → (put_back kept t).items ≡ t.items
-step_items (k.Warehouse w_id row) t = refl
-step_items (k.District key row) t = refl
-step_items (k.Customer key row) t = refl
-step_items (k.NoPayment key) t = refl
+module _ (p q : Part) where
+  pub warehouse_changes : (w_id : ℕ) (row : warehouse.Warehouse) → q ≡ record p { tables = record p.tables { warehouses = map.insert p.tables.warehouses w_id row } }
+      → ChangesGroup (group_of_warehouse w_id) (with_warehouse row) p q
+  warehouse_changes w_id row is = changes_to (group_of_warehouse w_id) (with_warehouse row) p q _ is ((each_put_changes_one_group p.tables).warehouses w_id row) refl refl
 
-step_orders : (kept : Kept) (t : Database) → (put_back kept t).orders ≡ t.orders
-step_orders (k.Warehouse w_id row) t = refl
-step_orders (k.District key row) t = refl
-step_orders (k.Customer key row) t = refl
-step_orders (k.NoPayment key) t = refl
+  pub district_changes : (key : DistrictKey) (row : district.District) → q ≡ record p { tables = record p.tables { districts = map.insert p.tables.districts key row } }
+      → ChangesGroup (group_of_district key) (with_district row) p q
+  district_changes key row is = changes_to (group_of_district key) (with_district row) p q _ is ((each_put_changes_one_group p.tables).districts key row) refl refl
 
--- ---- all steps are
+  pub customer_changes : (key : CustomerKey) (row : customer.Customer) → q ≡ record p { tables = record p.tables { customers = map.insert p.tables.customers key row } }
+      → ChangesGroup (group_of_customer key) (with_customer key row) p q
+  customer_changes key row is = changes_to (group_of_customer key) (with_customer key row) p q _ is ((each_put_changes_one_group p.tables).customers key row) refl refl
 
-pub all_put_back-more : (undo : List Kept) (kept : Kept) (t : Database) → all_put_back (undo ++ kept ∷ []) t ≡ all_put_back undo (put_back kept t)
-all_put_back-more [] kept t = refl
-all_put_back-more (first ∷ undo) kept t = ap (put_back first) (all_put_back-more undo kept t)
+  pub payment_changes : (key : DistrictKey) (row : payment.History) → q ≡ record p { tables = record p.tables { histories = with_payment p.tables.histories key row } }
+      → ChangesGroup (group_of_history key) (with_payment_more row) p q
+  payment_changes key row is =
+      let put = (each_put_changes_one_group p.tables).histories key (list_at p.tables.histories key ++ row ∷ []) in
+      changes_to (group_of_history key) (with_payment_more row) p q _ is (record { here = put.here; elsewhere = put.elsewhere }) refl refl
+
+  pub no_payment_changes : (key : DistrictKey) → q ≡ record p { tables = record p.tables { histories = without_payment p.tables.histories key } }
+      → ChangesGroup (group_of_history key) with_payment_fewer p q
+  no_payment_changes key is =
+      let put = (each_put_changes_one_group p.tables).histories key (without_last (list_at p.tables.histories key)) in
+      changes_to (group_of_history key) with_payment_fewer p q _ is (record { here = put.here; elsewhere = put.elsewhere }) refl refl
+
+-- ---- steps of a group are taken back
 
 pub all_put_back_in-more : (undo : List Kept) (kept : Kept) (c : Content) → all_put_back_in (undo ++ kept ∷ []) c ≡ all_put_back_in undo (put_back_in kept c)
 all_put_back_in-more [] kept c = refl
 all_put_back_in-more (first ∷ undo) kept c = ap (put_back_in first) (all_put_back_in-more undo kept c)
 
-pub all_scale : (undo : List Kept) (t : Database) → (all_put_back undo t).scale ≡ t.scale
-all_scale [] t = refl
-all_scale (kept ∷ undo) t = step_scale kept (all_put_back undo t) ∙ all_scale undo t
+pub AreKept-more : (group : Group) (undo : List Kept) (kept : Kept) (c : Content) → group_of_kept kept ≡ group → CanPutBack kept c → AreKept group undo (put_back_in kept c) → AreKept group (undo ++ kept ∷ []) c
+AreKept-more group [] kept c own can are = (own, can, tt)
+AreKept-more group (first ∷ undo) kept c own can are =
+    (are.0, subst (CanPutBack first) (sym (all_put_back_in-more undo kept c)) are.1, AreKept-more group undo kept c own can are.2)
 
-pub all_items : (undo : List Kept) (t : Database) → (all_put_back undo t).items ≡ t.items
-all_items [] t = refl
-all_items (kept ∷ undo) t = step_items kept (all_put_back undo t) ∙ all_items undo t
+pub AreKept-last : (group : Group) (undo : List Kept) (kept : Kept) (c : Content) → AreKept group (undo ++ kept ∷ []) c → (group_of_kept kept ≡ group) × CanPutBack kept c × AreKept group undo (put_back_in kept c)
+AreKept-last group [] kept c are = are
+AreKept-last group (first ∷ undo) kept c are =
+    let rest = AreKept-last group undo kept c are.2 in
+    (rest.0, rest.1, (are.0, subst (CanPutBack first) (all_put_back_in-more undo kept c) are.1, rest.2))
 
-pub all_orders : (undo : List Kept) (t : Database) → (all_put_back undo t).orders ≡ t.orders
-all_orders [] t = refl
-all_orders (kept ∷ undo) t = step_orders kept (all_put_back undo t) ∙ all_orders undo t
+-- what is left of all the steps of a group that were kept with the first rows, and what that makes of the group
+pub record AreLeft (group : Group) (all : List Kept) (first : Part) (undo : List Kept) (p : Part) : Type 0 where
+  pub kept : AreKept group undo (content p.tables group)
+  pub makes : all_put_back_in undo (content p.tables group) ≡ all_put_back_in all (content first.tables group)
+  pub changes : ChangesGroup group (λ _. content p.tables group) first p
 
--- steps of one group, taken back, change what it has and no other group
-pub all_changes : (home : ℕ) (group : Group) (undo : List Kept) (t : Database) → All (IsKeptOf home t group) undo → ChangesOneGroup group (all_put_back_in undo) t (all_put_back undo t)
-all_changes home group [] t all = record { here = refl; elsewhere = λ _ _. refl }
-all_changes home group (kept ∷ undo) t all =
-    let before : Database = all_put_back undo t in
-    let rest = all_changes home group undo t (All-tail (IsKeptOf home t group) kept undo all) in
-    let own : group_of_kept kept ≡ group = (All-head (IsKeptOf home t group) kept undo all).0 in
-    let step : ChangesOneGroup group (put_back_in kept) before (put_back kept before) = subst (λ (g : Group). ChangesOneGroup g (put_back_in kept) before (put_back kept before)) own (step_changes kept before) in
+pub all_left : (group : Group) (all : List Kept) (p : Part) → AreKept group all (content p.tables group) → AreLeft group all p all p
+all_left group all p are = record { kept = are; makes = refl; changes = record { contents = record { here = refl; elsewhere = λ _ _. refl }; home = refl; scale = refl; items = refl } }
+
+-- the last step can be taken back
+pub last_can : (group : Group) (all : List Kept) (first : Part) (undo rest : List Kept) (kept : Kept) (p : Part) → AreLeft group all first undo p → undo ≡ rest ++ kept ∷ [] → CanPutBack kept (content p.tables (group_of_kept kept))
+last_can group all first undo rest kept p left is =
+    let last = AreKept-last group rest kept (content p.tables group) (subst (λ u. AreKept group u (content p.tables group)) is left.kept) in
+    subst (λ (g : Group). CanPutBack kept (content p.tables g)) (sym last.0) last.1
+
+pub one_fewer : (group : Group) (all : List Kept) (first : Part) (undo rest : List Kept) (kept : Kept) (p q : Part) → AreLeft group all first undo p → undo ≡ rest ++ kept ∷ [] → ChangesGroup (group_of_kept kept) (put_back_in kept) p q
+    → AreLeft group all first rest q
+one_fewer group all first undo rest kept p q left is change =
+    let had : Content = content p.tables group in
+    let last = AreKept-last group rest kept had (subst (λ u. AreKept group u had) is left.kept) in
+    let own : ChangesGroup group (put_back_in kept) p q = subst (λ (g : Group). ChangesGroup g (put_back_in kept) p q) last.0 change in
+    let has : put_back_in kept had ≡ content q.tables group = sym own.contents.here in
     record {
-      here = step.here ∙ ap (put_back_in kept) rest.here;
-      elsewhere = λ other apart. step.elsewhere other apart ∙ rest.elsewhere other apart;
+      kept = subst (AreKept group rest) has last.2;
+      makes = ap (all_put_back_in rest) (sym has) ∙ sym (all_put_back_in-more rest kept had) ∙ sym (ap (λ u. all_put_back_in u had) is) ∙ left.makes;
+      changes = record {
+        contents = record { here = refl; elsewhere = λ other apart. own.contents.elsewhere other apart ∙ left.changes.contents.elsewhere other apart };
+        home = own.home ∙ left.changes.home;
+        scale = own.scale ∙ left.changes.scale;
+        items = own.items ∙ left.changes.items;
+      };
     }
 
--- ---- the steps of a slice
+pub none_left_over : (group : Group) (all : List Kept) (first : Part) (undo : List Kept) (p : Part) → AreLeft group all first undo p → undo ≡ [] → ChangesGroup group (all_put_back_in all) first p
+none_left_over group all first undo p left none = record {
+  contents = record { here = sym (ap (λ u. all_put_back_in u (content p.tables group)) none) ∙ left.makes; elsewhere = left.changes.contents.elsewhere };
+  home = left.changes.home;
+  scale = left.changes.scale;
+  items = left.changes.items;
+}
 
--- A step in a group, with what takes it back.
-pub record IsStep (home : ℕ) (group : Group) (kept : Kept) (change : Content → Content) (t new : Database) : Type 0 where
-  pub changes : ChangesOneGroup group change t new
-  pub back : put_back kept new ≡ t
-  pub kept_of : IsKeptOf home t group kept
-  pub names : SameNames t new
-  pub scale : new.scale ≡ t.scale
-  pub items : new.items ≡ t.items
-  pub orders : new.orders ≡ t.orders
+-- ---- each step, with what takes it back
 
 -- a row is back where it stood
 restored : {K X : Type 0} {R : K → K → Ordering} → IsTotalOrder R → IsAntisymmetric R → (m : FinMap R X) (key : K) (old row : X) → map.get m key ≡ Some old → map.insert (map.insert m key row) key old ≡ m
@@ -125,72 +143,63 @@ restored {R = R} o a m key old row is = same_map o a (map.insert (map.insert m k
           | Greater ↦ λ e. refl
         ] refl
 
-pub warehouse_step : (home : ℕ) (t : Database) (w_id : _) (old row : warehouse.Warehouse) → map.get t.warehouses w_id ≡ Some old → IsTrue (is_of home w_id)
-    → IsStep home (group_of_warehouse w_id) (k.Warehouse w_id old) (with_warehouse row) t (record t { warehouses = map.insert t.warehouses w_id row })
-warehouse_step home t w_id old row is has = record {
-  changes = (each_put_changes_one_group t).warehouses w_id row;
-  back = ap (λ m. record t { warehouses = m }) (restored nat_cmp_total nat_cmp-IsAntisymmetric t.warehouses w_id old row is);
-  kept_of = (refl, has);
-  names = record { scale = refl; last = λ _. refl; first = λ _. refl };
-  scale = refl;
-  items = refl;
-  orders = refl;
-}
-
-pub district_step : (home : ℕ) (t : Database) (key : DistrictKey) (old row : district.District) → map.get t.districts key ≡ Some old → IsTrue (has_district_of home key)
-    → IsStep home (group_of_district key) (k.District key old) (with_district row) t (record t { districts = map.insert t.districts key row })
-district_step home t key old row is has = record {
-  changes = (each_put_changes_one_group t).districts key row;
-  back = ap (λ m. record t { districts = m }) (restored districts_total districts_exact t.districts key old row is);
-  kept_of = (refl, has);
-  names = record { scale = refl; last = λ _. refl; first = λ _. refl };
-  scale = refl;
-  items = refl;
-  orders = refl;
-}
-
-pub customer_step : (home : ℕ) (t : Database) (key : CustomerKey) (old row : customer.Customer) → map.get t.customers key ≡ Some old → IsTrue (has_customer_of t.scale home key) → AreNamesAt t key row
-    → IsStep home (group_of_customer key) (k.Customer key old) (with_customer key row) t (record t { customers = map.insert t.customers key row })
-customer_step home t key old row is has names = record {
-  changes = (each_put_changes_one_group t).customers key row;
-  back = ap (λ m. record t { customers = m }) (restored customers_total customers_exact t.customers key old row is);
-  kept_of = (refl, (has, (ap last_of is, ap first_of is)));
-  names = put_names t key row names;
-  scale = refl;
-  items = refl;
-  orders = refl;
-}
-
 without_last-more : (rows : List payment.History) (row : payment.History) → without_last (rows ++ row ∷ []) ≡ rows
 without_last-more rows row =
     ap (λ n. take n (rows ++ row ∷ [])) (let long = length-append rows (row ∷ []) in omega (arith, long)) ∙ take-append_seam rows (row ∷ [])
 
--- where there is a list it is that
-listed : (histories : HistoryTable) (key : DistrictKey) → IsTrue (map.contains_key histories key) → map.get histories key ≡ Some (list_at histories key)
-listed histories key there = each (map.get histories key) there
-  where
-    each : (r : Option (List payment.History)) → IsTrue (is_some r) → r ≡ Some (unwrap_or r [])
-    each (Some rows) h = refl
-    each None h = cc
+module _ (p q : Part) where
+  pub warehouse_step : (w_id : ℕ) (old row : warehouse.Warehouse) → map.get p.tables.warehouses w_id ≡ Some old → q ≡ record p { tables = record p.tables { warehouses = map.insert p.tables.warehouses w_id row } }
+      → IsStep (group_of_warehouse w_id) (with_warehouse row) (k.Warehouse w_id old) p q
+  warehouse_step w_id old row was is =
+      let changes = warehouse_changes p q w_id row is in
+      let has : map.get q.tables.warehouses w_id ≡ Some row = ap (λ (r : Part). map.get r.tables.warehouses w_id) is ∙ get-insert_here nat_cmp_total nat_cmp-IsAntisymmetric p.tables.warehouses w_id row in
+      record {
+        changes = changes;
+        own = refl;
+        can = ap is_some (((each_row_stands_in_one_group q.tables).warehouses w_id).0 ∙ has);
+        back = ap OfWarehouse (sym was);
+      }
 
-payment_gone : (histories : HistoryTable) (key : DistrictKey) (row : payment.History) → IsTrue (map.contains_key histories key) → without_payment (with_payment histories key row) key ≡ histories
-payment_gone histories key row there =
-    let rows : List payment.History = list_at histories key in
-    let longer : List payment.History = rows ++ row ∷ [] in
-    let read : list_at (with_payment histories key row) key ≡ longer = ap (λ r. unwrap_or r []) (get-insert_here districts_total districts_exact histories key longer) in
-    ap (λ l. map.insert (map.insert histories key longer) key l) (ap without_last read ∙ without_last-more rows row)
-    ∙ restored districts_total districts_exact histories key rows longer (listed histories key there)
+  pub district_step : (key : DistrictKey) (old row : district.District) → map.get p.tables.districts key ≡ Some old → q ≡ record p { tables = record p.tables { districts = map.insert p.tables.districts key row } }
+      → IsStep (group_of_district key) (with_district row) (k.District key old) p q
+  district_step key old row was is =
+      let changes = district_changes p q key row is in
+      let has : map.get q.tables.districts key ≡ Some row = ap (λ (r : Part). map.get r.tables.districts key) is ∙ get-insert_here districts_total districts_exact p.tables.districts key row in
+      record {
+        changes = changes;
+        own = refl;
+        can = ap is_some (((each_row_stands_in_one_group q.tables).districts key).0 ∙ has);
+        back = ap OfDistrict (sym was);
+      }
 
-pub payment_step : (home : ℕ) (t : Database) (key : DistrictKey) (row : payment.History) → IsTrue (map.contains_key t.histories key) → IsTrue (has_district_of home key)
-    → IsStep home (group_of_history key) (k.NoPayment key) (with_payment_more row) t (record t { histories = with_payment t.histories key row })
-payment_step home t key row there has =
-    let put = (each_put_changes_one_group t).histories key (list_at t.histories key ++ row ∷ []) in
-    record {
-      changes = record { here = put.here; elsewhere = put.elsewhere };
-      back = ap (λ m. record t { histories = m }) (payment_gone t.histories key row there);
-      kept_of = (refl, has);
-      names = record { scale = refl; last = λ _. refl; first = λ _. refl };
-      scale = refl;
-      items = refl;
-      orders = refl;
-    }
+  pub customer_step : (key : CustomerKey) (old row : customer.Customer) → map.get p.tables.customers key ≡ Some old → AreNamesAt p.tables key row
+      → q ≡ record p { tables = record p.tables { customers = map.insert p.tables.customers key row } } → IsStep (group_of_customer key) (with_customer key row) (k.Customer key old) p q
+  customer_step key old row was names is =
+      let changes = customer_changes p q key row is in
+      let has : map.get q.tables.customers key ≡ Some row = ap (λ (r : Part). map.get r.tables.customers key) is ∙ get-insert_here customers_total customers_exact p.tables.customers key row in
+      let here = ((each_row_stands_in_one_group q.tables).customers key).0 ∙ has in
+      let group = group_of_customer key in
+      record {
+        changes = changes;
+        own = refl;
+        can = (ap is_some here, (ap last_of here ∙ sym names.0 ∙ ap last_of was, ap first_of here ∙ sym names.1 ∙ ap first_of was));
+        back = ap (with_customer key old) changes.contents.here
+            ∙ ap OfCustomers (restored customers_total customers_exact (rows_of group_of_customer group p.tables.customers) key old row (((each_row_stands_in_one_group p.tables).customers key).0 ∙ was));
+      }
+
+  pub payment_step : (key : DistrictKey) (row : payment.History) → IsTrue (map.contains_key p.tables.histories key) → q ≡ record p { tables = record p.tables { histories = with_payment p.tables.histories key row } }
+      → IsStep (group_of_history key) (with_payment_more row) (k.NoPayment key) p q
+  payment_step key row there is =
+      let changes = payment_changes p q key row is in
+      let has : map.get q.tables.histories key ≡ Some (list_at p.tables.histories key ++ row ∷ []) =
+      ap (λ (r : Part). map.get r.tables.histories key) is ∙ get-insert_here districts_total districts_exact p.tables.histories key (list_at p.tables.histories key ++ row ∷ []) in
+      record {
+        changes = changes;
+        own = refl;
+        can = ap is_some (((each_row_stands_in_one_group q.tables).histories key).0 ∙ has);
+        back = ap with_payment_fewer changes.contents.here ∙ fewer (map.get p.tables.histories key) there;
+      }
+    where
+      fewer : (rows : Option (List payment.History)) → IsTrue (is_some rows) → with_payment_fewer (with_payment_more row (OfHistory rows)) ≡ OfHistory rows
+      fewer (Some rows) h = ap (λ r. OfHistory (Some r)) (without_last-more rows row)
+      fewer None h = cc

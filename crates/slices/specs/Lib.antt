@@ -1,5 +1,7 @@
 pub mod Sliced
+pub mod Fitting
 pub mod Undo
+pub mod HomeRows
 pub mod Grounds
 pub mod Openings
 pub mod Joining

@@ -82,9 +82,11 @@ abbrev pub free_in : List Sliced → Group → ℕ
 free_in [] group = 8
 free_in (s ∷ slices) group = if at_home s.home group then free_at s.free group else free_in slices group
 
+-- what the slices have together, with what they share
 abbrev pub joined : Shared → List Sliced → Joined
 joined shared slices = record { tables = whole_of shared (map part_in slices); free = free_in slices }
 
+-- all slices, as the laws of what is committed see them
 abbrev pub all_standing : Joined → Standing
 all_standing j = record { rows = content j.tables; free = j.free }
 

@@ -1,14 +1,15 @@
 //! A group of a slice: its ticket box, and what takes back what was done in it.
-ghost use Rattle.std.specs.Prelude.{◌≡◌, ◌<◌, ◌≤◌, ◌+◌, ◌⊎◌, ◌∷◌, ◌++◌, [], All, length, IfOk, IfErr, OnOk, OnErr};
+ghost use Rattle.std.specs.Prelude.{◌≡◌, ◌<◌, ◌≤◌, ◌+◌, ◌⊎◌, ◌∷◌, ◌++◌, [], length, IfOk, IfErr, OnOk, OnErr};
+ghost use Rattle.groups.specs.Content.{content};
 ghost use Rattle.groups.specs.declared.wishes.Mode.TheVariants.{Shared, Exclusive};
 ghost use Rattle.tickets.specs.Boxes.{lent, sharing, taken_back, with_left};
 ghost use Rattle.tickets.specs.Claims.{fresh, leaving};
-ghost use Rattle.slices.specs.Undo.{all_put_back, IsKept};
+ghost use Rattle.slices.specs.Undo.{all_put_back_in, AreKept, ChangesGroup};
 
+use crate::indexed::IndexedRows;
 use crate::kept::{Kept, put_all_back};
 use agreement::Change;
 use groups::Content;
-use partitions::Partition;
 use requests::Group;
 use schema::NoMemory;
 use std::alloc::Global;
@@ -146,19 +147,19 @@ impl<J: Naming> Ground<J> {
     }
 
     /// Takes back all that was done under an exclusive claim, in the group and in the rows.
-    pub(crate) fn undo(&mut self, claim: &mut Claim<J>, partition: &mut Partition)
+    pub(crate) fn undo(&mut self, claim: &mut Claim<J>, rows: &mut IndexedRows)
         requires group { claim.old.group ≡ self.old.ticket_box.group }
         requires exclusive { claim.old.mode ≡ Exclusive }
-        requires kept { All (IsKept partition.old.home partition.old.tables) self.old.undo }
+        requires kept { AreKept self.old.ticket_box.group self.old.undo (content rows.old.tables self.old.ticket_box.group) }
         ensures back { claim.old.back ≡ self.old.ticket_box.back }
         ensures out { self.old.ticket_box.mode ≡ Exclusive }
         ensures claim { claim.new ≡ leaving claim.old claim.old.back }
         ensures ticket_box { self.new.ticket_box ≡ with_left self.old.ticket_box self.old.ticket_box.back }
         ensures undo { self.new.undo ≡ [] }
         ensures holder { self.new.holder ≡ self.old.holder }
-        ensures rows { partition.new ≡ record partition.old { tables = all_put_back self.old.undo partition.old.tables } }
+        ensures rows { ChangesGroup self.old.ticket_box.group (all_put_back_in self.old.undo) rows.old rows.new }
     {
-        put_all_back(&mut self.undo, partition);
+        put_all_back(&mut self.undo, rows);
         self.ticket_box.undo(claim);
     }
 

@@ -1,8 +1,10 @@
 //! What takes back what was done under a claim, step by step.
-ghost use Rattle.std.specs.Prelude.{◌≡◌, [], All};
+ghost use Rattle.std.specs.Prelude.{◌≡◌, []};
+ghost use Rattle.requests.specs.declared.group.Group.{Group as AnyGroup};
+ghost use Rattle.groups.specs.Content.{content};
 ghost use Rattle.slices.specs.Undo as spec;
 
-use partitions::Partition;
+use crate::indexed::IndexedRows;
 use schema::{Customer, CustomerKey, District, DistrictKey, Warehouse};
 
 /// What takes one step back.
@@ -18,34 +20,32 @@ pub(crate) enum Kept {
 
 impl Kept {
     /// Takes the step back.
-    pub(crate) fn put_back(self, partition: &mut Partition)
-        requires { spec.IsKept partition.old.home partition.old.tables self }
-        ensures { partition.new ≡ record partition.old { tables = spec.put_back self partition.old.tables } }
+    pub(crate) fn put_back(self, rows: &mut IndexedRows)
+        requires { spec.CanPutBack self (content rows.old.tables (spec.group_of_kept self)) }
+        ensures { spec.ChangesGroup (spec.group_of_kept self) (spec.put_back_in self) rows.old rows.new }
     {
-        // The partition has a row at each key that is the warehouse's.
-        let _ = partition.home();
         match self {
             Kept::Warehouse(w_id, row) => {
-                partition.replace_warehouse(w_id, row);
+                rows.replace_warehouse(w_id, row);
             }
             Kept::District(key, row) => {
-                partition.replace_district(key, row);
+                rows.replace_district(key, row);
             }
             Kept::Customer(key, row) => {
-                partition.replace_customer(key, row);
+                rows.replace_customer(key, row);
             }
-            Kept::NoPayment(key) => partition.pop_history(key),
+            Kept::NoPayment(key) => rows.pop_history(key),
         }
     }
 }
 
-/// Takes all steps back, the last one first. None is left.
-pub(crate) fn put_all_back(undo: &mut Vec<Kept>, partition: &mut Partition)
-    requires { All (spec.IsKept partition.old.home partition.old.tables) undo.old.items }
-    ensures rows { partition.new ≡ record partition.old { tables = spec.all_put_back undo.old.items partition.old.tables } }
+/// Takes all steps of a group back, the last one first. None is left.
+pub(crate) fn put_all_back(undo: &mut Vec<Kept>, rows: &mut IndexedRows)
+    requires { (group : AnyGroup) × spec.AreKept group undo.old.items (content rows.old.tables group) }
+    ensures rows { (group : AnyGroup) → spec.AreKept group undo.old.items (content rows.old.tables group) → spec.ChangesGroup group (spec.all_put_back_in undo.old.items) rows.old rows.new }
     ensures none { undo.new.items ≡ [] }
 {
     while let Some(kept) = undo.pop() {
-        kept.put_back(partition);
+        kept.put_back(rows);
     }
 }

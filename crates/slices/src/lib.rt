@@ -12,10 +12,13 @@
 mod changes;
 mod cutting;
 mod ground;
+mod indexed;
 mod kept;
 mod laws;
 mod opening;
+mod row_steps;
 mod slice;
+mod step;
 
 pub use cutting::{copy_whole, cut, whole};
 pub use ground::Held;

@@ -20,7 +20,9 @@ ghost use Rattle.slices.specs.Undo.{with_payment_more, AreNamesAt};
 
 use crate::changes::ContentOf;
 use crate::ground::{Ground, Held};
-use crate::kept::Kept;
+use crate::indexed::IndexedRows;
+use crate::row_steps::{AddPayment, PutCustomer, PutDistrict, PutWarehouse};
+use crate::step::Step;
 use indexes::{LatestOrders, NameIndex};
 use partitions::Partition;
 use requests::Group;
@@ -36,9 +38,7 @@ use tickets::{Claim, GROUPS_PER_WAREHOUSE, Naming, TicketBox, place_of};
 /// many of each group's tickets are at home.
 #[derive(Drop)]
 pub struct Slice<J: Naming> {
-    partition: Partition,
-    names: NameIndex,
-    latest: LatestOrders,
+    rows: IndexedRows,
     grounds: Vec<Ground<J>>,
 }
 
@@ -51,19 +51,11 @@ impl<J: Naming> Model for Slice<J> {
 
     ghost coded = { Prim.hlevel (codes, tables_kind.the_row.coded) };
 
-    ghost use Rattle.std.specs.Prelude.{◌≡◌};
-    ghost use Rattle.partitions.specs.Slots.{home_slot};
-    ghost use Rattle.indexes.specs.LatestIndex.{FitsLatestBy};
-    ghost use Rattle.indexes.specs.NameOrder.{FitsNamesBy};
-    ghost use Rattle.slices.specs.Grounds.{sliced, AreGroundsOf};
+    ghost use Rattle.slices.specs.Grounds.{sliced, IsSlice};
 
-    ghost view = { λ s. sliced s.partition.home s.partition.tables s.grounds.items };
+    ghost view = { λ s. sliced s.rows s.grounds.items };
 
-    ghost invariant = { λ s.
-        (s.partition.tables.scale.warehouses ≡ J.warehouses)
-        × AreGroundsOf s.partition.home s.partition.tables s.grounds.items
-        × FitsNamesBy (home_slot s.partition.home) s.names s.partition.tables
-        × FitsLatestBy (home_slot s.partition.home) s.latest s.partition.tables };
+    ghost invariant = { λ s. IsSlice J.warehouses s.rows s.grounds.items };
 }
 
 impl<J: Naming> Slice<J> {
@@ -78,25 +70,19 @@ impl<J: Naming> Slice<J> {
         requires boxes { AreHomeBoxesOf partition boxes.items }
         ensures { IfOk result (λ slice. slice ≡ at_rest partition) }
     {
-        let names = NameIndex::build(alloc, &partition)?;
-        let latest = LatestOrders::build(alloc, &partition)?;
+        let rows = IndexedRows::build(alloc, partition)?;
         let mut grounds = Vec::with_capacity(alloc, boxes.len())?;
         for ticket_box in boxes {
             grounds.push(Ground::new(alloc, ticket_box))?;
         }
-        Ok(Slice {
-            partition,
-            names,
-            latest,
-            grounds,
-        })
+        Ok(Slice { rows, grounds })
     }
 
     /// The W_ID of the warehouse.
     pub fn home(&self) -> u32
         ensures { result ≡ self.now.home }
     {
-        self.partition.home()
+        self.rows.partition().home()
     }
 
     /// The rows as they stand.
@@ -105,30 +91,28 @@ impl<J: Naming> Slice<J> {
         ensures part { IsPart (part_in self.now) }
         ensures warehouses { self.now.tables.scale.warehouses ≡ J.warehouses }
     {
-        // A partition has the rows of its warehouse, and no others.
-        let _ = self.partition.home();
-        &self.partition
+        self.rows.partition()
     }
 
     /// The rows as they stand. It takes no memory.
     pub(crate) fn into_partition(self) -> Partition
         ensures { result ≡ part_in self }
     {
-        self.partition
+        self.rows.into_partition()
     }
 
     /// The customers by last name, as the rows stand.
     pub fn names(&self) -> &NameIndex
         ensures { FitsNamesBy (home_slot self.now.home) result.now self.now.tables }
     {
-        &self.names
+        self.rows.names()
     }
 
     /// Each customer's latest order, as the rows stand.
     pub fn latest(&self) -> &LatestOrders
         ensures { FitsLatestBy (home_slot self.now.home) result.now self.now.tables }
     {
-        &self.latest
+        self.rows.latest()
     }
 
     /// An exclusive claim on a group of the warehouse, for a transaction of this age, unless a claim on it is
@@ -187,19 +171,7 @@ impl<J: Naming> Slice<J> {
         ensures tables { OnOk result (self.new.tables ≡ record self.old.tables { warehouses = map.insert self.old.tables.warehouses w_id row }) }
         ensures err { OnErr result ((self.new ≡ self.old) × (claim.new ≡ claim.old)) }
     {
-        // The rows that are here are the warehouse's.
-        let _ = self.partition.home();
-        let ground = &mut self.grounds[place_of_claim(claim)];
-        ground.make_room()?;
-        let Some(old) = self.partition.replace_warehouse(w_id, row) else {
-            unreachable!()
-        };
-        let now = ContentOf {
-            rows: &self.partition,
-            group: claim.group(),
-        };
-        ground.leave(claim, Kept::Warehouse(w_id, old), &now);
-        Ok(())
+        self.put(claim, PutWarehouse { w_id, row })
     }
 
     pub fn put_district(
@@ -216,19 +188,7 @@ impl<J: Naming> Slice<J> {
         ensures tables { OnOk result (self.new.tables ≡ record self.old.tables { districts = map.insert self.old.tables.districts key row }) }
         ensures err { OnErr result ((self.new ≡ self.old) × (claim.new ≡ claim.old)) }
     {
-        // The rows that are here are the warehouse's.
-        let _ = self.partition.home();
-        let ground = &mut self.grounds[place_of_claim(claim)];
-        ground.make_room()?;
-        let Some(old) = self.partition.replace_district(key, row) else {
-            unreachable!()
-        };
-        let now = ContentOf {
-            rows: &self.partition,
-            group: claim.group(),
-        };
-        ground.leave(claim, Kept::District(key, old), &now);
-        Ok(())
+        self.put(claim, PutDistrict { key, row })
     }
 
     /// The row has the names of the one that stands there.
@@ -247,19 +207,7 @@ impl<J: Naming> Slice<J> {
         ensures tables { OnOk result (self.new.tables ≡ record self.old.tables { customers = map.insert self.old.tables.customers key row }) }
         ensures err { OnErr result ((self.new ≡ self.old) × (claim.new ≡ claim.old)) }
     {
-        // The rows that are here are the warehouse's.
-        let _ = self.partition.home();
-        let ground = &mut self.grounds[place_of_claim(claim)];
-        ground.make_room()?;
-        let Some(old) = self.partition.replace_customer(key, row) else {
-            unreachable!()
-        };
-        let now = ContentOf {
-            rows: &self.partition,
-            group: claim.group(),
-        };
-        ground.leave(claim, Kept::Customer(key, old), &now);
-        Ok(())
+        self.put(claim, PutCustomer { key, row })
     }
 
     /// Adds a payment at the end of the district's list, under an exclusive claim on it. The payer may belong
@@ -279,16 +227,30 @@ impl<J: Naming> Slice<J> {
         ensures tables { OnOk result (self.new.tables ≡ record self.old.tables { histories = with_payment self.old.tables.histories key row }) }
         ensures err { OnErr result ((self.new ≡ self.old) × (claim.new ≡ claim.old)) }
     {
+        self.put(claim, AddPayment { key, row })
+    }
+
+    // Does a step in a group of the warehouse, under an exclusive claim on it, and keeps what takes it back. Want of
+    // memory changes nothing.
+    fn put<S: Step>(&mut self, claim: &mut Claim<J>, step: S) -> Result<(), NoMemory>
+        requires group { claim.old.group ≡ S.group step }
+        requires exclusive { claim.old.mode ≡ Exclusive }
+        requires possible { S.is_possible step (part_in self.old) }
+        ensures claim { OnOk result (claim.new ≡ leaving claim.old (S.changed step claim.old.left)) }
+        ensures kept { OnOk result (SliceKeeps (claim.old ∷ []) self.old (claim.new ∷ []) self.new) }
+        ensures tables { OnOk result (self.new.tables ≡ S.done step self.old.tables) }
+        ensures err { OnErr result ((self.new ≡ self.old) × (claim.new ≡ claim.old)) }
+    {
         // The rows that are here are the warehouse's.
-        let _ = self.partition.home();
+        let _ = self.rows.partition();
         let ground = &mut self.grounds[place_of_claim(claim)];
         ground.make_room()?;
-        self.partition.push_history(key, row)?;
+        let kept = step.run(&mut self.rows)?;
         let now = ContentOf {
-            rows: &self.partition,
+            rows: self.rows.partition(),
             group: claim.group(),
         };
-        ground.leave(claim, Kept::NoPayment(key), &now);
+        ground.leave(claim, kept, &now);
         Ok(())
     }
 
@@ -300,7 +262,7 @@ impl<J: Naming> Slice<J> {
         ensures kept { SliceKeeps (claim.old ∷ []) self.old (claim.new ∷ []) self.new }
     {
         let ground = &mut self.grounds[place_of_claim(claim)];
-        ground.undo(claim, &mut self.partition);
+        ground.undo(claim, &mut self.rows);
     }
 
     /// Takes a claim back, once what it left is committed; a shared claim left nothing. It takes no memory.

@@ -5,7 +5,7 @@ use Rattle.std.proofs.lemmas.Fmt.{decimal_injective}
 use Rattle.requests.specs.LastName.{begins_with_hash}
 use Rattle.requests.specs.declared.request.Choice.TheVariants.{Number, LastName}
 use Rattle.terminals.specs.ChoiceLaws.{ChoiceTextsDiffer}
-use Rattle.terminals.specs.RequestFields.{choice_text}
+use Rattle.terminals.specs.ChoiceText.{choice_text}
 
 -- a last name that is the text of a number begins with `#`
 no_name : (number : ℕ) (last : List ℕ) → begins_with_hash last ≡ false → choice_text (Number number) ≡ last → true ≡ false

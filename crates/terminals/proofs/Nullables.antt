@@ -4,7 +4,7 @@ use Rattle.std.specs.Fmt.{decimal}
 use Rattle.files.specs.declared.fields.Fields.{Fields}
 use Rattle.files.specs.MomentText.{IsMomentText}
 use Rattle.files.specs.Taken.{TakesWell, fault_of, fields_left}
-use Rattle.terminals.specs.ReplyFields.{IsNullableMoment, nullable_text}
+use Rattle.terminals.specs.Nullable.{IsNullableMoment, nullable_text}
 
 -- a moment, or the empty field, was taken
 pub moment_was_taken : (old new : Fields) (moment : Option ℕ) → IfNone moment (TakesWell old new [])

@@ -2,8 +2,8 @@
 use Rattle.std.proofs.Common.{◌≡◌, ℕ, ◌+◌, ◌<◌, List, [], ◌∷◌, ◌++◌, length, take, get_or, flat_map, refl, sym, ap, ◌∙◌}
 use Rattle.std.proofs.lemmas.List.{append-nil}
 use Rattle.std.proofs.lemmas.List.Concat.{flat_map-append}
-use Rattle.requests.specs.declared.reply.StatusLine.{StatusLine}
-use Rattle.terminals.specs.ReplyFields.{IsStatusLine, AreStatusLines}
+use Rattle.requests.specs.declared.order_status.StatusLine.{StatusLine}
+use Rattle.terminals.specs.OrderStatus.{IsStatusLine, AreStatusLines}
 use Rattle.terminals.proofs.Listings.{listed-push, listed-more}
 
 -- the fields of one line more

@@ -3,7 +3,7 @@ use Rattle.std.specs.Prelude.{◌≡◌, ◌<◌, ◌^◌, false}
 use Rattle.requests.specs.LastName.{begins_with_hash}
 use Rattle.requests.specs.declared.request.Choice.{Choice}
 use Rattle.requests.specs.declared.request.Choice.TheVariants.{Number, LastName}
-use Rattle.terminals.specs.RequestFields.{choice_text}
+use Rattle.terminals.specs.ChoiceText.{choice_text}
 
 -- a choice that can be made: a number of 32 bits, or a last name that doesn't begin with `#`
 abbrev pub IsChoice : Choice → Type 0

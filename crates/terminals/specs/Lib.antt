@@ -1,5 +1,9 @@
-pub mod RequestFields
+pub mod ChoiceText
 pub mod ChoiceLaws
+pub mod Nullable
+pub mod Payment
+pub mod OrderStatus
+pub mod RequestFields
 pub mod ReplyFields
 pub mod Numbered
 pub mod Listing

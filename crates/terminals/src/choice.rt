@@ -2,7 +2,7 @@ ghost use Rattle.std.specs.Prelude.{◌≡◌, ◌⊎◌, ◌≤◌, ◌++◌, �
 ghost use Rattle.files.specs.Taken.{fields_left, TakesWell};
 ghost use Rattle.requests.specs.LastName.{begins_with_hash};
 ghost use Rattle.rows.specs.Text.{IsText};
-ghost use Rattle.terminals.specs.RequestFields.{choice_text};
+ghost use Rattle.terminals.specs.ChoiceText.{choice_text};
 
 use arrayvec::ArrayString;
 use files::{FaultKind, Fields, NewRecord, parse_text, parse_whole};

@@ -29,11 +29,12 @@ mod choice;
 mod laws;
 mod listing;
 mod log_records;
+mod order_status;
+mod payment;
 mod reply;
 mod request;
 mod schedules;
 mod scripts;
-mod status_reply;
 mod tellings;
 
 pub use answers::{answer_record, write_answers};

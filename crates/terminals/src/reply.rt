@@ -1,10 +1,10 @@
-ghost use Rattle.std.specs.Prelude.{◌≡◌, ◌≢◌, ℕ, List, ◌∷◌, ◌++◌, None, OnOk, IfOk, IfSome, IfNone, codes};
+ghost use Rattle.std.specs.Prelude.{◌≡◌, ◌≢◌, ℕ, List, ◌∷◌, ◌++◌, None, OnOk, IfOk, IfSome, IfNone};
 ghost use Rattle.files.specs.Taken.{fault_of, TakesWell, Takes};
-ghost use Rattle.terminals.specs.ReplyFields.{IsReply, fault_text, payment_reply_fields};
+ghost use Rattle.terminals.specs.ReplyFields.{IsReply, IsShown, fault_text};
 
-use crate::status_reply;
-use files::{FaultKind, Fields, NewRecord, credit_word};
-use requests::{Fault, PaymentReply, Reply};
+use crate::{order_status, payment};
+use files::{FaultKind, Fields, NewRecord};
+use requests::{Fault, Reply, Shown};
 use schema::NoMemory;
 use std::alloc::Global;
 
@@ -15,10 +15,13 @@ pub fn take(alloc: Global, letter: &str, fields: &mut Fields) -> Result<Option<R
     ensures unknown { IfOk result (λ taken. IfNone taken (fault_of fields.new ≢ None)) }
 {
     match letter {
-        "P" => Ok(Some(Reply::Payment(take_payment(fields)))),
+        "P" => {
+            let shown = payment::take_reply(fields);
+            Ok(Some(Reply::Done(Shown::Payment(shown))))
+        }
         "O" => {
-            let shown = status_reply::take(alloc, fields)?;
-            Ok(Some(Reply::OrderStatus(shown)))
+            let shown = order_status::take_reply(alloc, fields)?;
+            Ok(Some(Reply::Done(Shown::OrderStatus(shown))))
         }
         "X" => match take_fault(fields) {
             Some(fault) => Ok(Some(Reply::RolledBack(fault))),
@@ -28,21 +31,6 @@ pub fn take(alloc: Global, letter: &str, fields: &mut Fields) -> Result<Option<R
             fields.note(FaultKind::WrongShape);
             Ok(None)
         }
-    }
-}
-
-fn take_payment(fields: &mut Fields) -> PaymentReply
-    ensures { Takes fields.old fields.new (λ said. codes "P" ∷ said ≡ payment_reply_fields result) }
-{
-    PaymentReply {
-        c_id: fields.whole(0, u32::MAX),
-        first: fields.text(),
-        middle: fields.text(),
-        last: fields.text(),
-        credit: fields.credit(),
-        discount: fields.rate(),
-        balance: fields.cents(),
-        data: fields.text(),
     }
 }
 
@@ -65,8 +53,7 @@ pub fn put(row: &mut NewRecord, reply: &Reply) -> Result<(), NoMemory>
     ensures { OnOk result ((fields : List (List ℕ)) × IsReply reply.now fields × (row.new ≡ row.old ++ fields)) }
 {
     match reply {
-        Reply::Payment(shown) => put_payment(row, shown),
-        Reply::OrderStatus(shown) => status_reply::put(row, shown),
+        Reply::Done(shown) => put_shown(row, shown),
         Reply::RolledBack(fault) => {
             row.push("X")?;
             row.push(fault_word(*fault))
@@ -74,18 +61,14 @@ pub fn put(row: &mut NewRecord, reply: &Reply) -> Result<(), NoMemory>
     }
 }
 
-fn put_payment(row: &mut NewRecord, shown: &PaymentReply) -> Result<(), NoMemory>
-    ensures { OnOk result (row.new ≡ row.old ++ payment_reply_fields shown.now) }
+// Adds the fields of what is shown, with its letter.
+fn put_shown(row: &mut NewRecord, shown: &Shown) -> Result<(), NoMemory>
+    ensures { OnOk result ((fields : List (List ℕ)) × IsShown shown.now fields × (row.new ≡ row.old ++ fields)) }
 {
-    row.push("P")?;
-    row.push_number(u64::from(shown.c_id))?;
-    row.push(shown.first.as_str())?;
-    row.push(shown.middle.as_str())?;
-    row.push(shown.last.as_str())?;
-    row.push(credit_word(shown.credit))?;
-    row.push_number(u64::from(shown.discount.get()))?;
-    row.push_signed(shown.balance.get())?;
-    row.push(shown.data.as_str())
+    match shown {
+        Shown::Payment(shown) => payment::put_reply(row, shown),
+        Shown::OrderStatus(shown) => order_status::put_reply(row, shown),
+    }
 }
 
 fn fault_word(fault: Fault) -> &'static str

@@ -2,7 +2,9 @@ use super::*;
 use amounts::{Cents, Rate};
 use commit_log::Entry;
 use csv::ByteRecord;
-use requests::{Answer, Choice, Fault, Group, Payment, PaymentReply, Refusal, Reply, Request};
+use requests::{
+    Answer, Choice, Fault, Group, Payment, PaymentReply, Refusal, Reply, Request, Shown,
+};
 use schema::{Credit, DistrictKey, Moment, Text};
 use std::alloc::{AllocError, Global};
 use std::io;
@@ -218,7 +220,7 @@ fn a_failing_source_is_a_fault(rt: HostRuntime) {
 }
 
 fn shown() -> Result<Reply, Fail> {
-    Ok(Reply::Payment(PaymentReply {
+    Ok(Reply::Done(Shown::Payment(PaymentReply {
         c_id: 4,
         first: Text::parse("C")?,
         middle: Text::parse("OE")?,
@@ -227,7 +229,7 @@ fn shown() -> Result<Reply, Fail> {
         discount: Rate::new(1_000),
         balance: Cents::new(-13_345),
         data: Text::parse("4 1 1 2 1 \"12345|")?,
-    }))
+    })))
 }
 
 // Some answers, and the text of their records.

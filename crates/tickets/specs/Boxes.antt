@@ -23,6 +23,7 @@ pub record Boxed : Type 0 where
   pub left : Content
   pub back : Content
 
+-- the slice's side of a group: so many shared claims are out, or an exclusive one, and this is done there
 abbrev pub boxed : Group → Mode → ℕ → Work → Boxed
 boxed group mode shared work = record { group = group; mode = mode; shared = shared; left = work.left; back = work.back }
 
@@ -47,6 +48,7 @@ abbrev pub IsSpentPair : TableId → TableId → Telling Told × Telling Work �
 IsSpentPair committed done pair =
     IsSpent (record { table = committed; count = 10 }) pair.0 × IsSpent (record { table = done; count = 9 }) pair.1
 
+-- so are all of these pairs
 abbrev pub AreSpent : TableId → TableId → List (Telling Told × Telling Work) → Type 0
 AreSpent committed done [] = Unit {0}
 AreSpent committed done (pair ∷ pairs) = IsSpentPair committed done pair × AreSpent committed done pairs

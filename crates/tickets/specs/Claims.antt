@@ -19,6 +19,7 @@ pub record Claiming : Type 0 where
   pub left : Content
   pub back : Content
 
+-- a claim on the group, which tells this, and under which that was done
 abbrev pub claiming : Group → Mode → Content → Work → Claiming
 claiming group mode told work = record { group = group; mode = mode; told = told; left = work.left; back = work.back }
 

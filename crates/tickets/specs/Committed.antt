@@ -22,6 +22,7 @@ tickets_of group claim = if is_same claim.group group then tickets_held claim.mo
 abbrev pub tickets_out : Group → List Claiming → ℕ
 tickets_out group claims = sum_by (tickets_of group) claims
 
+-- one of an exclusive claim, none of a shared one
 abbrev pub exclusive_held : Mode → ℕ
 exclusive_held Shared = 0
 exclusive_held Exclusive = 1
@@ -52,6 +53,7 @@ LeavesContent rows claim = claim.mode ≡ Exclusive → rows claim.group ≡ cla
 abbrev pub TellsHere : (Group → Bool) → (Group → Content) → Claiming → Type 0
 TellsHere here tables claim = IsTrue (here claim.group) → TellsContent tables claim
 
+-- the same of what an exclusive claim left, where its group is here
 abbrev pub LeavesHere : (Group → Bool) → (Group → Content) → Claiming → Type 0
 LeavesHere here rows claim = IsTrue (here claim.group) → LeavesContent rows claim
 

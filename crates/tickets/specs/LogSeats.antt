@@ -11,6 +11,7 @@ pub record Committed : Type 0 where
   pub group : Group
   pub content : Content
 
+-- the log's seat of the group, with this content
 abbrev pub committed : Group → Content → Committed
 committed group content = record { group = group; content = content }
 

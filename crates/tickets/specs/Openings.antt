@@ -18,6 +18,7 @@ pub record Opened : Type 0 where
   pub work : TableId
   pub content : Content
 
+-- the seats of a group, in these tables of agreements, with this content
 abbrev pub opened : TableId → TableId → Content → Opened
 opened committed work content = record { committed = committed; work = work; content = content }
 
@@ -41,6 +42,7 @@ AreNamed warehouses committed work openings =
 abbrev pub contents_opened : List Opened → List Content
 contents_opened openings = map (λ (o : Opened). o.content) openings
 
+-- what the log's seats have, in order
 abbrev pub contents_committed : List Committed → List Content
 contents_committed seats = map (λ (seat : Committed). seat.content) seats
 
@@ -48,5 +50,6 @@ contents_committed seats = map (λ (seat : Committed). seat.content) seats
 abbrev pub box_beside : Committed → Boxed
 box_beside seat = sharing seat.group seat.content 0
 
+-- the ticket boxes beside the log's seats, with no claim out
 abbrev pub boxes_beside : List Committed → List Boxed
 boxes_beside seats = map box_beside seats

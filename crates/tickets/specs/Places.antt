@@ -5,6 +5,7 @@ use Rattle.requests.specs.declared.group.Group.TheVariants.{Warehouse, District,
 use Rattle.groups.specs.Groups.{warehouse_of}
 use Rattle.tickets.specs.LogSeats.{Committed}
 
+-- from low to high, both included
 abbrev pub IsBetween : ℕ → ℕ → ℕ → Type 0
 IsBetween low high number = (low ≤ number) × (number ≤ high)
 

@@ -13,6 +13,7 @@ HasSessions run = (1 ≤ length run.scripts.items) × (length run.scripts.items 
 abbrev pub HasOneExecutor : SimSettings → Type 0
 HasOneExecutor sim = sim.executors ≡ 1
 
+-- a run has its sessions, and a simulation its executor; of the others nothing is asked here
 abbrev pub IsWithinLimits : Settings → Type 0
 IsWithinLimits (Run run) = HasSessions run
 IsWithinLimits (Sim sim) = HasOneExecutor sim

@@ -6,6 +6,7 @@ use Rattle.rows.specs.declared.keys.CustomerKey.{CustomerKey}
 use Rattle.indexes.specs.Namesakes.{Keyed}
 use Rattle.requests.specs.declared.group.Group.{Group}
 use Rattle.requests.specs.declared.reply.Reply.TheVariants as reply
+use Rattle.requests.specs.declared.reply.Shown.TheVariants as kind
 use Rattle.requests.specs.declared.reply.Fault.TheVariants.{NoCustomer}
 use Rattle.groups.specs.Groups.{is_same}
 use Rattle.groups.specs.Content.{Content, content}
@@ -67,7 +68,7 @@ order_statuses_are_carried_out opening o key customer order customers orders fou
     let done : order_status t o ≡ status_told t (Some by.one) = ap (status_told t) there in
     let shown : reply_shown by.one.0 (status_customer by.one.1) (latest_shown t by.one.0) ≡ reply_shown key customer order =
     (λ i. reply_shown (sym by.key_is i) (sym by.customer_is i) (latest_shown t (sym by.key_is i))) ∙ ap (reply_shown key customer) (sym (read.shown t tells.1.0)) in (
-      ap (λ (out : Outcome). out.reply) done ∙ ap reply.OrderStatus shown,
+      ap (λ (out : Outcome). out.reply) done ∙ ap (λ r. reply.Done (kind.OrderStatus r)) shown,
       λ group.
           ap (λ (out : Outcome). content out.tables group) done
           ∙ shared_settles group (content t group) customers found.claim.mode

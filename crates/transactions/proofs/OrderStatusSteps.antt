@@ -3,10 +3,11 @@ use Rattle.std.proofs.Common.{◌≡◌, ◌∙◌, List, [], ◌∷◌, ◌++�
 use Rattle.rows.specs.declared.keys.CustomerKey.{CustomerKey}
 use Rattle.schema.specs.declared.scale.Scale.{Scale}
 use Rattle.requests.specs.declared.request.Request.TheVariants as request
-use Rattle.requests.specs.declared.request.OrderStatus.{OrderStatus}
+use Rattle.requests.specs.declared.order_status.OrderStatus.{OrderStatus}
 use Rattle.requests.specs.declared.reply.Fault.TheVariants.{NoCustomer}
 use Rattle.requests.specs.declared.reply.Reply.TheVariants as reply
-use Rattle.requests.specs.declared.reply.StatusOrder.{StatusOrder}
+use Rattle.requests.specs.declared.reply.Shown.TheVariants as kind
+use Rattle.requests.specs.declared.order_status.StatusOrder.{StatusOrder}
 use Rattle.tickets.specs.Claims.{Claiming, all_claims}
 use Rattle.commit_log.specs.Claimed.{IsCarriedOut}
 use Rattle.transactions.specs.declared.order_status.Work.TheVariants.{ShowCustomer, ShowOrder}
@@ -106,12 +107,12 @@ same_order : (order other : Option StatusOrder) → any_found.OrderStatus (Order
 same_order order other same = cc
 
 pub order_follows : (given : StatusShown) (found : List Found) (order : Option StatusOrder) → found ≡ any_found.OrderStatus (Order order) ∷ []
-    → FollowsFrom (any_progress.OrderStatus (ReadOrder given)) found (Finish (reply.OrderStatus (reply_shown given.key given.customer order)))
+    → FollowsFrom (any_progress.OrderStatus (ReadOrder given)) found (Finish (reply.Done (kind.OrderStatus (reply_shown given.key given.customer order))))
 order_follows given found order is scale asked held claims known done opening =
     let o = known.order_status in
     let read = order_done scale given found claims done in
     let shown = subst (λ order. IsOrderShown given.key order read.orders) (same_order read.order order (sym read.found_is ∙ is)) read.shown in
-    let said = reply.OrderStatus (reply_shown given.key given.customer order) in
+    let said = reply.Done (kind.OrderStatus (reply_shown given.key given.customer order)) in
     let all : held ++ all_claims claims ≡ known.customers ∷ read.orders ∷ [] =
     ap (λ xs. xs ++ all_claims claims) known.claims ∙ ap (λ xs. known.customers ∷ all_claims xs) read.claims_is in
     subst (λ r. IsCarriedOut opening r (held ++ all_claims claims) said) (sym known.is)

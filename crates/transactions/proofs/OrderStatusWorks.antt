@@ -11,7 +11,7 @@ use Rattle.schema.specs.Scale.{has_warehouse, has_district}
 use Rattle.requests.specs.declared.group.Group.TheVariants.{Customers, Orders}
 use Rattle.requests.specs.declared.request.Request.{Request}
 use Rattle.requests.specs.declared.request.Request.TheVariants as request
-use Rattle.requests.specs.declared.request.OrderStatus.{OrderStatus}
+use Rattle.requests.specs.declared.order_status.OrderStatus.{OrderStatus}
 use Rattle.requests.specs.declared.refusal.Refusal.TheVariants.{BadWarehouse, BadDistrict, BadLines, BadQuantity, BadSupply, BadAmount, BadThreshold, BadCarrier}
 use Rattle.requests.specs.Check.{applies, IsAccepted}
 use Rattle.groups.specs.declared.wishes.Wish.{Wish}

@@ -8,9 +8,10 @@ use Rattle.schema.specs.Scale.{customer_key}
 use Rattle.schema.specs.Database.{Database}
 use Rattle.requests.specs.declared.group.Group.{Group}
 use Rattle.requests.specs.declared.group.Group.TheVariants as g
-use Rattle.requests.specs.declared.request.Payment.{Payment}
-use Rattle.requests.specs.declared.reply.PaymentReply.{PaymentReply}
+use Rattle.requests.specs.declared.payment.Payment.{Payment}
+use Rattle.requests.specs.declared.payment.PaymentReply.{PaymentReply}
 use Rattle.requests.specs.declared.reply.Reply.TheVariants as reply
+use Rattle.requests.specs.declared.reply.Shown.TheVariants as kind
 use Rattle.groups.specs.Content.{content}
 use Rattle.groups.specs.Content.Content.{OfHistory}
 use Rattle.groups.specs.Laws.{with_customer}
@@ -95,9 +96,9 @@ module _
           (customers_settle group ∙ ap (λ has. content_after group has customers)
           (district_settles group ∙ ap (λ has. content_after group has district) (warehouse_settles group)))
 
-      carried_out : ((payment t p).reply ≡ reply.Payment shown) × ((group : Group) → content (payment t p).tables group ≡ contents_after group (content t group) claims)
+      carried_out : ((payment t p).reply ≡ reply.Done (kind.Payment shown)) × ((group : Group) → content (payment t p).tables group ≡ contents_after group (content t group) claims)
       carried_out = (
-        ap (λ (o : Outcome). o.reply) carried ∙ ap reply.Payment (sym customer.shown),
+        ap (λ (o : Outcome). o.reply) carried ∙ ap (λ r. reply.Done (kind.Payment r)) (sym customer.shown),
         λ group. ap (λ (o : Outcome). content o.tables group) carried ∙ settled group,
       )
 

@@ -11,8 +11,8 @@ use Rattle.schema.specs.Database.{Database}
 use Rattle.indexes.specs.Namesakes.{Customers}
 use Rattle.requests.specs.declared.group.Group.{Group}
 use Rattle.requests.specs.declared.group.Group.TheVariants as g
-use Rattle.requests.specs.declared.request.Payment.{Payment}
-use Rattle.requests.specs.declared.reply.PaymentReply.{PaymentReply}
+use Rattle.requests.specs.declared.payment.Payment.{Payment}
+use Rattle.requests.specs.declared.payment.PaymentReply.{PaymentReply}
 use Rattle.groups.specs.Groups.{group_of_customer}
 use Rattle.groups.specs.Content.{Content, content, rows_of}
 use Rattle.groups.specs.Content.Content.{OfWarehouse, OfDistrict, OfCustomers}

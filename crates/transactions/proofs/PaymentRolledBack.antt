@@ -12,7 +12,7 @@ use Rattle.rows.specs.declared.records.History.{History}
 use Rattle.schema.specs.Database.{Database}
 use Rattle.indexes.specs.Namesakes.{Customers, Keyed}
 use Rattle.requests.specs.declared.group.Group.TheVariants as g
-use Rattle.requests.specs.declared.request.Payment.{Payment}
+use Rattle.requests.specs.declared.payment.Payment.{Payment}
 use Rattle.requests.specs.declared.reply.Fault.{Fault}
 use Rattle.requests.specs.declared.reply.Fault.TheVariants.{NoCustomer, Range}
 use Rattle.groups.specs.Content.{content}

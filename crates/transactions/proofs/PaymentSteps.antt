@@ -3,9 +3,10 @@ use Rattle.std.proofs.Common.{◌≡◌, ◌∙◌, List, [], ◌∷◌, ◌++�
 use Rattle.schema.specs.declared.scale.Scale.{Scale}
 use Rattle.requests.specs.declared.request.Request.{Request}
 use Rattle.requests.specs.declared.request.Request.TheVariants as request
-use Rattle.requests.specs.declared.request.Payment.{Payment}
+use Rattle.requests.specs.declared.payment.Payment.{Payment}
 use Rattle.requests.specs.declared.reply.Fault.{Fault}
 use Rattle.requests.specs.declared.reply.Reply.TheVariants as reply
+use Rattle.requests.specs.declared.reply.Shown.TheVariants as kind
 use Rattle.tickets.specs.Claims.{Claiming, all_claims}
 use Rattle.commit_log.specs.Claimed.{IsCarriedOut}
 use Rattle.transactions.specs.declared.payment.Work.TheVariants.{PayHome, PayCustomer, AddPayment}
@@ -125,7 +126,7 @@ rows_follow p found home customer g is next scale asked held claims known done =
 
 -- ---- the second phase
 
-pub row_follows : (given : Paid) (found : List Found) → FollowsFrom (any_progress.Payment (AddRow given)) found (Finish (reply.Payment given.reply))
+pub row_follows : (given : Paid) (found : List Found) → FollowsFrom (any_progress.Payment (AddRow given)) found (Finish (reply.Done (kind.Payment given.reply)))
 row_follows given found scale asked held claims known done opening =
     let p = given.payment in
     let one = first_done scale (any_work.Payment (AddPayment p given.row)) [] found claims done in
@@ -134,7 +135,7 @@ row_follows given found scale asked held claims known done opening =
     let all : held ++ all_claims claims ≡ known.warehouse ∷ known.district ∷ known.customers ∷ added.0 ∷ [] =
     ap (λ xs. xs ++ all_claims claims) known.claims
     ∙ ap (λ xs. known.warehouse ∷ known.district ∷ known.customers ∷ all_claims xs) (one.claims_is ∙ (λ i. added.2 i ∷ none.1 i)) in
-    subst (λ r. IsCarriedOut opening r (held ++ all_claims claims) (reply.Payment given.reply)) (sym known.is)
-    (subst (λ xs. IsCarriedOut opening (request.Payment p) xs (reply.Payment given.reply)) (sym all)
+    subst (λ r. IsCarriedOut opening r (held ++ all_claims claims) (reply.Done (kind.Payment given.reply))) (sym known.is)
+    (subst (λ xs. IsCarriedOut opening (request.Payment p) xs (reply.Done (kind.Payment given.reply))) (sym all)
     (payments_are_carried_out opening p known.home known.customer given known.warehouse known.district known.customers added.0
     known.home_paid known.customer_paid known.next added.3))

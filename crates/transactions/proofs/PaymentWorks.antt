@@ -10,7 +10,7 @@ use Rattle.schema.specs.Scale.{has_warehouse, has_customer}
 use Rattle.requests.specs.declared.group.Group.TheVariants.{Warehouse, District, Customers, History as HistoryGroup}
 use Rattle.requests.specs.declared.request.Request.{Request}
 use Rattle.requests.specs.declared.request.Request.TheVariants as request
-use Rattle.requests.specs.declared.request.Payment.{Payment}
+use Rattle.requests.specs.declared.payment.Payment.{Payment}
 use Rattle.requests.specs.declared.refusal.Refusal.TheVariants.{BadWarehouse, BadDistrict, BadLines, BadQuantity, BadSupply, BadAmount, BadThreshold, BadCarrier}
 use Rattle.requests.specs.Check.{applies, IsAccepted}
 use Rattle.groups.specs.declared.wishes.Wish.{Wish}

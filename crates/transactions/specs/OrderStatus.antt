@@ -9,11 +9,11 @@ use Rattle.schema.specs.Scale.{has_district}
 use Rattle.schema.specs.Database.{Database}
 use Rattle.indexes.specs.Namesakes.{Customers, Keyed}
 use Rattle.requests.specs.declared.group.Group.TheVariants as g
-use Rattle.requests.specs.declared.request.OrderStatus.{OrderStatus}
+use Rattle.requests.specs.declared.order_status.OrderStatus.{OrderStatus}
 use Rattle.requests.specs.declared.request.Request.{Request}
 use Rattle.requests.specs.declared.request.Request.TheVariants as request
-use Rattle.requests.specs.declared.reply.OrderStatusReply.{OrderStatusReply}
-use Rattle.requests.specs.declared.reply.StatusOrder.{StatusOrder}
+use Rattle.requests.specs.declared.order_status.OrderStatusReply.{OrderStatusReply}
+use Rattle.requests.specs.declared.order_status.StatusOrder.{StatusOrder}
 use Rattle.requests.specs.Check.{IsAccepted}
 use Rattle.groups.specs.Content.{content}
 use Rattle.groups.specs.Content.Content.{OfCustomers}

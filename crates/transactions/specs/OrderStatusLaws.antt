@@ -5,11 +5,12 @@ use Rattle.rows.specs.declared.keys.CustomerKey.{CustomerKey}
 use Rattle.schema.specs.declared.scale.Scale.{Scale}
 use Rattle.schema.specs.Scale.{has_district}
 use Rattle.schema.specs.Database.{Database}
-use Rattle.requests.specs.declared.request.OrderStatus.{OrderStatus}
+use Rattle.requests.specs.declared.order_status.OrderStatus.{OrderStatus}
 use Rattle.requests.specs.declared.request.Request.TheVariants as request
 use Rattle.requests.specs.declared.reply.Fault.TheVariants.{NoCustomer}
-use Rattle.requests.specs.declared.reply.StatusOrder.{StatusOrder}
+use Rattle.requests.specs.declared.order_status.StatusOrder.{StatusOrder}
 use Rattle.requests.specs.declared.reply.Reply.TheVariants as reply
+use Rattle.requests.specs.declared.reply.Shown.TheVariants as kind
 use Rattle.requests.specs.Check.{IsAccepted}
 use Rattle.tickets.specs.Claims.{Claiming}
 use Rattle.commit_log.specs.Claimed.{IsCarriedOut}
@@ -24,7 +25,7 @@ OrderStatusesAreCarriedOut =
     (opening : Database) (o : OrderStatus) (key : CustomerKey) (customer : StatusCustomer) (order : Option StatusOrder)
     (customers orders : Claiming)
     → IsCustomerShown o (Shown key customer) customers → IsOrderShown key order orders
-    → IsCarriedOut opening (request.OrderStatus o) (customers ∷ orders ∷ []) (reply.OrderStatus (reply_shown key customer order))
+    → IsCarriedOut opening (request.OrderStatus o) (customers ∷ orders ∷ []) (reply.Done (kind.OrderStatus (reply_shown key customer order)))
 
 -- Where its customer isn't there, it was carried out with that fault as its reply.
 abbrev pub RolledBackOrderStatusesAreCarriedOut : Type 0

@@ -3,10 +3,11 @@ use Rattle.std.specs.Prelude.{◌≡◌, [], ◌∷◌, IsTrue}
 use Rattle.schema.specs.declared.scale.Scale.{Scale}
 use Rattle.schema.specs.Scale.{has_customer, has_district}
 use Rattle.schema.specs.Database.{Database}
-use Rattle.requests.specs.declared.request.Payment.{Payment}
+use Rattle.requests.specs.declared.payment.Payment.{Payment}
 use Rattle.requests.specs.declared.request.Request.TheVariants as request
 use Rattle.requests.specs.declared.reply.Fault.{Fault}
 use Rattle.requests.specs.declared.reply.Reply.TheVariants as reply
+use Rattle.requests.specs.declared.reply.Shown.TheVariants as kind
 use Rattle.requests.specs.Check.{IsAccepted}
 use Rattle.tickets.specs.Claims.{Claiming}
 use Rattle.commit_log.specs.Claimed.{IsCarriedOut}
@@ -26,7 +27,7 @@ PaymentsAreCarriedOut =
     (warehouse district customers history : Claiming)
     → IsHomePaid p home warehouse district → IsCustomerPaid p customer customers
     → gathered p home customer ≡ Next (any_progress.Payment (AddRow given)) → IsPaymentAdded p given.row history
-    → IsCarriedOut opening (request.Payment p) (warehouse ∷ district ∷ customers ∷ history ∷ []) (reply.Payment given.reply)
+    → IsCarriedOut opening (request.Payment p) (warehouse ∷ district ∷ customers ∷ history ∷ []) (reply.Done (kind.Payment given.reply))
 
 -- Where what was found calls for a rollback, the payment was carried out with this fault as its reply.
 abbrev pub RolledBackPaymentsAreCarriedOut : Type 0

@@ -16,7 +16,7 @@ use crate::work::shared;
 use amounts::Cents;
 use groups::Wish;
 use machine::{chosen, latest_shown};
-use requests::{Fault, Group, OrderStatus, OrderStatusReply, Reply, StatusOrder};
+use requests::{Fault, Group, OrderStatus, OrderStatusReply, Reply, Shown, StatusOrder};
 use schema::{CustomerKey, DistrictKey, NoMemory, Text};
 use slices::Slice;
 use std::alloc::Global;
@@ -242,7 +242,8 @@ fn gather_order(shown: StatusShown, found: Vec<crate::Found>) -> Gathered
     ensures { FollowsFrom (any.OrderStatus (Progress.ReadOrder shown)) found.items result }
 {
     let order = order_found(found);
-    Gathered::Finish(Reply::OrderStatus(reply_of(shown, order)))
+    let said = reply_of(shown, order);
+    Gathered::Finish(Reply::Done(Shown::OrderStatus(said)))
 }
 
 // What is replied of this customer, with this as the last order.

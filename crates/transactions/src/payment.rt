@@ -21,7 +21,7 @@ use crate::work::exclusively;
 use amounts::Cents;
 use groups::Wish;
 use machine::{chosen, customer_paid, district_paid, history_row, payment_reply, warehouse_paid};
-use requests::{Fault, Group, Payment, PaymentReply, Reply};
+use requests::{Fault, Group, Payment, PaymentReply, Reply, Shown};
 use schema::{CustomerKey, District, DistrictKey, History, NoMemory, Text, Warehouse};
 use slices::Slice;
 use std::alloc::Global;
@@ -387,7 +387,7 @@ fn gather_added(paid: Paid, found: Vec<crate::Found>) -> Gathered
     ensures { FollowsFrom (any.Payment (Progress.AddRow paid)) found.items result }
 {
     drop(found);
-    Gathered::Finish(Reply::Payment(paid.reply))
+    Gathered::Finish(Reply::Done(Shown::Payment(paid.reply)))
 }
 
 // What places 0 and 1 found.

@@ -1,14 +1,14 @@
 -- Which submissions find their session waiting for an answer.
 use Rattle.std.proofs.Common.{◌≡◌, ◌↔◌, ℕ, ◌<◌, ◌≤◌, Bool, true, false, List, [], ◌∷◌, Option, Some, None, Result, Ok, Err, refl, sym, ◌∙◌, ap, subst, cond, arith, ⊎_elim}
-use Rattle.std.specs.Prelude.{count_by, find, is_some}
+use Rattle.std.specs.Prelude.{count_by, is_some}
 use Rattle.std.specs.List.{slice_get}
 use Rattle.schema.specs.declared.scale.Scale.{Scale}
 use Rattle.requests.specs.declared.request.Request.{Request}
-use Rattle.requests.specs.declared.request.Request.TheVariants as request
 use Rattle.requests.specs.declared.answer.Answer.TheVariants.{Refused}
 use Rattle.requests.specs.declared.refusal.Refusal.{Refusal}
 use Rattle.requests.specs.declared.refusal.Refusal.TheVariants.{SessionBusy}
-use Rattle.requests.specs.Check.{applies, check_of, refusals, refused_by}
+use Rattle.requests.specs.Check.{check_of}
+use Rattle.requests.proofs.Checked.{refused_by_itself}
 use Rattle.commit_log.specs.Passing.{Passing}
 use Rattle.history.specs.declared.event.Event.{Event}
 use Rattle.history.specs.declared.event.Event.TheVariants.{Submit, Take, Send}
@@ -21,26 +21,10 @@ use Rattle.world.specs.Flights.{nothing}
 use Rattle.world.specs.Sound.{IsSoundWith, flight}
 use Rattle.world.specs.Worlds.{Happens, IsBusyExactly, SubmitsAt, SubmitsUnless, SubmitsInto, can_admit, refuses}
 use Rattle.world.proofs.Ready.{stands_at}
-use Rattle.world.proofs.Tokens.{IsFalse, by_bool}
-
--- what is found passes the test
-found_passes : {X : Type 0} (test : X → Bool) (xs : List X) (x : X) → find test xs ≡ Some x → test x ≡ true
-found_passes test [] x is = absurd (cc)
-found_passes test (y ∷ xs) x is =
-    by_bool (test y)
-    (λ passes. let same : y ≡ x = cc in subst (λ z. test z ≡ true) same passes)
-    (λ fails. found_passes test xs x (sym (ap (λ b. cond b (Some y) (find test xs)) fails) ∙ is))
 
 -- no check answers that a session is waiting
-not_among : (test : Refusal → Bool) → test SessionBusy ≡ false → (found : Option Refusal) → find test refusals ≡ found → refused_by found ≡ Err SessionBusy → ⊥
-not_among test fails None at is = absurd (cc)
-not_among test fails (Some why) at is =
-    let same : why ≡ SessionBusy = cc in
-    subst (λ b. IsFalse b) (sym fails ∙ found_passes test refusals SessionBusy (at ∙ ap Some same)) tt
-
 never_busy : (scale : Scale) (asked : Request) → check_of scale asked ≡ Err SessionBusy → ⊥
-never_busy scale (request.Payment p) is = not_among (applies scale (request.Payment p)) refl (find (applies scale (request.Payment p)) refusals) refl is
-never_busy scale (request.OrderStatus o) is = not_among (applies scale (request.OrderStatus o)) refl (find (applies scale (request.OrderStatus o)) refusals) refl is
+never_busy scale asked is = absurd (omega (arith, refused_by_itself scale asked SessionBusy is))
 
 module _ {J : Type 0} where
   -- where its pass is at the desk a session isn't told that it waits

@@ -98,14 +98,11 @@ module _ (opening : Database) (history : List Step) (log : List Entry) where
   logged_committed : (shown : Reply) (tables : Group → Content) (next : Group → Content) (standing : Standing) (own others : List Claiming)
       → ((group : Group) → next group ≡ contents_logged shown tables own group)
       → AreCommitted everywhere tables standing (own ++ others) → AreCommitted everywhere next standing (claims_logged shown own ++ others)
+  logged_committed (reply.Done shown) tables next standing own others same h =
+      kept.AreCommitted-same everywhere _ next standing standing _ (λ group here. same group) (λ group here. refl) (λ group here. refl)
+      (kept.AreCommitted-commit everywhere tables standing own others h)
   logged_committed (reply.RolledBack fault) tables next standing own others same h =
       kept.AreCommitted-same everywhere tables next standing standing (own ++ others) (λ group here. same group) (λ group here. refl) (λ group here. refl) h
-  logged_committed (reply.Payment shown) tables next standing own others same h =
-      kept.AreCommitted-same everywhere _ next standing standing _ (λ group here. same group) (λ group here. refl) (λ group here. refl)
-      (kept.AreCommitted-commit everywhere tables standing own others h)
-  logged_committed (reply.OrderStatus shown) tables next standing own others same h =
-      kept.AreCommitted-same everywhere _ next standing standing _ (λ group here. same group) (λ group here. refl) (λ group here. refl)
-      (kept.AreCommitted-commit everywhere tables standing own others h)
 
   -- a transaction is logged
   pub fits_entry : (slices : Joined) (admitted : ℕ) (own others : List Claiming) (u : Unanswered) (pending : List Unanswered) (executor : ℕ) (entry : Entry)

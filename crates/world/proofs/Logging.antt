@@ -70,9 +70,8 @@ all_settled_together (c ∷ cs) h = all_settled_at (warehouse_of c.group) (c ∷
 
 -- those of one action
 logged_given : (shown : Reply) (cs : List Claiming) → CanAllBeUndone cs → AreGiven (is_settled shown) (claims_logged shown cs)
+logged_given (reply.Done shown) cs h = (all_settled_given cs, all_settled_together cs h.1)
 logged_given (reply.RolledBack fault) cs h = h
-logged_given (reply.Payment shown) cs h = (all_settled_given cs, all_settled_together cs h.1)
-logged_given (reply.OrderStatus shown) cs h = (all_settled_given cs, all_settled_together cs h.1)
 
 -- and those of all
 all_logged_given : (shown : Reply) (held : List (List Claiming)) → All CanAllBeUndone held → All (AreGiven (is_settled shown)) (map (claims_logged shown) held)
@@ -83,14 +82,12 @@ all_logged_given shown (cs ∷ held) h =
 
 -- what is logged of two lots of claims is logged of both together
 logged_none : (shown : Reply) → claims_logged shown [] ≡ []
+logged_none (reply.Done shown) = refl
 logged_none (reply.RolledBack fault) = refl
-logged_none (reply.Payment shown) = refl
-logged_none (reply.OrderStatus shown) = refl
 
 logged_both : (shown : Reply) (cs ds : List Claiming) → claims_logged shown (cs ++ ds) ≡ claims_logged shown cs ++ claims_logged shown ds
+logged_both (reply.Done shown) cs ds = map-append settled cs ds
 logged_both (reply.RolledBack fault) cs ds = refl
-logged_both (reply.Payment shown) cs ds = map-append settled cs ds
-logged_both (reply.OrderStatus shown) cs ds = map-append settled cs ds
 
 logged_claims : (shown : Reply) (held : List (List Claiming)) → all_claims (map (claims_logged shown) held) ≡ claims_logged shown (all_claims held)
 logged_claims shown [] = sym (logged_none shown)

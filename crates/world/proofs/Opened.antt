@@ -10,7 +10,7 @@ use Rattle.partitions.specs.Parts.{Shared, parts_of, shared_of}
 use Rattle.schema.specs.Consistency.{Consistent}
 use Rattle.schema.specs.declared.scale.Scale.{Scale}
 use Rattle.requests.specs.declared.request.Choice.TheVariants.{Number}
-use Rattle.requests.specs.declared.request.Payment.{Payment}
+use Rattle.requests.specs.declared.payment.Payment.{Payment}
 use Rattle.requests.specs.declared.request.Request.TheVariants as request
 use Rattle.groups.specs.Content.{content}
 use Rattle.tickets.specs.Boxes.{Boxed}

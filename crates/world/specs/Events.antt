@@ -10,7 +10,7 @@ use Rattle.requests.specs.declared.answer.Answer.TheVariants.{Done, Refused}
 use Rattle.requests.specs.declared.refusal.Refusal.{Refusal}
 use Rattle.requests.specs.declared.refusal.Refusal.TheVariants as refusal
 use Rattle.requests.specs.Check.{IsAccepted}
-use Rattle.requests.specs.Replies.{ShowsStatus}
+use Rattle.requests.specs.Replies.{ShowsLines}
 use Rattle.groups.specs.declared.wishes.Wish.{Wish}
 use Rattle.tickets.specs.Claims.{Claiming, all_claims}
 use Rattle.commit_log.specs.declared.entry.Entry.{Entry}
@@ -49,6 +49,7 @@ use Rattle.world.specs.Parted.{CanAllBeSettled, CanAllBeUndone, joined_in}
 use Rattle.world.specs.Following.{CarriesFirst, acts_of, committing, ending, entry_of, found_in, held_in, holding, is_settled, refusal_of, refused, release, releasing, putting, with_active}
 use Rattle.world.specs.Sound.{IsSoundMessage, IsSoundItem, UnderWay}
 
+-- the refusal by which a fault of the log is answered
 abbrev pub why_refused : AppendFault → Refusal
 why_refused fault.NoMemory = refusal.NoMemory
 why_refused fault.LogFull = refusal.LogFull
@@ -132,6 +133,7 @@ module _ {J : Type 0} where
     pub room : length flow.transaction.held + length reports ≤ 4
     pub done : refusal_of None reports ≡ None → (scale : Scale) × HaveAllDone scale (works_of flow.progress) (found_in reports) (held_in reports)
 
+  -- what is asked of the reports of a phase, by the transaction that the first of them carries
   abbrev pub CanMeet : List (Report J) → Type 0
   CanMeet reports = CarriesFirst reports (CanMeetFor reports)
 
@@ -145,6 +147,7 @@ module _ {J : Type 0} where
   abbrev pub OfPhase : Parts J → (List (Option (Report J)) → Type 0) → Type 0
   OfPhase w P = (slots : List (Option (Report J))) × ((w.desk.active ≡ Some (Acting slots)) × P slots)
 
+  -- A report comes to the phase that is under way.
   abbrev pub Reports : Report J → Parts J → Parts J → Type 0
   Reports r old new = OfPhase old (λ slots. ReportsInto (slice_set slots r.place (Some r)) old new)
 
@@ -163,14 +166,15 @@ module _ {J : Type 0} where
       let t = commit.transaction in
       releasing false (release t (after_refusal why (length w.log) t.pass) (Refused (why_refused why)) t.held) w
 
-  -- A full log refuses every entry; but there may be no memory for an answer that shows an order.
+  -- A full log refuses every entry; but there may be no memory for an answer that shows the lines of an order.
   abbrev pub Commits : CommitItem J → Parts J → EventAnswer → Parts J → Type 0
   Commits commit old (Logged place) new = (place ≡ length old.log) × ((length old.log < 16777216) × (new ≡ logging commit old))
   Commits commit old Sent new =
       (why : AppendFault) × ((why ≡ fault.LogFull → 16777216 ≤ length old.log)
-      × ((16777216 ≤ length old.log → (why ≡ fault.LogFull) ⊎ ShowsStatus commit.reply) × (new ≡ refusing commit why old)))
+      × ((16777216 ≤ length old.log → (why ≡ fault.LogFull) ⊎ ShowsLines commit.reply) × (new ≡ refusing commit why old)))
   Commits commit old answer new = ⊥
 
+  -- What is asked of a commit: the request was carried out under the transaction's claims with this reply.
   pub record CanCommit (opening : Database) (commit : CommitItem J) : Type 0 where
     pub accepted : IsAccepted opening.scale commit.transaction.request
     pub number : commit.transaction.pass.asks.number ≡ commit.transaction.number
@@ -180,6 +184,7 @@ module _ {J : Type 0} where
 
   -- ---- the sessions
 
+  -- nothing but the sessions changes
   abbrev pub with_sessions : Parts J → List (SessionDesk J) → Parts J → Type 0
   with_sessions old sessions new =
       (new.catalog ≡ old.catalog) × ((new.slices ≡ old.slices) × ((new.inbox ≡ old.inbox) × ((new.outbox ≡ old.outbox) × ((new.log ≡ old.log)
@@ -208,6 +213,7 @@ module _ {J : Type 0} where
   CanSend opening (item.Commit commit) w = CanCommit opening commit
   CanSend opening (item.Reply told) w = (desk : SessionDesk J) × (slice_get w.desk.sessions.items told.pass.session ≡ Some desk)
 
+  -- What an item does when it is sent, by its kind.
   abbrev pub SendsItem : Item J → Parts J → EventAnswer → Parts J → Type 0
   SendsItem (item.Push message) old answer new = Pushes (nat_lt (length old.inbox) 1024) message old answer new
   SendsItem (item.Report r) old answer new = (answer ≡ Sent) × Reports r old new

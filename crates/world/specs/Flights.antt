@@ -30,12 +30,15 @@ pub record Part : Type 0 where
   pub pending : List Unanswered
   pub tokens : List Token
 
+-- these claims, transactions and tokens
 abbrev pub part : List Claiming → List Unanswered → List Token → Part
 part claims pending tokens = record { claims = claims; pending = pending; tokens = tokens }
 
+-- nothing is under way
 abbrev pub nothing : Part
 nothing = part [] [] []
 
+-- both together
 abbrev pub join : Part → Part → Part
 join a b = part (a.claims ++ b.claims) (a.pending ++ b.pending) (a.tokens ++ b.tokens)
 
@@ -92,6 +95,7 @@ module _ {J : Type 0} where
   part_carried None = nothing
   part_carried (Some flow) = part_transaction flow.transaction []
 
+  -- what a message has with it
   abbrev pub part_message : Message J → Part
   part_message (Start flow works) = part_transaction flow.transaction (acting_from 0 works.items)
   part_message (Act act) = part (part_carried act.flow).claims (part_carried act.flow).pending (Acting act.place ∷ [])
@@ -106,9 +110,11 @@ module _ {J : Type 0} where
   abbrev pub part_report : Report J → Part
   part_report r = part (claims_reported r) (part_carried r.flow).pending (Acting r.place ∷ [])
 
+  -- what a report that has met has with it: its token has come back
   abbrev pub part_met : Report J → Part
   part_met r = part (claims_reported r) (part_carried r.flow).pending []
 
+  -- what an item has with it
   abbrev pub part_item : Item J → Part
   part_item (item.Push message) = part_message message
   part_item (item.Report r) = part_report r

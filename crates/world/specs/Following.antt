@@ -28,8 +28,8 @@ use Rattle.world.specs.declared.world.Parts.{Parts}
 
 -- its claims are settled, unless it was rolled back
 abbrev pub is_settled : Reply → Bool
+is_settled (reply.Done shown) = true
 is_settled (reply.RolledBack fault) = false
-is_settled _ = true
 
 -- the first who died comes before want of memory
 abbrev pub earlier_death : Refusal → Group → ℕ → Refusal
@@ -63,14 +63,17 @@ module _ {J : Type 0} where
   found_by (Died group holder) = []
   found_by NoMemory = []
 
+  -- the claims of the actions that have done their work, by place, those of each together
   abbrev pub held_in : List (Report J) → List (List Claiming)
   held_in [] = []
   held_in (r ∷ reports) = held_by r.ran ++ held_in reports
 
+  -- what these actions found, by place
   abbrev pub found_in : List (Report J) → List Found
   found_in [] = []
   found_in (r ∷ reports) = found_by r.ran ++ found_in reports
 
+  -- why a transaction is refused for which there was a reason before, after one more report
   abbrev pub refused_still : Refusal → Ran J → Refusal
   refused_still why (Done claims found) = why
   refused_still why (Died group holder) = earlier_death why group holder
@@ -104,6 +107,7 @@ module _ {J : Type 0} where
 
   -- ---- the active transaction
 
+  -- the world with the active transaction so far, and nothing else changed
   abbrev pub with_active : Option (Active J) → Parts J → Parts J
   with_active active w = record w { desk = record w.desk { active = active } }
 
@@ -111,6 +115,7 @@ module _ {J : Type 0} where
   abbrev pub putting : List (Item J) → Option (Active J) → Parts J → Parts J
   putting items active w = record w { outbox = w.outbox ++ items; desk = record w.desk { active = active } }
 
+  -- a phase is under way
   abbrev pub IsActing : Active J → Type 0
   IsActing (Acting meeting) = Unit {0}
   IsActing Committing = ⊥
@@ -127,9 +132,11 @@ module _ {J : Type 0} where
 
   -- ---- a transaction that is over
 
+  -- what a transaction that is over gives back: its pass, with this answer, and what its actions hold
   abbrev pub release : Transaction J → Passing → Answer → List (List Claiming) → Release J
   release t pass answer held = record { age = t.age; number = t.number; pass = pass; answer = answer; held = held }
 
+  -- so where it is refused
   abbrev pub refused : Transaction J → Refusal → Release J
   refused t why = release t t.pass (Refused why) t.held
 
@@ -138,6 +145,7 @@ module _ {J : Type 0} where
   push_of true claims = item.Push (Settle claims)
   push_of false claims = item.Push (Undo claims)
 
+  -- the answer to its session, as an item
   abbrev pub reply_of : Release J → Item J
   reply_of r = item.Reply (record { age = r.age; number = r.number; pass = r.pass; answer = r.answer })
 
@@ -145,9 +153,11 @@ module _ {J : Type 0} where
   abbrev pub items_released : Bool → Release J → List (Item J)
   items_released settle r = reply_of r ∷ map (push_of settle) r.held
 
+  -- The items of a transaction that is over are put, and as many actions have yet to end as hold claims.
   abbrev pub releasing : Bool → Release J → Parts J → Parts J
   releasing settle r w = putting (items_released settle r) (ending (length r.held)) w
 
+  -- the entry of a commit
   abbrev pub entry_of : CommitItem J → Entry
   entry_of commit = record {
     session = commit.transaction.pass.session;

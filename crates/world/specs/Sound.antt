@@ -87,17 +87,20 @@ module _ {J : Type 0} where
 
   -- ---- one thing that is under way
 
+  -- a beginning has the works of the first phase, at most four, all of which can be done
   pub record IsSoundStart (scale : Scale) (u : UnderWay) (flow : Flow J) (works : List Work) : Type 0 where
     pub flow_is : IsSoundFlow u flow
     pub works_are : works ≡ works_of u.progress
     pub can : All (CanDo scale) works
     pub few : length works ≤ 4
 
+  -- an action does the work of its place, which can be done
   pub record IsSoundAct (scale : Scale) (u : UnderWay) (act : Act J) : Type 0 where
     pub flow : IsCarriedAt u act.place act.flow
     pub work : IsWorkAt u act.place act.work
     pub can : CanDo scale act.work
 
+  -- a message is sound, by its kind
   abbrev pub IsSoundMessage : Scale → UnderWay → Message J → Type 0
   IsSoundMessage scale u (message.Start flow works) = IsSoundStart scale u flow works.items
   IsSoundMessage scale u (message.Act act) = IsSoundAct scale u act
@@ -110,10 +113,13 @@ module _ {J : Type 0} where
   IsSoundRan scale u place (ran.Died group holder) = Unit {0}
   IsSoundRan scale u place ran.NoMemory = Unit {0}
 
+  -- a report is of its place, and what it tells of was done as the phase has it
   pub record IsSoundReport (scale : Scale) (u : UnderWay) (r : Report J) : Type 0 where
     pub flow : IsCarriedAt u r.place r.flow
     pub ran : IsSoundRan scale u r.place r.ran
 
+  -- A commit is of a request that its check accepts, and that was carried out under the transaction's claims with this
+  -- reply, from any opening; and all can be undone.
   pub record IsSoundCommit (scale : Scale) (commit : CommitItem J) : Type 0 where
     pub asked : IsAskedBy commit.transaction
     pub accepted : IsAccepted scale commit.transaction.request
@@ -121,9 +127,11 @@ module _ {J : Type 0} where
     pub undo : All CanAllBeUndone commit.transaction.held
     pub few : length commit.transaction.held ≤ 4
 
+  -- an answer is for one of 64 sessions, which asks its number, and the log has what it tells
   abbrev pub IsSoundReply : List Entry → ReplyItem J → Type 0
   IsSoundReply log told = (told.pass.session < 64) × ((told.pass.asks.number ≡ told.number) × IsAnswerIn log told.answer)
 
+  -- an item is sound, by its kind
   abbrev pub IsSoundItem : Scale → List Entry → UnderWay → Item J → Type 0
   IsSoundItem scale log u (item.Push message) = IsSoundMessage scale u message
   IsSoundItem scale log u (item.Report r) = IsSoundReport scale u r
@@ -133,6 +141,7 @@ module _ {J : Type 0} where
 
   -- ---- the active transaction
 
+  -- the reports of the phase that is under way, as far as they have met
   abbrev pub reported_to : Option (Active J) → List (Report J)
   reported_to None = []
   reported_to (Some (active.Acting slots)) = reported slots
@@ -156,6 +165,7 @@ module _ {J : Type 0} where
     pub reports : (place : ℕ) (r : Report J) → slice_get slots place ≡ Some (Some r) → (r.place ≡ place) × IsSoundReport scale u r
     pub awaits : 1 ≤ length (awaited_from 0 slots)
 
+  -- the active transaction is sound, by how far it has come
   abbrev pub IsSoundActive : Scale → UnderWay → Option (Active J) → Type 0
   IsSoundActive scale u None = Unit {0}
   IsSoundActive scale u (Some (active.Acting slots)) = IsSoundPhase scale u slots
@@ -174,6 +184,7 @@ module _ {J : Type 0} where
 
   -- ---- the world
 
+  -- all that is under way: messages, items, and reports that have met
   abbrev pub flight : Parts J → Part
   flight w = join (parts part_message w.inbox) (join (parts part_item w.outbox) (parts part_met (reported_to w.desk.active)))
 

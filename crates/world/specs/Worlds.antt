@@ -68,6 +68,7 @@ refuses (Some pass) (Ok accepted) true = Some refusal.Busy
 refuses (Some pass) (Ok accepted) false = None
 
 module _ {J : Type 0} where
+  -- a history fits this world from an opening
   abbrev pub Fits : Database → List Step → Parts J → Type 0
   Fits opening history w = FitsPart opening history w.log (joined_in w) w.desk.admitted (flight w)
 
@@ -77,6 +78,7 @@ module _ {J : Type 0} where
 
   -- ---- submissions
 
+  -- why this session's request is refused at once, if it is
   abbrev pub refusal_at : SessionDesk J → Request → Parts J → Option Refusal
   refusal_at desk request w = refuses desk.pass (check_of w.catalog.scale request) (is_some w.desk.active)
 
@@ -117,29 +119,35 @@ module _ {J : Type 0} where
   CanAsk None = ⊥
   CanAsk (Some desk) = IsTrue (is_some desk.pass)
 
+  -- the event is answered so, and nothing changes
   abbrev pub StaysAt : EventAnswer → Parts J → EventAnswer → Parts J → Type 0
   StaysAt told old answer new = (answer ≡ told) × (new ≡ old)
 
+  -- It can't be admitted, or it is refused for want of memory, or it is admitted.
   abbrev pub SubmitsInto : Bool → ℕ → ℕ → Request → SessionDesk J → Parts J → EventAnswer → Parts J → Type 0
   SubmitsInto false session number asked desk old answer new = StaysAt Nothing old answer new
   SubmitsInto true session number asked desk old answer new =
       StaysAt (Answered session number (Refused refusal.NoMemory)) old answer new
       ⊎ ((answer ≡ Accepted old.desk.admitted) × Admits session number asked desk old new)
 
+  -- It is refused for this reason, or else it may be admitted.
   abbrev pub SubmitsUnless : Option Refusal → ℕ → ℕ → Request → SessionDesk J → Parts J → EventAnswer → Parts J → Type 0
   SubmitsUnless (Some why) session number asked desk old answer new = StaysAt (Answered session number (Refused why)) old answer new
   SubmitsUnless None session number asked desk old answer new = SubmitsInto (can_admit old) session number asked desk old answer new
 
+  -- A submission: nothing happens where there is no such session.
   abbrev pub SubmitsAt : Option (SessionDesk J) → ℕ → ℕ → Request → Parts J → EventAnswer → Parts J → Type 0
   SubmitsAt None session number asked old answer new = StaysAt Nothing old answer new
   SubmitsAt (Some desk) session number asked old answer new = SubmitsUnless (refusal_at desk asked old) session number asked desk old answer new
 
   -- ---- one event
 
+  -- The first message of the inbox is worked on, where there is one.
   abbrev pub TakesFirst : List (Message J) → Parts J → EventAnswer → Parts J → Type 0
   TakesFirst [] old answer new = StaysAt Nothing old answer new
   TakesFirst (message ∷ rest) old answer new = (answer ≡ Took) × TakesMessage message (record old { inbox = rest }) new
 
+  -- The first item of the outbox is sent, where there is one.
   abbrev pub SendsFirst : List (Item J) → Parts J → EventAnswer → Parts J → Type 0
   SendsFirst [] old answer new = StaysAt Nothing old answer new
   SendsFirst (item ∷ rest) old answer new = SendsItem item (record old { outbox = rest }) answer new
@@ -170,6 +178,7 @@ module _ {J : Type 0} where
 
   -- ---- what can't happen
 
+  -- there is no such session; or it is not refused, and can't be admitted
   abbrev pub CannotSubmit : Option (SessionDesk J) → Request → Parts J → Type 0
   CannotSubmit None asked w = Unit {0}
   CannotSubmit (Some desk) asked w = (refusal_at desk asked w ≡ None) × (can_admit w ≡ false)

@@ -26,14 +26,14 @@ fn line(i_id: u32, delivery_d: Option<Moment>) -> StatusLine {
 }
 
 pub fn status(order: Option<StatusOrder>) -> Result<Reply, Fail> {
-    Ok(Reply::OrderStatus(OrderStatusReply {
+    Ok(Reply::Done(Shown::OrderStatus(OrderStatusReply {
         c_id: 4,
         first: Text::parse("C")?,
         middle: Text::parse("OE")?,
         last: Text::parse("BAR,BAR")?,
         balance: Cents::new(-1_000),
         order,
-    }))
+    })))
 }
 
 // An order that was not delivered, of two lines, and one that was, of one line.

@@ -1,5 +1,6 @@
 use Rattle.std.proofs.Common.{◌≡◌, ◌+◌, ◌*◌, ◌^◌, length}
 use Rattle.std.specs.Prelude.{◌-ℤ◌}
+use Rattle.std.specs.FinMap as map
 use Rattle.schema.specs.Sums.{sum_entries}
 use Rattle.consistency.specs.Balances.{AreTotals, AreWithin}
 use Rattle.consistency.proofs.BalancesDeliveries.{line_share}
@@ -9,6 +10,6 @@ abbrev pub invariant-loop-key : goal.invariant-loop-key
 invariant-loop-key l =
     (goal.iterator-loop-key).can_next l.key-iterator
     × (goal.iterator-loop-key).is_finite l.key-iterator
-    × AreTotals l.scale (λ key. sum_entries (line_share l.rows.orders key) l.rows.lines.entries -ℤ sum_entries (line_share l.rows.orders key) l.key-iterator) l.totals.items
+    × AreTotals l.scale (λ key. sum_entries (line_share l.tables key) (map.entries l.tables.lines) -ℤ sum_entries (line_share l.tables key) l.key-iterator) l.totals.items
     × AreWithin (2 ^ 50 * length l.yielded) l.totals.items
-    × (length l.yielded + length l.key-iterator ≡ length l.rows.lines.entries)
+    × (length l.yielded + length l.key-iterator ≡ length (map.entries l.tables.lines))

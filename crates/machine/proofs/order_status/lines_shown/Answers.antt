@@ -2,7 +2,7 @@ use Rattle.std.proofs.Common.{◌≡◌, ◌++◌, List, [], ◌∷◌, map, sym
 use Rattle.std.proofs.lemmas.List.{append-nil, append_assoc}
 use Rattle.rows.specs.declared.keys.OrderLineKey.{OrderLineKey}
 use Rattle.rows.specs.declared.records.OrderLine.{OrderLine}
-use Rattle.requests.specs.declared.reply.StatusLine.{StatusLine}
+use Rattle.requests.specs.declared.order_status.StatusLine.{StatusLine}
 use Rattle.machine.specs.OrderStatus as spec
 use Rattle.machine.proofs.order_status.lines_shown.Goals as goal
 
@@ -16,7 +16,7 @@ loop-row-init g c =
 
 pub loop-row-preserved : goal.loop-row-preserved
 loop-row-preserved g c =
-    let left : c.loop-row.row-iterator ≡ (c.in-Some.field-0-0.now, c.in-Some.row.now) ∷ c.next.new.self = c.in-Some.ensures.steps in
+    let left : c.loop-row.row-iterator ≡ (c.in-Some.field-0-0, c.in-Some.row.now) ∷ c.next.new.self = c.in-Some.ensures.steps in
     ap (λ lines. lines ++ shown c.next.new.self) c.in_ok-push.ensures.items
     ∙ append_assoc c.loop-row.lines.items (c.status_line.result ∷ []) (shown c.next.new.self)
     ∙ ap (λ line. c.loop-row.lines.items ++ line ∷ shown c.next.new.self) c.status_line.ensures

@@ -1,6 +1,7 @@
 use Rattle.std.proofs.Common.{subst, sym}
-use Rattle.requests.specs.declared.reply.OrderStatusReply.{OrderStatusReply}
+use Rattle.requests.specs.declared.order_status.OrderStatusReply.{OrderStatusReply}
 use Rattle.requests.specs.declared.reply.Reply.TheVariants as reply
+use Rattle.requests.specs.declared.reply.Shown.TheVariants as kind
 use Rattle.transactions.specs.declared.order_status.Progress.TheVariants.{ReadOrder}
 use Rattle.transactions.specs.declared.progress.Progress.TheVariants as any_progress
 use Rattle.transactions.specs.declared.progress.Gathered.TheVariants.{Finish}
@@ -15,5 +16,5 @@ order_found-order-requires c =
 
 pub returns : goal.returns
 returns c =
-    subst (λ (r : OrderStatusReply). FollowsFrom (any_progress.OrderStatus (ReadOrder c.args.shown)) c.args.found.items (Finish (reply.OrderStatus r))) (sym c.reply_of.ensures)
+    subst (λ (r : OrderStatusReply). FollowsFrom (any_progress.OrderStatus (ReadOrder c.args.shown)) c.args.found.items (Finish (reply.Done (kind.OrderStatus r)))) (sym c.reply_of.ensures)
     (order_follows c.args.shown c.args.found.items c.order_found-order.result c.order_found-order.ensures)

@@ -2,7 +2,7 @@ use Rattle.std.proofs.Common.{◌≡◌, Option, ap, ◌∙◌}
 use Rattle.std.proofs.lemmas.Result.{IfOk-weaker}
 use Rattle.schema.specs.Database.{Database}
 use Rattle.partitions.specs.Parts.{Part}
-use Rattle.requests.specs.declared.reply.StatusOrder.{StatusOrder}
+use Rattle.requests.specs.declared.order_status.StatusOrder.{StatusOrder}
 use Rattle.slices.specs.Sliced.{Sliced}
 use Rattle.machine.specs.OrderStatus.{latest_shown}
 use Rattle.transactions.specs.OrderStatus.{IsOrderShown}

@@ -7,7 +7,7 @@ use Rattle.schema.specs.Scale.{customer_key, has_customer}
 use Rattle.schema.specs.Database.{Database}
 use Rattle.indexes.specs.Namesakes.{Keyed}
 use Rattle.indexes.specs.NameOrder.{last_of, first_of}
-use Rattle.requests.specs.declared.reply.PaymentReply.{PaymentReply}
+use Rattle.requests.specs.declared.payment.PaymentReply.{PaymentReply}
 use Rattle.partitions.specs.Parts.{Part}
 use Rattle.groups.specs.Groups.{group_of_customer}
 use Rattle.groups.specs.Laws.{with_customer}

@@ -1,7 +1,7 @@
 use Rattle.std.proofs.Common.{◌≡◌, List, sym, ap, subst, ◌∙◌}
 use Rattle.schema.specs.Database.{Database}
-use Rattle.requests.specs.Replies.{ShowsStatus}
-use Rattle.machine.proofs.RequestLaws.{shown_status_keeps}
+use Rattle.requests.specs.Replies.{ShowsLines}
+use Rattle.machine.proofs.RequestLaws.{shown_lines_keep}
 use Rattle.commit_log.specs.declared.entry.Entry.{Entry}
 use Rattle.commit_log.specs.Log.{IsLegal}
 use Rattle.commit_log.specs.Logged.{Logged}
@@ -15,7 +15,7 @@ logged entries tables = record { entries = entries; tables = tables }
 pub invariant_of-self-in_default-try_clone : goal.invariant_of-self-in_default-try_clone
 invariant_of-self-in_default-try_clone g c =
     let same : c.step.new.self ≡ c.self.inside.plain =
-    c.in-Ok-step.ensures.tables ∙ shown_status_keeps c.self.inside.plain c.args.request.now (subst ShowsStatus c.in-Ok-step.ensures.reply c.in_default-try_clone.ensures.lines) in
+    c.in-Ok-step.ensures.tables ∙ shown_lines_keep c.self.inside.plain c.args.request.now (subst ShowsLines c.in-Ok-step.ensures.reply c.in_default-try_clone.ensures.lines) in
     subst (λ (t : Database). IsLegal g.J.Naming.opening c.make_room.new.self.entries t) (sym same)
     (subst (λ (entries : List Entry). IsLegal g.J.Naming.opening entries c.self.inside.plain) (sym c.in-Ok.ensures.entries) c.self.invariant)
 
@@ -25,7 +25,7 @@ returns-in_default-try_clone-clause-legal g c = invariant_of-self-in_default-try
 pub returns-in_default-try_clone-clause-err : goal.returns-in_default-try_clone-clause-err
 returns-in_default-try_clone-clause-err g c =
     let same : c.step.new.self ≡ c.self.inside.plain =
-    c.in-Ok-step.ensures.tables ∙ shown_status_keeps c.self.inside.plain c.args.request.now (subst ShowsStatus c.in-Ok-step.ensures.reply c.in_default-try_clone.ensures.lines) in
+    c.in-Ok-step.ensures.tables ∙ shown_lines_keep c.self.inside.plain c.args.request.now (subst ShowsLines c.in-Ok-step.ensures.reply c.in_default-try_clone.ensures.lines) in
     ap (logged c.make_room.new.self.entries) same ∙ ap (λ entries. logged entries c.self.inside.plain) c.in-Ok.ensures.entries ∙ c.self.view_is
 
 pub invariant_of-self-2 : goal.invariant_of-self-2

@@ -7,6 +7,6 @@ use Rattle.schema.proofs.tables.Tables.new_orders_of.Goals as goal
 pub returns-clause-rows : goal.returns-clause-rows
 returns-clause-rows c =
     let t = c.self.inside in
-    c.range.ensures.between c.new.ensures.exhausted
+    c.of_map.ensures ∙ c.range.ensures.between c.new.ensures.exhausted
     ∙ orders_part c.args.home _ _ (c.new.ensures.start ∙ c.first_order.ensures) (c.new.ensures.end ∙ c.last_order.ensures) t.rows.new_orders.entries c.range.ensures.ordered (new_orders_numbered (database t.scale t.rows) c.self.invariant.within)
     ∙ ap (λ (m : Database). rows_where (is_of_district c.args.home) m.new_orders) c.self.view_is

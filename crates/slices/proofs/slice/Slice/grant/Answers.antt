@@ -12,47 +12,47 @@ use Rattle.slices.proofs.slice.Slice.grant.Goals as goal
 
 pub invariant_of-self : goal.invariant_of-self
 invariant_of-self g c =
-    let known = subst (λ n. IsGroupOf n c.args.group) (sym c.self.invariant.0) c.requires.known in
+    let known = subst (λ n. IsGroupOf n c.args.group) (sym c.self.invariant.many) c.requires.known in
     let near = c.requires.home ∙ sym (ap (λ (s : Sliced). s.home) c.self.view_is) in
     let e = c.grant.ensures in
     let out = lends c.index_mut-ground.result.now c.grant.new.self c.grant.result e.free e.out e.undo in
-    let keeps = grant_outcome Exclusive c.self.inside.partition.home c.self.inside.partition.tables c.self.inside.grounds.items c.args.group c.place_at_home.result c.index_mut-ground.result.now c.grant.new.self c.grant.result c.self.invariant.1 known near c.place_at_home.ensures
+    let keeps = grant_outcome Exclusive c.self.inside.rows c.self.inside.grounds.items c.args.group c.place_at_home.result c.index_mut-ground.result.now c.grant.new.self c.grant.result c.self.invariant.grounded known near c.place_at_home.ensures
     c.index_mut-ground.ensures.value out e.claim e.same in
-    (c.self.invariant.0, keeps.0, c.self.invariant.2, c.self.invariant.3)
+    record { many = c.self.invariant.many; grounded = keeps.0 }
 
 pub returns-clause-claim : goal.returns-clause-claim
 returns-clause-claim g c =
-    let known = subst (λ n. IsGroupOf n c.args.group) (sym c.self.invariant.0) c.requires.known in
+    let known = subst (λ n. IsGroupOf n c.args.group) (sym c.self.invariant.many) c.requires.known in
     let near = c.requires.home ∙ sym (ap (λ (s : Sliced). s.home) c.self.view_is) in
     let e = c.grant.ensures in
     let out = lends c.index_mut-ground.result.now c.grant.new.self c.grant.result e.free e.out e.undo in
-    let keeps = grant_outcome Exclusive c.self.inside.partition.home c.self.inside.partition.tables c.self.inside.grounds.items c.args.group c.place_at_home.result c.index_mut-ground.result.now c.grant.new.self c.grant.result c.self.invariant.1 known near c.place_at_home.ensures
+    let keeps = grant_outcome Exclusive c.self.inside.rows c.self.inside.grounds.items c.args.group c.place_at_home.result c.index_mut-ground.result.now c.grant.new.self c.grant.result c.self.invariant.grounded known near c.place_at_home.ensures
     c.index_mut-ground.ensures.value out e.claim e.same in
     subst (λ (s : Sliced). IfOk c.grant.result (λ claim. claim ≡ fresh c.args.group Exclusive (content s.tables c.args.group))) c.self.view_is keeps.1
 
 pub returns-clause-kept : goal.returns-clause-kept
 returns-clause-kept g c =
-    let known = subst (λ n. IsGroupOf n c.args.group) (sym c.self.invariant.0) c.requires.known in
+    let known = subst (λ n. IsGroupOf n c.args.group) (sym c.self.invariant.many) c.requires.known in
     let near = c.requires.home ∙ sym (ap (λ (s : Sliced). s.home) c.self.view_is) in
     let e = c.grant.ensures in
     let out = lends c.index_mut-ground.result.now c.grant.new.self c.grant.result e.free e.out e.undo in
-    let keeps = grant_outcome Exclusive c.self.inside.partition.home c.self.inside.partition.tables c.self.inside.grounds.items c.args.group c.place_at_home.result c.index_mut-ground.result.now c.grant.new.self c.grant.result c.self.invariant.1 known near c.place_at_home.ensures
+    let keeps = grant_outcome Exclusive c.self.inside.rows c.self.inside.grounds.items c.args.group c.place_at_home.result c.index_mut-ground.result.now c.grant.new.self c.grant.result c.self.invariant.grounded known near c.place_at_home.ensures
     c.index_mut-ground.ensures.value out e.claim e.same in
-    subst (λ (s : Sliced). IfOk c.grant.result (λ claim. SliceKeeps [] s (claim ∷ []) (sliced c.self.inside.partition.home c.self.inside.partition.tables (set c.self.inside.grounds.items c.place_at_home.result c.grant.new.self)))) c.self.view_is keeps.2
+    subst (λ (s : Sliced). IfOk c.grant.result (λ claim. SliceKeeps [] s (claim ∷ []) (sliced c.self.inside.rows (set c.self.inside.grounds.items c.place_at_home.result c.grant.new.self)))) c.self.view_is keeps.2
 
 pub returns-clause-busy : goal.returns-clause-busy
 returns-clause-busy g c =
-    let known = subst (λ n. IsGroupOf n c.args.group) (sym c.self.invariant.0) c.requires.known in
+    let known = subst (λ n. IsGroupOf n c.args.group) (sym c.self.invariant.many) c.requires.known in
     let near = c.requires.home ∙ sym (ap (λ (s : Sliced). s.home) c.self.view_is) in
     let e = c.grant.ensures in
-    subst (λ (s : Sliced). IfErr c.grant.result (λ held. (held.group ≡ c.args.group) × (sliced c.self.inside.partition.home c.self.inside.partition.tables (set c.self.inside.grounds.items c.place_at_home.result c.grant.new.self) ≡ s) × ((standing s).free c.args.group < 8))) c.self.view_is
-    (busy_outcome (λ n. n < 8) c.self.inside.partition.home c.self.inside.partition.tables c.self.inside.grounds.items c.args.group c.place_at_home.result c.index_mut-ground.result.now c.grant.new.self c.grant.result c.self.invariant.1 known near c.place_at_home.ensures
+    subst (λ (s : Sliced). IfErr c.grant.result (λ held. (held.group ≡ c.args.group) × (sliced c.self.inside.rows (set c.self.inside.grounds.items c.place_at_home.result c.grant.new.self) ≡ s) × ((standing s).free c.args.group < 8))) c.self.view_is
+    (busy_outcome (λ n. n < 8) c.self.inside.rows c.self.inside.grounds.items c.args.group c.place_at_home.result c.index_mut-ground.result.now c.grant.new.self c.grant.result c.self.invariant.grounded known near c.place_at_home.ensures
     c.index_mut-ground.ensures.value e.held (some_out c.index_mut-ground.result.now c.grant.result e.busy) e.same)
 
 pub returns-clause-others : goal.returns-clause-others
 returns-clause-others g c =
-    let known = subst (λ n. IsGroupOf n c.args.group) (sym c.self.invariant.0) c.requires.known in
+    let known = subst (λ n. IsGroupOf n c.args.group) (sym c.self.invariant.many) c.requires.known in
     let near = c.requires.home ∙ sym (ap (λ (s : Sliced). s.home) c.self.view_is) in
     let next = set c.self.inside.grounds.items c.place_at_home.result c.grant.new.self in
-    subst (λ (s : Sliced). (other : Group) → other ≢ c.args.group → warehouse_of other ≡ s.home → (standing (sliced c.self.inside.partition.home c.self.inside.partition.tables next)).free other ≡ (standing s).free other) c.self.view_is
-    (home_elsewhere c.self.inside.partition.home c.self.inside.partition.tables c.self.inside.grounds.items c.args.group c.place_at_home.result c.grant.new.self known near c.place_at_home.ensures)
+    subst (λ (s : Sliced). (other : Group) → other ≢ c.args.group → warehouse_of other ≡ s.home → (standing (sliced c.self.inside.rows next)).free other ≡ (standing s).free other) c.self.view_is
+    (home_elsewhere c.self.inside.rows c.self.inside.grounds.items c.args.group c.place_at_home.result c.grant.new.self known near c.place_at_home.ensures)

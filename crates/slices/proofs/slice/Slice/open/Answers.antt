@@ -1,5 +1,7 @@
-use Rattle.std.proofs.Common.{rules, ◌≡◌, [], ◌∷◌, ◌++◌, map, ap, ◌∙◌, sym, arith}
+use Rattle.std.proofs.Common.{rules, ◌≡◌, [], ◌∷◌, ◌++◌, map, ap, subst, ◌∙◌, sym, arith}
 use Rattle.std.proofs.lemmas.List.{append-nil}
+use Rattle.partitions.specs.Parts.{Part}
+use Rattle.slices.specs.Grounds.{sliced, IsSlice}
 use Rattle.slices.proofs.Opened.{none_left, box_of, one_ground_more, idle_more, opened_grounds, opened_at_rest}
 use Rattle.slices.proofs.slice.Slice.open.Goals as goal
 
@@ -19,11 +21,12 @@ invariant_of-result g c =
     let grounds = c.loop-ticket_box.grounds.items in
     let none : c.loop-ticket_box.ticket_box-iterator.rest.items ≡ [] = none_left c.loop-ticket_box.ticket_box-iterator.rest.items (let long = c.loop-ticket_box.ticket_box-iterator.rest.ok in omega (arith, c.in-None.ensures.steps.0, long)) in
     let all = sym (append-nil (map box_of grounds)) ∙ sym (ap (λ l. map box_of grounds ++ l) none) ∙ c.loop-ticket_box.invariant.boxes in
-    (sym c.requires.warehouses, opened_grounds c.args.partition c.args.boxes.items grounds c.requires.boxes all c.loop-ticket_box.invariant.idle, c.in_ok-names.ensures, c.in_ok-latest.ensures)
+    subst (λ (p : Part). IsSlice g.J.Naming.warehouses p grounds) (sym c.in_ok-rows.ensures)
+    (record { many = sym c.requires.warehouses; grounded = opened_grounds c.args.partition c.args.boxes.items grounds c.requires.boxes all c.loop-ticket_box.invariant.idle })
 
 pub returns : goal.returns
 returns g c =
     let grounds = c.loop-ticket_box.grounds.items in
     let none : c.loop-ticket_box.ticket_box-iterator.rest.items ≡ [] = none_left c.loop-ticket_box.ticket_box-iterator.rest.items (let long = c.loop-ticket_box.ticket_box-iterator.rest.ok in omega (arith, c.in-None.ensures.steps.0, long)) in
     let all = sym (append-nil (map box_of grounds)) ∙ sym (ap (λ l. map box_of grounds ++ l) none) ∙ c.loop-ticket_box.invariant.boxes in
-    opened_at_rest c.args.partition c.args.boxes.items grounds c.requires.boxes all c.loop-ticket_box.invariant.idle
+    ap (λ (p : Part). sliced p grounds) c.in_ok-rows.ensures ∙ opened_at_rest c.args.partition c.args.boxes.items grounds c.requires.boxes all c.loop-ticket_box.invariant.idle

@@ -1,0 +1,22 @@
+//! The groups that Order-Status claims.
+ghost use Rattle.std.specs.Prelude.{◌≡◌};
+ghost use Rattle.groups.specs.OrderStatus.{order_status_footprint};
+
+use crate::{Mode, Wish};
+use requests::{Group, OrderStatus};
+use schema::DistrictKey;
+
+/// The rows that Order-Status reads, while others may read them too.
+pub(crate) fn wishes(asked: &OrderStatus) -> [Wish; 2]
+    ensures { result ≡ order_status_footprint asked.now }
+{
+    let DistrictKey { w_id, d_id } = asked.home;
+    [
+        Group::Customers { w_id, d_id },
+        Group::Orders { w_id, d_id },
+    ]
+    .map(|group| Wish {
+        group,
+        mode: Mode::Shared,
+    })
+}

@@ -1,0 +1,33 @@
+//! The groups that a payment claims.
+ghost use Rattle.std.specs.Prelude.{◌≡◌};
+ghost use Rattle.groups.specs.Payment.{payment_footprint};
+
+use crate::{Mode, Wish};
+use requests::{Group, Payment};
+
+/// The rows that a payment changes, all of them alone.
+pub(crate) fn wishes(payment: &Payment) -> [Wish; 4]
+    ensures { result ≡ payment_footprint payment.now }
+{
+    let home = payment.home;
+    let customer_home = payment.customer_home;
+    [
+        Group::Warehouse { w_id: home.w_id },
+        Group::District {
+            w_id: home.w_id,
+            d_id: home.d_id,
+        },
+        Group::Customers {
+            w_id: customer_home.w_id,
+            d_id: customer_home.d_id,
+        },
+        Group::History {
+            w_id: home.w_id,
+            d_id: home.d_id,
+        },
+    ]
+    .map(|group| Wish {
+        group,
+        mode: Mode::Exclusive,
+    })
+}

@@ -1,0 +1,22 @@
+use fixtures::{two_warehouses, warehouses};
+use requests::{Choice, Fault, Payment, Reply, Request, Shown};
+use schema::{DistrictKey, Moment, NoMemory, Tables};
+use std::process::Abort;
+use std::test::Fail;
+
+mod log;
+mod places;
+mod serving;
+mod slice;
+
+// A payment in district (1, 1) by the customer of that number there, on 2024-05-01 at noon.
+fn payment(customer: u32, amount: u32) -> Request {
+    let home = DistrictKey { w_id: 1, d_id: 1 };
+    Request::Payment(Payment {
+        home,
+        customer_home: home,
+        customer: Choice::Number(customer),
+        amount,
+        moment: Moment::new(1_714_564_800),
+    })
+}

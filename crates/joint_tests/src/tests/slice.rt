@@ -1,0 +1,74 @@
+ghost use Rattle.std.specs.Prelude.{◌≡◌};
+ghost use Rattle.slices.specs.Openings.{AreOpenedFor};
+ghost use Rattle.tickets.specs.Openings.{AreNamed};
+
+use super::*;
+use amounts::Cents;
+use requests::Group;
+use slices::{Slice, cut, open_groups, opened_groups_have_boxes};
+use std::alloc::Global;
+use std::marker::Brand;
+use tickets::{GroupSeats, Naming, named_all};
+
+// The slices of these tables, from what was opened for their groups.
+fn opened<J: Naming>(
+    alloc: Global,
+    tables: Tables,
+    openings: Vec<GroupSeats>,
+) -> Result<Vec<Slice<J>>, NoMemory>
+    requires warehouses { J.warehouses ≡ tables.scale.warehouses }
+    requires opened { AreOpenedFor tables openings.items }
+    requires names { AreNamed tables.scale.warehouses J.committed J.work openings.items }
+{
+    let warehouses = tables.scale().warehouses;
+    let (boxes, _seats) = named_all::<J>(alloc, warehouses, openings)?;
+    opened_groups_have_boxes();
+    let (_catalog, slices) = cut(alloc, tables, boxes)?;
+    Ok(slices)
+}
+
+// The row of the first warehouse is put back as it was: its sum before, under the claim, and after the undo; and the
+// age of who holds it meanwhile.
+fn put_and_undone<J: Naming>(
+    alloc: Global,
+    tables: Tables,
+    openings: Vec<GroupSeats>,
+) -> Option<(i64, i64, i64, u64)>
+    requires warehouses { J.warehouses ≡ tables.scale.warehouses }
+    requires opened { AreOpenedFor tables openings.items }
+    requires names { AreNamed tables.scale.warehouses J.committed J.work openings.items }
+{
+    let mut slices = opened::<J>(alloc, tables, openings).ok()?;
+    let slice = slices.get_mut(0)?;
+    let home = slice.home();
+    let group = Group::Warehouse { w_id: home };
+    let row = slice.partition().warehouse(home)?;
+    let before = row.ytd.get();
+    let mut row = row.try_clone().ok()?;
+    row.ytd = Cents::new(7);
+    let Ok(mut claim) = slice.grant(63, group) else {
+        return None;
+    };
+    slice.look(&mut claim);
+    let Ok(()) = slice.put_warehouse(&mut claim, home, row) else {
+        return None;
+    };
+    let put = slice.partition().warehouse(home)?.ytd.get();
+    let holder = match slice.grant(64, group) {
+        Ok(_) => return None,
+        Err(held) => held.holder,
+    };
+    slice.undo(&mut claim);
+    slice.take_back(claim);
+    let after = slice.partition().warehouse(home)?.ytd.get();
+    Some((before, put, after, holder))
+}
+
+#[test]
+fn a_row_is_put_and_undone(rt: HostRuntime) -> Result<(), Fail> {
+    let tables = two_warehouses(rt.alloc())?;
+    let openings = open_groups(rt.alloc(), &tables)?;
+    let told = put_and_undone::<Brand>(rt.alloc(), tables, openings);
+    assert_eq!(rt; told, Some((50_000, 7, 50_000, 63)));
+    Ok(())
+}

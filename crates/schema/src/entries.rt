@@ -1,0 +1,57 @@
+ghost use Rattle.std.specs.Prelude.{◌≡◌};
+
+use rows::{NewOrder, Order, OrderKey, OrderLine, OrderLineKey};
+use std::collections::btree_map::Range;
+use std::marker::Model;
+
+/// Rows of ORDER with their keys.
+pub type Orders<'a> = Entries<'a, OrderKey, Order>;
+
+/// Rows of NEW-ORDER with their keys.
+pub type NewOrders<'a> = Entries<'a, OrderKey, NewOrder>;
+
+/// Rows of ORDER-LINE with their keys.
+pub type Lines<'a> = Entries<'a, OrderLineKey, OrderLine>;
+
+/// Rows with their keys, in the order of the keys: seen as the list of those that are still to come. The rows
+/// are lent and the keys given, so that no reader knows how a table keeps them.
+#[derive(Drop)]
+pub struct Entries<'a, K, R> {
+    kept: Range<'a, K, R>,
+}
+
+impl<'a, K, R> Model for Entries<'a, K, R> {
+    ghost use Rattle.std.specs.Prelude.{List};
+
+    ghost Value = { List (K × R) };
+
+    ghost view = { λ e. e.kept };
+}
+
+impl<'a, K, R> Entries<'a, K, R> {
+    /// These entries of a map, for whoever keeps rows in one.
+    pub fn of_map(kept: Range<'a, K, R>) -> Entries<'a, K, R>
+        ensures { result ≡ kept.entry }
+    {
+        Entries { kept }
+    }
+}
+
+impl<'a, K: Copy, R> Iterator for Entries<'a, K, R> {
+    ghost use Rattle.std.specs.Prelude.{length};
+    ghost use Rattle.std.specs.Iterator.{at_most};
+    ghost use Rattle.std.specs.Map.Iter.{TakesFirst};
+    ghost use Rattle.schema.specs.Entries.{entry};
+
+    type Item = (K, &'a R);
+
+    ghost next_gives = { TakesFirst entry };
+
+    ghost remaining = { λ s. at_most (length s) };
+
+    #[inline]
+    fn next(&mut self) -> Option<(K, &'a R)> {
+        let (key, row) = self.kept.next()?;
+        Some((*key, row))
+    }
+}

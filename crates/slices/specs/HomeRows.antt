@@ -1,0 +1,27 @@
+-- A row that is here is of the warehouse.
+use Rattle.std.proofs.Common.{◌≡◌, ℕ, arith, sym, ◌∙◌}
+use Rattle.std.specs.Prelude.{IsTrue}
+use Rattle.std.specs.FinMap as map
+use Rattle.std.proofs.lemmas.Bool.Decides.{nat_tests}
+use Rattle.rows.specs.declared.keys.DistrictKey.{DistrictKey}
+use Rattle.rows.specs.declared.keys.CustomerKey.{CustomerKey}
+use Rattle.schema.specs.declared.scale.Scale.{Scale}
+use Rattle.partitions.specs.Parts.{Part, IsPart, is_of, has_district_of, has_customer_of}
+
+home_told : (home w_id : ℕ) → IsTrue (is_of home w_id) → w_id ≡ home
+home_told home w_id is = grind (arith, nat_tests)
+
+home_told_by_district : (home : ℕ) (key : DistrictKey) → IsTrue (has_district_of home key) → key.w_id ≡ home
+home_told_by_district home key is = grind (arith, nat_tests)
+
+home_told_by_customer : (scale : Scale) (home : ℕ) (key : CustomerKey) → IsTrue (has_customer_of scale home key) → key.w_id ≡ home
+home_told_by_customer scale home key is = grind (arith, nat_tests)
+
+pub home_of_warehouse : (p : Part) → IsPart p → (w_id : ℕ) → IsTrue (map.contains_key p.tables.warehouses w_id) → w_id ≡ p.home
+home_of_warehouse p is w_id there = home_told p.home w_id (sym (is.warehouses w_id) ∙ there)
+
+pub home_of_district : (p : Part) → IsPart p → (key : DistrictKey) → IsTrue (map.contains_key p.tables.districts key) → key.w_id ≡ p.home
+home_of_district p is key there = home_told_by_district p.home key (sym (is.districts key) ∙ there)
+
+pub home_of_customer : (p : Part) → IsPart p → (key : CustomerKey) → IsTrue (map.contains_key p.tables.customers key) → key.w_id ≡ p.home
+home_of_customer p is key there = home_told_by_customer p.tables.scale p.home key (sym (is.customers key) ∙ there)

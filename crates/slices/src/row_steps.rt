@@ -1,0 +1,110 @@
+//! The steps that there are, each with what it changes.
+ghost use Rattle.std.specs.Prelude.{◌≡◌, IsTrue};
+ghost use Rattle.std.specs.FinMap as map;
+ghost use Rattle.schema.specs.Database.{with_payment};
+ghost use Rattle.schema.specs.Scale.{has_customer};
+ghost use Rattle.groups.specs.Groups.{group_of_warehouse, group_of_district, group_of_customer, group_of_history};
+ghost use Rattle.groups.specs.Laws.{with_warehouse, with_district, with_customer};
+ghost use Rattle.slices.specs.Undo.{AreNamesAt, with_payment_more};
+ghost use Rattle.slices.specs.HomeRows.{home_of_warehouse, home_of_district, home_of_customer};
+
+use crate::indexed::IndexedRows;
+use crate::kept::Kept;
+use crate::step::Step;
+use schema::{Customer, CustomerKey, District, DistrictKey, History, NoMemory, Warehouse};
+
+/// A row takes the place of the warehouse's.
+#[derive(Drop)]
+pub(crate) struct PutWarehouse {
+    pub(crate) w_id: u32,
+    pub(crate) row: Warehouse,
+}
+
+impl Step for PutWarehouse {
+    ghost group = { λ step. group_of_warehouse step.w_id };
+
+    ghost changed = { λ step. with_warehouse step.row };
+
+    ghost done = { λ step t. record t { warehouses = map.insert t.warehouses step.w_id step.row } };
+
+    ghost is_possible = { λ step p. IsTrue (map.contains_key p.tables.warehouses step.w_id) };
+
+    ghost at_home = { λ step p is can. home_of_warehouse p is step.w_id can };
+
+    fn run(self, rows: &mut IndexedRows) -> Result<Kept, NoMemory> {
+        let old = rows.replace_warehouse(self.w_id, self.row);
+        Ok(Kept::Warehouse(self.w_id, old))
+    }
+}
+
+/// A row takes the place of the district's.
+#[derive(Drop)]
+pub(crate) struct PutDistrict {
+    pub(crate) key: DistrictKey,
+    pub(crate) row: District,
+}
+
+impl Step for PutDistrict {
+    ghost group = { λ step. group_of_district step.key };
+
+    ghost changed = { λ step. with_district step.row };
+
+    ghost done = { λ step t. record t { districts = map.insert t.districts step.key step.row } };
+
+    ghost is_possible = { λ step p. IsTrue (map.contains_key p.tables.districts step.key) };
+
+    ghost at_home = { λ step p is can. home_of_district p is step.key can };
+
+    fn run(self, rows: &mut IndexedRows) -> Result<Kept, NoMemory> {
+        let old = rows.replace_district(self.key, self.row);
+        Ok(Kept::District(self.key, old))
+    }
+}
+
+/// A row takes the place of the customer's, whose names it has.
+#[derive(Drop)]
+pub(crate) struct PutCustomer {
+    pub(crate) key: CustomerKey,
+    pub(crate) row: Customer,
+}
+
+impl Step for PutCustomer {
+    ghost group = { λ step. group_of_customer step.key };
+
+    ghost changed = { λ step. with_customer step.key step.row };
+
+    ghost done = { λ step t. record t { customers = map.insert t.customers step.key step.row } };
+
+    ghost is_possible = { λ step p. IsTrue (map.contains_key p.tables.customers step.key) × AreNamesAt p.tables step.key step.row };
+
+    ghost at_home = { λ step p is can. home_of_customer p is step.key can.0 };
+
+    fn run(self, rows: &mut IndexedRows) -> Result<Kept, NoMemory> {
+        let old = rows.replace_customer(self.key, self.row);
+        Ok(Kept::Customer(self.key, old))
+    }
+}
+
+/// A payment comes to the end of the district's list.
+#[derive(Drop)]
+pub(crate) struct AddPayment {
+    pub(crate) key: DistrictKey,
+    pub(crate) row: History,
+}
+
+impl Step for AddPayment {
+    ghost group = { λ step. group_of_history step.key };
+
+    ghost changed = { λ step. with_payment_more step.row };
+
+    ghost done = { λ step t. record t { histories = with_payment t.histories step.key step.row } };
+
+    ghost is_possible = { λ step p. IsTrue (map.contains_key p.tables.districts step.key) × IsTrue (has_customer p.tables.scale step.row.customer) };
+
+    ghost at_home = { λ step p is can. home_of_district p is step.key can.0 };
+
+    fn run(self, rows: &mut IndexedRows) -> Result<Kept, NoMemory> {
+        rows.push_history(self.key, self.row)?;
+        Ok(Kept::NoPayment(self.key))
+    }
+}

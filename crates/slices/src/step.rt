@@ -1,0 +1,37 @@
+//! What is done in one group, with what takes it back.
+ghost use Rattle.std.specs.Prelude.{◌≡◌, IfOk, OnOk, OnErr};
+ghost use Rattle.partitions.specs.Parts.{IsPart};
+ghost use Rattle.groups.specs.Groups.{warehouse_of};
+ghost use Rattle.slices.specs.Undo.{IsStep};
+
+use crate::indexed::IndexedRows;
+use crate::kept::Kept;
+use schema::NoMemory;
+
+/// One step of a transaction in a group, under an exclusive claim on it.
+pub(crate) trait Step: Drop {
+    ghost use Rattle.schema.specs.Database.{Database};
+    ghost use Rattle.partitions.specs.Parts.{Part};
+    ghost use Rattle.requests.specs.declared.group.Group.{Group};
+    ghost use Rattle.groups.specs.Content.{Content};
+
+    /// The group that it changes.
+    ghost group: { Self → Group };
+    /// What becomes of what the group has.
+    ghost changed: { Self → Content → Content };
+    /// What becomes of the tables.
+    ghost done: { Self → Database → Database };
+    /// What it asks of the rows.
+    ghost is_possible: { Self → Part → Type 0 };
+
+    /// Does the step, and gives what takes it back. Want of memory changes nothing.
+    fn run(self, rows: &mut IndexedRows) -> Result<Kept, NoMemory>
+        requires part { IsPart rows.old }
+        requires possible { is_possible self rows.old }
+        ensures tables { OnOk result (rows.new.tables ≡ done self rows.old.tables) }
+        ensures step { IfOk result (λ kept. IsStep (group self) (changed self) kept rows.old rows.new) }
+        ensures err { OnErr result (rows.new ≡ rows.old) };
+
+    /// It is possible in a group of the warehouse alone.
+    ghost at_home: { (step : Self) (p : Part) → IsPart p → is_possible step p → warehouse_of (group step) ≡ p.home };
+}

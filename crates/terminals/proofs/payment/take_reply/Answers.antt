@@ -1,0 +1,21 @@
+use Rattle.std.proofs.Common.{List, ℕ, [], ◌∷◌, refl, ap, ◌∙◌}
+use Rattle.std.specs.Fmt.{decimal, signed_decimal}
+use Rattle.files.specs.Word.{credit_text}
+use Rattle.terminals.proofs.payment.take_reply.Goals as goal
+
+pub returns : goal.returns
+returns c = λ none.
+    let «data» = c.text-4.ensures.taken none in
+    let balance = c.cents.ensures.taken «data».0 in
+    let discount = c.rate.ensures.taken balance.0 in
+    let credit = c.credit.ensures.taken discount.0 in
+    let last = c.text-3.ensures.taken credit.0 in
+    let middle = c.text-2.ensures.taken last.0 in
+    let first = c.text.ensures.taken middle.0 in
+    let number = c.whole.ensures.taken first.0 in
+    let after_name : List (List ℕ) → List (List ℕ) = λ l. credit_text c.credit.result ∷ decimal c.rate.result ∷ signed_decimal c.cents.result ∷ l in
+    let name : List (List ℕ) → List (List ℕ) = λ l. decimal c.whole.result ∷ c.text.result ∷ c.text-2.result ∷ c.text-3.result ∷ l in
+    let money = discount.1 ∙ ap (λ l. decimal c.rate.result ∷ l) (balance.1 ∙ ap (λ l. signed_decimal c.cents.result ∷ l) «data».1) in
+    let rest = credit.1 ∙ ap (λ l. credit_text c.credit.result ∷ l) money in
+    let names = first.1 ∙ ap (λ l. c.text.result ∷ l) (middle.1 ∙ ap (λ l. c.text-2.result ∷ l) (last.1 ∙ ap (λ l. c.text-3.result ∷ l) rest)) in
+    record { faultless = number.0; texts = name (after_name (c.text-4.result ∷ [])); are_said = refl; left = number.1 ∙ ap (λ l. decimal c.whole.result ∷ l) names }

@@ -1,6 +1,0 @@
-use Rattle.std.proofs.Common.{◌≡◌, ℕ, List, ◌++◌, take}
-use Rattle.terminals.specs.ReplyFields.{AreStatusLines}
-use Rattle.terminals.proofs.status_reply.put_lines.Given as goal
-
-abbrev pub invariant-loop-line : goal.invariant-loop-line
-invariant-loop-line l = (fields : List (List ℕ)) × AreStatusLines (take l.line-index l.lines) fields × (l.row ≡ l.fn.row ++ fields)

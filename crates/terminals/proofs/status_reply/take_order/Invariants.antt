@@ -1,6 +1,0 @@
-use Rattle.terminals.specs.ReplyFields.{AreStatusLines}
-use Rattle.files.specs.Taken.{Takes}
-use Rattle.terminals.proofs.status_reply.take_order.Given as goal
-
-abbrev pub invariant-loop : goal.invariant-loop
-invariant-loop l = Takes l.initial.fields l.fields (AreStatusLines l.lines.items)

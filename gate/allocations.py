@@ -1,0 +1,142 @@
+"""Refuses each allocation of the program in turn: gate/allocations.py PROGRAM
+
+`tpcc run` and `tpcc sim` serve a few requests on a small set, once for each of their allocations, with that one refused.
+Each must end with status 4, or with answers that are all done or refused for want of memory (12) or as died (11); then
+`replay` and `check` of what was written must agree with it. No log that was written in part may pass for a whole one.
+The first run in which no allocation is left to refuse ends the sweep.
+"""
+
+import os
+import shutil
+import subprocess
+import sys
+import tempfile
+from concurrent.futures import ThreadPoolExecutor
+from itertools import count
+
+ROOT = os.path.dirname(os.path.dirname(os.path.abspath(__file__)))
+POPULATION = ["--warehouses", "1", "--items", "10", "--customers", "3"]
+MOMENT = "2024-05-01T12:00:00"
+# A payment by number, a customer's last order and a payment by last name, and a payment that is rolled back.
+REQUESTS = [f"P,1,1,1,1,#1,100,{MOMENT}", "O,1,1,BARBARBAR", f"P,1,2,1,1,BARBARBAR,200,{MOMENT}", f"P,1,1,1,1,#9,100,{MOMENT}"]
+AT_ONCE = 4 * (os.cpu_count() or 1)
+
+
+def write(path, records):
+    with open(path, "w", encoding="utf-8") as file:
+        file.write("".join(f"{it}\n" for it in records))
+
+
+def read(path):
+    """Returns the text of a file, or nothing where there is none."""
+    if not os.path.exists(path):
+        return ""
+    with open(path, encoding="utf-8") as file:
+        return file.read()
+
+
+def library(room):
+    """Builds what refuses an allocation, by the toolchain's clang."""
+    told = subprocess.run(["rt", "doc"], stdout=subprocess.PIPE, text=True, check=True).stdout
+    tools, built = f"{os.path.dirname(told.strip())}/toolchain/bin", f"{room}/refuse.so"
+    words = ["--target=x86_64-unknown-linux-gnu", "-shared", "-fPIC", "-O1", "-nostdlib", f"-fuse-ld={tools}/ld.lld"]
+    subprocess.run([f"{tools}/clang", *words, f"{ROOT}/gate/refuse_allocation.c", "-o", built], check=True)
+    return built
+
+
+class Sweep:
+    """The runs of one command, each in a folder of its own."""
+
+    def __init__(self, program, room, refuser, command, inputs, requests):
+        self.program, self.room, self.refuser, self.requests = program, room, refuser, requests
+        self.dataset = inputs[0]
+        self.words = [command, *inputs, "--log", "log.csv"]
+        self.command = command
+        if command == "sim":
+            self.words += ["--tables", "tables.csv"]
+
+    def call(self, folder, *words, **more):
+        return subprocess.run([self.program, *words], cwd=folder, capture_output=True, text=True, check=False, **more)
+
+    def one(self, number):
+        """Runs the command with this allocation refused. Returns whether there was one, and what is wrong, or None."""
+        folder = f"{self.room}/{self.command}-{number}"
+        os.mkdir(folder)
+        mark = f"{folder}/refused"
+        more = {"LD_PRELOAD": self.refuser, "REFUSE_ALLOCATION": str(number), "REFUSED_FILE": mark}
+        ran = self.call(folder, *self.words, env={**os.environ, **more})
+        wrong = self.fault(folder, ran)
+        was_refused = os.path.exists(mark)
+        shutil.rmtree(folder)
+        return was_refused, wrong
+
+    def fault(self, folder, ran):
+        """Returns what is wrong with how a run ended, or None."""
+        log = read(f"{folder}/log.csv")
+        if ran.returncode == 4 and ran.stderr in ("tpcc: no memory\n", ""):
+            return self.replayed(folder, None) if "\nEND," in log else self.refused(folder)
+        if ran.returncode == 1 and ran.stderr == "tpcc: no thread\n" and self.command == "run":
+            return "a log though no thread was started" if log else None
+        if ran.returncode != 0:
+            return f"status {ran.returncode}, {ran.stderr.strip() or 'no message'}"
+        answers = self.answers(ran.stdout)
+        bad = [it for it in answers if it[0] != "done" and it[:2] not in (["refused", "11"], ["refused", "12"])]
+        if bad or len(answers) != self.requests:
+            return f"answers: {answers}"
+        return self.replayed(folder, sum(it[0] == "done" for it in answers))
+
+    def answers(self, printed):
+        """Returns, of each answer that was printed, what follows its session and number."""
+        records = [line.split(",") for line in printed.splitlines()]
+        if self.command == "sim":
+            return [it[3:] for it in records if it[0] == "answered"]
+        return [it[2:] for it in records]
+
+    def refused(self, folder):
+        """A log that was cut off, or not begun, must be refused for having no end."""
+        ran = self.call(folder, "replay", self.dataset, "log.csv")
+        is_refused = ran.returncode == 1 and ran.stderr.endswith((": fault 7\n", ": fault 10\n"))
+        return None if is_refused else f"a log that was cut off is not refused: {ran.stdout.strip() or ran.stderr.strip()}"
+
+    def replayed(self, folder, done):
+        """Replays the log; it must be equal, have as many entries as requests were done, and lead to what was written."""
+        ran = self.call(folder, "replay", self.dataset, "log.csv", "--tables", "replayed.csv")
+        if done is not None and ran.stdout != f"equal {done}\n" or not ran.stdout.startswith("equal "):
+            return f"{done} done, but replay says {ran.stdout.strip() or ran.stderr.strip()}"
+        if self.command == "sim" and done is not None and read(f"{folder}/tables.csv") != read(f"{folder}/replayed.csv"):
+            return "the tables are not those of the replay"
+        ran = self.call(folder, "check", "replayed.csv")
+        return None if ran.returncode == 0 else f"check says {ran.stdout.strip()}"
+
+    def whole(self):
+        """Refuses each allocation in turn. Returns whether all was well."""
+        well = True
+        with ThreadPoolExecutor(AT_ONCE) as pool:
+            for first in count(1, AT_ONCE):
+                numbers = range(first, first + AT_ONCE)
+                for number, (was_refused, wrong) in zip(numbers, pool.map(self.one, numbers)):
+                    if wrong:
+                        print(f"allocations: tpcc {self.command}, allocation {number} refused: {wrong}")
+                        well = False
+                    if not was_refused:
+                        print(f"allocations: tpcc {self.command}: each of {number - 1} allocations refused in turn", flush=True)
+                        return well
+
+
+def main():
+    program = os.path.abspath(sys.argv[1])
+    with tempfile.TemporaryDirectory(prefix="gate-allocations-") as room:
+        refuser, dataset, script, schedule = library(room), f"{room}/dataset.csv", f"{room}/script.csv", f"{room}/schedule.csv"
+        subprocess.run([program, "populate", dataset, *POPULATION], check=True)
+        write(script, [*REQUESTS, f"END,{len(REQUESTS)}"])
+        events = [it for number, request in enumerate(REQUESTS) for it in (f"S,0,{number},{request}", "R")]
+        write(schedule, [*events, f"END,{len(events)}"])
+        sweeps = [
+            Sweep(program, room, refuser, "run", [dataset, script, script], 2 * len(REQUESTS)),
+            Sweep(program, room, refuser, "sim", [dataset, schedule], len(REQUESTS)),
+        ]
+        return 0 if all([it.whole() for it in sweeps]) else 1
+
+
+if __name__ == "__main__":
+    sys.exit(main())
