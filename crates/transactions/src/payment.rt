@@ -3,6 +3,7 @@
 ghost use Rattle.std.specs.Prelude.{◌≡◌, [], ◌∷◌, length, slice_get, IsTrue, IfOk, OnOk, OnErr};
 ghost use Rattle.std.specs.FinMap as map;
 ghost use Rattle.schema.specs.Scale.{has_customer, has_district};
+ghost use Rattle.partitions.specs.Parts.{shared_of};
 ghost use Rattle.requests.specs.declared.group.Group.TheVariants as group;
 ghost use Rattle.groups.specs.Laws.{with_district, with_warehouse};
 ghost use Rattle.tickets.specs.Claims.{leaving};
@@ -150,11 +151,11 @@ impl Work {
         slice: &mut Slice<J>,
         claims: &mut [Claim<J>],
     ) -> Result<Found, NoMemory>
-        requires can { CanDo slice.old.tables.scale self }
+        requires can { CanDo (shared_of slice.old.tables) self }
         requires home { home_of self ≡ slice.old.home }
         requires granted { AreGrantedFor (wishes_of self) claims.old }
         ensures kept { SliceKeeps claims.old slice.old claims.new slice.new }
-        ensures done { IfOk result (λ found. HasDone slice.old.tables.scale self found claims.new) }
+        ensures done { IfOk result (λ found. HasDone (shared_of slice.old.tables) self found claims.new) }
         ensures left { AreLeft claims.old claims.new }
         ensures err { OnErr result (claims.new ≡ claims.old) }
     {

@@ -1,6 +1,6 @@
 //! How far a transaction has come, by kind, and what follows of what the actions of its phase found.
 ghost use Rattle.std.specs.Prelude.{◌≡◌, List, IfOk};
-ghost use Rattle.schema.specs.declared.scale.Scale.{Scale};
+ghost use Rattle.partitions.specs.Parts.{Shared};
 ghost use Rattle.requests.specs.declared.request.Request.{Request as AnyRequest};
 ghost use Rattle.tickets.specs.Claims.{Claiming};
 ghost use Rattle.transactions.specs.Granted.{IsAsked};
@@ -33,7 +33,7 @@ pub enum Gathered {
 impl Progress {
     /// Where a transaction begins.
     pub fn begin(request: Request) -> Progress
-        ensures { (scale : Scale) (asked : AnyRequest) (held : List Claiming) → IsAsked scale asked request held → IsReached scale asked result held }
+        ensures { (shared : Shared) (asked : AnyRequest) (held : List Claiming) → IsAsked shared asked request held → IsReached shared asked result held }
     {
         match request {
             Request::Payment(payment) => Progress::Payment(payment::Progress::PayRows(payment)),
