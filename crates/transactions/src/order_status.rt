@@ -211,14 +211,18 @@ impl Progress {
         Ok(works)
     }
 
-    // What follows, by what its actions found, by place.
-    pub(crate) fn gather(self, found: Vec<crate::Found>) -> Gathered
+    // What follows, by what its actions found, by place. It takes no memory.
+    pub(crate) fn gather(
+        self,
+        _alloc: Global,
+        found: Vec<crate::Found>,
+    ) -> Result<Gathered, NoMemory>
         requires { HasFound (any.OrderStatus self) found.items }
-        ensures { FollowsFrom (any.OrderStatus self) found.items result }
+        ensures { IfOk result (λ gathered. FollowsFrom (any.OrderStatus self) found.items gathered) }
     {
         match self {
-            Progress::ReadCustomer(asked) => gather_customer(asked, found),
-            Progress::ReadOrder(shown) => gather_order(shown, found),
+            Progress::ReadCustomer(asked) => Ok(gather_customer(asked, found)),
+            Progress::ReadOrder(shown) => Ok(gather_order(shown, found)),
         }
     }
 }

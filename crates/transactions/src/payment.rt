@@ -331,14 +331,18 @@ impl Progress {
         }
     }
 
-    // What follows, by what its actions found, by place.
-    pub(crate) fn gather(self, found: Vec<crate::Found>) -> Gathered
+    // What follows, by what its actions found, by place. It takes no memory.
+    pub(crate) fn gather(
+        self,
+        _alloc: Global,
+        found: Vec<crate::Found>,
+    ) -> Result<Gathered, NoMemory>
         requires { HasFound (any.Payment self) found.items }
-        ensures { FollowsFrom (any.Payment self) found.items result }
+        ensures { IfOk result (λ gathered. FollowsFrom (any.Payment self) found.items gathered) }
     {
         match self {
-            Progress::PayRows(payment) => gather_rows(payment, found),
-            Progress::AddRow(paid) => gather_added(paid, found),
+            Progress::PayRows(payment) => Ok(gather_rows(payment, found)),
+            Progress::AddRow(paid) => Ok(gather_added(paid, found)),
         }
     }
 }

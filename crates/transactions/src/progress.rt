@@ -53,14 +53,14 @@ impl Progress {
         }
     }
 
-    /// What follows, by what the actions of its phase found, by place.
-    pub fn gather(self, found: Vec<Found>) -> Gathered
+    /// What follows, by what the actions of its phase found, by place. Want of memory leaves nothing behind.
+    pub fn gather(self, alloc: Global, found: Vec<Found>) -> Result<Gathered, NoMemory>
         requires { HasFound self found.items }
-        ensures { FollowsFrom self found.items result }
+        ensures { IfOk result (λ gathered. FollowsFrom self found.items gathered) }
     {
         match self {
-            Progress::Payment(progress) => progress.gather(found),
-            Progress::OrderStatus(progress) => progress.gather(found),
+            Progress::Payment(progress) => progress.gather(alloc, found),
+            Progress::OrderStatus(progress) => progress.gather(alloc, found),
         }
     }
 }
