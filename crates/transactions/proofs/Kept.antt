@@ -2,6 +2,7 @@
 use Rattle.std.proofs.Common.{◌≡◌, [], ◌∷◌, ◌++◌, List, Result, Ok, Err, OnOk, OnErr, append_assoc, refl, sym, subst, ◌∙◌}
 use Rattle.std.proofs.lemmas.List.{append-nil}
 use Rattle.std.proofs.lemmas.List.Sorted.{IsPermutation-append_comm}
+use Rattle.partitions.specs.Parts.{shared_of}
 use Rattle.tickets.specs.Claims.{Claiming}
 use Rattle.tickets.specs.Committed.{AreCommitted, KeepsCommitted}
 use Rattle.tickets.proofs.Committed.{keeps_permuted}
@@ -73,3 +74,7 @@ pub one_fewer : (claims : List Claiming) (claim : Claiming) (first : List Claimi
 one_fewer claims claim first start old new kept returned =
     then first (claims ++ claim ∷ []) claims start old new kept
     (subst (λ after. SliceKeeps (claims ++ claim ∷ []) old after new) (append-nil claims) (after_more claims (claim ∷ []) [] old new returned))
+
+-- the scale and the items stay
+pub same_shared : (before after : List Claiming) (old new : Sliced) → SliceKeeps before old after new → shared_of new.tables ≡ shared_of old.tables
+same_shared before after old new kept = λ i. record { scale = kept.scale i; items = kept.items i }

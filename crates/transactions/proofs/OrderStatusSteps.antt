@@ -1,7 +1,7 @@
 -- What follows of what the actions of an Order-Status found.
 use Rattle.std.proofs.Common.{◌≡◌, ◌∙◌, List, [], ◌∷◌, ◌++◌, Option, ap, sym, subst}
 use Rattle.rows.specs.declared.keys.CustomerKey.{CustomerKey}
-use Rattle.schema.specs.declared.scale.Scale.{Scale}
+use Rattle.partitions.specs.Parts.{Shared}
 use Rattle.requests.specs.declared.request.Request.TheVariants as request
 use Rattle.requests.specs.declared.order_status.OrderStatus.{OrderStatus}
 use Rattle.requests.specs.declared.reply.Fault.TheVariants.{NoCustomer}
@@ -38,11 +38,11 @@ pub record IsCustomerRead (o : OrderStatus) (found : List Found) (claims : List 
   pub claims_is : claims ≡ (customers ∷ []) ∷ []
   pub shown : IsCustomerShown o customer customers
 
-pub customer_done : (scale : Scale) (o : OrderStatus) (found : List Found) (claims : List (List Claiming))
-    → HaveAllDone scale (works_of (ReadCustomer o)) found claims → IsCustomerRead o found claims
-customer_done scale o found claims done =
-    let one = first_done scale (any_work.OrderStatus (ShowCustomer o)) [] found claims done in
-    let none = none_done scale one.others one.rest one.others_done in
+pub customer_done : (shared : Shared) (o : OrderStatus) (found : List Found) (claims : List (List Claiming))
+    → HaveAllDone shared (works_of (ReadCustomer o)) found claims → IsCustomerRead o found claims
+customer_done shared o found claims done =
+    let one = first_done shared (any_work.OrderStatus (ShowCustomer o)) [] found claims done in
+    let none = none_done shared one.others one.rest one.others_done in
     let read = one.done.2 in
     record {
       customer = read.0;
@@ -58,8 +58,8 @@ same_customer customer other same = cc
 
 pub customer_missing : (o : OrderStatus) (found : List Found) → found ≡ any_found.OrderStatus (Customer Missing) ∷ []
     → FollowsFrom (any_progress.OrderStatus (ReadCustomer o)) found (RollBack NoCustomer)
-customer_missing o found is scale asked held claims known done opening =
-    let read = customer_done scale o found claims done in
+customer_missing o found is shared asked held claims known done opening same =
+    let read = customer_done shared o found claims done in
     let shown = subst (λ customer. IsCustomerShown o customer read.customers) (same_customer read.customer Missing (sym read.found_is ∙ is)) read.shown in
     let all : held ++ all_claims claims ≡ read.customers ∷ [] = ap (λ xs. xs ++ all_claims claims) known.none ∙ ap all_claims read.claims_is in
     subst (λ r. IsCarriedOut opening r (held ++ all_claims claims) (reply.RolledBack NoCustomer)) (sym known.is)
@@ -68,8 +68,8 @@ customer_missing o found is scale asked held claims known done opening =
 
 pub customer_follows : (o : OrderStatus) (found : List Found) (key : CustomerKey) (customer : StatusCustomer) → found ≡ any_found.OrderStatus (Customer (Shown key customer)) ∷ []
     → FollowsFrom (any_progress.OrderStatus (ReadCustomer o)) found (Next (any_progress.OrderStatus (ReadOrder (record { key = key; customer = customer }))))
-customer_follows o found key customer is scale asked held claims known done =
-    let read = customer_done scale o found claims done in
+customer_follows o found key customer is shared asked held claims known done =
+    let read = customer_done shared o found claims done in
     record {
       order_status = o;
       is = known.is;
@@ -89,11 +89,11 @@ pub record IsOrderRead (key : CustomerKey) (found : List Found) (claims : List (
   pub claims_is : claims ≡ (orders ∷ []) ∷ []
   pub shown : IsOrderShown key order orders
 
-pub order_done : (scale : Scale) (given : StatusShown) (found : List Found) (claims : List (List Claiming))
-    → HaveAllDone scale (works_of (ReadOrder given)) found claims → IsOrderRead given.key found claims
-order_done scale given found claims done =
-    let one = first_done scale (any_work.OrderStatus (ShowOrder given.key)) [] found claims done in
-    let none = none_done scale one.others one.rest one.others_done in
+pub order_done : (shared : Shared) (given : StatusShown) (found : List Found) (claims : List (List Claiming))
+    → HaveAllDone shared (works_of (ReadOrder given)) found claims → IsOrderRead given.key found claims
+order_done shared given found claims done =
+    let one = first_done shared (any_work.OrderStatus (ShowOrder given.key)) [] found claims done in
+    let none = none_done shared one.others one.rest one.others_done in
     let read = one.done.2 in
     record {
       order = read.0;
@@ -108,9 +108,9 @@ same_order order other same = cc
 
 pub order_follows : (given : StatusShown) (found : List Found) (order : Option StatusOrder) → found ≡ any_found.OrderStatus (Order order) ∷ []
     → FollowsFrom (any_progress.OrderStatus (ReadOrder given)) found (Finish (reply.Done (kind.OrderStatus (reply_shown given.key given.customer order))))
-order_follows given found order is scale asked held claims known done opening =
+order_follows given found order is shared asked held claims known done opening same =
     let o = known.order_status in
-    let read = order_done scale given found claims done in
+    let read = order_done shared given found claims done in
     let shown = subst (λ order. IsOrderShown given.key order read.orders) (same_order read.order order (sym read.found_is ∙ is)) read.shown in
     let said = reply.Done (kind.OrderStatus (reply_shown given.key given.customer order)) in
     let all : held ++ all_claims claims ≡ known.customers ∷ read.orders ∷ [] =

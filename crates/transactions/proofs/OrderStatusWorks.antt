@@ -6,6 +6,7 @@ use Rattle.std.proofs.lemmas.List.Elements.{All-nil, All-cons, All-from_recursio
 use Rattle.rows.specs.declared.keys.DistrictKey.{DistrictKey}
 use Rattle.rows.specs.Keys.{district_of_customer}
 use Rattle.rows.specs.Ranged.{is_between}
+use Rattle.partitions.specs.Parts.{Shared}
 use Rattle.schema.specs.declared.scale.Scale.{Scale}
 use Rattle.schema.specs.Scale.{has_warehouse, has_district}
 use Rattle.requests.specs.declared.group.Group.TheVariants.{Customers, Orders}
@@ -15,7 +16,7 @@ use Rattle.requests.specs.declared.order_status.OrderStatus.{OrderStatus}
 use Rattle.requests.specs.declared.refusal.Refusal.TheVariants.{BadWarehouse, BadDistrict, BadLines, BadQuantity, BadSupply, BadAmount, BadThreshold, BadCarrier}
 use Rattle.requests.specs.Check.{applies, IsAccepted}
 use Rattle.groups.specs.declared.wishes.Wish.{Wish}
-use Rattle.groups.specs.Footprint.{shared, footprint, groups_of, order_status_footprint}
+use Rattle.groups.specs.Footprint.{shared as sharing, footprint, groups_of, order_status_footprint}
 use Rattle.tickets.specs.Claims.{Claiming}
 use Rattle.tickets.specs.Places.{IsGroupOf}
 use Rattle.transactions.specs.declared.order_status.Work.{Work}
@@ -57,29 +58,29 @@ accepted_statuses_have_their_district scale o accepted =
 
 -- ---- each action
 
-pub works_have_their_groups : (scale : Scale) (work : Work) → CanDo scale work → All (IsGroupOf scale.warehouses) (groups_of (wishes_of work))
-works_have_their_groups scale (ShowCustomer o) accepted =
-    let is = status_in_scale scale o accepted in
-    let warehouse = between 1 scale.warehouses o.home.w_id is.0 in
+pub works_have_their_groups : (shared : Shared) (work : Work) → CanDo shared work → All (IsGroupOf shared.scale.warehouses) (groups_of (wishes_of work))
+works_have_their_groups shared (ShowCustomer o) accepted =
+    let is = status_in_scale shared.scale o accepted in
+    let warehouse = between 1 shared.scale.warehouses o.home.w_id is.0 in
     let district = between 1 10 o.home.d_id is.1 in
-    All-from_recursion (IsGroupOf scale.warehouses) (groups_of (wishes_of (ShowCustomer o))) ((warehouse, district), tt)
-works_have_their_groups scale (ShowOrder key) has =
-    let is = and_parts (has_warehouse scale key.w_id) (is_between 1 10 key.d_id) has in
-    let warehouse = between 1 scale.warehouses key.w_id is.0 in
+    All-from_recursion (IsGroupOf shared.scale.warehouses) (groups_of (wishes_of (ShowCustomer o))) ((warehouse, district), tt)
+works_have_their_groups shared (ShowOrder key) has =
+    let is = and_parts (has_warehouse shared.scale key.w_id) (is_between 1 10 key.d_id) has in
+    let warehouse = between 1 shared.scale.warehouses key.w_id is.0 in
     let district = between 1 10 key.d_id is.1 in
-    All-from_recursion (IsGroupOf scale.warehouses) (groups_of (wishes_of (ShowOrder key))) ((warehouse, district), tt)
+    All-from_recursion (IsGroupOf shared.scale.warehouses) (groups_of (wishes_of (ShowOrder key))) ((warehouse, district), tt)
 
-pub works_are_at_warehouses : (scale : Scale) (work : Work) → CanDo scale work → IsTrue (has_warehouse scale (home_of work))
-works_are_at_warehouses scale (ShowCustomer o) accepted = (status_in_scale scale o accepted).0
-works_are_at_warehouses scale (ShowOrder key) has = (and_parts (has_warehouse scale key.w_id) (is_between 1 10 key.d_id) has).0
+pub works_are_at_warehouses : (shared : Shared) (work : Work) → CanDo shared work → IsTrue (has_warehouse shared.scale (home_of work))
+works_are_at_warehouses shared (ShowCustomer o) accepted = (status_in_scale shared.scale o accepted).0
+works_are_at_warehouses shared (ShowOrder key) has = (and_parts (has_warehouse shared.scale key.w_id) (is_between 1 10 key.d_id) has).0
 
 pub works_have_wishes : (work : Work) → 1 ≤ length (wishes_of work)
 works_have_wishes (ShowCustomer o) = omega arith
 works_have_wishes (ShowOrder key) = omega arith
 
 pub works_claim_at_home : (work : Work) → AreWishesAt (home_of work) (wishes_of work)
-works_claim_at_home (ShowCustomer o) = one_wish o.home.w_id (shared (Customers o.home.w_id o.home.d_id)) refl
-works_claim_at_home (ShowOrder key) = one_wish key.w_id (shared (Orders key.w_id key.d_id)) refl
+works_claim_at_home (ShowCustomer o) = one_wish o.home.w_id (sharing (Customers o.home.w_id o.home.d_id)) refl
+works_claim_at_home (ShowOrder key) = one_wish key.w_id (sharing (Orders key.w_id key.d_id)) refl
 
 -- no group is wished for twice
 pub works_wish_once : (work : Work) → AreApart (wishes_of work)
@@ -89,47 +90,47 @@ works_wish_once (ShowOrder key) zero d less = All-nil _
 works_wish_once (ShowOrder key) (suc k) d less = absurd (omega arith)
 
 -- the claims are on the groups that it wished for
-pub done_on : (scale : Scale) (work : Work) (found : Found) (claims : List Claiming) → HasDone scale work found claims
+pub done_on : (shared : Shared) (work : Work) (found : Found) (claims : List Claiming) → HasDone shared work found claims
     → map (λ (claim : Claiming). claim.group) claims ≡ groups_of (wishes_of work)
-done_on scale (ShowCustomer o) found claims done = ap (map (λ (claim : Claiming). claim.group)) done.3 ∙ (λ i. done.4.claim.group i ∷ [])
-done_on scale (ShowOrder key) found claims done = ap (map (λ (claim : Claiming). claim.group)) done.3 ∙ (λ i. done.4.claim.group i ∷ [])
+done_on shared (ShowCustomer o) found claims done = ap (map (λ (claim : Claiming). claim.group)) done.3 ∙ (λ i. done.4.claim.group i ∷ [])
+done_on shared (ShowOrder key) found claims done = ap (map (λ (claim : Claiming). claim.group)) done.3 ∙ (λ i. done.4.claim.group i ∷ [])
 
 -- ---- each phase
 
-pub accepted : (scale : Scale) (asked : Request) (progress : Progress) (held : List Claiming) → IsReached scale asked progress held → IsAccepted scale asked
-accepted scale asked (ReadCustomer o) held reached = reached.accepted
-accepted scale asked (ReadOrder given) held reached = reached.accepted
+pub accepted : (shared : Shared) (asked : Request) (progress : Progress) (held : List Claiming) → IsReached shared asked progress held → IsAccepted shared.scale asked
+accepted shared asked (ReadCustomer o) held reached = reached.accepted
+accepted shared asked (ReadOrder given) held reached = reached.accepted
 
 pub some_actions : (progress : Progress) → 1 ≤ length (works_of progress)
 some_actions (ReadCustomer o) = omega arith
 some_actions (ReadOrder given) = omega arith
 
 -- the customer's district is the one that was asked of
-at_home : (scale : Scale) (asked : Request) (given : StatusShown) (held : List Claiming) (known : IsStatusShown scale asked given held) → district_of_customer given.key ≡ known.order_status.home
-at_home scale asked given held known = shown_customers_are_at_home known.order_status given.key given.customer known.customers known.shown
+at_home : (shared : Shared) (asked : Request) (given : StatusShown) (held : List Claiming) (known : IsStatusShown shared asked given held) → district_of_customer given.key ≡ known.order_status.home
+at_home shared asked given held known = shown_customers_are_at_home known.order_status given.key given.customer known.customers known.shown
 
-pub can_all : (scale : Scale) (asked : Request) (progress : Progress) (held : List Claiming) → IsReached scale asked progress held → All (AnyCanDo scale) (works_of progress)
-can_all scale asked (ReadCustomer o) held known =
-    All-cons (AnyCanDo scale) (any_work.OrderStatus (ShowCustomer o)) [] (subst (IsAccepted scale) known.is known.accepted) (All-nil (AnyCanDo scale))
-can_all scale asked (ReadOrder given) held known =
-    All-cons (AnyCanDo scale) (any_work.OrderStatus (ShowOrder given.key)) []
-    (subst (λ (home : DistrictKey). IsTrue (has_district scale home)) (sym (at_home scale asked given held known))
-    (accepted_statuses_have_their_district scale known.order_status (subst (IsAccepted scale) known.is known.accepted)))
-    (All-nil (AnyCanDo scale))
+pub can_all : (shared : Shared) (asked : Request) (progress : Progress) (held : List Claiming) → IsReached shared asked progress held → All (AnyCanDo shared) (works_of progress)
+can_all shared asked (ReadCustomer o) held known =
+    All-cons (AnyCanDo shared) (any_work.OrderStatus (ShowCustomer o)) [] (subst (IsAccepted shared.scale) known.is known.accepted) (All-nil (AnyCanDo shared))
+can_all shared asked (ReadOrder given) held known =
+    All-cons (AnyCanDo shared) (any_work.OrderStatus (ShowOrder given.key)) []
+    (subst (λ (home : DistrictKey). IsTrue (has_district shared.scale home)) (sym (at_home shared asked given held known))
+    (accepted_statuses_have_their_district shared.scale known.order_status (subst (IsAccepted shared.scale) known.is known.accepted)))
+    (All-nil (AnyCanDo shared))
 
-pub within : (scale : Scale) (asked : Request) (progress : Progress) (held : List Claiming) → IsReached scale asked progress held
+pub within : (shared : Shared) (asked : Request) (progress : Progress) (held : List Claiming) → IsReached shared asked progress held
     → AreSomeOf (map wish_of held ++ all_wishes (works_of progress)) (footprint asked)
-within scale asked (ReadCustomer o) held known =
+within shared asked (ReadCustomer o) held known =
     let home = o.home in
     subst (λ claims. AreSomeOf (map wish_of claims ++ all_wishes (works_of (ReadCustomer o))) (footprint asked)) (sym known.none)
     (subst (λ r. AreSomeOf (all_wishes (works_of (ReadCustomer o))) (footprint r)) (sym known.is)
-    (first_are_some (shared (Customers home.w_id home.d_id) ∷ []) (shared (Orders home.w_id home.d_id) ∷ [])))
-within scale asked (ReadOrder given) held known =
+    (first_are_some (sharing (Customers home.w_id home.d_id) ∷ []) (sharing (Orders home.w_id home.d_id) ∷ [])))
+within shared asked (ReadOrder given) held known =
     let home = known.order_status.home in
-    let here = at_home scale asked given held known in
-    let order = shared (Orders given.key.w_id given.key.d_id) in
+    let here = at_home shared asked given held known in
+    let order = sharing (Orders given.key.w_id given.key.d_id) in
     subst (λ claims. AreSomeOf (map wish_of claims ++ all_wishes (works_of (ReadOrder given))) (footprint asked)) (sym known.claims)
     (subst (λ r. AreSomeOf (wish_of known.customers ∷ order ∷ []) (footprint r)) (sym known.is)
     (all_are_some (wish_of known.customers ∷ order ∷ []) (footprint (request.OrderStatus known.order_status))
     (ap (λ (w : Wish). w ∷ order ∷ []) (shared_wish _ known.customers known.shown.claim)
-    ∙ ap (λ (k : DistrictKey). shared (Customers home.w_id home.d_id) ∷ shared (Orders k.w_id k.d_id) ∷ []) here)))
+    ∙ ap (λ (k : DistrictKey). sharing (Customers home.w_id home.d_id) ∷ sharing (Orders k.w_id k.d_id) ∷ []) here)))

@@ -1,6 +1,6 @@
 -- What follows of what the actions of a payment found.
 use Rattle.std.proofs.Common.{◌≡◌, ◌∙◌, List, [], ◌∷◌, ◌++◌, refl, ap, sym, subst}
-use Rattle.schema.specs.declared.scale.Scale.{Scale}
+use Rattle.partitions.specs.Parts.{Shared}
 use Rattle.requests.specs.declared.request.Request.{Request}
 use Rattle.requests.specs.declared.request.Request.TheVariants as request
 use Rattle.requests.specs.declared.payment.Payment.{Payment}
@@ -34,7 +34,7 @@ use Rattle.transactions.proofs.PaymentRolledBack.{rolled_back_payments_are_carri
 -- ---- the first phase
 
 -- the home rows and the customer's were paid under these claims, and this was found
-pub record AreRowsPaid (scale : Scale) (p : Payment) (found : List Found) (claims : List (List Claiming)) : Type 0 where
+pub record AreRowsPaid (shared : Shared) (p : Payment) (found : List Found) (claims : List (List Claiming)) : Type 0 where
   pub home : HomePaid
   pub customer : CustomerPaid
   pub warehouse : Claiming
@@ -44,14 +44,14 @@ pub record AreRowsPaid (scale : Scale) (p : Payment) (found : List Found) (claim
   pub claims_is : claims ≡ (warehouse ∷ district ∷ []) ∷ (customers ∷ []) ∷ []
   pub home_paid : IsHomePaid p home warehouse district
   pub customer_paid : IsCustomerPaid p customer customers
-  pub payer : IsPayerKnown scale p customer
+  pub payer : IsPayerKnown shared.scale p customer
 
-pub rows_done : (scale : Scale) (p : Payment) (found : List Found) (claims : List (List Claiming))
-    → HaveAllDone scale (works_of (PayRows p)) found claims → AreRowsPaid scale p found claims
-rows_done scale p found claims done =
-    let one = first_done scale (any_work.Payment (PayHome p)) (any_work.Payment (PayCustomer p) ∷ []) found claims done in
-    let two = first_done scale (any_work.Payment (PayCustomer p)) [] one.others one.rest one.others_done in
-    let none = none_done scale two.others two.rest two.others_done in
+pub rows_done : (shared : Shared) (p : Payment) (found : List Found) (claims : List (List Claiming))
+    → HaveAllDone shared (works_of (PayRows p)) found claims → AreRowsPaid shared p found claims
+rows_done shared p found claims done =
+    let one = first_done shared (any_work.Payment (PayHome p)) (any_work.Payment (PayCustomer p) ∷ []) found claims done in
+    let two = first_done shared (any_work.Payment (PayCustomer p)) [] one.others one.rest one.others_done in
+    let none = none_done shared two.others two.rest two.others_done in
     let home = one.done.2 in
     let customer = two.done.2 in
     record {
@@ -78,19 +78,19 @@ same_customer : (home other : HomePaid) (customer another : CustomerPaid)
 same_customer home other customer another same = cc
 
 module _
-    (scale : Scale) (asked : Request) (p : Payment) (held : List Claiming) (known : IsAsked scale asked (request.Payment p) held)
+    (shared : Shared) (asked : Request) (p : Payment) (held : List Claiming) (known : IsAsked shared asked (request.Payment p) held)
     (warehouse district customers : Claiming) (claims : List Claiming) (claims_are : claims ≡ warehouse ∷ district ∷ customers ∷ [])
   where
     rolled : (home : HomePaid) (customer : CustomerPaid) (fault : Fault) → gathered p home customer ≡ RollBack fault
-        → IsHomePaid p home warehouse district → IsCustomerPaid p customer customers → Follows scale asked claims (RollBack fault)
-    rolled home customer fault back home_paid customer_paid opening =
+        → IsHomePaid p home warehouse district → IsCustomerPaid p customer customers → Follows shared asked claims (RollBack fault)
+    rolled home customer fault back home_paid customer_paid opening same =
         subst (λ r. IsCarriedOut opening r claims (reply.RolledBack fault)) (sym known.is)
         (subst (λ all. IsCarriedOut opening (request.Payment p) all (reply.RolledBack fault)) (sym claims_are)
         (rolled_back_payments_are_carried_out opening p home customer fault warehouse district customers home_paid customer_paid back))
 
     -- what was found of both, with its claims
-    decided : (home : HomePaid) (customer : CustomerPaid) → IsHomePaid p home warehouse district → IsCustomerPaid p customer customers → IsPayerKnown scale p customer
-        → Follows scale asked claims (gathered p home customer)
+    decided : (home : HomePaid) (customer : CustomerPaid) → IsHomePaid p home warehouse district → IsCustomerPaid p customer customers → IsPayerKnown shared.scale p customer
+        → Follows shared asked claims (gathered p home customer)
     decided (h.Paid warehouse_name district_name) (c.Paid shown) home_paid customer_paid payer = record {
       is = known.is;
       accepted = known.accepted;
@@ -115,22 +115,22 @@ module _
 pub rows_follow : (p : Payment) (found : List Found) (home : HomePaid) (customer : CustomerPaid) (g : Gathered)
     → found ≡ any_found.Payment (Home home) ∷ any_found.Payment (Customer customer) ∷ [] → g ≡ gathered p home customer
     → FollowsFrom (any_progress.Payment (PayRows p)) found g
-rows_follow p found home customer g is next scale asked held claims known done =
-    let rows = rows_done scale p found claims done in
+rows_follow p found home customer g is next shared asked held claims known done =
+    let rows = rows_done shared p found claims done in
     let same = sym rows.found_is ∙ is in
     let all : held ++ all_claims claims ≡ rows.warehouse ∷ rows.district ∷ rows.customers ∷ [] =
     ap (λ xs. xs ++ all_claims claims) known.none ∙ ap all_claims rows.claims_is in
-    let known_by = decided scale asked p held known rows.warehouse rows.district rows.customers (held ++ all_claims claims) all rows.home rows.customer rows.home_paid rows.customer_paid rows.payer in
-    subst (Follows scale asked (held ++ all_claims claims))
+    let known_by = decided shared asked p held known rows.warehouse rows.district rows.customers (held ++ all_claims claims) all rows.home rows.customer rows.home_paid rows.customer_paid rows.payer in
+    subst (Follows shared asked (held ++ all_claims claims))
     ((λ i. gathered p (same_home rows.home home rows.customer customer same i) (same_customer rows.home home rows.customer customer same i)) ∙ sym next) known_by
 
 -- ---- the second phase
 
 pub row_follows : (given : Paid) (found : List Found) → FollowsFrom (any_progress.Payment (AddRow given)) found (Finish (reply.Done (kind.Payment given.reply)))
-row_follows given found scale asked held claims known done opening =
+row_follows given found shared asked held claims known done opening same =
     let p = given.payment in
-    let one = first_done scale (any_work.Payment (AddPayment p given.row)) [] found claims done in
-    let none = none_done scale one.others one.rest one.others_done in
+    let one = first_done shared (any_work.Payment (AddPayment p given.row)) [] found claims done in
+    let none = none_done shared one.others one.rest one.others_done in
     let added = one.done.2 in
     let all : held ++ all_claims claims ≡ known.warehouse ∷ known.district ∷ known.customers ∷ added.0 ∷ [] =
     ap (λ xs. xs ++ all_claims claims) known.claims

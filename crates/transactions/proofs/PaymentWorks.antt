@@ -5,6 +5,7 @@ use Rattle.std.proofs.lemmas.Bool.{and_parts, and_from, not-false}
 use Rattle.std.proofs.lemmas.List.Elements.{All-nil, All-cons, All-from_recursion}
 use Rattle.rows.specs.declared.keys.CustomerKey.{CustomerKey}
 use Rattle.rows.specs.Ranged.{is_between}
+use Rattle.partitions.specs.Parts.{Shared}
 use Rattle.schema.specs.declared.scale.Scale.{Scale}
 use Rattle.schema.specs.Scale.{has_warehouse, has_customer}
 use Rattle.requests.specs.declared.group.Group.TheVariants.{Warehouse, District, Customers, History as HistoryGroup}
@@ -68,27 +69,27 @@ accepted_payments_have_their_district scale p accepted =
 
 -- ---- each action
 
-pub works_have_their_groups : (scale : Scale) (work : Work) → CanDo scale work → All (IsGroupOf scale.warehouses) (groups_of (wishes_of work))
-works_have_their_groups scale (PayHome p) accepted =
-    let is = in_scale scale p accepted in
-    let warehouse = between 1 scale.warehouses p.home.w_id is.warehouse in
+pub works_have_their_groups : (shared : Shared) (work : Work) → CanDo shared work → All (IsGroupOf shared.scale.warehouses) (groups_of (wishes_of work))
+works_have_their_groups shared (PayHome p) accepted =
+    let is = in_scale shared.scale p accepted in
+    let warehouse = between 1 shared.scale.warehouses p.home.w_id is.warehouse in
     let district = between 1 10 p.home.d_id is.district in
-    All-from_recursion (IsGroupOf scale.warehouses) (groups_of (wishes_of (PayHome p))) (warehouse, ((warehouse, district), tt))
-works_have_their_groups scale (PayCustomer p) accepted =
-    let is = in_scale scale p accepted in
-    let warehouse = between 1 scale.warehouses p.customer_home.w_id is.payers_warehouse in
+    All-from_recursion (IsGroupOf shared.scale.warehouses) (groups_of (wishes_of (PayHome p))) (warehouse, ((warehouse, district), tt))
+works_have_their_groups shared (PayCustomer p) accepted =
+    let is = in_scale shared.scale p accepted in
+    let warehouse = between 1 shared.scale.warehouses p.customer_home.w_id is.payers_warehouse in
     let district = between 1 10 p.customer_home.d_id is.payers_district in
-    All-from_recursion (IsGroupOf scale.warehouses) (groups_of (wishes_of (PayCustomer p))) ((warehouse, district), tt)
-works_have_their_groups scale (AddPayment p row) can =
-    let is = in_scale scale p can.0 in
-    let warehouse = between 1 scale.warehouses p.home.w_id is.warehouse in
+    All-from_recursion (IsGroupOf shared.scale.warehouses) (groups_of (wishes_of (PayCustomer p))) ((warehouse, district), tt)
+works_have_their_groups shared (AddPayment p row) can =
+    let is = in_scale shared.scale p can.0 in
+    let warehouse = between 1 shared.scale.warehouses p.home.w_id is.warehouse in
     let district = between 1 10 p.home.d_id is.district in
-    All-from_recursion (IsGroupOf scale.warehouses) (groups_of (wishes_of (AddPayment p row))) ((warehouse, district), tt)
+    All-from_recursion (IsGroupOf shared.scale.warehouses) (groups_of (wishes_of (AddPayment p row))) ((warehouse, district), tt)
 
-pub works_are_at_warehouses : (scale : Scale) (work : Work) → CanDo scale work → IsTrue (has_warehouse scale (home_of work))
-works_are_at_warehouses scale (PayHome p) accepted = (in_scale scale p accepted).warehouse
-works_are_at_warehouses scale (PayCustomer p) accepted = (in_scale scale p accepted).payers_warehouse
-works_are_at_warehouses scale (AddPayment p row) can = (in_scale scale p can.0).warehouse
+pub works_are_at_warehouses : (shared : Shared) (work : Work) → CanDo shared work → IsTrue (has_warehouse shared.scale (home_of work))
+works_are_at_warehouses shared (PayHome p) accepted = (in_scale shared.scale p accepted).warehouse
+works_are_at_warehouses shared (PayCustomer p) accepted = (in_scale shared.scale p accepted).payers_warehouse
+works_are_at_warehouses shared (AddPayment p row) can = (in_scale shared.scale p can.0).warehouse
 
 pub works_have_wishes : (work : Work) → 1 ≤ length (wishes_of work)
 works_have_wishes (PayHome p) = omega arith
@@ -113,12 +114,12 @@ works_wish_once (AddPayment p row) zero d less = All-nil _
 works_wish_once (AddPayment p row) (suc k) d less = absurd (omega arith)
 
 -- the claims are on the groups that it wished for
-pub done_on : (scale : Scale) (work : Work) (found : Found) (claims : List Claiming) → HasDone scale work found claims
+pub done_on : (shared : Shared) (work : Work) (found : Found) (claims : List Claiming) → HasDone shared work found claims
     → map (λ (claim : Claiming). claim.group) claims ≡ groups_of (wishes_of work)
-done_on scale (PayHome p) found claims done =
+done_on shared (PayHome p) found claims done =
     ap (map (λ (claim : Claiming). claim.group)) done.4 ∙ (λ i. done.5.warehouse_claim.group i ∷ done.5.district_claim.group i ∷ [])
-done_on scale (PayCustomer p) found claims done = ap (map (λ (claim : Claiming). claim.group)) done.3 ∙ (λ i. done.4.claim.group i ∷ [])
-done_on scale (AddPayment p row) found claims done = ap (map (λ (claim : Claiming). claim.group)) done.2 ∙ (λ i. done.3.claim.group i ∷ [])
+done_on shared (PayCustomer p) found claims done = ap (map (λ (claim : Claiming). claim.group)) done.3 ∙ (λ i. done.4.claim.group i ∷ [])
+done_on shared (AddPayment p row) found claims done = ap (map (λ (claim : Claiming). claim.group)) done.2 ∙ (λ i. done.3.claim.group i ∷ [])
 
 -- ---- who is paid
 
@@ -136,34 +137,34 @@ gathered_payers_are_known scale p (h.Paid warehouse district) c.OutOfRange given
 
 -- ---- each phase
 
-pub accepted : (scale : Scale) (asked : Request) (progress : Progress) (held : List Claiming) → IsReached scale asked progress held → IsAccepted scale asked
-accepted scale asked (PayRows p) held reached = reached.accepted
-accepted scale asked (AddRow given) held reached = reached.accepted
+pub accepted : (shared : Shared) (asked : Request) (progress : Progress) (held : List Claiming) → IsReached shared asked progress held → IsAccepted shared.scale asked
+accepted shared asked (PayRows p) held reached = reached.accepted
+accepted shared asked (AddRow given) held reached = reached.accepted
 
 pub some_actions : (progress : Progress) → 1 ≤ length (works_of progress)
 some_actions (PayRows p) = omega arith
 some_actions (AddRow given) = omega arith
 
-pub can_all : (scale : Scale) (asked : Request) (progress : Progress) (held : List Claiming) → IsReached scale asked progress held → All (AnyCanDo scale) (works_of progress)
-can_all scale asked (PayRows p) held known =
-    let accepted : IsAccepted scale (request.Payment p) = subst (IsAccepted scale) known.is known.accepted in
-    All-cons (AnyCanDo scale) (any_work.Payment (PayHome p)) (any_work.Payment (PayCustomer p) ∷ []) accepted
-    (All-cons (AnyCanDo scale) (any_work.Payment (PayCustomer p)) [] accepted (All-nil (AnyCanDo scale)))
-can_all scale asked (AddRow given) held known =
+pub can_all : (shared : Shared) (asked : Request) (progress : Progress) (held : List Claiming) → IsReached shared asked progress held → All (AnyCanDo shared) (works_of progress)
+can_all shared asked (PayRows p) held known =
+    let accepted : IsAccepted shared.scale (request.Payment p) = subst (IsAccepted shared.scale) known.is known.accepted in
+    All-cons (AnyCanDo shared) (any_work.Payment (PayHome p)) (any_work.Payment (PayCustomer p) ∷ []) accepted
+    (All-cons (AnyCanDo shared) (any_work.Payment (PayCustomer p)) [] accepted (All-nil (AnyCanDo shared)))
+can_all shared asked (AddRow given) held known =
     let p = given.payment in
-    All-cons (AnyCanDo scale) (any_work.Payment (AddPayment p given.row)) []
-    (subst (IsAccepted scale) known.is known.accepted, gathered_payers_are_known scale p known.home known.customer given known.next known.payer)
-    (All-nil (AnyCanDo scale))
+    All-cons (AnyCanDo shared) (any_work.Payment (AddPayment p given.row)) []
+    (subst (IsAccepted shared.scale) known.is known.accepted, gathered_payers_are_known shared.scale p known.home known.customer given known.next known.payer)
+    (All-nil (AnyCanDo shared))
 
-pub within : (scale : Scale) (asked : Request) (progress : Progress) (held : List Claiming) → IsReached scale asked progress held
+pub within : (shared : Shared) (asked : Request) (progress : Progress) (held : List Claiming) → IsReached shared asked progress held
     → AreSomeOf (map wish_of held ++ all_wishes (works_of progress)) (footprint asked)
-within scale asked (PayRows p) held known =
+within shared asked (PayRows p) held known =
     subst (λ claims. AreSomeOf (map wish_of claims ++ all_wishes (works_of (PayRows p))) (footprint asked)) (sym known.none)
     (subst (λ r. AreSomeOf (all_wishes (works_of (PayRows p))) (footprint r)) (sym known.is)
     (first_are_some
     (exclusively (Warehouse p.home.w_id) ∷ exclusively (District p.home.w_id p.home.d_id) ∷ exclusively (Customers p.customer_home.w_id p.customer_home.d_id) ∷ [])
     (exclusively (HistoryGroup p.home.w_id p.home.d_id) ∷ [])))
-within scale asked (AddRow given) held known =
+within shared asked (AddRow given) held known =
     let p = given.payment in
     let warehouse = exclusively (Warehouse p.home.w_id) in
     let district = exclusively (District p.home.w_id p.home.d_id) in

@@ -10,17 +10,17 @@ accepted_requests_have_their_groups scale (request.Payment p) accepted = payment
 accepted_requests_have_their_groups scale (request.OrderStatus o) accepted = order_status.groups_there scale o accepted
 
 pub accepted : ReachedRequestsAreAccepted
-accepted scale asked (Payment progress) held reached = payment.accepted scale asked progress held reached
-accepted scale asked (OrderStatus progress) held reached = order_status.accepted scale asked progress held reached
+accepted shared asked (Payment progress) held reached = payment.accepted shared asked progress held reached
+accepted shared asked (OrderStatus progress) held reached = order_status.accepted shared asked progress held reached
 
 pub some_actions : PhasesHaveActions
 some_actions (Payment progress) = payment.some_actions progress
 some_actions (OrderStatus progress) = order_status.some_actions progress
 
 pub can_all : ActionsCanDoTheirWork
-can_all scale asked (Payment progress) held reached = payment.can_all scale asked progress held reached
-can_all scale asked (OrderStatus progress) held reached = order_status.can_all scale asked progress held reached
+can_all shared asked (Payment progress) held reached = payment.can_all shared asked progress held reached
+can_all shared asked (OrderStatus progress) held reached = order_status.can_all shared asked progress held reached
 
 pub within : ClaimsAreOfTheFootprint
-within scale asked (Payment progress) held reached = payment.within scale asked progress held reached
-within scale asked (OrderStatus progress) held reached = order_status.within scale asked progress held reached
+within shared asked (Payment progress) held reached = payment.within shared asked progress held reached
+within shared asked (OrderStatus progress) held reached = order_status.within shared asked progress held reached

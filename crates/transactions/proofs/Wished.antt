@@ -5,7 +5,7 @@ use Rattle.std.specs.List.{AllByRecursion}
 use Rattle.std.proofs.lemmas.List.{length-map, take_more}
 use Rattle.std.proofs.lemmas.List.Elements.{All-head, All-tail, All-from_recursion}
 use Rattle.std.proofs.lemmas.Option.{slice_get_within, get_or_from_slice_get}
-use Rattle.schema.specs.declared.scale.Scale.{Scale}
+use Rattle.partitions.specs.Parts.{Shared}
 use Rattle.requests.specs.declared.group.Group.{Group}
 use Rattle.groups.specs.Footprint.{groups_of}
 use Rattle.groups.specs.Groups.{warehouse_of}
@@ -123,14 +123,14 @@ works_have_wishes (Payment work) = payment.works_have_wishes work
 works_have_wishes (OrderStatus work) = order_status.works_have_wishes work
 
 -- the claims are on the groups that it wished for
-done_on : (scale : Scale) (work : Work) (found : Found) (claims : List Claiming) → HasDone scale work found claims
+done_on : (shared : Shared) (work : Work) (found : Found) (claims : List Claiming) → HasDone shared work found claims
     → map (λ (claim : Claiming). claim.group) claims ≡ groups_of (wishes_of work)
-done_on scale (Payment work) found claims done = payment.done_on scale work done.0 claims done.2
-done_on scale (OrderStatus work) found claims done = order_status.done_on scale work done.0 claims done.2
+done_on shared (Payment work) found claims done = payment.done_on shared work done.0 claims done.2
+done_on shared (OrderStatus work) found claims done = order_status.done_on shared work done.0 claims done.2
 
 pub works_have_a_claim_for_each_wish : WorksHaveAClaimForEachWish
-works_have_a_claim_for_each_wish scale work found claims done =
-    sym (length-map claims (λ (claim : Claiming). claim.group)) ∙ ap length (done_on scale work found claims done)
+works_have_a_claim_for_each_wish shared work found claims done =
+    sym (length-map claims (λ (claim : Claiming). claim.group)) ∙ ap length (done_on shared work found claims done)
     ∙ length-map (wishes_of work) (λ (wish : Wish). wish.group)
 
 -- ---- at which warehouse
@@ -140,16 +140,16 @@ works_claim_at_home (Payment work) = payment.works_claim_at_home work
 works_claim_at_home (OrderStatus work) = order_status.works_claim_at_home work
 
 pub works_have_their_groups : WorksHaveTheirGroups
-works_have_their_groups scale (Payment work) can = payment.works_have_their_groups scale work can
-works_have_their_groups scale (OrderStatus work) can = order_status.works_have_their_groups scale work can
+works_have_their_groups shared (Payment work) can = payment.works_have_their_groups shared work can
+works_have_their_groups shared (OrderStatus work) can = order_status.works_have_their_groups shared work can
 
 pub works_are_at_warehouses : WorksAreAtWarehouses
-works_are_at_warehouses scale (Payment work) can = payment.works_are_at_warehouses scale work can
-works_are_at_warehouses scale (OrderStatus work) can = order_status.works_are_at_warehouses scale work can
+works_are_at_warehouses shared (Payment work) can = payment.works_are_at_warehouses shared work can
+works_are_at_warehouses shared (OrderStatus work) can = order_status.works_are_at_warehouses shared work can
 
 pub works_are_done_at_home : WorksAreDoneAtHome
-works_are_done_at_home scale work found claims done =
-    let here = claims_here (home_of work) (wishes_of work) claims (done_on scale work found claims done) (works_claim_at_home work) in
+works_are_done_at_home shared work found claims done =
+    let here = claims_here (home_of work) (wishes_of work) claims (done_on shared work found claims done) (works_claim_at_home work) in
     let some = works_have_wishes work in
-    let many = works_have_a_claim_for_each_wish scale work found claims done in
+    let many = works_have_a_claim_for_each_wish shared work found claims done in
     (here, of_one_home (home_of work) claims (omega (arith, some, many)) here)

@@ -1,6 +1,7 @@
 -- What comes of an action, from its claims to their return.
 use Rattle.std.specs.Prelude.{◌≡◌, ◌<◌, List, [], All}
 use Rattle.std.specs.List.{Contains}
+use Rattle.partitions.specs.Parts.{shared_of}
 use Rattle.requests.specs.declared.group.Group.{Group}
 use Rattle.groups.specs.declared.wishes.Mode.TheVariants.{Exclusive}
 use Rattle.groups.specs.declared.wishes.Wish.{Wish}
@@ -33,6 +34,6 @@ claims_of_ran NoMemory = []
 -- What comes of this work in this slice: it was done under the claims, all of which can be undone; or it wished for a
 -- group some ticket of which is out.
 abbrev pub IsRanOf : {J : Type 0} → Sliced → Work → Ran J → Type 0
-IsRanOf slice work (Done claims found) = HasDone slice.tables.scale work found claims × All CanBeUndone claims
+IsRanOf slice work (Done claims found) = HasDone (shared_of slice.tables) work found claims × All CanBeUndone claims
 IsRanOf slice work (Died group holder) = DiesOn slice (wishes_of work) group
 IsRanOf slice work NoMemory = Unit {0}

@@ -1,18 +1,18 @@
 -- Claims that were granted for wishes, and what is known of a request before it has any.
 use Rattle.std.specs.Prelude.{◌≡◌, ◌≤◌, ℕ, Bool, List, [], ◌∷◌, All, count_by}
-use Rattle.schema.specs.declared.scale.Scale.{Scale}
+use Rattle.partitions.specs.Parts.{Shared}
 use Rattle.requests.specs.declared.group.Group.{Group}
 use Rattle.requests.specs.declared.request.Request.{Request}
 use Rattle.requests.specs.Check.{IsAccepted}
-use Rattle.groups.specs.declared.wishes.Mode.TheVariants.{Shared, Exclusive}
+use Rattle.groups.specs.declared.wishes.Mode.TheVariants as m
 use Rattle.groups.specs.declared.wishes.Wish.{Wish}
 use Rattle.groups.specs.Groups.{warehouse_of}
 use Rattle.tickets.specs.Claims.{Claiming, leaving}
 
 -- it is the request, which its check accepts, and nothing is claimed yet
-pub record IsAsked (scale : Scale) (asked given : Request) (held : List Claiming) : Type 0 where
+pub record IsAsked (shared : Shared) (asked given : Request) (held : List Claiming) : Type 0 where
   pub is : asked ≡ given
-  pub accepted : IsAccepted scale asked
+  pub accepted : IsAccepted shared.scale asked
   pub none : held ≡ []
 
 -- ---- one claim
@@ -20,12 +20,12 @@ pub record IsAsked (scale : Scale) (asked given : Request) (held : List Claiming
 -- the claim is an exclusive one on this group
 pub record IsExclusiveOn (own : Group) (claim : Claiming) : Type 0 where
   pub group : claim.group ≡ own
-  pub mode : claim.mode ≡ Exclusive
+  pub mode : claim.mode ≡ m.Exclusive
 
 -- the claim is a shared one on this group
 pub record IsSharedOn (own : Group) (claim : Claiming) : Type 0 where
   pub group : claim.group ≡ own
-  pub mode : claim.mode ≡ Shared
+  pub mode : claim.mode ≡ m.Shared
 
 -- nothing was done under the claim
 pub record IsFresh (claim : Claiming) : Type 0 where

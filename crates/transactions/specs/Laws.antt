@@ -1,5 +1,6 @@
 -- What the transactions of all kinds keep.
 use Rattle.std.specs.Prelude.{◌≡◌, ◌≤◌, ◌+◌, List, ◌++◌, All, IsTrue, length, map}
+use Rattle.partitions.specs.Parts.{Shared}
 use Rattle.schema.specs.declared.scale.Scale.{Scale}
 use Rattle.schema.specs.Scale.{has_warehouse}
 use Rattle.schema.specs.Database.{Database}
@@ -40,7 +41,7 @@ AcceptedRequestsHaveTheirGroups =
 -- The groups that an action claims for work that it can do are groups of the scale's warehouses.
 abbrev pub WorksHaveTheirGroups : Type 0
 WorksHaveTheirGroups =
-    (scale : Scale) (work : Work) → CanDo scale work → All (IsGroupOf scale.warehouses) (groups_of (wishes_of work))
+    (shared : Shared) (work : Work) → CanDo shared work → All (IsGroupOf shared.scale.warehouses) (groups_of (wishes_of work))
 
 -- Each work claims some group.
 abbrev pub WorksHaveWishes : Type 0
@@ -49,14 +50,14 @@ WorksHaveWishes = (work : Work) → 1 ≤ length (wishes_of work)
 -- The claims under which work was done are as many as its wishes.
 abbrev pub WorksHaveAClaimForEachWish : Type 0
 WorksHaveAClaimForEachWish =
-    (scale : Scale) (work : Work) (found : Found) (claims : List Claiming)
-    → HasDone scale work found claims → length claims ≡ length (wishes_of work)
+    (shared : Shared) (work : Work) (found : Found) (claims : List Claiming)
+    → HasDone shared work found claims → length claims ≡ length (wishes_of work)
 
 -- ---- at which warehouse an action does its work
 
 -- The work that can be done is at a warehouse of the scale.
 abbrev pub WorksAreAtWarehouses : Type 0
-WorksAreAtWarehouses = (scale : Scale) (work : Work) → CanDo scale work → IsTrue (has_warehouse scale (home_of work))
+WorksAreAtWarehouses = (shared : Shared) (work : Work) → CanDo shared work → IsTrue (has_warehouse shared.scale (home_of work))
 
 -- All that an action claims for its work is the warehouse's.
 abbrev pub WorksClaimAtHome : Type 0
@@ -65,28 +66,28 @@ WorksClaimAtHome = (work : Work) → AreWishesAt (home_of work) (wishes_of work)
 -- The claims under which work was done are all on groups of the warehouse, and so of one warehouse.
 abbrev pub WorksAreDoneAtHome : Type 0
 WorksAreDoneAtHome =
-    (scale : Scale) (work : Work) (found : Found) (claims : List Claiming)
-    → HasDone scale work found claims → All (IsClaimAt (home_of work)) claims × AreOfOneHome claims
+    (shared : Shared) (work : Work) (found : Found) (claims : List Claiming)
+    → HasDone shared work found claims → All (IsClaimAt (home_of work)) claims × AreOfOneHome claims
 
 -- ---- how far a transaction has come
 
 -- The actions of a phase can do their work.
 abbrev pub ActionsCanDoTheirWork : Type 0
 ActionsCanDoTheirWork =
-    (scale : Scale) (asked : Request) (progress : Progress) (held : List Claiming) → IsReached scale asked progress held
-    → All (CanDo scale) (works_of progress)
+    (shared : Shared) (asked : Request) (progress : Progress) (held : List Claiming) → IsReached shared asked progress held
+    → All (CanDo shared) (works_of progress)
 
 -- What a transaction holds, and what the actions of its phase claim, is some of its request's footprint, each once.
 abbrev pub ClaimsAreOfTheFootprint : Type 0
 ClaimsAreOfTheFootprint =
-    (scale : Scale) (asked : Request) (progress : Progress) (held : List Claiming) → IsReached scale asked progress held
+    (shared : Shared) (asked : Request) (progress : Progress) (held : List Claiming) → IsReached shared asked progress held
     → AreSomeOf (map wish_of held ++ all_wishes (works_of progress)) (footprint asked)
 
 -- What is carried out is a request that its check accepts.
 abbrev pub ReachedRequestsAreAccepted : Type 0
 ReachedRequestsAreAccepted =
-    (scale : Scale) (asked : Request) (progress : Progress) (held : List Claiming) → IsReached scale asked progress held
-    → IsAccepted scale asked
+    (shared : Shared) (asked : Request) (progress : Progress) (held : List Claiming) → IsReached shared asked progress held
+    → IsAccepted shared.scale asked
 
 -- Each phase has an action.
 abbrev pub PhasesHaveActions : Type 0
@@ -95,5 +96,5 @@ PhasesHaveActions = (progress : Progress) → 1 ≤ length (works_of progress)
 -- The actions of the phases before, with what each of them holds, and those of the phase are few in all.
 abbrev pub TransactionsHaveFewActions : Type 0
 TransactionsHaveFewActions =
-    (scale : Scale) (asked : Request) (progress : Progress) (held : List (List Claiming)) → IsReached scale asked progress (all_claims held)
+    (shared : Shared) (asked : Request) (progress : Progress) (held : List (List Claiming)) → IsReached shared asked progress (all_claims held)
     → All HoldsSome held → length held + length (works_of progress) ≤ MOST_ACTIONS

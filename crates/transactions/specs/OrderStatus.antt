@@ -4,7 +4,7 @@ use Rattle.std.specs.Prelude.{◌≡◌, ℕ, List, [], ◌∷◌, Option, Some,
 use Rattle.rows.specs.Keys.{district_of_customer}
 use Rattle.rows.specs.declared.keys.CustomerKey.{CustomerKey}
 use Rattle.rows.specs.declared.records.Customer.{Customer}
-use Rattle.schema.specs.declared.scale.Scale.{Scale}
+use Rattle.partitions.specs.Parts.{Shared}
 use Rattle.schema.specs.Scale.{has_district}
 use Rattle.schema.specs.Database.{Database}
 use Rattle.indexes.specs.Namesakes.{Customers, Keyed}
@@ -18,7 +18,7 @@ use Rattle.requests.specs.Check.{IsAccepted}
 use Rattle.groups.specs.Content.{content}
 use Rattle.groups.specs.Content.Content.{OfCustomers}
 use Rattle.groups.specs.declared.wishes.Wish.{Wish}
-use Rattle.groups.specs.Footprint.{shared}
+use Rattle.groups.specs.Footprint.{shared as sharing}
 use Rattle.tickets.specs.Claims.{Claiming}
 use Rattle.machine.specs.Chosen.{chosen}
 use Rattle.machine.specs.OrderStatus.{latest_shown}
@@ -72,36 +72,36 @@ home_of (ShowOrder key) = key.w_id
 
 -- the groups that an action claims for its work, and how
 abbrev pub wishes_of : Work → List Wish
-wishes_of (ShowCustomer o) = shared (g.Customers o.home.w_id o.home.d_id) ∷ []
-wishes_of (ShowOrder key) = shared (g.Orders key.w_id key.d_id) ∷ []
+wishes_of (ShowCustomer o) = sharing (g.Customers o.home.w_id o.home.d_id) ∷ []
+wishes_of (ShowOrder key) = sharing (g.Orders key.w_id key.d_id) ∷ []
 
 -- What the work needs: it is of an Order-Status that the check accepts, and whose order it shows is of a district of the scale.
-abbrev pub CanDo : Scale → Work → Type 0
-CanDo scale (ShowCustomer o) = IsAccepted scale (request.OrderStatus o)
-CanDo scale (ShowOrder key) = IsTrue (has_district scale (district_of_customer key))
+abbrev pub CanDo : Shared → Work → Type 0
+CanDo shared (ShowCustomer o) = IsAccepted shared.scale (request.OrderStatus o)
+CanDo shared (ShowOrder key) = IsTrue (has_district shared.scale (district_of_customer key))
 
 -- The work found this, and was done under these claims.
-abbrev pub HasDone : Scale → Work → Found → List Claiming → Type 0
-HasDone scale (ShowCustomer o) one claims =
+abbrev pub HasDone : Shared → Work → Found → List Claiming → Type 0
+HasDone shared (ShowCustomer o) one claims =
     (customer : CustomerShown) × (customers : Claiming) × (one ≡ found.Customer customer) × (claims ≡ customers ∷ []) × IsCustomerShown o customer customers
-HasDone scale (ShowOrder key) one claims =
+HasDone shared (ShowOrder key) one claims =
     (order : Option StatusOrder) × (orders : Claiming) × (one ≡ found.Order order) × (claims ≡ orders ∷ []) × IsOrderShown key order orders
 
 -- ---- the phases
 
 -- the customer was read under this claim
-pub record IsStatusShown (scale : Scale) (asked : Request) (given : StatusShown) (held : List Claiming) : Type 0 where
+pub record IsStatusShown (shared : Shared) (asked : Request) (given : StatusShown) (held : List Claiming) : Type 0 where
   pub order_status : OrderStatus
   pub is : asked ≡ request.OrderStatus order_status
-  pub accepted : IsAccepted scale asked
+  pub accepted : IsAccepted shared.scale asked
   pub customers : Claiming
   pub claims : held ≡ customers ∷ []
   pub shown : IsCustomerShown order_status (Shown given.key given.customer) customers
 
 -- what is known of how far an Order-Status has come, beside the claims of the phases before
-abbrev pub IsReached : Scale → Request → Progress → List Claiming → Type 0
-IsReached scale asked (ReadCustomer o) held = IsAsked scale asked (request.OrderStatus o) held
-IsReached scale asked (ReadOrder given) held = IsStatusShown scale asked given held
+abbrev pub IsReached : Shared → Request → Progress → List Claiming → Type 0
+IsReached shared asked (ReadCustomer o) held = IsAsked shared asked (request.OrderStatus o) held
+IsReached shared asked (ReadOrder given) held = IsStatusShown shared asked given held
 
 -- what the actions of its phase do: the customer is read, and then the customer's last order
 abbrev pub works_of : Progress → List AnyWork
@@ -112,7 +112,6 @@ works_of (ReadOrder given) = any_work.OrderStatus (ShowOrder given.key) ∷ []
 abbrev pub IsCustomerFound : List AnyFound → Type 0
 IsCustomerFound items = (customer : CustomerShown) × (items ≡ any_found.OrderStatus (found.Customer customer) ∷ [])
 
--- the second phase's action found this of the last order
 abbrev pub IsOrderFound : List AnyFound → Type 0
 IsOrderFound items = (order : Option StatusOrder) × (items ≡ any_found.OrderStatus (found.Order order) ∷ [])
 

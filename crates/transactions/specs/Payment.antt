@@ -8,6 +8,7 @@ use Rattle.rows.specs.declared.records.Warehouse.{Warehouse}
 use Rattle.rows.specs.declared.records.District.{District}
 use Rattle.rows.specs.declared.records.Customer.{Customer}
 use Rattle.rows.specs.declared.records.History.{History}
+use Rattle.partitions.specs.Parts.{Shared}
 use Rattle.schema.specs.declared.scale.Scale.{Scale}
 use Rattle.schema.specs.Scale.{customer_key, has_customer}
 use Rattle.indexes.specs.Namesakes.{Customers}
@@ -77,7 +78,6 @@ pub record AreHomeRowsPaid (p : Payment) (warehouse_name district_name : List �
   pub warehouse_left : warehouse.left ≡ OfWarehouse (Some new_warehouse)
   pub district_left : district.left ≡ OfDistrict (Some new_district)
 
--- by what was found: the rows are missing, or a sum would leave its range, or both rows are paid
 abbrev pub FindsHome : Payment → HomePaid → Claiming → Claiming → Type 0
 FindsHome p h.Missing warehouse district = IsHomeMissing warehouse district
 FindsHome p h.OutOfRange warehouse district = IsHomeOutOfRange p warehouse district
@@ -125,7 +125,6 @@ pub record IsCustomerRowPaid (p : Payment) (reply : PaymentReply) (customers : C
   pub left : customers.left ≡ OfCustomers (map.insert rows key new_row)
   pub shown : reply ≡ payment_reply key new_row
 
--- by what was found: there is no such customer, or a sum would leave its range, or the customer's row is paid
 abbrev pub FindsCustomer : Payment → CustomerPaid → Claiming → Type 0
 FindsCustomer p c.Missing customers = IsCustomerMissing p customers
 FindsCustomer p c.OutOfRange customers = IsCustomerOutOfRange p customers
@@ -165,20 +164,20 @@ wishes_of (PayCustomer p) = exclusively (g.Customers p.customer_home.w_id p.cust
 wishes_of (AddPayment p row) = exclusively (g.History p.home.w_id p.home.d_id) ∷ []
 
 -- What the work needs: it is of a payment that the check accepts, and whom it names is one of the scale.
-abbrev pub CanDo : Scale → Work → Type 0
-CanDo scale (PayHome p) = IsAccepted scale (request.Payment p)
-CanDo scale (PayCustomer p) = IsAccepted scale (request.Payment p)
-CanDo scale (AddPayment p row) = IsAccepted scale (request.Payment p) × IsTrue (has_customer scale row.customer)
+abbrev pub CanDo : Shared → Work → Type 0
+CanDo shared (PayHome p) = IsAccepted shared.scale (request.Payment p)
+CanDo shared (PayCustomer p) = IsAccepted shared.scale (request.Payment p)
+CanDo shared (AddPayment p row) = IsAccepted shared.scale (request.Payment p) × IsTrue (has_customer shared.scale row.customer)
 
 -- The work found this, and was done under these claims.
-abbrev pub HasDone : Scale → Work → Found → List Claiming → Type 0
-HasDone scale (PayHome p) one claims =
+abbrev pub HasDone : Shared → Work → Found → List Claiming → Type 0
+HasDone shared (PayHome p) one claims =
     (home : HomePaid) × (warehouse : Claiming) × (district : Claiming)
     × (one ≡ found.Home home) × (claims ≡ warehouse ∷ district ∷ []) × IsHomePaid p home warehouse district
-HasDone scale (PayCustomer p) one claims =
+HasDone shared (PayCustomer p) one claims =
     (customer : CustomerPaid) × (customers : Claiming)
-    × (one ≡ found.Customer customer) × (claims ≡ customers ∷ []) × IsCustomerPaid p customer customers × IsPayerKnown scale p customer
-HasDone scale (AddPayment p row) one claims = (history : Claiming) × (one ≡ found.Added) × (claims ≡ history ∷ []) × IsPaymentAdded p row history
+    × (one ≡ found.Customer customer) × (claims ≡ customers ∷ []) × IsCustomerPaid p customer customers × IsPayerKnown shared.scale p customer
+HasDone shared (AddPayment p row) one claims = (history : Claiming) × (one ≡ found.Added) × (claims ≡ history ∷ []) × IsPaymentAdded p row history
 
 -- ---- the phases
 
@@ -200,9 +199,9 @@ gathered p (h.Paid warehouse district) c.Missing = RollBack NoCustomer
 gathered p _ _ = RollBack Range
 
 -- the home rows and the customer's have been paid under these claims, and the row and the reply are what follows
-pub record IsPaid (scale : Scale) (asked : Request) (given : Paid) (held : List Claiming) : Type 0 where
+pub record IsPaid (shared : Shared) (asked : Request) (given : Paid) (held : List Claiming) : Type 0 where
   pub is : asked ≡ request.Payment given.payment
-  pub accepted : IsAccepted scale asked
+  pub accepted : IsAccepted shared.scale asked
   pub warehouse : Claiming
   pub district : Claiming
   pub customers : Claiming
@@ -211,13 +210,13 @@ pub record IsPaid (scale : Scale) (asked : Request) (given : Paid) (held : List 
   pub customer : CustomerPaid
   pub home_paid : IsHomePaid given.payment home warehouse district
   pub customer_paid : IsCustomerPaid given.payment customer customers
-  pub payer : IsPayerKnown scale given.payment customer
+  pub payer : IsPayerKnown shared.scale given.payment customer
   pub next : gathered given.payment home customer ≡ Next (any_progress.Payment (AddRow given))
 
 -- what is known of how far a payment has come, beside the claims of the phases before
-abbrev pub IsReached : Scale → Request → Progress → List Claiming → Type 0
-IsReached scale asked (PayRows p) held = IsAsked scale asked (request.Payment p) held
-IsReached scale asked (AddRow given) held = IsPaid scale asked given held
+abbrev pub IsReached : Shared → Request → Progress → List Claiming → Type 0
+IsReached shared asked (PayRows p) held = IsAsked shared asked (request.Payment p) held
+IsReached shared asked (AddRow given) held = IsPaid shared asked given held
 
 -- what the actions of its phase do: place 0 pays the home rows, and place 1 the customer's; then the row is added
 abbrev pub works_of : Progress → List AnyWork

@@ -1,6 +1,6 @@
 -- How far a transaction of any kind has come, and what follows.
-use Rattle.std.specs.Prelude.{◌≤◌, List, ◌++◌, length}
-use Rattle.schema.specs.declared.scale.Scale.{Scale}
+use Rattle.std.specs.Prelude.{◌≡◌, ◌≤◌, List, ◌++◌, length}
+use Rattle.partitions.specs.Parts.{Shared, shared_of}
 use Rattle.schema.specs.Database.{Database}
 use Rattle.requests.specs.declared.request.Request.{Request}
 use Rattle.requests.specs.declared.reply.Reply.TheVariants.{RolledBack}
@@ -17,9 +17,9 @@ use Rattle.transactions.specs.OrderStatus as order_status
 use Rattle.transactions.specs.Works.{HaveAllDone}
 
 -- what is known of how far it has come, for a request, beside the claims of the phases before
-abbrev pub IsReached : Scale → Request → Progress → List Claiming → Type 0
-IsReached scale asked (Payment progress) held = payment.IsReached scale asked progress held
-IsReached scale asked (OrderStatus progress) held = order_status.IsReached scale asked progress held
+abbrev pub IsReached : Shared → Request → Progress → List Claiming → Type 0
+IsReached shared asked (Payment progress) held = payment.IsReached shared asked progress held
+IsReached shared asked (OrderStatus progress) held = order_status.IsReached shared asked progress held
 
 -- what the actions of its phase do, by place
 abbrev pub works_of : Progress → List Work
@@ -34,19 +34,19 @@ HoldsSome claims = 1 ≤ length claims
 
 -- all actions of its phase have done their work, and found this
 abbrev pub HasFound : Progress → List Found → Type 0
-HasFound progress found = (scale : Scale) × (claims : List (List Claiming)) × HaveAllDone scale (works_of progress) found claims
+HasFound progress found = (shared : Shared) × (claims : List (List Claiming)) × HaveAllDone shared (works_of progress) found claims
 
 -- Under these claims the next phase is given what is known to it, or the request was carried out with this reply, or with this
--- rollback, whatever the tables were in the beginning.
-abbrev pub Follows : Scale → Request → List Claiming → Gathered → Type 0
-Follows scale asked claims (Next progress) = IsReached scale asked progress claims
-Follows scale asked claims (Finish shown) = (opening : Database) → IsCarriedOut opening asked claims shown
-Follows scale asked claims (RollBack fault) = (opening : Database) → IsCarriedOut opening asked claims (RolledBack fault)
+-- rollback, whatever tables of this scale with these items there were in the beginning.
+abbrev pub Follows : Shared → Request → List Claiming → Gathered → Type 0
+Follows shared asked claims (Next progress) = IsReached shared asked progress claims
+Follows shared asked claims (Finish shown) = (opening : Database) → shared_of opening ≡ shared → IsCarriedOut opening asked claims shown
+Follows shared asked claims (RollBack fault) = (opening : Database) → shared_of opening ≡ shared → IsCarriedOut opening asked claims (RolledBack fault)
 
 -- The law of each phase: whatever the request, the claims of the phases before and those of its own actions, this follows of
 -- what the actions found.
 abbrev pub FollowsFrom : Progress → List Found → Gathered → Type 0
 FollowsFrom progress found gathered =
-    (scale : Scale) (asked : Request) (held : List Claiming) (claims : List (List Claiming))
-    → IsReached scale asked progress held → HaveAllDone scale (works_of progress) found claims
-    → Follows scale asked (held ++ all_claims claims) gathered
+    (shared : Shared) (asked : Request) (held : List Claiming) (claims : List (List Claiming))
+    → IsReached shared asked progress held → HaveAllDone shared (works_of progress) found claims
+    → Follows shared asked (held ++ all_claims claims) gathered

@@ -1,6 +1,6 @@
 -- What the actions of all transactions do, and what they claim for it, by kind.
 use Rattle.std.specs.Prelude.{◌≡◌, ℕ, List, [], ◌∷◌, ◌++◌}
-use Rattle.schema.specs.declared.scale.Scale.{Scale}
+use Rattle.partitions.specs.Parts.{Shared}
 use Rattle.groups.specs.declared.wishes.Wish.{Wish}
 use Rattle.tickets.specs.Claims.{Claiming}
 use Rattle.transactions.specs.declared.payment.Found.{Found as PaymentFound}
@@ -23,22 +23,22 @@ wishes_of (Payment work) = payment.wishes_of work
 wishes_of (OrderStatus work) = order_status.wishes_of work
 
 -- what the work needs
-abbrev pub CanDo : Scale → Work → Type 0
-CanDo scale (Payment work) = payment.CanDo scale work
-CanDo scale (OrderStatus work) = order_status.CanDo scale work
+abbrev pub CanDo : Shared → Work → Type 0
+CanDo shared (Payment work) = payment.CanDo shared work
+CanDo shared (OrderStatus work) = order_status.CanDo shared work
 
 -- The work found this, and was done under these claims.
-abbrev pub HasDone : Scale → Work → Found → List Claiming → Type 0
-HasDone scale (Payment work) one claims = (own : PaymentFound) × (one ≡ found.Payment own) × payment.HasDone scale work own claims
-HasDone scale (OrderStatus work) one claims = (own : OrderStatusFound) × (one ≡ found.OrderStatus own) × order_status.HasDone scale work own claims
+abbrev pub HasDone : Shared → Work → Found → List Claiming → Type 0
+HasDone shared (Payment work) one claims = (own : PaymentFound) × (one ≡ found.Payment own) × payment.HasDone shared work own claims
+HasDone shared (OrderStatus work) one claims = (own : OrderStatusFound) × (one ≡ found.OrderStatus own) × order_status.HasDone shared work own claims
 
 -- ---- the actions of a phase
 
 -- Each action found this, and did its work under these claims, by place.
-abbrev pub HaveAllDone : Scale → List Work → List Found → List (List Claiming) → Type 0
-HaveAllDone scale [] [] [] = Unit {0}
-HaveAllDone scale (work ∷ works) (one ∷ found) (held ∷ claims) = HasDone scale work one held × HaveAllDone scale works found claims
-HaveAllDone scale works found claims = ⊥
+abbrev pub HaveAllDone : Shared → List Work → List Found → List (List Claiming) → Type 0
+HaveAllDone shared [] [] [] = Unit {0}
+HaveAllDone shared (work ∷ works) (one ∷ found) (held ∷ claims) = HasDone shared work one held × HaveAllDone shared works found claims
+HaveAllDone shared works found claims = ⊥
 
 -- what all of them wish, by place
 abbrev pub all_wishes : List Work → List Wish

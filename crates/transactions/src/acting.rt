@@ -1,5 +1,6 @@
 //! An action, from its claims to their return.
 ghost use Rattle.std.specs.Prelude.{◌≡◌, ◌≢◌, ◌<◌, ◌≤◌, [], ◌∷◌, All, length, IfOk, IfErr, OnOk, vec_capacity};
+ghost use Rattle.partitions.specs.Parts.{shared_of};
 ghost use Rattle.requests.specs.declared.group.Group.{Group as AnyGroup};
 ghost use Rattle.groups.specs.Footprint.{groups_of};
 ghost use Rattle.groups.specs.Groups.{warehouse_of};
@@ -31,7 +32,7 @@ pub enum Ran<J: Naming> {
 /// or finds no memory has taken back what it did, and holds no claim.
 pub fn act<J: Naming>(alloc: Global, slice: &mut Slice<J>, age: u64, work: Work) -> Ran<J>
     requires warehouses { J.warehouses ≡ slice.old.tables.scale.warehouses }
-    requires can { CanDo slice.old.tables.scale work }
+    requires can { CanDo (shared_of slice.old.tables) work }
     requires home { home_of work ≡ slice.old.home }
     ensures kept { SliceKeeps [] slice.old (claims_of_ran result) slice.new }
     ensures done { IsRanOf slice.old work result }

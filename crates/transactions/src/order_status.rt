@@ -1,6 +1,7 @@
 //! An Order-Status (clause 2.6): what its actions do and find, its phases, and its law. It reads its customer, and
 //! then the customer's last order (clause 2.6.2.2).
 ghost use Rattle.std.specs.Prelude.{◌≡◌, [], ◌∷◌, length, slice_get, IfOk, OnErr};
+ghost use Rattle.partitions.specs.Parts.{shared_of};
 ghost use Rattle.requests.specs.declared.group.Group.TheVariants as group;
 ghost use Rattle.slices.specs.Sliced.{SliceKeeps};
 ghost use Rattle.transactions.specs.declared.order_status.CustomerShown.{CustomerShown as AnyCustomerShown};
@@ -126,11 +127,11 @@ impl Work {
         slice: &mut Slice<J>,
         claims: &mut [Claim<J>],
     ) -> Result<Found, NoMemory>
-        requires can { CanDo slice.old.tables.scale self }
+        requires can { CanDo (shared_of slice.old.tables) self }
         requires home { home_of self ≡ slice.old.home }
         requires granted { AreGrantedFor (wishes_of self) claims.old }
         ensures kept { SliceKeeps claims.old slice.old claims.new slice.new }
-        ensures done { IfOk result (λ found. HasDone slice.old.tables.scale self found claims.new) }
+        ensures done { IfOk result (λ found. HasDone (shared_of slice.old.tables) self found claims.new) }
         ensures left { AreLeft claims.old claims.new }
         ensures err { OnErr result (claims.new ≡ claims.old) }
     {
@@ -210,14 +211,18 @@ impl Progress {
         Ok(works)
     }
 
-    // What follows, by what its actions found, by place.
-    pub(crate) fn gather(self, found: Vec<crate::Found>) -> Gathered
+    // What follows, by what its actions found, by place. It takes no memory.
+    pub(crate) fn gather(
+        self,
+        _alloc: Global,
+        found: Vec<crate::Found>,
+    ) -> Result<Gathered, NoMemory>
         requires { HasFound (any.OrderStatus self) found.items }
-        ensures { FollowsFrom (any.OrderStatus self) found.items result }
+        ensures { IfOk result (λ gathered. FollowsFrom (any.OrderStatus self) found.items gathered) }
     {
         match self {
-            Progress::ReadCustomer(asked) => gather_customer(asked, found),
-            Progress::ReadOrder(shown) => gather_order(shown, found),
+            Progress::ReadCustomer(asked) => Ok(gather_customer(asked, found)),
+            Progress::ReadOrder(shown) => Ok(gather_order(shown, found)),
         }
     }
 }

@@ -3,6 +3,7 @@
 ghost use Rattle.std.specs.Prelude.{◌≡◌, [], ◌∷◌, length, slice_get, IsTrue, IfOk, OnOk, OnErr};
 ghost use Rattle.std.specs.FinMap as map;
 ghost use Rattle.schema.specs.Scale.{has_customer, has_district};
+ghost use Rattle.partitions.specs.Parts.{shared_of};
 ghost use Rattle.requests.specs.declared.group.Group.TheVariants as group;
 ghost use Rattle.groups.specs.Laws.{with_district, with_warehouse};
 ghost use Rattle.tickets.specs.Claims.{leaving};
@@ -150,11 +151,11 @@ impl Work {
         slice: &mut Slice<J>,
         claims: &mut [Claim<J>],
     ) -> Result<Found, NoMemory>
-        requires can { CanDo slice.old.tables.scale self }
+        requires can { CanDo (shared_of slice.old.tables) self }
         requires home { home_of self ≡ slice.old.home }
         requires granted { AreGrantedFor (wishes_of self) claims.old }
         ensures kept { SliceKeeps claims.old slice.old claims.new slice.new }
-        ensures done { IfOk result (λ found. HasDone slice.old.tables.scale self found claims.new) }
+        ensures done { IfOk result (λ found. HasDone (shared_of slice.old.tables) self found claims.new) }
         ensures left { AreLeft claims.old claims.new }
         ensures err { OnErr result (claims.new ≡ claims.old) }
     {
@@ -330,14 +331,18 @@ impl Progress {
         }
     }
 
-    // What follows, by what its actions found, by place.
-    pub(crate) fn gather(self, found: Vec<crate::Found>) -> Gathered
+    // What follows, by what its actions found, by place. It takes no memory.
+    pub(crate) fn gather(
+        self,
+        _alloc: Global,
+        found: Vec<crate::Found>,
+    ) -> Result<Gathered, NoMemory>
         requires { HasFound (any.Payment self) found.items }
-        ensures { FollowsFrom (any.Payment self) found.items result }
+        ensures { IfOk result (λ gathered. FollowsFrom (any.Payment self) found.items gathered) }
     {
         match self {
-            Progress::PayRows(payment) => gather_rows(payment, found),
-            Progress::AddRow(paid) => gather_added(paid, found),
+            Progress::PayRows(payment) => Ok(gather_rows(payment, found)),
+            Progress::AddRow(paid) => Ok(gather_added(paid, found)),
         }
     }
 }

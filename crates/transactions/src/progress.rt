@@ -1,6 +1,6 @@
 //! How far a transaction has come, by kind, and what follows of what the actions of its phase found.
 ghost use Rattle.std.specs.Prelude.{◌≡◌, List, IfOk};
-ghost use Rattle.schema.specs.declared.scale.Scale.{Scale};
+ghost use Rattle.partitions.specs.Parts.{Shared};
 ghost use Rattle.requests.specs.declared.request.Request.{Request as AnyRequest};
 ghost use Rattle.tickets.specs.Claims.{Claiming};
 ghost use Rattle.transactions.specs.Granted.{IsAsked};
@@ -33,7 +33,7 @@ pub enum Gathered {
 impl Progress {
     /// Where a transaction begins.
     pub fn begin(request: Request) -> Progress
-        ensures { (scale : Scale) (asked : AnyRequest) (held : List Claiming) → IsAsked scale asked request held → IsReached scale asked result held }
+        ensures { (shared : Shared) (asked : AnyRequest) (held : List Claiming) → IsAsked shared asked request held → IsReached shared asked result held }
     {
         match request {
             Request::Payment(payment) => Progress::Payment(payment::Progress::PayRows(payment)),
@@ -53,14 +53,14 @@ impl Progress {
         }
     }
 
-    /// What follows, by what the actions of its phase found, by place.
-    pub fn gather(self, found: Vec<Found>) -> Gathered
+    /// What follows, by what the actions of its phase found, by place. Want of memory leaves nothing behind.
+    pub fn gather(self, alloc: Global, found: Vec<Found>) -> Result<Gathered, NoMemory>
         requires { HasFound self found.items }
-        ensures { FollowsFrom self found.items result }
+        ensures { IfOk result (λ gathered. FollowsFrom self found.items gathered) }
     {
         match self {
-            Progress::Payment(progress) => progress.gather(found),
-            Progress::OrderStatus(progress) => progress.gather(found),
+            Progress::Payment(progress) => progress.gather(alloc, found),
+            Progress::OrderStatus(progress) => progress.gather(alloc, found),
         }
     }
 }

@@ -1,5 +1,6 @@
 //! What the actions of all transactions do and find, by kind.
 ghost use Rattle.std.specs.Prelude.{◌≡◌, length, slice_get, IfOk, OnErr};
+ghost use Rattle.partitions.specs.Parts.{shared_of};
 ghost use Rattle.groups.specs.Footprint as footprint;
 ghost use Rattle.slices.specs.Sliced.{SliceKeeps};
 ghost use Rattle.transactions.specs.Granted.{AreGrantedFor, AreLeft};
@@ -88,11 +89,11 @@ pub fn run<J: Naming>(
     claims: &mut [Claim<J>],
     work: Work,
 ) -> Result<Found, NoMemory>
-    requires can { CanDo slice.old.tables.scale work }
+    requires can { CanDo (shared_of slice.old.tables) work }
     requires home { home_of work ≡ slice.old.home }
     requires granted { AreGrantedFor (wishes_of work) claims.old }
     ensures kept { SliceKeeps claims.old slice.old claims.new slice.new }
-    ensures done { IfOk result (λ found. HasDone slice.old.tables.scale work found claims.new) }
+    ensures done { IfOk result (λ found. HasDone (shared_of slice.old.tables) work found claims.new) }
     ensures left { AreLeft claims.old claims.new }
     ensures err { OnErr result (claims.new ≡ claims.old) }
 {

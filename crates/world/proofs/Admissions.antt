@@ -3,7 +3,7 @@ use Rattle.std.proofs.Common.{◌≡◌, ◌+◌, ℕ, List, [], ◌∷◌, ◌+
 use Rattle.std.specs.Prelude.{true, Option, IfSome, Vec, is_some, slice_get, slice_set}
 use Rattle.std.specs.declared.alloc.Global.{Global}
 use Rattle.std.proofs.lemmas.Option.{get_or_from_slice_get}
-use Rattle.schema.specs.declared.scale.Scale.{Scale}
+use Rattle.partitions.specs.Parts.{Shared}
 use Rattle.commit_log.specs.Asks.{asking}
 use Rattle.commit_log.specs.Passing.{Passing, Seating, seating, with_asks}
 use Rattle.requests.specs.declared.request.Request.{Request}
@@ -62,7 +62,7 @@ module _ {J : Type 0} where
   pub admits : (session number : ℕ) (asked : Request) (desk left : SessionDesk J) (old new : Parts J) (flow : Flow J) (works : Vec Work Global) (meeting : List (Option (Report J)))
       → is_some desk.pass ≡ true
       → flow.transaction.age ≡ old.desk.admitted → flow.transaction.number ≡ number → flow.transaction.request ≡ asked → flow.transaction.held ≡ []
-      → ((scale : Scale) → IsAccepted scale asked → IsReached scale asked flow.progress [])
+      → ((shared : Shared) → IsAccepted shared.scale asked → IsReached shared asked flow.progress [])
       → IfSome desk.pass (λ was. flow.transaction.pass ≡ with_asks was (asking number asked was.seen was.mine))
       → works.items ≡ works_of flow.progress → meeting ≡ replicate (length works.items) None
       → left.seat ≡ seating desk.seat.session flow.transaction.pass.asks → left.pass ≡ None

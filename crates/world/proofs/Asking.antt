@@ -6,7 +6,7 @@ use Rattle.std.proofs.lemmas.List.{length-set, length-replicate}
 use Rattle.std.proofs.lemmas.Option.{slice_get_within}
 use Rattle.std.proofs.lemmas.List.Elements.{All-nil, All-cons, All-head, All-tail}
 use Rattle.std.proofs.lemmas.List.Sums.{sum_by-cons, sum_by-append}
-use Rattle.schema.specs.declared.scale.Scale.{Scale}
+use Rattle.partitions.specs.Parts.{Shared}
 use Rattle.schema.specs.Database.{Database}
 use Rattle.requests.specs.declared.request.Request.{Request}
 use Rattle.requests.specs.declared.refusal.Refusal.{Refusal}
@@ -55,9 +55,9 @@ one_each t = 1
 -- ---- the actions of a phase
 
 -- a transaction has no more than four, those of the phases before and those of the phase
-pub few_at : (scale : Scale) (asked : Request) (progress : Progress) (held : List (List Claiming)) → IsReached scale asked progress (all_claims held) → All HoldsSome held
+pub few_at : (shared : Shared) (asked : Request) (progress : Progress) (held : List (List Claiming)) → IsReached shared asked progress (all_claims held) → All HoldsSome held
     → length held + length (works_of progress) ≤ 4
-few_at scale asked progress held reached some = few_actions asked (works_of progress) held (within scale asked progress (all_claims held) reached) some
+few_at shared asked progress held reached some = few_actions asked (works_of progress) held (within shared asked progress (all_claims held) reached) some
 
 -- each has its token
 acting_tokens : (place : ℕ) (works : List Work) → sum_by one_each (acting_from place works) ≡ length works
@@ -86,40 +86,40 @@ no_report_at R (suc count) (suc place) r is = no_report_at R count place r is
 module _ {J : Type 0} where
   -- ---- while nothing is active
 
-  pub some_token : (scale : Scale) (u : UnderWay) (message : Message J) → IsSoundMessage scale u message → 1 ≤ sum_by one_each (part_message message).tokens
-  some_token scale u (Start flow works) h =
+  pub some_token : (shared : Shared) (u : UnderWay) (message : Message J) → IsSoundMessage shared u message → 1 ≤ sum_by one_each (part_message message).tokens
+  some_token shared u (Start flow works) h =
       omega (arith, acting_tokens 0 works.items, ap (λ (ws : List Work). length ws) h.works_are, some_actions u.progress)
-  some_token scale u (Act act) h = omega arith
-  some_token scale u (Settle claims) h = omega arith
-  some_token scale u (Undo claims) h = omega arith
+  some_token shared u (Act act) h = omega arith
+  some_token shared u (Settle claims) h = omega arith
+  some_token shared u (Undo claims) h = omega arith
 
-  pub no_message : (scale : Scale) (u : UnderWay) (messages : List (Message J)) → All (IsSoundMessage scale u) messages
+  pub no_message : (shared : Shared) (u : UnderWay) (messages : List (Message J)) → All (IsSoundMessage shared u) messages
       → sum_by one_each (parts part_message messages).tokens ≡ 0 → messages ≡ []
-  no_message scale u [] h none = refl
-  no_message scale u (message ∷ messages) h none =
+  no_message shared u [] h none = refl
+  no_message shared u (message ∷ messages) h none =
       absurd (omega (
         arith,
         none,
-        some_token scale u message (All-head (IsSoundMessage scale u) message messages h),
+        some_token shared u message (All-head (IsSoundMessage shared u) message messages h),
         sum_by-append one_each (part_message message).tokens (parts part_message messages).tokens,
       ))
 
   -- an item without tokens is sound whatever transaction is under way
-  other_item : (scale : Scale) (log : List Entry) (u v : UnderWay) (i : Item J) → sum_by one_each (part_item i).tokens ≡ 0 → IsSoundItem scale log u i → IsSoundItem scale log v i
-  other_item scale log u v (item.Push message) none h = absurd (omega (arith, none, some_token scale u message h))
-  other_item scale log u v (item.Report r) none h = absurd (omega (arith, none))
-  other_item scale log u v item.Ended none h = absurd (omega (arith, none))
-  other_item scale log u v (item.Commit commit) none h = absurd (omega (arith, none))
-  other_item scale log u v (item.Reply told) none h = h
+  other_item : (shared : Shared) (log : List Entry) (u v : UnderWay) (i : Item J) → sum_by one_each (part_item i).tokens ≡ 0 → IsSoundItem shared log u i → IsSoundItem shared log v i
+  other_item shared log u v (item.Push message) none h = absurd (omega (arith, none, some_token shared u message h))
+  other_item shared log u v (item.Report r) none h = absurd (omega (arith, none))
+  other_item shared log u v item.Ended none h = absurd (omega (arith, none))
+  other_item shared log u v (item.Commit commit) none h = absurd (omega (arith, none))
+  other_item shared log u v (item.Reply told) none h = h
 
-  pub other_under_way : (scale : Scale) (log : List Entry) (u v : UnderWay) (items : List (Item J)) → sum_by one_each (parts part_item items).tokens ≡ 0
-      → All (IsSoundItem scale log u) items → All (IsSoundItem scale log v) items
-  other_under_way scale log u v [] none h = All-nil (IsSoundItem scale log v)
-  other_under_way scale log u v (i ∷ items) none h =
+  pub other_under_way : (shared : Shared) (log : List Entry) (u v : UnderWay) (items : List (Item J)) → sum_by one_each (parts part_item items).tokens ≡ 0
+      → All (IsSoundItem shared log u) items → All (IsSoundItem shared log v) items
+  other_under_way shared log u v [] none h = All-nil (IsSoundItem shared log v)
+  other_under_way shared log u v (i ∷ items) none h =
       let both = sum_by-append one_each (part_item i).tokens (parts part_item items).tokens in
-      All-cons (IsSoundItem scale log v) i items
-      (other_item scale log u v i (omega (arith, none, both)) (All-head (IsSoundItem scale log u) i items h))
-      (other_under_way scale log u v items (omega (arith, none, both)) (All-tail (IsSoundItem scale log u) i items h))
+      All-cons (IsSoundItem shared log v) i items
+      (other_item shared log u v i (omega (arith, none, both)) (All-head (IsSoundItem shared log u) i items h))
+      (other_under_way shared log u v items (omega (arith, none, both)) (All-tail (IsSoundItem shared log u) i items h))
 
   -- a request that the desk doesn't refuse
   pub not_refused : (pass : Option Passing) (checked : Result (Unit {0}) Refusal) (active : Option (Active J)) → refuses pass checked (is_some active) ≡ None
@@ -131,8 +131,8 @@ module _ {J : Type 0} where
 
   -- ---- the admission
 
-  module _ (scale : Scale) (w : Parts J) (h : IsSoundWith scale nothing w) (place number : ℕ) (asked : Request) (desk : SessionDesk J)
-      (is : slice_get w.desk.sessions.items place ≡ Some desk) (none : w.desk.active ≡ None) (accepted : check_of scale asked ≡ Ok tt)
+  module _ (shared : Shared) (w : Parts J) (h : IsSoundWith shared nothing w) (place number : ℕ) (asked : Request) (desk : SessionDesk J)
+      (is : slice_get w.desk.sessions.items place ≡ Some desk) (none : w.desk.active ≡ None) (accepted : check_of shared.scale asked ≡ Ok tt)
       (new : Parts J) (a : Admits place number asked desk w new) where
     whose : a.flow.transaction.pass.session ≡ place
     whose = ap (λ (x : Passing). x.session) a.pass_is ∙ subst (λ (o : Option Passing). IsPassOf place o) a.here (h.sessions place desk is).1
@@ -155,10 +155,10 @@ module _ {J : Type 0} where
     abbrev slots : List (Option (Report J))
     slots = replicate (length a.works.items) None
 
-    reached : IsReached scale asked a.flow.progress []
-    reached = a.begins scale accepted
+    reached : IsReached shared asked a.flow.progress []
+    reached = a.begins shared accepted
 
-    sound_start : IsSoundStart scale u a.flow a.works.items
+    sound_start : IsSoundStart shared u a.flow a.works.items
     sound_start = record {
       flow_is = record {
         asked = record {
@@ -171,15 +171,15 @@ module _ {J : Type 0} where
         progress = refl;
       };
       works_are = a.works_are;
-      can = subst (λ ws. All (CanDo scale) ws) (sym a.works_are) (can_all scale asked a.flow.progress [] reached);
+      can = subst (λ ws. All (CanDo shared) ws) (sym a.works_are) (can_all shared asked a.flow.progress [] reached);
       few = omega (
         arith,
         ap (λ (ws : List Work). length ws) a.works_are,
-        few_at scale asked a.flow.progress [] reached (All-nil HoldsSome),
+        few_at shared asked a.flow.progress [] reached (All-nil HoldsSome),
       );
     }
 
-    sound_phase : IsSoundPhase scale u slots
+    sound_phase : IsSoundPhase shared u slots
     sound_phase = record {
       reached = reached;
       hold = All-nil HoldsSome;
@@ -220,7 +220,7 @@ module _ {J : Type 0} where
         ap (λ (rs : List (Report J)). fly (in_inbox w) (in_outbox w) (parts part_met rs)) (none_reported (Report J) (length a.works.items)) in
         subst (λ (p : Part). IsSame (join (part_message message) p) (flight next)) nothing_met (same-sym _ _ (message_put with_desk message))
 
-    pub admits_sound : IsSoundWith scale nothing new
+    pub admits_sound : IsSoundWith shared nothing new
     admits_sound =
         let message : Message J = Start a.flow a.works in
         let t = unanswered_transaction a.flow.transaction in
@@ -230,8 +230,8 @@ module _ {J : Type 0} where
         let zero_all = at_rest one_each in
         let front = sum_by-append one_each (in_inbox w).tokens ((in_outbox w).tokens ++ []) in
         let back = sum_by-append one_each (in_outbox w).tokens [] in
-        let empty : w.inbox ≡ [] = no_message scale h.under_way w.inbox h.inbox (omega (arith, zero_all, front, back)) in
-        let outbox = other_under_way scale w.log h.under_way u w.outbox (omega (arith, zero_all, front, back)) h.outbox in
+        let empty : w.inbox ≡ [] = no_message shared h.under_way w.inbox h.inbox (omega (arith, zero_all, front, back)) in
+        let outbox = other_under_way shared w.log h.under_way u w.outbox (omega (arith, zero_all, front, back)) h.outbox in
         let alone : AreAlone all (t ∷ rest.pending) = asked_alone w.desk.sessions.items t rest.pending desk session place is whose here refl bare.alone bare.many in
         let many : AreMany all (t ∷ rest.pending) = asked_many w.desk.sessions.items t rest.pending desk session place is whose here refl bare.alone bare.many in
         let placed : AreInPlace all = still_in_place w.desk.sessions.items place desk session is ((h.sessions place desk is).0, tt) h.sessions in
@@ -245,18 +245,18 @@ module _ {J : Type 0} where
           alone = subst (λ l. AreAlone l (t ∷ rest.pending)) (sym a.sessions) alone;
           many = subst (λ l. AreMany l (t ∷ rest.pending)) (sym a.sessions) many;
         } in
-        let sound : IsSoundWith scale nothing next = record {
-          scale_is = h.scale_is;
+        let sound : IsSoundWith shared nothing next = record {
+          shared_is = h.shared_is;
           slices = h.slices;
           under_way = u;
-          inbox = subst (λ ms. All (IsSoundMessage scale u) (ms ++ message ∷ [])) (sym empty) (All-cons (IsSoundMessage scale u) message [] sound_start (All-nil (IsSoundMessage scale u)));
+          inbox = subst (λ ms. All (IsSoundMessage shared u) (ms ++ message ∷ [])) (sym empty) (All-cons (IsSoundMessage shared u) message [] sound_start (All-nil (IsSoundMessage shared u)));
           outbox = outbox;
           active = sound_phase;
           seats = ap (λ (l : List (SessionDesk J)). length l) a.sessions ∙ length-set w.desk.sessions.items place session ∙ h.seats;
           sessions = subst (λ l. AreInPlace l) (sym a.sessions) placed;
           balance = balanced_same with_desk.desk (join (part_message message) rest) (flight next) one_more balance;
         } in
-        subst (λ v. IsSoundWith scale nothing v) (sym new_is) sound
+        subst (λ v. IsSoundWith shared nothing v) (sym new_is) sound
 
     pub admits_fits : (opening : Database) (history : List Step) → Fits opening history w
         → Fits opening (history ++ step (Submit place number asked) (Accepted w.desk.admitted) ∷ []) new

@@ -2,7 +2,7 @@
 use Rattle.std.proofs.Common.{◌≡◌, ◌↔◌, ℕ, ◌<◌, ◌≤◌, Bool, true, false, List, [], ◌∷◌, Option, Some, None, Result, Ok, Err, refl, sym, ◌∙◌, ap, subst, cond, arith, ⊎_elim}
 use Rattle.std.specs.Prelude.{count_by, is_some}
 use Rattle.std.specs.List.{slice_get}
-use Rattle.schema.specs.declared.scale.Scale.{Scale}
+use Rattle.partitions.specs.Parts.{Shared}
 use Rattle.requests.specs.declared.request.Request.{Request}
 use Rattle.requests.specs.declared.answer.Answer.TheVariants.{Refused}
 use Rattle.requests.specs.declared.refusal.Refusal.{Refusal}
@@ -23,41 +23,41 @@ use Rattle.world.specs.Worlds.{Happens, IsBusyExactly, SubmitsAt, SubmitsUnless,
 use Rattle.world.proofs.Ready.{stands_at}
 
 -- no check answers that a session is waiting
-never_busy : (scale : Scale) (asked : Request) → check_of scale asked ≡ Err SessionBusy → ⊥
-never_busy scale asked is = absurd (omega (arith, refused_by_itself scale asked SessionBusy is))
+never_busy : (shared : Shared) (asked : Request) → check_of shared.scale asked ≡ Err SessionBusy → ⊥
+never_busy shared asked is = absurd (omega (arith, refused_by_itself shared.scale asked SessionBusy is))
 
 module _ {J : Type 0} where
   -- where its pass is at the desk a session isn't told that it waits
-  here_not_busy : (scale : Scale) (asked : Request) (pass : Passing) (active : Bool) (session number : ℕ) (desk : SessionDesk J) (old new : Parts J) (answer : EventAnswer)
-      → SubmitsUnless (refuses (Some pass) (check_of scale asked) active) session number asked desk old answer new → answer ≡ Answered session number (Refused SessionBusy) → ⊥
-  here_not_busy scale asked pass active session number desk old new answer said is = by_check (check_of scale asked) active refl said
+  here_not_busy : (shared : Shared) (asked : Request) (pass : Passing) (active : Bool) (session number : ℕ) (desk : SessionDesk J) (old new : Parts J) (answer : EventAnswer)
+      → SubmitsUnless (refuses (Some pass) (check_of shared.scale asked) active) session number asked desk old answer new → answer ≡ Answered session number (Refused SessionBusy) → ⊥
+  here_not_busy shared asked pass active session number desk old new answer said is = by_check (check_of shared.scale asked) active refl said
     where
       into : (can : Bool) → SubmitsInto can session number asked desk old answer new → ⊥
       into false said = let e = said.0 in absurd (cc)
       into true said = ⊎_elim (λ refused. let e = refused.0 in cc) (λ admitted. let e = admitted.0 in cc) said
 
-      by_check : (checked : Result (Unit {0}) Refusal) (busy : Bool) → check_of scale asked ≡ checked → SubmitsUnless (refuses (Some pass) checked busy) session number asked desk old answer new → ⊥
+      by_check : (checked : Result (Unit {0}) Refusal) (busy : Bool) → check_of shared.scale asked ≡ checked → SubmitsUnless (refuses (Some pass) checked busy) session number asked desk old answer new → ⊥
       by_check (Err why) busy at said =
           let e = said.0 in
           let same : why ≡ SessionBusy = cc in
-          never_busy scale asked (at ∙ ap Err same)
+          never_busy shared asked (at ∙ ap Err same)
       by_check (Ok u) true at said = let e = said.0 in absurd (cc)
       by_check (Ok u) false at said = into (can_admit old) said
 
-  busy_of : (scale : Scale) (old new : Parts J) (h : IsSoundWith scale nothing old) (session number : ℕ) (asked : Request) (answer : EventAnswer) (desk : SessionDesk J) (pass : Option Passing) → desk.pass ≡ pass
+  busy_of : (shared : Shared) (old new : Parts J) (h : IsSoundWith shared nothing old) (session number : ℕ) (asked : Request) (answer : EventAnswer) (desk : SessionDesk J) (pass : Option Passing) → desk.pass ≡ pass
       → slice_get old.desk.sessions.items session ≡ Some desk
       → SubmitsUnless (refuses pass (check_of old.catalog.scale asked) (is_some old.desk.active)) session number asked desk old answer new
       → (answer ≡ Answered session number (Refused SessionBusy)) ↔ (1 ≤ count_by (is_of session) (flight old).pending)
-  busy_of scale old new h session number asked answer desk None is there said =
+  busy_of shared old new h session number asked answer desk None is there said =
       (λ told. omega (arith, h.balance.alone session desk there, ap (λ (o : Option Passing). cond {A = ℕ} (is_some o) 1 0) is), λ some. said.0)
-  busy_of scale old new h session number asked answer desk (Some pass) is there said = (
-    λ told. absurd (here_not_busy old.catalog.scale asked pass (is_some old.desk.active) session number desk old new answer said told),
+  busy_of shared old new h session number asked answer desk (Some pass) is there said = (
+    λ told. absurd (here_not_busy old.catalog asked pass (is_some old.desk.active) session number desk old new answer said told),
     λ some. absurd (omega (arith, some, h.balance.alone session desk there, ap (λ (o : Option Passing). cond {A = ℕ} (is_some o) 1 0) is)),
   )
 
-  pub busy_exactly : (scale : Scale) (event : Event) (old new : Parts J) (answer : EventAnswer) → IsSoundWith scale nothing old → Happens event old answer new → IsBusyExactly event old answer
-  busy_exactly scale (Submit session number asked) old new answer h said = λ below.
+  pub busy_exactly : (shared : Shared) (event : Event) (old new : Parts J) (answer : EventAnswer) → IsSoundWith shared nothing old → Happens event old answer new → IsBusyExactly event old answer
+  busy_exactly shared (Submit session number asked) old new answer h said = λ below.
       let found = stands_at old.desk.sessions.items session (subst (λ n. session < n) (sym h.seats) below) in
-      busy_of scale old new h session number asked answer found.0 found.0.pass refl found.1 (subst (λ o. SubmitsAt o session number asked old answer new) found.1 said)
-  busy_exactly scale (Take executor) old new answer h said = tt
-  busy_exactly scale (Send executor) old new answer h said = tt
+      busy_of shared old new h session number asked answer found.0 found.0.pass refl found.1 (subst (λ o. SubmitsAt o session number asked old answer new) found.1 said)
+  busy_exactly shared (Take executor) old new answer h said = tt
+  busy_exactly shared (Send executor) old new answer h said = tt

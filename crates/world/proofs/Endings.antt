@@ -2,7 +2,7 @@
 use Rattle.std.proofs.Common.{◌≡◌, ℕ, ◌-◌, ◌≤◌, zero, suc, [], ◌∷◌, Option, Some, refl, sym, ◌∙◌, ap, subst, arith}
 use Rattle.std.specs.Prelude.{replicate}
 use Rattle.std.proofs.lemmas.List.Sorted.{IsPermutation-refl}
-use Rattle.schema.specs.declared.scale.Scale.{Scale}
+use Rattle.partitions.specs.Parts.{Shared}
 use Rattle.world.specs.declared.desk.Active.{Active}
 use Rattle.world.specs.declared.desk.Active.TheVariants as active
 use Rattle.world.specs.declared.desk.Desk.{Desk}
@@ -28,26 +28,26 @@ one_less_than : (left : ℕ) → 1 ≤ left → (n : ℕ) × ((left ≡ suc n) �
 one_less_than zero some = absurd (omega (arith, some))
 one_less_than (suc n) some = (n, (refl, omega arith))
 
-module _ {J : Type 0} (scale : Scale) (w : Parts J) (h : IsSoundWith scale part_ended w) where
+module _ {J : Type 0} (shared : Shared) (w : Parts J) (h : IsSoundWith shared part_ended w) where
   -- of one more, so many are left
-  ended : (n : ℕ) → w.desk.active ≡ Some (active.Ending (suc n)) → GoesOn scale part_ended w (with_active (ending n) w)
+  ended : (n : ℕ) → w.desk.active ≡ Some (active.Ending (suc n)) → GoesOn shared part_ended w (with_active (ending n) w)
   ended n is =
       let next : Option (Active J) = ending n in
       let desk : Desk J = record w.desk { active = next } in
       let met = ending_met w (suc n) is in
       let b = beside_now part_ended w [] (Ending ∷ replicate n Ending) h.balance met (ap awaited is) in
-      let sound : IsSoundActive {J = J} scale h.under_way (Some (active.Ending (suc n))) = subst (λ o. IsSoundActive scale h.under_way o) is h.active in
+      let sound : IsSoundActive {J = J} shared h.under_way (Some (active.Ending (suc n))) = subst (λ o. IsSoundActive shared h.under_way o) is h.active in
       let tokens : WeighAlike (lots w).tokens (awaited next) =
       subst (λ ts. WeighAlike (lots w).tokens ts) (sym (ending_awaits J n)) (one_less Ending (lots w).tokens (replicate n Ending) b.tokens) in
       let none = nothing_met J n in
       record {
         sound = record {
-          scale_is = h.scale_is;
+          shared_is = h.shared_is;
           slices = h.slices;
           under_way = h.under_way;
           inbox = h.inbox;
           outbox = h.outbox;
-          active = ending_sound J scale h.under_way n (omega (arith, sound.1));
+          active = ending_sound J shared h.under_way n (omega (arith, sound.1));
           seats = h.seats;
           sessions = h.sessions;
           balance = subst (λ rs. IsBalanced desk (fly (in_inbox w) (in_outbox w) (parts part_met rs))) (sym none)
@@ -59,9 +59,9 @@ module _ {J : Type 0} (scale : Scale) (w : Parts J) (h : IsSoundWith scale part_
             (subst (λ rs. FitsPart opening history w.log (joined_in w) w.desk.admitted (beside part_ended w rs)) met f));
       }
 
-  pub ended_goes_on : (left : ℕ) → w.desk.active ≡ Some (active.Ending left) → GoesOn scale part_ended w (with_active (ending (left - 1)) w)
+  pub ended_goes_on : (left : ℕ) → w.desk.active ≡ Some (active.Ending left) → GoesOn shared part_ended w (with_active (ending (left - 1)) w)
   ended_goes_on left is =
-      let sound : IsSoundActive {J = J} scale h.under_way (Some (active.Ending left)) = subst (λ o. IsSoundActive scale h.under_way o) is h.active in
+      let sound : IsSoundActive {J = J} shared h.under_way (Some (active.Ending left)) = subst (λ o. IsSoundActive shared h.under_way o) is h.active in
       let less = one_less_than left sound.0 in
-      subst (λ n. GoesOn scale part_ended w (with_active (ending n) w)) less.1.1
+      subst (λ n. GoesOn shared part_ended w (with_active (ending n) w)) less.1.1
       (ended less.0 (is ∙ ap (λ n. Some (active.Ending n)) less.1.0))

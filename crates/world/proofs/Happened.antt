@@ -1,7 +1,7 @@
 -- What an event brings, by the event.
 use Rattle.std.proofs.Common.{◌≡◌, ℕ, Bool, true, false, [], ◌∷◌, ◌++◌, Option, Some, None, Ok, refl, sym, subst, ⊎_elim}
 use Rattle.std.specs.List.{slice_get}
-use Rattle.schema.specs.declared.scale.Scale.{Scale}
+use Rattle.partitions.specs.Parts.{Shared}
 use Rattle.requests.specs.declared.request.Request.{Request}
 use Rattle.requests.specs.declared.refusal.Refusal.{Refusal}
 use Rattle.requests.specs.declared.answer.Answer.TheVariants.{Refused}
@@ -29,35 +29,35 @@ module _ {J : Type 0} where
       (subst (λ a. Fits opening (history ++ step event a ∷ []) old) (sym said.0)
       (fits_quiet opening history old.log (joined_in old) old.desk.admitted (flight old) event told quiet f))
 
-  submits_into : (scale : Scale) (old new : Parts J) (h : IsSoundWith scale nothing old) (session number : ℕ) (asked : Request) (desk : SessionDesk J) (answer : EventAnswer)
+  submits_into : (shared : Shared) (old new : Parts J) (h : IsSoundWith shared nothing old) (session number : ℕ) (asked : Request) (desk : SessionDesk J) (answer : EventAnswer)
       → slice_get old.desk.sessions.items session ≡ Some desk → refusal_at desk asked old ≡ None → (can : Bool) → SubmitsInto can session number asked desk old answer new
-      → IsSoundWith scale nothing new × Advances old (step (Submit session number asked) answer ∷ []) new
-  submits_into scale old new h session number asked desk answer there free false said =
-      (subst (λ w. IsSoundWith scale nothing w) (sym said.1) h, stays old new (Submit session number asked) Nothing answer tt said)
-  submits_into scale old new h session number asked desk answer there free true said =
+      → IsSoundWith shared nothing new × Advances old (step (Submit session number asked) answer ∷ []) new
+  submits_into shared old new h session number asked desk answer there free false said =
+      (subst (λ w. IsSoundWith shared nothing w) (sym said.1) h, stays old new (Submit session number asked) Nothing answer tt said)
+  submits_into shared old new h session number asked desk answer there free true said =
       let clear = not_refused desk.pass (check_of old.catalog.scale asked) old.desk.active free in
-      let accepted : check_of scale asked ≡ Ok tt = subst (λ s. check_of s asked ≡ Ok tt) h.scale_is clear.0 in
+      let accepted : check_of shared.scale asked ≡ Ok tt = subst (λ (s : Shared). check_of s.scale asked ≡ Ok tt) h.shared_is clear.0 in
       ⊎_elim
-      (λ refused. (subst (λ w. IsSoundWith scale nothing w) (sym refused.1) h, stays old new (Submit session number asked) _ answer tt refused))
+      (λ refused. (subst (λ w. IsSoundWith shared nothing w) (sym refused.1) h, stays old new (Submit session number asked) _ answer tt refused))
       (λ admitted. (
-        admits_sound scale old h session number asked desk there clear.1 accepted new admitted.1,
+        admits_sound shared old h session number asked desk there clear.1 accepted new admitted.1,
         λ opening history f.
             subst (λ a. Fits opening (history ++ step (Submit session number asked) a ∷ []) new) (sym admitted.0)
-            (admits_fits scale old h session number asked desk there clear.1 accepted new admitted.1 opening history f),
+            (admits_fits shared old h session number asked desk there clear.1 accepted new admitted.1 opening history f),
       ))
       said
 
-  submits_unless : (scale : Scale) (old new : Parts J) (h : IsSoundWith scale nothing old) (session number : ℕ) (asked : Request) (desk : SessionDesk J) (answer : EventAnswer)
+  submits_unless : (shared : Shared) (old new : Parts J) (h : IsSoundWith shared nothing old) (session number : ℕ) (asked : Request) (desk : SessionDesk J) (answer : EventAnswer)
       → slice_get old.desk.sessions.items session ≡ Some desk → (why : Option Refusal) → refusal_at desk asked old ≡ why → SubmitsUnless why session number asked desk old answer new
-      → IsSoundWith scale nothing new × Advances old (step (Submit session number asked) answer ∷ []) new
-  submits_unless scale old new h session number asked desk answer there (Some why) is said =
-      (subst (λ w. IsSoundWith scale nothing w) (sym said.1) h, stays old new (Submit session number asked) (Answered session number (Refused why)) answer tt said)
-  submits_unless scale old new h session number asked desk answer there None is said = submits_into scale old new h session number asked desk answer there is (can_admit old) said
+      → IsSoundWith shared nothing new × Advances old (step (Submit session number asked) answer ∷ []) new
+  submits_unless shared old new h session number asked desk answer there (Some why) is said =
+      (subst (λ w. IsSoundWith shared nothing w) (sym said.1) h, stays old new (Submit session number asked) (Answered session number (Refused why)) answer tt said)
+  submits_unless shared old new h session number asked desk answer there None is said = submits_into shared old new h session number asked desk answer there is (can_admit old) said
 
-  pub submits_on : (scale : Scale) (old new : Parts J) (h : IsSoundWith scale nothing old) (session number : ℕ) (asked : Request) (answer : EventAnswer)
+  pub submits_on : (shared : Shared) (old new : Parts J) (h : IsSoundWith shared nothing old) (session number : ℕ) (asked : Request) (answer : EventAnswer)
       → (found : Option (SessionDesk J)) → slice_get old.desk.sessions.items session ≡ found → SubmitsAt found session number asked old answer new
-      → IsSoundWith scale nothing new × Advances old (step (Submit session number asked) answer ∷ []) new
-  submits_on scale old new h session number asked answer None there said =
-      (subst (λ w. IsSoundWith scale nothing w) (sym said.1) h, stays old new (Submit session number asked) Nothing answer tt said)
-  submits_on scale old new h session number asked answer (Some desk) there said =
-      submits_unless scale old new h session number asked desk answer there (refusal_at desk asked old) refl said
+      → IsSoundWith shared nothing new × Advances old (step (Submit session number asked) answer ∷ []) new
+  submits_on shared old new h session number asked answer None there said =
+      (subst (λ w. IsSoundWith shared nothing w) (sym said.1) h, stays old new (Submit session number asked) Nothing answer tt said)
+  submits_on shared old new h session number asked answer (Some desk) there said =
+      submits_unless shared old new h session number asked desk answer there (refusal_at desk asked old) refl said

@@ -1,7 +1,7 @@
 -- An item is sent.
 use Rattle.std.proofs.Common.{◌≡◌, ℕ, Bool, true, false, List, [], ◌∷◌, ◌++◌, length, Option, Some, None, refl, sym, subst, nat_lt}
 use Rattle.std.specs.List.{slice_get}
-use Rattle.schema.specs.declared.scale.Scale.{Scale}
+use Rattle.partitions.specs.Parts.{Shared}
 use Rattle.schema.specs.Database.{Database}
 use Rattle.history.specs.declared.event.Event.TheVariants.{Send}
 use Rattle.history.specs.declared.event.EventAnswer.{EventAnswer}
@@ -30,84 +30,84 @@ use Rattle.world.proofs.Replying.{replies_sound, replies_fits}
 
 module _ {J : Type 0} where
   -- the next world is sound, and what fitted fits with the Send and its answer at its end
-  pub record SendsOn (scale : Scale) (hand : Part) (old : Parts J) (answer : EventAnswer) (new : Parts J) : Type 0 where
-    pub sound : IsSoundWith scale nothing new
+  pub record SendsOn (shared : Shared) (hand : Part) (old : Parts J) (answer : EventAnswer) (new : Parts J) : Type 0 where
+    pub sound : IsSoundWith shared nothing new
     pub fits : (opening : Database) (history : List Step) (executor : ℕ) → FitsPart opening history old.log (joined_in old) old.desk.admitted (join hand (flight old))
         → Fits opening (history ++ step (Send executor) answer ∷ []) new
 
   -- an event that tells nothing of a transaction
-  quietly : (scale : Scale) (hand : Part) (old next new : Parts J) (answer : EventAnswer) → GoesOn scale hand old next → answer ≡ Sent → new ≡ next → SendsOn scale hand old answer new
-  quietly scale hand old next new answer goes said is = record {
-    sound = subst (λ w. IsSoundWith scale nothing w) (sym is) goes.sound;
+  quietly : (shared : Shared) (hand : Part) (old next new : Parts J) (answer : EventAnswer) → GoesOn shared hand old next → answer ≡ Sent → new ≡ next → SendsOn shared hand old answer new
+  quietly shared hand old next new answer goes said is = record {
+    sound = subst (λ w. IsSoundWith shared nothing w) (sym is) goes.sound;
     fits = λ opening history executor f.
         subst (λ w. Fits opening (history ++ step (Send executor) answer ∷ []) w) (sym is)
         (subst (λ a. Fits opening (history ++ step (Send executor) a ∷ []) next) (sym said)
         (fits_quiet opening history next.log (joined_in next) next.desk.admitted (flight next) (Send executor) Sent tt (goes.fits opening history f)));
   }
 
-  sends_push : (scale : Scale) (w new : Parts J) (message : Message J) (answer : EventAnswer) (room : Bool) → (h : IsSoundWith scale (part_message message) w) → IsSoundMessage scale h.under_way message
-      → Pushes room message w answer new → SendsOn scale (part_message message) w answer new
-  sends_push scale w new message answer true h s said =
-      quietly scale (part_message message) w (record w { inbox = w.inbox ++ message ∷ [] }) new answer
-      (record { sound = pushes_sound scale w message h s; fits = λ opening history f. pushes_fits opening history w message f }) said.0 said.1
-  sends_push scale w new message answer false h s said =
+  sends_push : (shared : Shared) (w new : Parts J) (message : Message J) (answer : EventAnswer) (room : Bool) → (h : IsSoundWith shared (part_message message) w) → IsSoundMessage shared h.under_way message
+      → Pushes room message w answer new → SendsOn shared (part_message message) w answer new
+  sends_push shared w new message answer true h s said =
+      quietly shared (part_message message) w (record w { inbox = w.inbox ++ message ∷ [] }) new answer
+      (record { sound = pushes_sound shared w message h s; fits = λ opening history f. pushes_fits opening history w message f }) said.0 said.1
+  sends_push shared w new message answer false h s said =
       let next : Parts J = record w { outbox = w.outbox ++ item.Push message ∷ [] } in
       record {
-        sound = subst (λ v. IsSoundWith scale nothing v) (sym said.1) (put_back_sound scale w (item.Push message) h s);
+        sound = subst (λ v. IsSoundWith shared nothing v) (sym said.1) (put_back_sound shared w (item.Push message) h s);
         fits = λ opening history executor f.
             subst (λ v. Fits opening (history ++ step (Send executor) answer ∷ []) v) (sym said.1)
             (subst (λ a. Fits opening (history ++ step (Send executor) a ∷ []) next) (sym said.0)
             (fits_quiet opening history next.log (joined_in next) next.desk.admitted (flight next) (Send executor) Full tt (put_back_fits opening history w (item.Push message) f)));
       }
 
-  sends_commit : (scale : Scale) (w new : Parts J) (commit : CommitItem J) (answer : EventAnswer) (h : IsSoundWith scale (part_item (item.Commit commit)) w) (s : IsSoundCommit scale commit)
-      → Commits commit w answer new → SendsOn scale (part_item (item.Commit commit)) w answer new
-  sends_commit scale w new commit (Logged place) h s said =
-      let both = logging_goes_on scale w commit h s in
+  sends_commit : (shared : Shared) (w new : Parts J) (commit : CommitItem J) (answer : EventAnswer) (h : IsSoundWith shared (part_item (item.Commit commit)) w) (s : IsSoundCommit shared commit)
+      → Commits commit w answer new → SendsOn shared (part_item (item.Commit commit)) w answer new
+  sends_commit shared w new commit (Logged place) h s said =
+      let both = logging_goes_on shared w commit h s in
       record {
-        sound = subst (λ v. IsSoundWith scale nothing v) (sym said.1.1) both.0;
+        sound = subst (λ v. IsSoundWith shared nothing v) (sym said.1.1) both.0;
         fits = λ opening history executor f.
             subst (λ v. Fits opening (history ++ step (Send executor) (Logged place) ∷ []) v) (sym said.1.1)
             (subst (λ n. Fits opening (history ++ step (Send executor) (Logged n) ∷ []) (logging commit w)) (sym said.0) (both.1 opening history executor f));
       }
-  sends_commit scale w new commit Sent h s said = quietly scale (part_item (item.Commit commit)) w _ new Sent (refusing_goes_on scale w commit h s said.0) refl said.1.1.1
-  sends_commit scale w new commit (Accepted age) h s said = absurd said
-  sends_commit scale w new commit Took h s said = absurd said
-  sends_commit scale w new commit Full h s said = absurd said
-  sends_commit scale w new commit (Answered session number told) h s said = absurd said
-  sends_commit scale w new commit Nothing h s said = absurd said
+  sends_commit shared w new commit Sent h s said = quietly shared (part_item (item.Commit commit)) w _ new Sent (refusing_goes_on shared w commit h s said.0) refl said.1.1.1
+  sends_commit shared w new commit (Accepted age) h s said = absurd said
+  sends_commit shared w new commit Took h s said = absurd said
+  sends_commit shared w new commit Full h s said = absurd said
+  sends_commit shared w new commit (Answered session number told) h s said = absurd said
+  sends_commit shared w new commit Nothing h s said = absurd said
 
   -- the phase that is under way where a report comes
-  pub phase_at : (scale : Scale) (w : Parts J) (r : Report J) (h : IsSoundWith scale (part_item (item.Report r)) w) (slots : List (Option (Report J))) → w.desk.active ≡ Some (active.Acting slots)
-      → IsSoundPhase scale h.under_way slots × (slice_get slots r.place ≡ Some None)
-  phase_at scale w r h slots is =
+  pub phase_at : (shared : Shared) (w : Parts J) (r : Report J) (h : IsSoundWith shared (part_item (item.Report r)) w) (slots : List (Option (Report J))) → w.desk.active ≡ Some (active.Acting slots)
+      → IsSoundPhase shared h.under_way slots × (slice_get slots r.place ≡ Some None)
+  phase_at shared w r h slots is =
       let at = acting_under_way r.place w.desk.active (is_awaited (weigh_acting r.place) (Acting r.place) (flight w).tokens (awaited w.desk.active) (one_weighs r.place) h.balance.tokens) in
       let found = at.1.0 in
       let same : at.0 ≡ slots = cc in
-      (subst (λ a. IsSoundActive scale h.under_way a) is h.active, subst (λ (l : List (Option (Report J))). slice_get l r.place ≡ Some None) same at.1.1)
+      (subst (λ a. IsSoundActive shared h.under_way a) is h.active, subst (λ (l : List (Option (Report J))). slice_get l r.place ≡ Some None) same at.1.1)
 
-  pub sends_on : (scale : Scale) (w new : Parts J) (i : Item J) (answer : EventAnswer) (h : IsSoundWith scale (part_item i) w) → IsSoundItem scale w.log h.under_way i
-      → SendsItem i w answer new → SendsOn scale (part_item i) w answer new
-  sends_on scale w new (item.Push message) answer h s said = sends_push scale w new message answer (nat_lt (length w.inbox) 1024) h s said
-  sends_on scale w new (item.Report r) answer h s said =
+  pub sends_on : (shared : Shared) (w new : Parts J) (i : Item J) (answer : EventAnswer) (h : IsSoundWith shared (part_item i) w) → IsSoundItem shared w.log h.under_way i
+      → SendsItem i w answer new → SendsOn shared (part_item i) w answer new
+  sends_on shared w new (item.Push message) answer h s said = sends_push shared w new message answer (nat_lt (length w.inbox) 1024) h s said
+  sends_on shared w new (item.Report r) answer h s said =
       let slots = said.1.0 in
-      let at = phase_at scale w r h slots said.1.1.0 in
-      quietly scale (part_item (item.Report r)) w new new answer (reports_go_on scale w r h s slots said.1.1.0 at.0 at.1 new said.1.1.1) said.0 refl
-  sends_on scale w new item.Ended answer h s said =
-      quietly scale (part_item {J = J} item.Ended) w _ new answer (ended_goes_on scale w h said.1.0 said.1.1.0) said.0 said.1.1.1
-  sends_on scale w new (item.Commit commit) answer h s said = sends_commit scale w new commit answer h s said
-  sends_on scale w new (item.Reply told) answer h s said = record {
-    sound = replies_sound scale w told h s said.1.0 said.1.1.0 new said.1.1.1;
+      let at = phase_at shared w r h slots said.1.1.0 in
+      quietly shared (part_item (item.Report r)) w new new answer (reports_go_on shared w r h s slots said.1.1.0 at.0 at.1 new said.1.1.1) said.0 refl
+  sends_on shared w new item.Ended answer h s said =
+      quietly shared (part_item {J = J} item.Ended) w _ new answer (ended_goes_on shared w h said.1.0 said.1.1.0) said.0 said.1.1.1
+  sends_on shared w new (item.Commit commit) answer h s said = sends_commit shared w new commit answer h s said
+  sends_on shared w new (item.Reply told) answer h s said = record {
+    sound = replies_sound shared w told h s said.1.0 said.1.1.0 new said.1.1.1;
     fits = λ opening history executor f.
         subst (λ a. Fits opening (history ++ step (Send executor) a ∷ []) new) (sym said.0)
-        (replies_fits scale w told h s said.1.0 said.1.1.0 new said.1.1.1 opening history executor f);
+        (replies_fits shared w told h s said.1.0 said.1.1.0 new said.1.1.1 opening history executor f);
   }
 
   -- ---- the first item of the outbox
 
-  pub first_sent : (scale : Scale) (old new : Parts J) (i : Item J) (rest : List (Item J)) (answer : EventAnswer) → old.outbox ≡ i ∷ rest → IsSoundWith scale nothing old
-      → SendsItem i (record old { outbox = rest }) answer new → (executor : ℕ) → IsSoundWith scale nothing new × Advances old (step (Send executor) answer ∷ []) new
-  first_sent scale old new i rest answer is h said executor =
-      let hand = item_in_hand scale old i rest is h in
-      let sends = sends_on scale (record old { outbox = rest }) new i answer hand.0 hand.1 said in
+  pub first_sent : (shared : Shared) (old new : Parts J) (i : Item J) (rest : List (Item J)) (answer : EventAnswer) → old.outbox ≡ i ∷ rest → IsSoundWith shared nothing old
+      → SendsItem i (record old { outbox = rest }) answer new → (executor : ℕ) → IsSoundWith shared nothing new × Advances old (step (Send executor) answer ∷ []) new
+  first_sent shared old new i rest answer is h said executor =
+      let hand = item_in_hand shared old i rest is h in
+      let sends = sends_on shared (record old { outbox = rest }) new i answer hand.0 hand.1 said in
       (sends.sound, λ opening history f. sends.fits opening history executor (fits_in_hand opening history old i rest is f))

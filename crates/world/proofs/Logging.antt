@@ -3,7 +3,7 @@ use Rattle.std.proofs.Common.{◌≡◌, ℕ, ◌<◌, ◌≤◌, Bool, false, L
 use Rattle.std.specs.Prelude.{All, map}
 use Rattle.std.proofs.lemmas.List.{length-map, map-append}
 use Rattle.std.proofs.lemmas.List.Elements.{All-weaker, All-cons, All-nil, All-head, All-tail}
-use Rattle.schema.specs.declared.scale.Scale.{Scale}
+use Rattle.partitions.specs.Parts.{Shared, shared_of}
 use Rattle.schema.specs.Database.{Database}
 use Rattle.requests.specs.declared.reply.Reply.{Reply}
 use Rattle.requests.specs.declared.reply.Reply.TheVariants as reply
@@ -99,12 +99,12 @@ refused_pass fault.NoMemory entries pass = (refl, refl)
 refused_pass fault.LogFull entries pass = (refl, refl)
 
 module _ {J : Type 0} where
-  item_in_more : (scale : Scale) (log : List Entry) (u : UnderWay) (entry : Entry) (i : Item J) → IsSoundItem scale log u i → IsSoundItem scale (log ++ entry ∷ []) u i
-  item_in_more scale log u entry (item.Push message) h = h
-  item_in_more scale log u entry (item.Report r) h = h
-  item_in_more scale log u entry item.Ended h = h
-  item_in_more scale log u entry (item.Commit commit) h = h
-  item_in_more scale log u entry (item.Reply told) h = (h.0, (h.1.0, answer_in_more log entry told.answer h.1.1))
+  item_in_more : (shared : Shared) (log : List Entry) (u : UnderWay) (entry : Entry) (i : Item J) → IsSoundItem shared log u i → IsSoundItem shared (log ++ entry ∷ []) u i
+  item_in_more shared log u entry (item.Push message) h = h
+  item_in_more shared log u entry (item.Report r) h = h
+  item_in_more shared log u entry item.Ended h = h
+  item_in_more shared log u entry (item.Commit commit) h = h
+  item_in_more shared log u entry (item.Reply told) h = (h.0, (h.1.0, answer_in_more log entry told.answer h.1.1))
 
   -- ---- the commit
 
@@ -122,7 +122,7 @@ module _ {J : Type 0} where
       log_is ∙ ap (λ (n : ℕ). w.log ++ record { session = n; number = t.number; request = t.request; reply = commit.reply } ∷ []) session_is in
       λ i. releasing (settle_is i) (release t (passes i) (Done (place_is i) (shown_is i)) (held_is i)) (record w { log = longer i })
 
-  module _ (scale : Scale) (w : Parts J) (commit : CommitItem J) (h : IsSoundWith scale (part_item (item.Commit commit)) w) (s : IsSoundCommit scale commit) where
+  module _ (shared : Shared) (w : Parts J) (commit : CommitItem J) (h : IsSoundWith shared (part_item (item.Commit commit)) w) (s : IsSoundCommit shared commit) where
     committing : w.desk.active ≡ Some active.Committing
     committing = commit_under_way w.desk.active (is_awaited weigh_committing Committing (flight w).tokens (awaited w.desk.active) refl h.balance.tokens)
 
@@ -136,7 +136,7 @@ module _ {J : Type 0} where
         → FitsPart opening history w.log (joined_in w) w.desk.admitted (join (part_item (item.Commit commit)) (lots w))
     fits_by_lots opening history f = subst (λ rs. FitsPart opening history w.log (joined_in w) w.desk.admitted (beside (part_item (item.Commit commit)) w rs)) met f
 
-    pub refusing_goes_on : (why : AppendFault) → GoesOn scale (part_item (item.Commit commit)) w (refusing commit why w)
+    pub refusing_goes_on : (why : AppendFault) → GoesOn shared (part_item (item.Commit commit)) w (refusing commit why w)
     refusing_goes_on why =
         let t = commit.transaction in
         let pass = after_refusal why (length w.log) t.pass in
@@ -152,13 +152,13 @@ module _ {J : Type 0} where
         let hand = part_item (item.Commit commit) in
         let pending : hand.pending ≡ unanswered_release r ∷ [] = ap (λ u. u ∷ []) (sym is) in
         record {
-          sound = releases_sound scale h.under_way w hand false r h.scale_is h.slices h.inbox h.outbox h.seats h.sessions
+          sound = releases_sound shared h.under_way w hand false r h.shared_is h.slices h.inbox h.outbox h.seats h.sessions
               (subst (λ n. n < 64) (sym same.0) s.asked.session) (ap (λ asks. asks.number) same.1 ∙ s.asked.number) tt
               s.undo s.few pending by_lots.served (one_less Committing (lots w).tokens [] by_lots.tokens);
           fits = λ opening history f. releases_fits opening history w hand false r refl pending (fits_by_lots opening history f);
         }
 
-    pub logging_goes_on : IsSoundWith scale nothing (logging commit w)
+    pub logging_goes_on : IsSoundWith shared nothing (logging commit w)
         × ((opening : Database) (history : List Step) (executor : ℕ) → FitsPart opening history w.log (joined_in w) w.desk.admitted (join (part_item (item.Commit commit)) (flight w))
         → Fits opening (history ++ step (Send executor) (Logged (length w.log)) ∷ []) (logging commit w))
     logging_goes_on =
@@ -176,15 +176,15 @@ module _ {J : Type 0} where
         let hand : Part = part claims (u ∷ []) [] in
         let settle = is_settled shown in
         let few : length held ≤ 4 = subst (λ n. n ≤ 4) (sym (length-map t.held (claims_logged shown))) s.few in (
-          releases_sound scale h.under_way logged_w hand settle r h.scale_is h.slices h.inbox
-              (All-weaker (IsSoundItem scale w.log h.under_way) (IsSoundItem scale log h.under_way) (λ i sound. item_in_more scale w.log h.under_way entry i sound) w.outbox h.outbox)
+          releases_sound shared h.under_way logged_w hand settle r h.shared_is h.slices h.inbox
+              (All-weaker (IsSoundItem shared w.log h.under_way) (IsSoundItem shared log h.under_way) (λ i sound. item_in_more shared w.log h.under_way entry i sound) w.outbox h.outbox)
               h.seats h.sessions s.asked.session s.asked.number (entry, (slice_get-last w.log entry, refl)) (all_logged_given shown t.held s.undo) few refl
               (record { alone = by_lots.served.alone; many = by_lots.served.many })
               (one_less Committing (lots w).tokens [] by_lots.tokens),
           λ opening history executor f.
               let first = fits_by_lots opening history f in
               let after = fits_entry opening history w.log (joined_in w) w.desk.admitted (all_claims t.held) (lots w).claims (unanswered_transaction t) (lots w).pending executor entry
-              refl (sym s.asked.number) (sym s.asked.request) refl (s.carried_out opening) first.told first.committed in
+              refl (sym s.asked.number) (sym s.asked.request) refl (s.carried_out opening ((λ i. record { scale = sym f.scale i; items = sym f.items i }) ∙ h.shared_is)) first.told first.committed in
               releases_fits opening (history ++ step (Send executor) (Logged place) ∷ []) logged_w hand settle r (sym (logged_claims shown t.held)) refl
               (record { told = after.0; committed = after.1; scale = first.scale; items = first.items }),
         )

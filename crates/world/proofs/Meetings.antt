@@ -8,7 +8,7 @@ use Rattle.std.proofs.lemmas.List.FromFn.{length-range_with_len}
 use Rattle.std.proofs.lemmas.List.Elements.{All-nil, All-cons, All-append}
 use Rattle.std.proofs.lemmas.List.Sorted.{IsPermutation-refl, IsPermutation-sym, IsPermutation-map, sum_by-IsPermutation}
 use Rattle.std.proofs.lemmas.List.Sums.{sum_by-append, sum_by-cons}
-use Rattle.schema.specs.declared.scale.Scale.{Scale}
+use Rattle.partitions.specs.Parts.{Shared, shared_of}
 use Rattle.schema.specs.Database.{Database}
 use Rattle.requests.specs.Check.{IsAccepted}
 use Rattle.requests.specs.declared.reply.Reply.{Reply}
@@ -55,8 +55,8 @@ use Rattle.world.proofs.Reported.{HaveReported, all_claims-append, all_done, all
 use Rattle.world.proofs.Works.{acts_fine, part_acts}
 
 -- an action that has done its work holds some claim
-work_holds : (scale : Scale) (work : Work) (found : Found) (claims : List Claiming) → HasDone scale work found claims → HoldsSome claims
-work_holds scale work found claims has = omega (arith, works_have_a_claim_for_each_wish scale work found claims has, works_have_wishes work)
+work_holds : (shared : Shared) (work : Work) (found : Found) (claims : List Claiming) → HasDone shared work found claims → HoldsSome claims
+work_holds shared work found claims has = omega (arith, works_have_a_claim_for_each_wish shared work found claims has, works_have_wishes work)
 
 -- nothing has been reported of a phase that begins
 none_reported : {R : Type 0} (n : ℕ) → reported {R = R} (replicate n None) ≡ []
@@ -109,8 +109,8 @@ module _ {J : Type 0} where
 
   -- ---- a report is kept, since another is awaited
 
-  module _ (scale : Scale) (w : Parts J) (r : Report J) (h : IsSoundWith scale (part_report r) w) (s : IsSoundReport scale h.under_way r)
-      (slots : List (Option (Report J))) (is : w.desk.active ≡ Some (active.Acting slots)) (at : IsSoundPhase scale h.under_way slots) (waits : slice_get slots r.place ≡ Some None) where
+  module _ (shared : Shared) (w : Parts J) (r : Report J) (h : IsSoundWith shared (part_report r) w) (s : IsSoundReport shared h.under_way r)
+      (slots : List (Option (Report J))) (is : w.desk.active ≡ Some (active.Acting slots)) (at : IsSoundPhase shared h.under_way slots) (waits : slice_get slots r.place ≡ Some None) where
     abbrev u : UnderWay
     u = h.under_way
 
@@ -128,17 +128,17 @@ module _ {J : Type 0} where
     fits_beside opening history f = subst (λ rs. FitsPart opening history w.log (joined_in w) w.desk.admitted (beside (part_report r) w rs)) met_is f
 
     -- what stands at a place is sound
-    still_sound : (place : ℕ) (q : Report J) → slice_get filled place ≡ Some (Some q) → (q.place ≡ place) × IsSoundReport scale u q
+    still_sound : (place : ℕ) (q : Report J) → slice_get filled place ≡ Some (Some q) → (q.place ≡ place) × IsSoundReport shared u q
     still_sound place q stands = by (put_at slots r.place place (Some r) (Some q) stands)
       where
-        by : ((place ≡ r.place) × (Some r ≡ Some q)) ⊎ (slice_get slots place ≡ Some (Some q)) → (q.place ≡ place) × IsSoundReport scale u q
+        by : ((place ≡ r.place) × (Some r ≡ Some q)) ⊎ (slice_get slots place ≡ Some (Some q)) → (q.place ≡ place) × IsSoundReport shared u q
         by (inl put) =
             let both = put.1 in
             let same : r ≡ q = cc in
-            subst (λ (p : Report J). (p.place ≡ place) × IsSoundReport scale u p) same (sym put.0, s)
+            subst (λ (p : Report J). (p.place ≡ place) × IsSoundReport shared u p) same (sym put.0, s)
         by (inr stood) = at.reports place q stood
 
-    keeps : 1 ≤ length (awaited_from 0 filled) → GoesOn scale (part_report r) w (with_active (Some (active.Acting filled)) w)
+    keeps : 1 ≤ length (awaited_from 0 filled) → GoesOn shared (part_report r) w (with_active (Some (active.Acting filled)) w)
     keeps awaits =
         let new = with_active (Some (active.Acting filled)) w in
         let b = beside_now (part_report r) w (reported slots) (map Acting (awaited_from 0 slots)) h.balance met_is awaits_are in
@@ -164,7 +164,7 @@ module _ {J : Type 0} where
         let balance : IsBalanced desk (join (join hand met) (lots w)) = record { tokens = lighter; alone = served.alone; many = served.many } in
         record {
           sound = record {
-            scale_is = h.scale_is;
+            shared_is = h.shared_is;
             slices = h.slices;
             under_way = u;
             inbox = h.inbox;
@@ -190,8 +190,8 @@ module _ {J : Type 0} where
     -- ---- all have reported
 
     module _ (reports : List (Report J)) (all : map Some reports ≡ filled) where
-      have : HaveReported scale u 0 (works_of u.progress) reports
-      have = phase_reported scale u slots r reports at s all
+      have : HaveReported shared u 0 (works_of u.progress) reports
+      have = phase_reported shared u slots r reports at s all
 
       none_left : awaited_from 0 filled ≡ []
       none_left = ap (λ (l : List (Option (Report J))). awaited_from 0 l) (sym all) ∙ none_awaited 0 reports
@@ -239,19 +239,19 @@ module _ {J : Type 0} where
         held_is = ap (λ (hs : List (List Claiming)). hs ++ held_in reports) sound_flow.held
 
         undo : All CanAllBeUndone t.held
-        undo = subst (λ hs. All CanAllBeUndone hs) (sym held_is) (All-append CanAllBeUndone u.held (held_in reports) at.undo (all_undo scale u 0 (works_of u.progress) reports have))
+        undo = subst (λ hs. All CanAllBeUndone hs) (sym held_is) (All-append CanAllBeUndone u.held (held_in reports) at.undo (all_undo shared u 0 (works_of u.progress) reports have))
 
         hold : All HoldsSome t.held
         hold = subst (λ hs. All HoldsSome hs) (sym held_is)
-            (All-append HoldsSome u.held (held_in reports) at.hold (all_hold scale u (work_holds scale) 0 (works_of u.progress) reports have))
+            (All-append HoldsSome u.held (held_in reports) at.hold (all_hold shared u (work_holds shared) 0 (works_of u.progress) reports have))
 
         few : length t.held ≤ 4
         few = omega (
           arith,
           ap (λ (hs : List (List Claiming)). length hs) held_is,
           length-append u.held (held_in reports),
-          few_hold scale u 0 (works_of u.progress) reports have,
-          few_at scale u.request u.progress u.held at.reached at.hold,
+          few_hold shared u 0 (works_of u.progress) reports have,
+          few_at shared u.request u.progress u.held at.reached at.hold,
         )
 
         asked : IsAskedBy t
@@ -259,9 +259,9 @@ module _ {J : Type 0} where
 
         -- ---- it is refused
 
-        pub refuses : (why : Refusal) → GoesOn scale (part_report r) w (releasing false (refused t why) w)
+        pub refuses : (why : Refusal) → GoesOn shared (part_report r) w (releasing false (refused t why) w)
         refuses why = record {
-          sound = releases_sound scale u w hand false (refused t why) h.scale_is h.slices h.inbox h.outbox h.seats h.sessions asked.session asked.number tt undo few refl served rests;
+          sound = releases_sound shared u w hand false (refused t why) h.shared_is h.slices h.inbox h.outbox h.seats h.sessions asked.session asked.number tt undo few refl served rests;
           fits = λ opening history f. releases_fits opening history w hand false (refused t why) refl refl (fits_in_hand opening history f);
         }
 
@@ -277,28 +277,28 @@ module _ {J : Type 0} where
         back_tokens = sum_by-append one_each (in_outbox w).tokens []
 
         no_inbox : w.inbox ≡ []
-        no_inbox = no_message scale u w.inbox h.inbox (omega (arith, no_tokens, front_tokens, back_tokens))
+        no_inbox = no_message shared u w.inbox h.inbox (omega (arith, no_tokens, front_tokens, back_tokens))
 
         -- what stands in the outbox is sound whatever is under way
-        outbox_for : (v : UnderWay) → All (IsSoundItem scale w.log v) w.outbox
-        outbox_for v = other_under_way scale w.log u v w.outbox (omega (arith, no_tokens, front_tokens, back_tokens)) h.outbox
+        outbox_for : (v : UnderWay) → All (IsSoundItem shared w.log v) w.outbox
+        outbox_for v = other_under_way shared w.log u v w.outbox (omega (arith, no_tokens, front_tokens, back_tokens)) h.outbox
 
-        inbox_for : (v : UnderWay) → All (IsSoundMessage scale v) w.inbox
-        inbox_for v = subst (λ ms. All (IsSoundMessage scale v) ms) (sym no_inbox) (All-nil (IsSoundMessage scale v))
+        inbox_for : (v : UnderWay) → All (IsSoundMessage shared v) w.inbox
+        inbox_for v = subst (λ ms. All (IsSoundMessage shared v) ms) (sym no_inbox) (All-nil (IsSoundMessage shared v))
 
-        commits : (shown : Reply) → ((opening : Database) → IsCarriedOut opening u.request (all_claims t.held) shown) → GoesOn scale (part_report r) w (committing t shown w)
+        commits : (shown : Reply) → ((opening : Database) → shared_of opening ≡ shared → IsCarriedOut opening u.request (all_claims t.held) shown) → GoesOn shared (part_report r) w (committing t shown w)
         commits shown carried =
             let one : Item J = item.Commit (record { transaction = t; reply = shown }) in
-            let sound : IsSoundCommit scale (record { transaction = t; reply = shown }) = record {
+            let sound : IsSoundCommit shared (record { transaction = t; reply = shown }) = record {
               asked = asked;
-              accepted = subst (λ q. IsAccepted scale q) (sym sound_flow.request) (accepted scale u.request u.progress (all_claims u.held) at.reached);
-              carried_out = λ opening. subst (λ q. IsCarriedOut opening q (all_claims t.held) shown) (sym sound_flow.request) (carried opening);
+              accepted = subst (λ q. IsAccepted shared.scale q) (sym sound_flow.request) (accepted shared u.request u.progress (all_claims u.held) at.reached);
+              carried_out = λ opening same. subst (λ q. IsCarriedOut opening q (all_claims t.held) shown) (sym sound_flow.request) (carried opening same);
               undo = undo;
               few = few;
             } in
             record {
-              sound = puts_sound scale u w hand (one ∷ []) (Some active.Committing) refl h.scale_is h.slices h.inbox h.outbox
-                  (All-cons (IsSoundItem scale w.log u) one [] sound (All-nil (IsSoundItem scale w.log u))) tt h.seats h.sessions
+              sound = puts_sound shared u w hand (one ∷ []) (Some active.Committing) refl h.shared_is h.slices h.inbox h.outbox
+                  (All-cons (IsSoundItem shared w.log u) one [] sound (All-nil (IsSoundItem shared w.log u))) tt h.seats h.sessions
                   (IsPermutation-refl (unanswered_transaction t ∷ [])) served
                   (λ weight. omega (arith, sum_by-cons weight Committing (lots w).tokens, sum_by-cons weight Committing [], rests weight));
               fits = λ opening history f.
@@ -307,22 +307,22 @@ module _ {J : Type 0} where
                   (IsPermutation-refl (unanswered_transaction t ∷ [])) (fits_in_hand opening history f);
             }
 
-        next : (progress : Progress) → IsReached scale u.request progress (all_claims t.held) → GoesOn scale (part_report r) w (goes_on t (Next progress) w)
+        next : (progress : Progress) → IsReached shared u.request progress (all_claims t.held) → GoesOn shared (part_report r) w (goes_on t (Next progress) w)
         next progress reached =
             let works = works_of progress in
             let flow_now : Flow J = record { transaction = t; progress = progress } in
             let v : UnderWay = record { request = u.request; progress = progress; held = t.held } in
             let begun : Option (Active J) = Some (active.Acting (replicate (length works) None)) in
             let some : 1 ≤ length works = some_actions progress in
-            let start : IsSoundStart scale v flow_now works = record {
+            let start : IsSoundStart shared v flow_now works = record {
               flow_is = record { asked = asked; request = sound_flow.request; held = refl; progress = refl };
               works_are = refl;
-              can = can_all scale u.request progress (all_claims t.held) reached;
-              few = omega (arith, few_at scale u.request progress t.held reached hold);
+              can = can_all shared u.request progress (all_claims t.held) reached;
+              few = omega (arith, few_at shared u.request progress t.held reached hold);
             } in
             let acts = part_acts flow_now works some in
             let awaits : map Acting (awaited_from 0 (replicate (length works) None)) ≡ acting_from 0 works = all_acting (Report J) 0 works in
-            let phase : IsSoundPhase scale v (replicate (length works) None) = record {
+            let phase : IsSoundPhase shared v (replicate (length works) None) = record {
               reached = reached;
               hold = hold;
               undo = undo;
@@ -331,8 +331,8 @@ module _ {J : Type 0} where
               awaits = omega (arith, some, ap (λ (ns : List ℕ). length ns) (all_awaited (Report J) 0 (length works)), length-range_with_len 0 (length works));
             } in
             record {
-              sound = puts_sound scale v w hand (acts_of flow_now works) begun (none_reported (length works)) h.scale_is h.slices (inbox_for v) (outbox_for v)
-                  (acts_fine scale w.log v flow_now works start) phase h.seats h.sessions
+              sound = puts_sound shared v w hand (acts_of flow_now works) begun (none_reported (length works)) h.shared_is h.slices (inbox_for v) (outbox_for v)
+                  (acts_fine shared w.log v flow_now works start) phase h.seats h.sessions
                   (subst (λ (q : Part). IsPermutation (unanswered_transaction t ∷ []) q.pending) (sym acts) (IsPermutation-refl (unanswered_transaction t ∷ []))) served
                   (λ weight.
                   omega (
@@ -353,46 +353,46 @@ module _ {J : Type 0} where
         all_held : all_claims u.held ++ all_claims (held_in reports) ≡ all_claims t.held
         all_held = sym (all_claims-append u.held (held_in reports)) ∙ ap all_claims (sym held_is)
 
-        follows : (g : Gathered) → refusal_of None reports ≡ None → FollowsFrom flow.progress (found_in reports) g → GoesOn scale (part_report r) w (goes_on t g w)
-        follows g none leads = by g (leads scale u.request (all_claims u.held) (held_in reports) reached done)
+        follows : (g : Gathered) → refusal_of None reports ≡ None → FollowsFrom flow.progress (found_in reports) g → GoesOn shared (part_report r) w (goes_on t g w)
+        follows g none leads = by g (leads shared u.request (all_claims u.held) (held_in reports) reached done)
           where
-            reached : IsReached scale u.request flow.progress (all_claims u.held)
-            reached = subst (λ p. IsReached scale u.request p (all_claims u.held)) (sym sound_flow.progress) at.reached
+            reached : IsReached shared u.request flow.progress (all_claims u.held)
+            reached = subst (λ p. IsReached shared u.request p (all_claims u.held)) (sym sound_flow.progress) at.reached
 
-            done : HaveAllDone scale (works_of flow.progress) (found_in reports) (held_in reports)
-            done = subst (λ p. HaveAllDone scale (works_of p) (found_in reports) (held_in reports)) (sym sound_flow.progress) (all_done scale u 0 (works_of u.progress) reports have none)
+            done : HaveAllDone shared (works_of flow.progress) (found_in reports) (held_in reports)
+            done = subst (λ p. HaveAllDone shared (works_of p) (found_in reports) (held_in reports)) (sym sound_flow.progress) (all_done shared u 0 (works_of u.progress) reports have none)
 
             by : (g : Gathered)
-                → Follows scale u.request (all_claims u.held ++ all_claims (held_in reports)) g
-                → GoesOn scale (part_report r) w (goes_on t g w)
-            by (Next progress) is = next progress (subst (λ cs. IsReached scale u.request progress cs) all_held is)
-            by (Finish shown) is = commits shown (λ opening. subst (λ cs. IsCarriedOut opening u.request cs shown) all_held (is opening))
-            by (RollBack fault) is = commits (reply.RolledBack fault) (λ opening. subst (λ cs. IsCarriedOut opening u.request cs (reply.RolledBack fault)) all_held (is opening))
+                → Follows shared u.request (all_claims u.held ++ all_claims (held_in reports)) g
+                → GoesOn shared (part_report r) w (goes_on t g w)
+            by (Next progress) is = next progress (subst (λ cs. IsReached shared u.request progress cs) all_held is)
+            by (Finish shown) is = commits shown (λ opening same. subst (λ cs. IsCarriedOut opening u.request cs shown) all_held (is opening same))
+            by (RollBack fault) is = commits (reply.RolledBack fault) (λ opening same. subst (λ cs. IsCarriedOut opening u.request cs (reply.RolledBack fault)) all_held (is opening same))
 
-        goes_by : {new next_w : Parts J} → new ≡ next_w → GoesOn scale (part_report r) w next_w → GoesOn scale (part_report r) w new
-        goes_by is goes = subst (λ v. GoesOn scale (part_report r) w v) (sym is) goes
+        goes_by : {new next_w : Parts J} → new ≡ next_w → GoesOn shared (part_report r) w next_w → GoesOn shared (part_report r) w new
+        goes_by is goes = subst (λ v. GoesOn shared (part_report r) w v) (sym is) goes
 
-        pub meets_unless : (why : Option Refusal) (new : Parts J) → refusal_of None reports ≡ why → MeetsUnless why reports flow w new → GoesOn scale (part_report r) w new
+        pub meets_unless : (why : Option Refusal) (new : Parts J) → refusal_of None reports ≡ why → MeetsUnless why reports flow w new → GoesOn shared (part_report r) w new
         meets_unless (Some why) new refused_by_one said = goes_by said (refuses why)
         meets_unless None new none said =
             ⊎_elim (λ no_memory. goes_by no_memory (refuses refusal.NoMemory)) (λ gathered. goes_by gathered.1.1 (follows gathered.0 none gathered.1.0)) said
 
     -- ---- what a report brings
 
-    carried_met : (reports : List (Report J)) (new : Parts J) → map Some reports ≡ filled → HaveReported scale u 0 (works_of u.progress) reports
-        → MeetsAs reports w new → GoesOn scale (part_report r) w new
+    carried_met : (reports : List (Report J)) (new : Parts J) → map Some reports ≡ filled → HaveReported shared u 0 (works_of u.progress) reports
+        → MeetsAs reports w new → GoesOn shared (part_report r) w new
     carried_met [] new all reported_all said = absurd said
     carried_met (q ∷ reports) new all reported_all said = by (works_of u.progress) reported_all
       where
-        by : (works : List Work) → HaveReported scale u 0 works (q ∷ reports) → GoesOn scale (part_report r) w new
+        by : (works : List Work) → HaveReported shared u 0 works (q ∷ reports) → GoesOn shared (part_report r) w new
         by [] some = absurd some
         by (work ∷ works) some =
-            let carried = is_carried scale u q.flow some.0.0 in
+            let carried = is_carried shared u q.flow some.0.0 in
             let flow = carried.0 in
             let of_flow : MeetsUnless (refusal_of None (q ∷ reports)) (q ∷ reports) flow w new = subst (λ (o : Option (Flow J)). IfCarried o (λ f. MeetsUnless (refusal_of None (q ∷ reports)) (q ∷ reports) f w new)) carried.1.0 said in
-            meets_unless (q ∷ reports) all flow carried.1.1 (parts_all scale u (work ∷ works) q reports flow some carried.1.0) (refusal_of None (q ∷ reports)) new refl of_flow
+            meets_unless (q ∷ reports) all flow carried.1.1 (parts_all shared u (work ∷ works) q reports flow some carried.1.0) (refusal_of None (q ∷ reports)) new refl of_flow
 
-    pub reports_go_on : (new : Parts J) → ReportsInto filled w new → GoesOn scale (part_report r) w new
+    pub reports_go_on : (new : Parts J) → ReportsInto filled w new → GoesOn shared (part_report r) w new
     reports_go_on new said =
-        ⊎_elim (λ kept. subst (λ v. GoesOn scale (part_report r) w v) (sym kept.1) (keeps kept.0))
-        (λ met. carried_met met.0 new met.1.0 (phase_reported scale u slots r met.0 at s met.1.0) met.1.1) said
+        ⊎_elim (λ kept. subst (λ v. GoesOn shared (part_report r) w v) (sym kept.1) (keeps kept.0))
+        (λ met. carried_met met.0 new met.1.0 (phase_reported shared u slots r met.0 at s met.1.0) met.1.1) said

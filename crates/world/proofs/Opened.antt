@@ -8,7 +8,6 @@ use Rattle.std.proofs.lemmas.Option.{slice_get-map, slice_get_within}
 use Rattle.schema.specs.Database.{Database, IsWithinScale}
 use Rattle.partitions.specs.Parts.{Shared, parts_of, shared_of}
 use Rattle.schema.specs.Consistency.{Consistent}
-use Rattle.schema.specs.declared.scale.Scale.{Scale}
 use Rattle.requests.specs.declared.request.Choice.TheVariants.{Number}
 use Rattle.requests.specs.declared.payment.Payment.{Payment}
 use Rattle.requests.specs.declared.request.Request.TheVariants as request
@@ -93,19 +92,19 @@ module _ {J : Type 0} where
       ∙ ap (λ is. join nothing (join (parts part_item is) (parts part_met (reported_to w.desk.active)))) outbox
       ∙ ap (λ a. join nothing (join nothing (parts part_met (reported_to a)))) active
 
-  pub opened_sound : (scale : Scale) (lanes : List (Passing × Seating)) (w : Parts J) → AreNewLanes lanes → w.catalog.scale ≡ scale → AreSlicesOf w.catalog w.slices.items → w.inbox ≡ [] → w.outbox ≡ [] → w.desk.active ≡ None
-      → w.desk.sessions.items ≡ map session_with lanes → IsSoundWith scale nothing w
-  opened_sound scale lanes w new scale_is slices inbox outbox active sessions =
+  pub opened_sound : (shared : Shared) (lanes : List (Passing × Seating)) (w : Parts J) → AreNewLanes lanes → w.catalog ≡ shared → AreSlicesOf w.catalog w.slices.items → w.inbox ≡ [] → w.outbox ≡ [] → w.desk.active ≡ None
+      → w.desk.sessions.items ≡ map session_with lanes → IsSoundWith shared nothing w
+  opened_sound shared lanes w new shared_is slices inbox outbox active sessions =
       let found_at : (number : ℕ) (session : SessionDesk J) → slice_get w.desk.sessions.items number ≡ Some session → session ≡ session_with (new_pass number, new_seat number) =
       λ number session found. session_is lanes number session new (sym (ap (λ l. slice_get l number) sessions) ∙ found) in
       let here : count_by is_here w.desk.sessions.items ≡ length lanes = ap (λ l. count_by is_here l) sessions ∙ all_here J lanes in
       record {
-        scale_is = scale_is;
+        shared_is = shared_is;
         slices = slices;
         under_way = none_under_way;
-        inbox = subst (All (IsSoundMessage scale none_under_way)) (sym inbox) (All-nil (IsSoundMessage scale none_under_way));
-        outbox = subst (All (IsSoundItem scale w.log none_under_way)) (sym outbox) (All-nil (IsSoundItem scale w.log none_under_way));
-        active = subst (IsSoundActive scale none_under_way) (sym active) tt;
+        inbox = subst (All (IsSoundMessage shared none_under_way)) (sym inbox) (All-nil (IsSoundMessage shared none_under_way));
+        outbox = subst (All (IsSoundItem shared w.log none_under_way)) (sym outbox) (All-nil (IsSoundItem shared w.log none_under_way));
+        active = subst (IsSoundActive shared none_under_way) (sym active) tt;
         seats = ap length sessions ∙ length-map lanes session_with ∙ new.many;
         sessions = λ number session found.
             let is = found_at number session found in

@@ -5,7 +5,7 @@ use Rattle.std.proofs.lemmas.Bool.{and_parts, eq-eqb, leb-true, ne_eqb}
 use Rattle.std.proofs.lemmas.List.Elements.{All-contains, All-nil}
 use Rattle.schema.specs.declared.scale.Scale.{Scale}
 use Rattle.schema.specs.Scale.{has_warehouse}
-use Rattle.partitions.specs.Parts.{Shared, IsPartAt}
+use Rattle.partitions.specs.Parts.{Shared, IsPartAt, shared_of}
 use Rattle.requests.specs.declared.group.Group.{Group}
 use Rattle.groups.specs.declared.wishes.Wish.{Wish}
 use Rattle.groups.specs.Groups.{warehouse_of}
@@ -49,8 +49,8 @@ module _ (shared : Shared) (slices : List Sliced) (are : AreSlicesOf shared slic
   here : IsPartAt shared (home - 1) (part_in slice)
   here = subst (λ (s : Sliced). IsPartAt shared (home - 1) (part_in s)) (sym is) (are.each (home - 1) slice inside)
 
-  pub scale_is : slice.tables.scale ≡ shared.scale
-  scale_is = here.scale
+  shared_is : shared_of slice.tables ≡ shared
+  shared_is = λ i. record { scale = here.scale i; items = here.items i }
 
   -- what it keeps, all keep
   pub all_keep : (new : Sliced) (before after : List Claiming) → All (IsClaimAt home) before → All (IsClaimAt home) after → SliceKeeps before slice after new
@@ -69,8 +69,8 @@ module _ (shared : Shared) (slices : List Sliced) (are : AreSlicesOf shared slic
   -- what comes of work there, comes of it in all
   pub comes_of : {J : Type 0} (work : Work) (one : Ran J) → home_of work ≡ home → IsRanOf slice work one → ComesOf (joined shared slices) work one
   comes_of work (ran.Done claims found) own of =
-      let done = subst (λ (s : Scale). HasDone s work found claims) scale_is of.0 in
-      (done, (of.1, (works_are_done_at_home shared.scale work found claims done).1))
+      let done = subst (λ (s : Shared). HasDone s work found claims) shared_is of.0 in
+      (done, (of.1, (works_are_done_at_home shared work found claims done).1))
   comes_of work (ran.Died group holder) own (wish, wished, same, out) =
       let at : warehouse_of wish.group ≡ home_of work = All-contains (λ (w : Wish). warehouse_of w.group ≡ home_of work) (wishes_of work) wish (works_claim_at_home work) wished in
       (wish, (wished, (same, omega (arith, out, free_here group (ap warehouse_of (sym same) ∙ at ∙ own)))))
@@ -86,7 +86,7 @@ warehouse_within scale home has =
 
 -- those of an action that ran are on groups of its warehouse
 pub ran_at_home : {J : Type 0} (slice : Sliced) (work : Work) (one : Ran J) → IsRanOf slice work one → All (IsClaimAt (home_of work)) (claims_of_ran one)
-ran_at_home slice work (ran.Done claims found) of = (works_are_done_at_home slice.tables.scale work found claims of.0).0
+ran_at_home slice work (ran.Done claims found) of = (works_are_done_at_home (shared_of slice.tables) work found claims of.0).0
 ran_at_home slice work (ran.Died group holder) of = All-nil (IsClaimAt (home_of work))
 ran_at_home slice work ran.NoMemory of = All-nil (IsClaimAt (home_of work))
 

@@ -5,7 +5,7 @@ use Rattle.std.specs.List.{slice_get}
 use Rattle.std.specs.List.Sorted.{IsPermutation}
 use Rattle.std.proofs.lemmas.List.Elements.{All-head, All-tail, All-append}
 use Rattle.std.proofs.lemmas.List.Sorted.{IsPermutation-refl, IsPermutation-append}
-use Rattle.schema.specs.declared.scale.Scale.{Scale}
+use Rattle.partitions.specs.Parts.{Shared}
 use Rattle.schema.specs.Database.{Database}
 use Rattle.history.specs.History.{Step, Unanswered, is_of}
 use Rattle.slices.specs.Sliced.{AreSlicesOf}
@@ -25,23 +25,23 @@ use Rattle.world.proofs.Fitting.{fits_same, fits_like}
 
 module _ {J : Type 0} where
   -- what is known of the first item of the outbox, once it is in hand
-  pub item_in_hand : (scale : Scale) (old : Parts J) (item : Item J) (rest : List (Item J)) → old.outbox ≡ item ∷ rest
-      → IsSoundWith scale nothing old
-      → (h : IsSoundWith scale (part_item item) (record old { outbox = rest })) × IsSoundItem scale old.log h.under_way item
-  item_in_hand scale old item rest is h =
-      let all = subst (λ is. All (IsSoundItem scale old.log h.under_way) is) is h.outbox in (
+  pub item_in_hand : (shared : Shared) (old : Parts J) (item : Item J) (rest : List (Item J)) → old.outbox ≡ item ∷ rest
+      → IsSoundWith shared nothing old
+      → (h : IsSoundWith shared (part_item item) (record old { outbox = rest })) × IsSoundItem shared old.log h.under_way item
+  item_in_hand shared old item rest is h =
+      let all = subst (λ is. All (IsSoundItem shared old.log h.under_way) is) is h.outbox in (
         record {
-          scale_is = h.scale_is;
+          shared_is = h.shared_is;
           slices = h.slices;
           under_way = h.under_way;
           inbox = h.inbox;
-          outbox = All-tail (IsSoundItem scale old.log h.under_way) item rest all;
+          outbox = All-tail (IsSoundItem shared old.log h.under_way) item rest all;
           active = h.active;
           seats = h.seats;
           sessions = h.sessions;
           balance = balanced_same old.desk (flight old) (join (part_item item) (flight (record old { outbox = rest }))) (item_taken old item rest is) h.balance;
         },
-        All-head (IsSoundItem scale old.log h.under_way) item rest all,
+        All-head (IsSoundItem shared old.log h.under_way) item rest all,
       )
 
   pub fits_in_hand : (opening : Database) (history : List Step) (old : Parts J) (item : Item J) (rest : List (Item J)) → old.outbox ≡ item ∷ rest
@@ -80,16 +80,16 @@ module _ {J : Type 0} where
         → count_by (is_of number) pending + cond (is_here session) 1 0 ≡ 1
     pub many : length pending + count_by is_here desk.sessions.items ≡ 64
 
-  pub puts_sound : (scale : Scale) (u : UnderWay) (w : Parts J) (hand : Part) (items : List (Item J)) (active : Option (Active J)) → reported_to active ≡ []
-      → w.catalog.scale ≡ scale → AreSlicesOf w.catalog w.slices.items
-      → All (IsSoundMessage scale u) w.inbox → All (IsSoundItem scale w.log u) w.outbox → All (IsSoundItem scale w.log u) items
-      → IsSoundActive scale u active → length w.desk.sessions.items ≡ 64
+  pub puts_sound : (shared : Shared) (u : UnderWay) (w : Parts J) (hand : Part) (items : List (Item J)) (active : Option (Active J)) → reported_to active ≡ []
+      → w.catalog ≡ shared → AreSlicesOf w.catalog w.slices.items
+      → All (IsSoundMessage shared u) w.inbox → All (IsSoundItem shared w.log u) w.outbox → All (IsSoundItem shared w.log u) items
+      → IsSoundActive shared u active → length w.desk.sessions.items ≡ 64
       → ((number : ℕ) (session : SessionDesk J) → slice_get w.desk.sessions.items number ≡ Some session → IsSessionOf number session)
       → IsPermutation hand.pending (parts part_item items).pending
       → AreServed w.desk (hand.pending ++ (lots w).pending)
       → WeighAlike ((parts part_item items).tokens ++ (lots w).tokens) (awaited active)
-      → IsSoundWith scale nothing (putting items active w)
-  puts_sound scale u w hand items active none scale_is slices inbox outbox fine sound seats sessions pending served tokens =
+      → IsSoundWith shared nothing (putting items active w)
+  puts_sound shared u w hand items active none shared_is slices inbox outbox fine sound seats sessions pending served tokens =
       let put = parts part_item items in
       let rest = lots w in
       let desk : Desk J = record w.desk { active = active } in
@@ -97,11 +97,11 @@ module _ {J : Type 0} where
       let same : IsSame first put = record { claims = IsPermutation-refl put.claims; pending = pending; tokens = IsPermutation-refl put.tokens } in
       let balance : IsBalanced desk (join first rest) = record { tokens = tokens; alone = served.alone; many = served.many } in
       record {
-        scale_is = scale_is;
+        shared_is = shared_is;
         slices = slices;
         under_way = u;
         inbox = inbox;
-        outbox = All-append (IsSoundItem scale w.log u) w.outbox items outbox fine;
+        outbox = All-append (IsSoundItem shared w.log u) w.outbox items outbox fine;
         active = sound;
         seats = seats;
         sessions = sessions;
@@ -112,6 +112,6 @@ module _ {J : Type 0} where
   -- ---- what goes on
 
   -- from what was in hand, the next world is sound, and a history that fits goes on fitting
-  pub record GoesOn (scale : Scale) (hand : Part) (old new : Parts J) : Type 0 where
-    pub sound : IsSoundWith scale nothing new
+  pub record GoesOn (shared : Shared) (hand : Part) (old new : Parts J) : Type 0 where
+    pub sound : IsSoundWith shared nothing new
     pub fits : (opening : Database) (history : List Step) → FitsPart opening history old.log (joined_in old) old.desk.admitted (join hand (flight old)) → Fits opening history new

@@ -4,7 +4,7 @@ use Rattle.std.specs.Prelude.{All}
 use Rattle.std.specs.List.{sum_by}
 use Rattle.std.proofs.lemmas.List.Elements.{All-head, All-tail}
 use Rattle.std.proofs.lemmas.List.Sums.{sum_by-append}
-use Rattle.schema.specs.declared.scale.Scale.{Scale}
+use Rattle.partitions.specs.Parts.{Shared}
 use Rattle.schema.specs.Database.{Database}
 use Rattle.groups.specs.Content.{content}
 use Rattle.tickets.specs.Claims.{Claiming}
@@ -38,21 +38,21 @@ use Rattle.world.proofs.Rooms.{as_many, so_many_end}
 module _ {J : Type 0} where
   -- ---- while something is active, something is awaited
 
-  none_active : (scale : Scale) (u : UnderWay) (a : Option (Active J)) → IsSoundActive scale u a → sum_by one_each (awaited a) ≡ 0 → a ≡ None
-  none_active scale u None h none = refl
-  none_active scale u (Some (active.Acting slots)) h none = absurd (omega (arith, none, as_many (awaited_from 0 slots), h.awaits))
-  none_active scale u (Some active.Committing) h none = absurd (omega (arith, none))
-  none_active scale u (Some (active.Ending left)) h none = absurd (omega (arith, none, so_many_end left, h.0))
+  none_active : (shared : Shared) (u : UnderWay) (a : Option (Active J)) → IsSoundActive shared u a → sum_by one_each (awaited a) ≡ 0 → a ≡ None
+  none_active shared u None h none = refl
+  none_active shared u (Some (active.Acting slots)) h none = absurd (omega (arith, none, as_many (awaited_from 0 slots), h.awaits))
+  none_active shared u (Some active.Committing) h none = absurd (omega (arith, none))
+  none_active shared u (Some (active.Ending left)) h none = absurd (omega (arith, none, so_many_end left, h.0))
 
   -- ---- where nothing can be taken or sent
 
-  pub quiet_rests : (scale : Scale) (w : Parts J) → IsSoundWith scale nothing w → w.inbox ≡ [] → w.outbox ≡ [] → (w.desk.active ≡ None) × ((flight w).claims ≡ [])
-  quiet_rests scale w h inbox outbox =
+  pub quiet_rests : (shared : Shared) (w : Parts J) → IsSoundWith shared nothing w → w.inbox ≡ [] → w.outbox ≡ [] → (w.desk.active ≡ None) × ((flight w).claims ≡ [])
+  quiet_rests shared w h inbox outbox =
       let met = reported_to w.desk.active in
       let tokens : (flight w).tokens ≡ [] =
       ap (λ (ms : List (Message J)). (parts part_message ms).tokens ++ ((parts part_item w.outbox).tokens ++ (parts part_met met).tokens)) inbox
       ∙ ap (λ (is : List (Item J)). (parts part_item is).tokens ++ (parts part_met met).tokens) outbox ∙ met_tokens met in
-      let idle = none_active scale h.under_way w.desk.active h.active (sym (h.balance.tokens one_each) ∙ ap (λ ts. sum_by one_each ts) tokens) in (
+      let idle = none_active shared h.under_way w.desk.active h.active (sym (h.balance.tokens one_each) ∙ ap (λ ts. sum_by one_each ts) tokens) in (
         idle,
         ap (λ (ms : List (Message J)). (parts part_message ms).claims ++ ((parts part_item w.outbox).claims ++ (parts part_met met).claims)) inbox
             ∙ ap (λ (is : List (Item J)). (parts part_item is).claims ++ (parts part_met met).claims) outbox
@@ -60,50 +60,50 @@ module _ {J : Type 0} where
       )
 
   -- it is so of how the world is seen
-  pub rests_idle : (scale : Scale) (w seen : Parts J) → w ≡ seen → IsSoundWith scale nothing w → IsAtRest seen → seen.desk.active ≡ None
-  rests_idle scale w seen same h rests =
+  pub rests_idle : (shared : Shared) (w seen : Parts J) → w ≡ seen → IsSoundWith shared nothing w → IsAtRest seen → seen.desk.active ≡ None
+  rests_idle shared w seen same h rests =
       let here = subst IsAtRest (sym same) rests in
-      subst (λ (v : Parts J). v.desk.active ≡ None) same ((quiet_rests scale w h here.0 here.1).0)
+      subst (λ (v : Parts J). v.desk.active ≡ None) same ((quiet_rests shared w h here.0 here.1).0)
 
   -- ---- where nothing is active
 
-  no_claims : (scale : Scale) (log : List Entry) (u : UnderWay) (items : List (Item J)) → All (IsSoundItem scale log u) items
+  no_claims : (shared : Shared) (log : List Entry) (u : UnderWay) (items : List (Item J)) → All (IsSoundItem shared log u) items
       → sum_by one_each (parts part_item items).tokens ≡ 0 → (parts part_item items).claims ≡ []
-  no_claims scale log u [] h none = refl
-  no_claims scale log u (item.Push message ∷ items) h none =
+  no_claims shared log u [] h none = refl
+  no_claims shared log u (item.Push message ∷ items) h none =
       absurd (omega (
         arith,
         none,
-        some_token scale u message (All-head (IsSoundItem scale log u) (item.Push message) items h),
+        some_token shared u message (All-head (IsSoundItem shared log u) (item.Push message) items h),
         sum_by-append one_each (part_message message).tokens (parts part_item items).tokens,
       ))
-  no_claims scale log u (item.Report r ∷ items) h none =
+  no_claims shared log u (item.Report r ∷ items) h none =
       absurd (omega (arith, none, sum_by-append one_each (part_item (item.Report r)).tokens (parts part_item items).tokens))
-  no_claims scale log u (item.Ended ∷ items) h none =
+  no_claims shared log u (item.Ended ∷ items) h none =
       absurd (omega (arith, none, sum_by-append one_each (part_item {J = J} item.Ended).tokens (parts part_item items).tokens))
-  no_claims scale log u (item.Commit commit ∷ items) h none =
+  no_claims shared log u (item.Commit commit ∷ items) h none =
       absurd (omega (arith, none, sum_by-append one_each (part_item (item.Commit commit)).tokens (parts part_item items).tokens))
-  no_claims scale log u (item.Reply told ∷ items) h none =
-      no_claims scale log u items (All-tail (IsSoundItem scale log u) (item.Reply told) items h) none
+  no_claims shared log u (item.Reply told ∷ items) h none =
+      no_claims shared log u items (All-tail (IsSoundItem shared log u) (item.Reply told) items h) none
 
-  idle_claims : (scale : Scale) (w : Parts J) → IsSoundWith scale nothing w → w.desk.active ≡ None → (flight w).claims ≡ []
-  idle_claims scale w h none =
+  idle_claims : (shared : Shared) (w : Parts J) → IsSoundWith shared nothing w → w.desk.active ≡ None → (flight w).claims ≡ []
+  idle_claims shared w h none =
       let met = reported_to w.desk.active in
       let zero_all = h.balance.tokens one_each ∙ ap (λ (o : Option (Active J)). sum_by one_each (awaited o)) none in
       let front = sum_by-append one_each (in_inbox w).tokens ((in_outbox w).tokens ++ (parts part_met met).tokens) in
       let back = sum_by-append one_each (in_outbox w).tokens (parts part_met met).tokens in
-      let inbox : w.inbox ≡ [] = no_message scale h.under_way w.inbox h.inbox (omega (arith, zero_all, front, back)) in
-      let outbox = no_claims scale w.log h.under_way w.outbox h.outbox (omega (arith, zero_all, front, back)) in
+      let inbox : w.inbox ≡ [] = no_message shared h.under_way w.inbox h.inbox (omega (arith, zero_all, front, back)) in
+      let outbox = no_claims shared w.log h.under_way w.outbox h.outbox (omega (arith, zero_all, front, back)) in
       ap (λ (ms : List (Message J)). (parts part_message ms).claims ++ ((parts part_item w.outbox).claims ++ (parts part_met met).claims)) inbox
       ∙ ap (λ (cs : List Claiming). cs ++ (parts part_met met).claims) outbox
       ∙ ap (λ (o : Option (Active J)). (parts part_met (reported_to o)).claims) none
 
   -- the rows are what the machine leaves
-  pub idle_tables : (scale : Scale) (w : Parts J) → IsSoundWith scale nothing w → w.desk.active ≡ None → (opening : Database) (history : List Step) → Fits opening history w
+  pub idle_tables : (shared : Shared) (w : Parts J) → IsSoundWith shared nothing w → w.desk.active ≡ None → (opening : Database) (history : List Step) → Fits opening history w
       → (joined_in w).tables ≡ tables_now opening w.log
-  idle_tables scale w h none opening history f =
+  idle_tables shared w h none opening history f =
       let last = tables_now opening w.log in
-      let committed = subst (λ cs. AreCommitted everywhere (content last) (all_standing (joined_in w)) cs) (idle_claims scale w h none) f.committed in
+      let committed = subst (λ cs. AreCommitted everywhere (content last) (all_standing (joined_in w)) cs) (idle_claims shared w h none) f.committed in
       let rest = (kept.rest_is_committed everywhere (content last) (all_standing (joined_in w))).1 committed in
       contents_make_tables (joined_in w).tables last (f.scale ∙ sym (tables_after-scale opening (requests_of w.log))) (f.items ∙ sym (tables_after-items opening (requests_of w.log)))
       (λ group. rest.rows group refl)

@@ -3,7 +3,7 @@ use Rattle.std.proofs.Common.{◌≡◌, ℕ, ◌+◌, ◌<◌, ◌≤◌, List,
 use Rattle.std.specs.Prelude.{map, slice_set}
 use Rattle.std.specs.List.{slice_get}
 use Rattle.std.proofs.lemmas.List.{length-map, length-set}
-use Rattle.schema.specs.declared.scale.Scale.{Scale}
+use Rattle.partitions.specs.Parts.{Shared, shared_of}
 use Rattle.schema.specs.Database.{Database}
 use Rattle.tickets.specs.Claims.{Claiming}
 use Rattle.transactions.specs.Works.{HaveAllDone, HasDone}
@@ -34,49 +34,49 @@ stands_at (x ∷ xs) (suc n) below = stands_at xs n (omega (arith, below))
 module _ {J : Type 0} where
   -- ---- a message
 
-  pub can_work : (scale : Scale) (u : UnderWay) (message : Message J) → IsSoundMessage scale u message → CanWork scale message
-  can_work scale u (Start flow works) h =
+  pub can_work : (shared : Shared) (u : UnderWay) (message : Message J) → IsSoundMessage shared u message → CanWork shared message
+  can_work shared u (Start flow works) h =
       (omega (arith, ap (λ (ws : List Work). length ws) h.works_are, some_actions u.progress), (h.few, h.can))
-  can_work scale u (Act act) h = h.can
-  can_work scale u (Settle claims) h = h
-  can_work scale u (Undo claims) h = h
+  can_work shared u (Act act) h = h.can
+  can_work shared u (Settle claims) h = h
+  can_work shared u (Undo claims) h = h
 
   -- ---- a report
 
   -- where all actions of a phase have reported, the first has the transaction with it
-  can_meet : (scale : Scale) (u : UnderWay) (works : List Work) (reports : List (Report J)) → works ≡ works_of u.progress → 1 ≤ length works → length u.held + length works ≤ 4
-      → length reports ≡ length works → HaveReported scale u 0 works reports → CanMeet reports
-  can_meet scale u works [] are some few many h = absurd (omega (arith, some, many))
-  can_meet scale u [] (r ∷ reports) are some few many h = absurd h
-  can_meet scale u (work ∷ works) (r ∷ reports) are some few many h =
+  can_meet : (shared : Shared) (u : UnderWay) (works : List Work) (reports : List (Report J)) → works ≡ works_of u.progress → 1 ≤ length works → length u.held + length works ≤ 4
+      → length reports ≡ length works → HaveReported shared u 0 works reports → CanMeet reports
+  can_meet shared u works [] are some few many h = absurd (omega (arith, some, many))
+  can_meet shared u [] (r ∷ reports) are some few many h = absurd h
+  can_meet shared u (work ∷ works) (r ∷ reports) are some few many h =
       let all = r ∷ reports in
-      let carried = is_carried scale u r.flow h.0.0 in
+      let carried = is_carried shared u r.flow h.0.0 in
       let same = carried.1.1 in
       let goes : CanMeetFor all carried.0 = record {
         room = omega (arith, ap (λ (held : List (List Claiming)). length held) same.held, few, many);
         done = λ none. (
-          scale,
-          subst (λ ws. HaveAllDone scale ws (found_in all) (held_in all)) (are ∙ ap works_of (sym same.progress)) (all_done scale u 0 (work ∷ works) all h none),
+          shared,
+          subst (λ ws. HaveAllDone shared ws (found_in all) (held_in all)) (are ∙ ap works_of (sym same.progress)) (all_done shared u 0 (work ∷ works) all h none),
         );
       } in
       subst (λ (o : Option (Flow J)). IfCarried o (CanMeetFor all)) (sym carried.1.0) goes
 
-  can_report : (opening : Database) (w : Parts J) (r : Report J) (h : IsSoundWith opening.scale (part_item (item.Report r)) w) → IsSoundReport opening.scale h.under_way r → CanSend opening (item.Report r) w
+  can_report : (opening : Database) (w : Parts J) (r : Report J) (h : IsSoundWith (shared_of opening) (part_item (item.Report r)) w) → IsSoundReport (shared_of opening) h.under_way r → CanSend opening (item.Report r) w
   can_report opening w r h s =
-      let scale = opening.scale in
+      let shared = shared_of opening in
       let u = h.under_way in
       let at = acting_under_way r.place w.desk.active (is_awaited (weigh_acting r.place) (Acting r.place) (flight w).tokens (awaited w.desk.active) (one_weighs r.place) h.balance.tokens) in
-      let phase : IsSoundPhase scale u at.0 = subst (λ a. IsSoundActive scale u a) at.1.0 h.active in
+      let phase : IsSoundPhase shared u at.0 = subst (λ a. IsSoundActive shared u a) at.1.0 h.active in
       let meets : (reports : List (Report J)) → map Some reports ≡ slice_set at.0 r.place (Some r) → CanMeet reports = λ reports all.
       let many : length reports ≡ length (works_of u.progress) =
       sym (length-map reports Some) ∙ ap (λ (l : List (Option (Report J))). length l) all ∙ length-set at.0 r.place (Some r) ∙ phase.many in
-      can_meet scale u (works_of u.progress) reports refl (some_actions u.progress) (few_at scale u.request u.progress u.held phase.reached phase.hold) many
-      (phase_reported scale u at.0 r reports phase s all) in
+      can_meet shared u (works_of u.progress) reports refl (some_actions u.progress) (few_at shared u.request u.progress u.held phase.reached phase.hold) many
+      (phase_reported shared u at.0 r reports phase s all) in
       (at.0, (at.1.0, (at.1.1, meets)))
 
   -- ---- an item
 
-  pub can_send : (opening : Database) (w : Parts J) (i : Item J) (h : IsSoundWith opening.scale (part_item i) w) → IsSoundItem opening.scale w.log h.under_way i → CanSend opening i w
+  pub can_send : (opening : Database) (w : Parts J) (i : Item J) (h : IsSoundWith (shared_of opening) (part_item i) w) → IsSoundItem (shared_of opening) w.log h.under_way i → CanSend opening i w
   can_send opening w (item.Push message) h s = tt
   can_send opening w (item.Report r) h s = can_report opening w r h s
   can_send opening w item.Ended h s = ending_under_way w.desk.active (is_awaited weigh_ending Ending (flight w).tokens (awaited w.desk.active) refl h.balance.tokens)
@@ -84,7 +84,7 @@ module _ {J : Type 0} where
     accepted = s.accepted;
     number = s.asked.number;
     asks = s.asked.request;
-    carried_out = s.carried_out opening;
+    carried_out = s.carried_out opening refl;
     few = s.few;
   }
   can_send opening w (item.Reply told) h s = stands_at w.desk.sessions.items told.pass.session (subst (λ n. told.pass.session < n) (sym h.seats) s.0)

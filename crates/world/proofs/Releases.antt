@@ -6,7 +6,7 @@ use Rattle.std.specs.List.Sorted.{IsPermutation}
 use Rattle.std.proofs.lemmas.List.Elements.{All-cons, All-nil, All-head, All-tail}
 use Rattle.std.proofs.lemmas.List.Sorted.{IsPermutation-refl}
 use Rattle.std.proofs.lemmas.List.Sums.{sum_by-append}
-use Rattle.schema.specs.declared.scale.Scale.{Scale}
+use Rattle.partitions.specs.Parts.{Shared}
 use Rattle.schema.specs.Database.{Database}
 use Rattle.tickets.specs.Claims.{Claiming, all_claims}
 use Rattle.commit_log.specs.declared.entry.Entry.{Entry}
@@ -52,9 +52,9 @@ module _ (J : Type 0) where
   nothing_met zero = refl
   nothing_met (suc n) = refl
 
-  pub ending_sound : (scale : Scale) (u : UnderWay) (left : ℕ) → left ≤ 4 → IsSoundActive {J = J} scale u (ending left)
-  ending_sound scale u zero few = tt
-  ending_sound scale u (suc n) few = (omega arith, few)
+  pub ending_sound : (shared : Shared) (u : UnderWay) (left : ℕ) → left ≤ 4 → IsSoundActive {J = J} shared u (ending left)
+  ending_sound shared u zero few = tt
+  ending_sound shared u (suc n) few = (omega arith, few)
 
   -- ---- the pushes
 
@@ -66,17 +66,17 @@ module _ (J : Type 0) where
   pushes_part settle [] = refl
   pushes_part settle (claims ∷ all) = λ i. join (push_part settle claims i) (pushes_part settle all i)
 
-  push_sound : (scale : Scale) (log : List Entry) (u : UnderWay) (settle : Bool) (claims : List Claiming) → AreGiven settle claims → IsSoundItem {J = J} scale log u (push_of settle claims)
-  push_sound scale log u true claims h = h
-  push_sound scale log u false claims h = h
+  push_sound : (shared : Shared) (log : List Entry) (u : UnderWay) (settle : Bool) (claims : List Claiming) → AreGiven settle claims → IsSoundItem {J = J} shared log u (push_of settle claims)
+  push_sound shared log u true claims h = h
+  push_sound shared log u false claims h = h
 
-  pushes_sound : (scale : Scale) (log : List Entry) (u : UnderWay) (settle : Bool) (all : List (List Claiming)) → All (AreGiven settle) all
-      → All (IsSoundItem {J = J} scale log u) (map (push_of settle) all)
-  pushes_sound scale log u settle [] h = All-nil (IsSoundItem scale log u)
-  pushes_sound scale log u settle (claims ∷ all) h =
-      All-cons (IsSoundItem scale log u) (push_of settle claims) (map (push_of settle) all)
-      (push_sound scale log u settle claims (All-head (AreGiven settle) claims all h))
-      (pushes_sound scale log u settle all (All-tail (AreGiven settle) claims all h))
+  pushes_sound : (shared : Shared) (log : List Entry) (u : UnderWay) (settle : Bool) (all : List (List Claiming)) → All (AreGiven settle) all
+      → All (IsSoundItem {J = J} shared log u) (map (push_of settle) all)
+  pushes_sound shared log u settle [] h = All-nil (IsSoundItem shared log u)
+  pushes_sound shared log u settle (claims ∷ all) h =
+      All-cons (IsSoundItem shared log u) (push_of settle claims) (map (push_of settle) all)
+      (push_sound shared log u settle claims (All-head (AreGiven settle) claims all h))
+      (pushes_sound shared log u settle all (All-tail (AreGiven settle) claims all h))
 
 module _ {J : Type 0} where
   abbrev pub unanswered_release : Release J → Unanswered
@@ -111,20 +111,20 @@ module _ {J : Type 0} where
       (subst (λ us. IsPermutation hand.pending us) (pending ∙ sym (released_pending settle r)) (IsPermutation-refl hand.pending))
       f
 
-  pub releases_sound : (scale : Scale) (u : UnderWay) (w : Parts J) (hand : Part) (settle : Bool) (r : Release J)
-      → w.catalog.scale ≡ scale → AreSlicesOf w.catalog w.slices.items
-      → All (IsSoundMessage scale u) w.inbox → All (IsSoundItem scale w.log u) w.outbox → length w.desk.sessions.items ≡ 64
+  pub releases_sound : (shared : Shared) (u : UnderWay) (w : Parts J) (hand : Part) (settle : Bool) (r : Release J)
+      → w.catalog ≡ shared → AreSlicesOf w.catalog w.slices.items
+      → All (IsSoundMessage shared u) w.inbox → All (IsSoundItem shared w.log u) w.outbox → length w.desk.sessions.items ≡ 64
       → ((number : ℕ) (session : SessionDesk J) → slice_get w.desk.sessions.items number ≡ Some session → IsSessionOf number session)
       → r.pass.session < 64 → r.pass.asks.number ≡ r.number → IsAnswerIn w.log r.answer
       → All (AreGiven settle) r.held → length r.held ≤ 4
       → hand.pending ≡ unanswered_release r ∷ [] → AreServed w.desk (hand.pending ++ (lots w).pending)
       → WeighAlike (lots w).tokens []
-      → IsSoundWith scale nothing (releasing settle r w)
-  releases_sound scale u w hand settle r scale_is slices inbox outbox seats sessions session number answer given few pending served tokens =
+      → IsSoundWith shared nothing (releasing settle r w)
+  releases_sound shared u w hand settle r shared_is slices inbox outbox seats sessions session number answer given few pending served tokens =
       let items = items_released settle r in
-      puts_sound scale u w hand items (ending (length r.held)) (nothing_met J (length r.held)) scale_is slices inbox outbox
-      (All-cons (IsSoundItem scale w.log u) _ (map (push_of settle) r.held) (session, (number, answer)) (pushes_sound J scale w.log u settle r.held given))
-      (ending_sound J scale u (length r.held) few) seats sessions
+      puts_sound shared u w hand items (ending (length r.held)) (nothing_met J (length r.held)) shared_is slices inbox outbox
+      (All-cons (IsSoundItem shared w.log u) _ (map (push_of settle) r.held) (session, (number, answer)) (pushes_sound J shared w.log u settle r.held given))
+      (ending_sound J shared u (length r.held) few) seats sessions
       (subst (λ us. IsPermutation hand.pending us) (pending ∙ sym (released_pending settle r)) (IsPermutation-refl hand.pending))
       served
       (λ weight. omega (arith, sum_by-append weight (parts part_item items).tokens (lots w).tokens, tokens weight, ap (λ ts. sum_by weight ts) (released_tokens settle r)))

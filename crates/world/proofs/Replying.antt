@@ -3,7 +3,7 @@ use Rattle.std.proofs.Common.{◌≡◌, ℕ, List, [], ◌∷◌, ◌++◌, len
 use Rattle.std.specs.Prelude.{slice_set}
 use Rattle.std.specs.List.{slice_get}
 use Rattle.std.proofs.lemmas.List.{length-set}
-use Rattle.schema.specs.declared.scale.Scale.{Scale}
+use Rattle.partitions.specs.Parts.{Shared}
 use Rattle.schema.specs.Database.{Database}
 use Rattle.requests.specs.declared.answer.Answer.{Answer}
 use Rattle.requests.specs.declared.answer.Answer.TheVariants.{Done, Refused}
@@ -43,10 +43,10 @@ module _ {J : Type 0} where
     log = h.1.1.1.1.0 i;
   }
 
-  module _ (scale : Scale) (w : Parts J) (told : ReplyItem J) (h : IsSoundWith scale (part_item (item.Reply told)) w) (s : IsSoundReply w.log told)
+  module _ (shared : Shared) (w : Parts J) (told : ReplyItem J) (h : IsSoundWith shared (part_item (item.Reply told)) w) (s : IsSoundReply w.log told)
       (desk : SessionDesk J) (is : slice_get w.desk.sessions.items told.pass.session ≡ Some desk)
       (new : Parts J) (same : with_sessions w (slice_set w.desk.sessions.items told.pass.session (record desk { pass = Some told.pass })) new) where
-    pub replies_sound : IsSoundWith scale nothing new
+    pub replies_sound : IsSoundWith shared nothing new
     replies_sound =
         let place = told.pass.session in
         let session : SessionDesk J = record desk { pass = Some told.pass } in
@@ -58,8 +58,8 @@ module _ {J : Type 0} where
         let many : AreMany all rest.pending = answered_many w.desk.sessions.items u rest.pending desk session place is refl refl h.balance.alone h.balance.many in
         let placed : AreInPlace all = still_in_place w.desk.sessions.items place desk session is ((h.sessions place desk is).0, refl) h.sessions in
         let next : Parts J = record w { desk = record w.desk { sessions = new.desk.sessions } } in
-        let sound : IsSoundWith scale nothing next = record {
-          scale_is = h.scale_is;
+        let sound : IsSoundWith shared nothing next = record {
+          shared_is = h.shared_is;
           slices = h.slices;
           under_way = h.under_way;
           inbox = h.inbox;
@@ -73,7 +73,7 @@ module _ {J : Type 0} where
             many = subst (λ l. AreMany l rest.pending) (sym sessions_are) many;
           };
         } in
-        subst (λ v. IsSoundWith scale nothing v) (sym (of_sessions w new all same)) sound
+        subst (λ v. IsSoundWith shared nothing v) (sym (of_sessions w new all same)) sound
 
     pub replies_fits : (opening : Database) (history : List Step) (executor : ℕ)
         → FitsPart opening history w.log (joined_in w) w.desk.admitted (join (part_item (item.Reply told)) (flight w))

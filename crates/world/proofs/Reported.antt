@@ -5,7 +5,7 @@ use Rattle.std.specs.List.{slice_get}
 use Rattle.std.proofs.lemmas.List.{length-append, length-map, length-set}
 use Rattle.std.proofs.lemmas.List.Elements.{All-nil, All-cons, All-append}
 use Rattle.std.proofs.lemmas.Option.{slice_get-map}
-use Rattle.schema.specs.declared.scale.Scale.{Scale}
+use Rattle.partitions.specs.Parts.{Shared}
 use Rattle.requests.specs.declared.refusal.Refusal.{Refusal}
 use Rattle.requests.specs.declared.refusal.Refusal.TheVariants as refusal
 use Rattle.tickets.specs.Claims.{Claiming, all_claims}
@@ -90,10 +90,10 @@ module _ {J : Type 0} where
 
   -- ---- the reports of a phase
 
-  module _ (scale : Scale) (u : UnderWay) where
+  module _ (shared : Shared) (u : UnderWay) where
     -- an action that ran has done this work, and all of it can be taken back
     abbrev pub HasRan : Work → Ran J → Type 0
-    HasRan work (ran.Done claims found) = HasDone scale work found claims × CanAllBeUndone claims
+    HasRan work (ran.Done claims found) = HasDone shared work found claims × CanAllBeUndone claims
     HasRan work (ran.Died group holder) = Unit {0}
     HasRan work ran.NoMemory = Unit {0}
 
@@ -103,17 +103,17 @@ module _ {J : Type 0} where
     HaveReported place (work ∷ works) (r ∷ reports) = (IsCarriedAt u place r.flow × HasRan work r.ran) × HaveReported (suc place) works reports
     HaveReported place works reports = ⊥
 
-    ran_at : (place : ℕ) (work : Work) (r : Ran J) → IsWorkAt u place work → IsSoundRan scale u place r → HasRan work r
+    ran_at : (place : ℕ) (work : Work) (r : Ran J) → IsWorkAt u place work → IsSoundRan shared u place r → HasRan work r
     ran_at place work (ran.Done claims found) at h =
         let other = h.1.0 in
         let same : h.0 ≡ work = cc in
-        subst (λ (w : Work). HasDone scale w found claims × CanAllBeUndone claims) same h.1.1
+        subst (λ (w : Work). HasDone shared w found claims × CanAllBeUndone claims) same h.1.1
     ran_at place work (ran.Died group holder) at h = tt
     ran_at place work ran.NoMemory at h = tt
 
     have_reported : (place : ℕ) (works : List Work) (reports : List (Report J)) → length reports ≡ length works
         → ((i : ℕ) → slice_get (works_of u.progress) (place + i) ≡ slice_get works i)
-        → ((i : ℕ) (r : Report J) → slice_get reports i ≡ Some r → (r.place ≡ place + i) × IsSoundReport scale u r)
+        → ((i : ℕ) (r : Report J) → slice_get reports i ≡ Some r → (r.place ≡ place + i) × IsSoundReport shared u r)
         → HaveReported place works reports
     have_reported place [] [] many at each = tt
     have_reported place [] (r ∷ reports) many at each = absurd (omega (arith, many))
@@ -123,14 +123,14 @@ module _ {J : Type 0} where
         let zero_more : place + 0 ≡ place = omega arith in
         let here : r.place ≡ place = first.0 ∙ zero_more in
         let own : IsWorkAt u place work = subst (λ n. slice_get (works_of u.progress) n ≡ Some work) zero_more (at 0) in (
-          (subst (λ n. IsCarriedAt u n r.flow) here first.1.flow, ran_at place work r.ran own (subst (λ n. IsSoundRan scale u n r.ran) here first.1.ran)),
+          (subst (λ n. IsCarriedAt u n r.flow) here first.1.flow, ran_at place work r.ran own (subst (λ n. IsSoundRan shared u n r.ran) here first.1.ran)),
           have_reported (suc place) works reports (omega (arith, many))
               (λ i. let one_more : place + suc i ≡ suc place + i = omega arith in subst (λ n. slice_get (works_of u.progress) n ≡ slice_get works i) one_more (at (suc i)))
               (λ i q is. let e = each (suc i) q is in (omega (arith, e.0), e.1)),
         )
 
     -- where all places of the phase have reported
-    pub phase_reported : (slots : List (Option (Report J))) (r : Report J) (reports : List (Report J)) → IsSoundPhase scale u slots → IsSoundReport scale u r
+    pub phase_reported : (slots : List (Option (Report J))) (r : Report J) (reports : List (Report J)) → IsSoundPhase shared u slots → IsSoundReport shared u r
         → map Some reports ≡ slice_set slots r.place (Some r) → HaveReported 0 (works_of u.progress) reports
     phase_reported slots r reports at s all =
         let many : length reports ≡ length (works_of u.progress) =
@@ -142,11 +142,11 @@ module _ {J : Type 0} where
         some_of None = None
         some_of (Some q) = Some (Some q)
 
-        by : (i : ℕ) (q : Report J) → ((i ≡ r.place) × (Some r ≡ Some q)) ⊎ (slice_get slots i ≡ Some (Some q)) → (q.place ≡ 0 + i) × IsSoundReport scale u q
+        by : (i : ℕ) (q : Report J) → ((i ≡ r.place) × (Some r ≡ Some q)) ⊎ (slice_get slots i ≡ Some (Some q)) → (q.place ≡ 0 + i) × IsSoundReport shared u q
         by i q (inl put) =
             let both = put.1 in
             let same : r ≡ q = cc in
-            subst (λ (p : Report J). (p.place ≡ 0 + i) × IsSoundReport scale u p) same (omega (arith, put.0), s)
+            subst (λ (p : Report J). (p.place ≡ 0 + i) × IsSoundReport shared u p) same (omega (arith, put.0), s)
         by i q (inr stood) = let told = at.reports i q stood in (omega (arith, told.0), told.1)
 
     -- ---- who carries the transaction
@@ -193,15 +193,15 @@ module _ {J : Type 0} where
     -- ---- what they found and hold
 
     one_done : (work : Work) (works : List Work) (reports : List (Report J)) (own : Ran J) → HasRan work own
-        → (refusal_of None reports ≡ None → HaveAllDone scale works (found_in reports) (held_in reports))
+        → (refusal_of None reports ≡ None → HaveAllDone shared works (found_in reports) (held_in reports))
         → refusal_of (refused_by None own) reports ≡ None
-        → HaveAllDone scale (work ∷ works) (found_by own ++ found_in reports) (held_by own ++ held_in reports)
+        → HaveAllDone shared (work ∷ works) (found_by own ++ found_in reports) (held_by own ++ held_in reports)
     one_done work works reports (ran.Done claims found) has rest none = (has.0, rest none)
     one_done work works reports (ran.Died group holder) has rest none = absurd (stays_refused (refusal.Died group holder) reports none)
     one_done work works reports ran.NoMemory has rest none = absurd (stays_refused refusal.NoMemory reports none)
 
     pub all_done : (place : ℕ) (works : List Work) (reports : List (Report J)) → HaveReported place works reports → refusal_of None reports ≡ None
-        → HaveAllDone scale works (found_in reports) (held_in reports)
+        → HaveAllDone shared works (found_in reports) (held_in reports)
     all_done place [] [] h none = tt
     all_done place [] (r ∷ reports) h none = absurd h
     all_done place (work ∷ works) [] h none = absurd h
@@ -219,7 +219,7 @@ module _ {J : Type 0} where
         one_undo ran.NoMemory has = All-nil CanAllBeUndone
 
     -- each that holds claims holds some
-    pub all_hold : ((work : Work) (found : Found) (claims : List Claiming) → HasDone scale work found claims → HoldsSome claims)
+    pub all_hold : ((work : Work) (found : Found) (claims : List Claiming) → HasDone shared work found claims → HoldsSome claims)
         → (place : ℕ) (works : List Work) (reports : List (Report J)) → HaveReported place works reports → All HoldsSome (held_in reports)
     all_hold hold place [] [] h = All-nil HoldsSome
     all_hold hold place [] (r ∷ reports) h = absurd h

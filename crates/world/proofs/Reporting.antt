@@ -4,7 +4,7 @@ use Rattle.std.specs.Prelude.{count_by, cond}
 use Rattle.std.specs.List.Sorted.{IsPermutation}
 use Rattle.std.proofs.lemmas.List.Elements.{All-push}
 use Rattle.std.proofs.lemmas.List.Sorted.{sum_by-IsPermutation, length_permutation}
-use Rattle.schema.specs.declared.scale.Scale.{Scale}
+use Rattle.partitions.specs.Parts.{Shared}
 use Rattle.schema.specs.Database.{Database}
 use Rattle.history.specs.History.{Step, Unanswered, is_of}
 use Rattle.rendezvous.specs.Awaited.{reported}
@@ -34,16 +34,16 @@ module _ {J : Type 0} where
 
   -- ---- a push
 
-  pub pushes_sound : (scale : Scale) (mid : Parts J) (message : Message J)
-      → (h : IsSoundWith scale (part_message message) mid) → IsSoundMessage scale h.under_way message
-      → IsSoundWith scale nothing (record mid { inbox = mid.inbox ++ message ∷ [] })
-  pushes_sound scale mid message h fine =
+  pub pushes_sound : (shared : Shared) (mid : Parts J) (message : Message J)
+      → (h : IsSoundWith shared (part_message message) mid) → IsSoundMessage shared h.under_way message
+      → IsSoundWith shared nothing (record mid { inbox = mid.inbox ++ message ∷ [] })
+  pushes_sound shared mid message h fine =
       let next : Parts J = record mid { inbox = mid.inbox ++ message ∷ [] } in
       record {
-        scale_is = h.scale_is;
+        shared_is = h.shared_is;
         slices = h.slices;
         under_way = h.under_way;
-        inbox = All-push (IsSoundMessage scale h.under_way) mid.inbox message h.inbox fine;
+        inbox = All-push (IsSoundMessage shared h.under_way) mid.inbox message h.inbox fine;
         outbox = h.outbox;
         active = h.active;
         seats = h.seats;
@@ -62,15 +62,15 @@ module _ {J : Type 0} where
   item_back mid item =
       subst (λ p. IsSame (join p (flight mid)) (flight (record mid { outbox = mid.outbox ++ item ∷ [] }))) (join-nothing (part_item item)) (same-sym _ _ (items_put mid (item ∷ [])))
 
-  pub put_back_sound : (scale : Scale) (mid : Parts J) (item : Item J)
-      → (h : IsSoundWith scale (part_item item) mid) → IsSoundItem scale mid.log h.under_way item
-      → IsSoundWith scale nothing (record mid { outbox = mid.outbox ++ item ∷ [] })
-  put_back_sound scale mid item h fine = record {
-    scale_is = h.scale_is;
+  pub put_back_sound : (shared : Shared) (mid : Parts J) (item : Item J)
+      → (h : IsSoundWith shared (part_item item) mid) → IsSoundItem shared mid.log h.under_way item
+      → IsSoundWith shared nothing (record mid { outbox = mid.outbox ++ item ∷ [] })
+  put_back_sound shared mid item h fine = record {
+    shared_is = h.shared_is;
     slices = h.slices;
     under_way = h.under_way;
     inbox = h.inbox;
-    outbox = All-push (IsSoundItem scale mid.log h.under_way) mid.outbox item h.outbox fine;
+    outbox = All-push (IsSoundItem shared mid.log h.under_way) mid.outbox item h.outbox fine;
     active = h.active;
     seats = h.seats;
     sessions = h.sessions;

@@ -3,9 +3,9 @@ use Rattle.std.proofs.Common.{◌≡◌, ℕ, ◌+◌, ◌≤◌, zero, suc, Lis
 use Rattle.std.specs.Prelude.{map}
 use Rattle.std.specs.List.{sum_by}
 use Rattle.std.proofs.lemmas.List.Sums.{sum_by-cons, sum_by-append}
-use Rattle.schema.specs.declared.scale.Scale.{Scale}
 use Rattle.rendezvous.specs.Awaited.{awaited_from}
 use Rattle.rendezvous.proofs.Awaiting.{awaited_at_most}
+use Rattle.partitions.specs.Parts.{Shared}
 use Rattle.world.specs.declared.desk.Active.{Active}
 use Rattle.world.specs.declared.desk.Active.TheVariants as active
 use Rattle.world.specs.declared.flight.Message.TheVariants.{Start, Act, Settle, Undo}
@@ -47,23 +47,23 @@ module _ {J : Type 0} where
   items_weigh (i ∷ items) =
       omega (arith, item_weighs i, items_weigh items, sum_by-append one_each (part_item i).tokens (parts part_item items).tokens, length-more (part_item i).pending (parts part_item items).pending)
 
-  few_awaited : (scale : Scale) (u : UnderWay) (a : Option (Active J)) → IsSoundActive scale u a → sum_by one_each (awaited a) ≤ 4
-  few_awaited scale u None h = omega arith
-  few_awaited scale u (Some (active.Acting slots)) h =
-      omega (arith, as_many (awaited_from 0 slots), awaited_at_most 0 slots, h.many, few_at scale u.request u.progress u.held h.reached h.hold)
-  few_awaited scale u (Some active.Committing) h = omega arith
-  few_awaited scale u (Some (active.Ending left)) h = omega (arith, so_many_end left, h.1)
+  few_awaited : (shared : Shared) (u : UnderWay) (a : Option (Active J)) → IsSoundActive shared u a → sum_by one_each (awaited a) ≤ 4
+  few_awaited shared u None h = omega arith
+  few_awaited shared u (Some (active.Acting slots)) h =
+      omega (arith, as_many (awaited_from 0 slots), awaited_at_most 0 slots, h.many, few_at shared u.request u.progress u.held h.reached h.hold)
+  few_awaited shared u (Some active.Committing) h = omega arith
+  few_awaited shared u (Some (active.Ending left)) h = omega (arith, so_many_end left, h.1)
 
   -- there is room for some more
-  pub has_room : (scale : Scale) (hand : Part) (w : Parts J) → IsSoundWith scale hand w → length w.outbox + 8 ≤ 4096
-  has_room scale hand w h =
+  pub has_room : (shared : Shared) (hand : Part) (w : Parts J) → IsSoundWith shared hand w → length w.outbox + 8 ≤ 4096
+  has_room shared hand w h =
       let met = in_meeting w in
       let tokens = h.balance.tokens one_each in
       omega (
         arith,
         items_weigh w.outbox,
         tokens,
-        few_awaited scale h.under_way w.desk.active h.active,
+        few_awaited shared h.under_way w.desk.active h.active,
         h.balance.many,
         sum_by-append one_each hand.tokens (flight w).tokens,
         sum_by-append one_each (in_inbox w).tokens ((in_outbox w).tokens ++ met.tokens),

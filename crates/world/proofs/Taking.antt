@@ -3,7 +3,7 @@ use Rattle.std.proofs.Common.{◌≡◌, ℕ, List, [], ◌∷◌, ◌++◌, sym
 use Rattle.std.specs.Prelude.{All, Vec}
 use Rattle.std.specs.declared.alloc.Global.{Global}
 use Rattle.std.proofs.lemmas.List.Elements.{All-head, All-tail, All-append}
-use Rattle.schema.specs.declared.scale.Scale.{Scale}
+use Rattle.partitions.specs.Parts.{Shared}
 use Rattle.schema.specs.Database.{Database}
 use Rattle.history.specs.declared.event.Event.TheVariants.{Take}
 use Rattle.history.specs.declared.event.EventAnswer.TheVariants.{Took}
@@ -23,42 +23,42 @@ use Rattle.world.proofs.Fitting.{fits_same, fits_work, fits_quiet}
 
 module _ {J : Type 0} where
   -- what is known of the first message of the inbox, once it is in hand
-  pub message_in_hand : (scale : Scale) (old : Parts J) (message : Message J) (rest : List (Message J)) → old.inbox ≡ message ∷ rest
-      → IsSoundWith scale nothing old
-      → (h : IsSoundWith scale (part_message message) (record old { inbox = rest })) × IsSoundMessage scale h.under_way message
-  message_in_hand scale old message rest is h =
-      let all = subst (λ ms. All (IsSoundMessage scale h.under_way) ms) is h.inbox in (
+  pub message_in_hand : (shared : Shared) (old : Parts J) (message : Message J) (rest : List (Message J)) → old.inbox ≡ message ∷ rest
+      → IsSoundWith shared nothing old
+      → (h : IsSoundWith shared (part_message message) (record old { inbox = rest })) × IsSoundMessage shared h.under_way message
+  message_in_hand shared old message rest is h =
+      let all = subst (λ ms. All (IsSoundMessage shared h.under_way) ms) is h.inbox in (
         record {
-          scale_is = h.scale_is;
+          shared_is = h.shared_is;
           slices = h.slices;
           under_way = h.under_way;
-          inbox = All-tail (IsSoundMessage scale h.under_way) message rest all;
+          inbox = All-tail (IsSoundMessage shared h.under_way) message rest all;
           outbox = h.outbox;
           active = h.active;
           seats = h.seats;
           sessions = h.sessions;
           balance = subst (λ p. IsBalanced old.desk p) (message_taken old message rest is) h.balance;
         },
-        All-head (IsSoundMessage scale h.under_way) message rest all,
+        All-head (IsSoundMessage shared h.under_way) message rest all,
       )
 
   -- the message's work is done
-  worked_sound : (scale : Scale) (mid : Parts J) (message : Message J) (items : List (Item J)) (slices : Vec Sliced Global) → AreSlicesOf mid.catalog slices.items
+  worked_sound : (shared : Shared) (mid : Parts J) (message : Message J) (items : List (Item J)) (slices : Vec Sliced Global) → AreSlicesOf mid.catalog slices.items
       → Works message (joined_in mid) items (joined mid.catalog slices.items)
-      → (h : IsSoundWith scale (part_message message) mid) → IsSoundMessage scale h.under_way message
-      → IsSoundWith scale nothing (record mid { slices = slices; outbox = mid.outbox ++ items })
-  worked_sound scale mid message items slices are works h sound =
+      → (h : IsSoundWith shared (part_message message) mid) → IsSoundMessage shared h.under_way message
+      → IsSoundWith shared nothing (record mid { slices = slices; outbox = mid.outbox ++ items })
+  worked_sound shared mid message items slices are works h sound =
       let u = h.under_way in
       let moved : Parts J = record mid { slices = slices } in
       let rest = flight mid in
-      let fine : All (IsSoundItem scale mid.log u) items =
-      subst (λ s. All (IsSoundItem s mid.log u) items) h.scale_is (works.fine u mid.log (subst (λ s. IsSoundMessage s u message) (sym h.scale_is) sound)) in
+      let fine : All (IsSoundItem shared mid.log u) items =
+      subst (λ s. All (IsSoundItem s mid.log u) items) h.shared_is (works.fine u mid.log (subst (λ s. IsSoundMessage s u message) (sym h.shared_is) sound)) in
       record {
-        scale_is = h.scale_is;
+        shared_is = h.shared_is;
         slices = are;
         under_way = u;
         inbox = h.inbox;
-        outbox = All-append (IsSoundItem scale mid.log u) mid.outbox items h.outbox fine;
+        outbox = All-append (IsSoundItem shared mid.log u) mid.outbox items h.outbox fine;
         active = h.active;
         seats = h.seats;
         sessions = h.sessions;
@@ -76,11 +76,11 @@ module _ {J : Type 0} where
       fits_same opening history mid.log (joined_in moved) mid.desk.admitted (join (parts part_item items) (flight mid)) (flight (record moved { outbox = moved.outbox ++ items })) (same-sym _ _ (items_put moved items))
       (fits_work opening history mid.log (joined_in mid) (joined_in moved) mid.desk.admitted (part_message message) (parts part_item items) (flight mid) works.kept works.pending f)
 
-  pub takes_sound : (scale : Scale) (old : Parts J) (message : Message J) (rest : List (Message J)) (new : Parts J) → old.inbox ≡ message ∷ rest
-      → TakesMessage message (record old { inbox = rest }) new → IsSoundWith scale nothing old → IsSoundWith scale nothing new
-  takes_sound scale old message rest new is takes h =
-      let hand = message_in_hand scale old message rest is h in
-      subst (λ w. IsSoundWith scale nothing w) (sym takes.1.1.0) (worked_sound scale (record old { inbox = rest }) message takes.0 takes.1.0 takes.1.1.1.0 takes.1.1.1.1 hand.0 hand.1)
+  pub takes_sound : (shared : Shared) (old : Parts J) (message : Message J) (rest : List (Message J)) (new : Parts J) → old.inbox ≡ message ∷ rest
+      → TakesMessage message (record old { inbox = rest }) new → IsSoundWith shared nothing old → IsSoundWith shared nothing new
+  takes_sound shared old message rest new is takes h =
+      let hand = message_in_hand shared old message rest is h in
+      subst (λ w. IsSoundWith shared nothing w) (sym takes.1.1.0) (worked_sound shared (record old { inbox = rest }) message takes.0 takes.1.0 takes.1.1.1.0 takes.1.1.1.1 hand.0 hand.1)
 
   pub takes_fits : (old : Parts J) (message : Message J) (rest : List (Message J)) (new : Parts J) → old.inbox ≡ message ∷ rest
       → TakesMessage message (record old { inbox = rest }) new → (executor : ℕ) → Advances old (step (Take executor) Took ∷ []) new

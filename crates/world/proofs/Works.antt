@@ -4,7 +4,7 @@ use Rattle.std.specs.Prelude.{All, Vec}
 use Rattle.std.specs.declared.alloc.Global.{Global}
 use Rattle.std.specs.List.{slice_get}
 use Rattle.std.proofs.lemmas.List.Elements.{All-nil, All-cons, All-head, All-tail}
-use Rattle.schema.specs.declared.scale.Scale.{Scale}
+use Rattle.partitions.specs.Parts.{Shared, shared_of}
 use Rattle.commit_log.specs.declared.entry.Entry.{Entry}
 use Rattle.tickets.specs.Claims.{Claiming, all_claims}
 use Rattle.slices.specs.Sliced.{AreSlicesOf, Joined, Sliced, SlicesKeep, joined}
@@ -38,8 +38,8 @@ carried_later J u zero some = absurd (omega (arith, some))
 carried_later J u (suc place) some = tt
 
 module _ {J : Type 0} where
-  one_fine : (scale : Scale) (log : List Entry) (u : UnderWay) (one : Item J) → IsSoundItem scale log u one → All (IsSoundItem {J = J} scale log u) (one ∷ [])
-  one_fine scale log u one fine = All-cons (IsSoundItem scale log u) one [] fine (All-nil (IsSoundItem scale log u))
+  one_fine : (shared : Shared) (log : List Entry) (u : UnderWay) (one : Item J) → IsSoundItem shared log u one → All (IsSoundItem {J = J} shared log u) (one ∷ [])
+  one_fine shared log u one fine = All-cons (IsSoundItem shared log u) one [] fine (All-nil (IsSoundItem shared log u))
 
   -- ---- the actions of a phase
 
@@ -54,27 +54,27 @@ module _ {J : Type 0} where
       ∙ ap (λ (claims : List Claiming). part claims (unanswered_transaction t ∷ []) (acting_from 0 (work ∷ works))) (append-nil (all_claims t.held))
 
   -- those from a place on are sound
-  acts_fine_from : (scale : Scale) (log : List Entry) (u : UnderWay) (place age : ℕ) (carried : Option (Flow J)) (works : List Work)
-      → IsCarriedAt u place carried → ((k : ℕ) (work : Work) → slice_get works k ≡ Some work → IsWorkAt u (place + k) work) → All (CanDo scale) works
-      → All (IsSoundItem scale log u) (acts_from place age carried works)
-  acts_fine_from scale log u place age carried [] here at can = All-nil (IsSoundItem scale log u)
-  acts_fine_from scale log u place age carried (work ∷ works) here at can =
+  acts_fine_from : (shared : Shared) (log : List Entry) (u : UnderWay) (place age : ℕ) (carried : Option (Flow J)) (works : List Work)
+      → IsCarriedAt u place carried → ((k : ℕ) (work : Work) → slice_get works k ≡ Some work → IsWorkAt u (place + k) work) → All (CanDo shared) works
+      → All (IsSoundItem shared log u) (acts_from place age carried works)
+  acts_fine_from shared log u place age carried [] here at can = All-nil (IsSoundItem shared log u)
+  acts_fine_from shared log u place age carried (work ∷ works) here at can =
       let act : AnyAct J = record { place = place; age = age; work = work; flow = carried } in
       let first : place + 0 ≡ place = omega arith in
       let later : (k : ℕ) → place + suc k ≡ (place + 1) + k = λ k. omega arith in
-      let sound : IsSoundAct scale u act = record {
+      let sound : IsSoundAct shared u act = record {
         flow = here;
         work = subst (λ n. IsWorkAt u n work) first (at 0 work refl);
-        can = All-head (CanDo scale) work works can;
+        can = All-head (CanDo shared) work works can;
       } in
-      All-cons (IsSoundItem scale log u) (item.Push (Act act)) (acts_from (place + 1) age None works) sound
-      (acts_fine_from scale log u (place + 1) age None works (carried_later J u (place + 1) (omega arith))
-      (λ k other is. subst (λ n. IsWorkAt u n other) (later k) (at (suc k) other is)) (All-tail (CanDo scale) work works can))
+      All-cons (IsSoundItem shared log u) (item.Push (Act act)) (acts_from (place + 1) age None works) sound
+      (acts_fine_from shared log u (place + 1) age None works (carried_later J u (place + 1) (omega arith))
+      (λ k other is. subst (λ n. IsWorkAt u n other) (later k) (at (suc k) other is)) (All-tail (CanDo shared) work works can))
 
-  pub acts_fine : (scale : Scale) (log : List Entry) (u : UnderWay) (flow : Flow J) (works : List Work) → IsSoundStart scale u flow works → All (IsSoundItem scale log u) (acts_of flow works)
-  acts_fine scale log u flow works h =
+  pub acts_fine : (shared : Shared) (log : List Entry) (u : UnderWay) (flow : Flow J) (works : List Work) → IsSoundStart shared u flow works → All (IsSoundItem shared log u) (acts_of flow works)
+  acts_fine shared log u flow works h =
       let from_zero : (k : ℕ) → k ≡ 0 + k = λ k. omega arith in
-      acts_fine_from scale log u 0 flow.transaction.age (Some flow) works h.flow_is
+      acts_fine_from shared log u 0 flow.transaction.age (Some flow) works h.flow_is
       (λ k work is. subst (λ n. IsWorkAt u n work) (from_zero k) (subst (λ (ws : List Work). slice_get ws k ≡ Some work) h.works_are is)) h.can
 
   -- ---- each message
@@ -89,10 +89,10 @@ module _ {J : Type 0} where
         kept = subst (λ (p : Part). SlicesKeep held slices p.claims slices) (sym are) (stays held slices);
         pending = ap (λ (p : Part). p.pending) are;
         tokens = ap (λ (p : Part). p.tokens) are;
-        fine = λ u log sound. acts_fine slices.tables.scale log u flow works.items sound;
+        fine = λ u log sound. acts_fine (shared_of slices.tables) log u flow works.items sound;
       }
 
-  ran_soundly : (u : UnderWay) (place : ℕ) (work : Work) (one : Ran J) (old : Joined) → IsWorkAt u place work → ComesOf old work one → IsSoundRan old.tables.scale u place one
+  ran_soundly : (u : UnderWay) (place : ℕ) (work : Work) (one : Ran J) (old : Joined) → IsWorkAt u place work → ComesOf old work one → IsSoundRan (shared_of old.tables) u place one
   ran_soundly u place work (ran.Done claims found) old here of = (work, (here, of))
   ran_soundly u place work (ran.Died group holder) old here of = tt
   ran_soundly u place work ran.NoMemory old here of = tt
@@ -109,7 +109,7 @@ module _ {J : Type 0} where
         pending = append-nil carried.pending;
         tokens = refl;
         fine = λ u log fine.
-            one_fine old.tables.scale log u (item.Report (record { place = act.place; flow = act.flow; ran = one }))
+            one_fine (shared_of old.tables) log u (item.Report (record { place = act.place; flow = act.flow; ran = one }))
             (record { flow = fine.flow; ran = ran_soundly u act.place act.work one old fine.work of });
       }
 
@@ -120,7 +120,7 @@ module _ {J : Type 0} where
     kept = kept;
     pending = refl;
     tokens = refl;
-    fine = λ u log fine. one_fine old.tables.scale log u item.Ended tt;
+    fine = λ u log fine. one_fine (shared_of old.tables) log u item.Ended tt;
   }
 
   -- claims whose work is taken back are given back
@@ -130,7 +130,7 @@ module _ {J : Type 0} where
     kept = kept;
     pending = refl;
     tokens = refl;
-    fine = λ u log fine. one_fine old.tables.scale log u item.Ended tt;
+    fine = λ u log fine. one_fine (shared_of old.tables) log u item.Ended tt;
   }
 
   -- the message's items stand at the outbox's end, and nothing else changes but the slices

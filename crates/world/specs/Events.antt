@@ -2,8 +2,8 @@
 use Rattle.std.specs.Prelude.{◌≡◌, ◌<◌, ◌≤◌, ℕ, ◌+◌, ◌-◌, Bool, true, false, List, [], ◌∷◌, ◌++◌, Option, Some, None, All, Vec, nat_lt, length, map, replicate, slice_set, ◌⊎◌}
 use Rattle.std.specs.List.{Contains, slice_get}
 use Rattle.std.specs.declared.alloc.Global.{Global}
+use Rattle.partitions.specs.Parts.{Shared, shared_of}
 use Rattle.schema.specs.Database.{Database}
-use Rattle.schema.specs.declared.scale.Scale.{Scale}
 use Rattle.requests.specs.declared.request.Request.{Request}
 use Rattle.requests.specs.declared.reply.Reply.TheVariants as reply
 use Rattle.requests.specs.declared.answer.Answer.TheVariants.{Done, Refused}
@@ -60,7 +60,7 @@ module _ {J : Type 0} where
   -- What comes of this work in the slice of its warehouse: it was done under the claims, all of which can be undone; or it
   -- wished for a group some ticket of which is out.
   abbrev pub ComesOf : Joined → Work → Ran J → Type 0
-  ComesOf slices work (ran.Done claims found) = HasDone slices.tables.scale work found claims × CanAllBeUndone claims
+  ComesOf slices work (ran.Done claims found) = HasDone (shared_of slices.tables) work found claims × CanAllBeUndone claims
   ComesOf slices work (ran.Died group holder) = (wish : Wish) × (Contains (wishes_of work) wish × ((wish.group ≡ group) × (slices.free group < 8)))
   ComesOf slices work ran.NoMemory = Unit {0}
 
@@ -80,14 +80,14 @@ module _ {J : Type 0} where
     pub kept : SlicesKeep (part_message message).claims old (parts part_item items).claims new
     pub pending : (parts part_item items).pending ≡ (part_message message).pending
     pub tokens : (parts part_item items).tokens ≡ (part_message message).tokens
-    pub fine : (u : UnderWay) (log : List Entry) → IsSoundMessage old.tables.scale u message → All (IsSoundItem old.tables.scale log u) items
+    pub fine : (u : UnderWay) (log : List Entry) → IsSoundMessage (shared_of old.tables) u message → All (IsSoundItem (shared_of old.tables) log u) items
 
   -- what is asked of a message that is worked on
-  abbrev pub CanWork : Scale → Message J → Type 0
-  CanWork scale (Start flow works) = (1 ≤ length works.items) × ((length works.items ≤ 4) × All (CanDo scale) works.items)
-  CanWork scale (Act act) = CanDo scale act.work
-  CanWork scale (Settle claims) = CanAllBeSettled claims
-  CanWork scale (Undo claims) = CanAllBeUndone claims
+  abbrev pub CanWork : Shared → Message J → Type 0
+  CanWork shared (Start flow works) = (1 ≤ length works.items) × ((length works.items ≤ 4) × All (CanDo shared) works.items)
+  CanWork shared (Act act) = CanDo shared act.work
+  CanWork shared (Settle claims) = CanAllBeSettled claims
+  CanWork shared (Undo claims) = CanAllBeUndone claims
 
   -- the items that the message's work puts stand at the outbox's end, and nothing else changes but the slices, which are still
   -- those of all warehouses
@@ -131,7 +131,7 @@ module _ {J : Type 0} where
   -- what is asked of them
   pub record CanMeetFor (reports : List (Report J)) (flow : Flow J) : Type 0 where
     pub room : length flow.transaction.held + length reports ≤ 4
-    pub done : refusal_of None reports ≡ None → (scale : Scale) × HaveAllDone scale (works_of flow.progress) (found_in reports) (held_in reports)
+    pub done : refusal_of None reports ≡ None → (shared : Shared) × HaveAllDone shared (works_of flow.progress) (found_in reports) (held_in reports)
 
   -- what is asked of the reports of a phase, by the transaction that the first of them carries
   abbrev pub CanMeet : List (Report J) → Type 0

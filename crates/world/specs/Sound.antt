@@ -1,7 +1,7 @@
 -- What is known of each thing that is under way, and what a world keeps.
 use Rattle.std.specs.Prelude.{◌≡◌, ℕ, ◌+◌, ◌<◌, ◌≤◌, Bool, zero, suc, List, [], ◌∷◌, Option, Some, None, All, map, length, replicate, count_by, is_some, if◌then◌else◌}
 use Rattle.std.specs.List.{slice_get, sum_by}
-use Rattle.schema.specs.declared.scale.Scale.{Scale}
+use Rattle.partitions.specs.Parts.{Shared, shared_of}
 use Rattle.schema.specs.Database.{Database}
 use Rattle.requests.specs.declared.request.Request.{Request}
 use Rattle.requests.specs.declared.answer.Answer.{Answer}
@@ -88,42 +88,42 @@ module _ {J : Type 0} where
   -- ---- one thing that is under way
 
   -- a beginning has the works of the first phase, at most four, all of which can be done
-  pub record IsSoundStart (scale : Scale) (u : UnderWay) (flow : Flow J) (works : List Work) : Type 0 where
+  pub record IsSoundStart (shared : Shared) (u : UnderWay) (flow : Flow J) (works : List Work) : Type 0 where
     pub flow_is : IsSoundFlow u flow
     pub works_are : works ≡ works_of u.progress
-    pub can : All (CanDo scale) works
+    pub can : All (CanDo shared) works
     pub few : length works ≤ 4
 
   -- an action does the work of its place, which can be done
-  pub record IsSoundAct (scale : Scale) (u : UnderWay) (act : Act J) : Type 0 where
+  pub record IsSoundAct (shared : Shared) (u : UnderWay) (act : Act J) : Type 0 where
     pub flow : IsCarriedAt u act.place act.flow
     pub work : IsWorkAt u act.place act.work
-    pub can : CanDo scale act.work
+    pub can : CanDo shared act.work
 
   -- a message is sound, by its kind
-  abbrev pub IsSoundMessage : Scale → UnderWay → Message J → Type 0
-  IsSoundMessage scale u (message.Start flow works) = IsSoundStart scale u flow works.items
-  IsSoundMessage scale u (message.Act act) = IsSoundAct scale u act
-  IsSoundMessage scale u (message.Settle claims) = CanAllBeSettled claims
-  IsSoundMessage scale u (message.Undo claims) = CanAllBeUndone claims
+  abbrev pub IsSoundMessage : Shared → UnderWay → Message J → Type 0
+  IsSoundMessage shared u (message.Start flow works) = IsSoundStart shared u flow works.items
+  IsSoundMessage shared u (message.Act act) = IsSoundAct shared u act
+  IsSoundMessage shared u (message.Settle claims) = CanAllBeSettled claims
+  IsSoundMessage shared u (message.Undo claims) = CanAllBeUndone claims
 
   -- an action that ran did the work of its place, and all of it can be taken back
-  abbrev pub IsSoundRan : Scale → UnderWay → ℕ → Ran J → Type 0
-  IsSoundRan scale u place (ran.Done claims found) = (work : Work) × (IsWorkAt u place work × (HasDone scale work found claims × CanAllBeUndone claims))
-  IsSoundRan scale u place (ran.Died group holder) = Unit {0}
-  IsSoundRan scale u place ran.NoMemory = Unit {0}
+  abbrev pub IsSoundRan : Shared → UnderWay → ℕ → Ran J → Type 0
+  IsSoundRan shared u place (ran.Done claims found) = (work : Work) × (IsWorkAt u place work × (HasDone shared work found claims × CanAllBeUndone claims))
+  IsSoundRan shared u place (ran.Died group holder) = Unit {0}
+  IsSoundRan shared u place ran.NoMemory = Unit {0}
 
   -- a report is of its place, and what it tells of was done as the phase has it
-  pub record IsSoundReport (scale : Scale) (u : UnderWay) (r : Report J) : Type 0 where
+  pub record IsSoundReport (shared : Shared) (u : UnderWay) (r : Report J) : Type 0 where
     pub flow : IsCarriedAt u r.place r.flow
-    pub ran : IsSoundRan scale u r.place r.ran
+    pub ran : IsSoundRan shared u r.place r.ran
 
   -- A commit is of a request that its check accepts, and that was carried out under the transaction's claims with this
   -- reply, from any opening; and all can be undone.
-  pub record IsSoundCommit (scale : Scale) (commit : CommitItem J) : Type 0 where
+  pub record IsSoundCommit (shared : Shared) (commit : CommitItem J) : Type 0 where
     pub asked : IsAskedBy commit.transaction
-    pub accepted : IsAccepted scale commit.transaction.request
-    pub carried_out : (opening : Database) → IsCarriedOut opening commit.transaction.request (all_claims commit.transaction.held) commit.reply
+    pub accepted : IsAccepted shared.scale commit.transaction.request
+    pub carried_out : (opening : Database) → shared_of opening ≡ shared → IsCarriedOut opening commit.transaction.request (all_claims commit.transaction.held) commit.reply
     pub undo : All CanAllBeUndone commit.transaction.held
     pub few : length commit.transaction.held ≤ 4
 
@@ -132,12 +132,12 @@ module _ {J : Type 0} where
   IsSoundReply log told = (told.pass.session < 64) × ((told.pass.asks.number ≡ told.number) × IsAnswerIn log told.answer)
 
   -- an item is sound, by its kind
-  abbrev pub IsSoundItem : Scale → List Entry → UnderWay → Item J → Type 0
-  IsSoundItem scale log u (item.Push message) = IsSoundMessage scale u message
-  IsSoundItem scale log u (item.Report r) = IsSoundReport scale u r
-  IsSoundItem scale log u item.Ended = Unit {0}
-  IsSoundItem scale log u (item.Commit commit) = IsSoundCommit scale commit
-  IsSoundItem scale log u (item.Reply told) = IsSoundReply log told
+  abbrev pub IsSoundItem : Shared → List Entry → UnderWay → Item J → Type 0
+  IsSoundItem shared log u (item.Push message) = IsSoundMessage shared u message
+  IsSoundItem shared log u (item.Report r) = IsSoundReport shared u r
+  IsSoundItem shared log u item.Ended = Unit {0}
+  IsSoundItem shared log u (item.Commit commit) = IsSoundCommit shared commit
+  IsSoundItem shared log u (item.Reply told) = IsSoundReply log told
 
   -- ---- the active transaction
 
@@ -157,20 +157,20 @@ module _ {J : Type 0} where
 
   -- A phase that is under way: the request has come so far under what its earlier phases hold, all of which can be taken
   -- back; each of its actions has its place; what was reported is sound; and some action has not reported.
-  pub record IsSoundPhase (scale : Scale) (u : UnderWay) (slots : List (Option (Report J))) : Type 0 where
-    pub reached : IsReached scale u.request u.progress (all_claims u.held)
+  pub record IsSoundPhase (shared : Shared) (u : UnderWay) (slots : List (Option (Report J))) : Type 0 where
+    pub reached : IsReached shared u.request u.progress (all_claims u.held)
     pub hold : All HoldsSome u.held
     pub undo : All CanAllBeUndone u.held
     pub many : length slots ≡ length (works_of u.progress)
-    pub reports : (place : ℕ) (r : Report J) → slice_get slots place ≡ Some (Some r) → (r.place ≡ place) × IsSoundReport scale u r
+    pub reports : (place : ℕ) (r : Report J) → slice_get slots place ≡ Some (Some r) → (r.place ≡ place) × IsSoundReport shared u r
     pub awaits : 1 ≤ length (awaited_from 0 slots)
 
   -- the active transaction is sound, by how far it has come
-  abbrev pub IsSoundActive : Scale → UnderWay → Option (Active J) → Type 0
-  IsSoundActive scale u None = Unit {0}
-  IsSoundActive scale u (Some (active.Acting slots)) = IsSoundPhase scale u slots
-  IsSoundActive scale u (Some active.Committing) = Unit {0}
-  IsSoundActive scale u (Some (active.Ending left)) = (1 ≤ left) × (left ≤ 4)
+  abbrev pub IsSoundActive : Shared → UnderWay → Option (Active J) → Type 0
+  IsSoundActive shared u None = Unit {0}
+  IsSoundActive shared u (Some (active.Acting slots)) = IsSoundPhase shared u slots
+  IsSoundActive shared u (Some active.Committing) = Unit {0}
+  IsSoundActive shared u (Some (active.Ending left)) = (1 ≤ left) × (left ≤ 4)
 
   -- ---- the sessions
 
@@ -196,15 +196,15 @@ module _ {J : Type 0} where
         → count_by (is_of number) under_way.pending + (if is_here session then 1 else 0) ≡ 1
     pub many : length under_way.pending + count_by is_here desk.sessions.items ≡ 64
 
-  -- What the world keeps, with this in hand: there is a slice for each warehouse of this scale, in order; and each thing under
+  -- What the world keeps, with this in hand: there is a slice for each warehouse of this scale, in order, which share these items; and each thing under
   -- way is sound, and of one transaction.
-  pub record IsSoundWith (scale : Scale) (hand : Part) (w : Parts J) : Type 0 where
-    pub scale_is : w.catalog.scale ≡ scale
+  pub record IsSoundWith (shared : Shared) (hand : Part) (w : Parts J) : Type 0 where
+    pub shared_is : w.catalog ≡ shared
     pub slices : AreSlicesOf w.catalog w.slices.items
     pub under_way : UnderWay
-    pub inbox : All (IsSoundMessage scale under_way) w.inbox
-    pub outbox : All (IsSoundItem scale w.log under_way) w.outbox
-    pub active : IsSoundActive scale under_way w.desk.active
+    pub inbox : All (IsSoundMessage shared under_way) w.inbox
+    pub outbox : All (IsSoundItem shared w.log under_way) w.outbox
+    pub active : IsSoundActive shared under_way w.desk.active
     pub seats : length w.desk.sessions.items ≡ 64
     pub sessions : (number : ℕ) (session : SessionDesk J) → slice_get w.desk.sessions.items number ≡ Some session → IsSessionOf number session
     pub balance : IsBalanced w.desk (join hand (flight w))

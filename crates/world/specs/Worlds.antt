@@ -2,6 +2,7 @@
 use Rattle.std.specs.Prelude.{◌≡◌, ◌≢◌, ◌⊎◌, ℕ, ◌+◌, Bool, true, false, List, [], ◌∷◌, ◌++◌, Option, Some, None, Result, Ok, Err, zero, suc, nat_lt, ◌&&◌, length, replicate, Vec, IsTrue, is_some, slice_set, ◌<◌, ◌≤◌, ◌↔◌, count_by}
 use Rattle.std.specs.List.{slice_get}
 use Rattle.std.specs.declared.alloc.Global.{Global}
+use Rattle.partitions.specs.Parts.{Shared}
 use Rattle.schema.specs.Database.{Database}
 use Rattle.requests.specs.declared.request.Request.{Request}
 use Rattle.requests.specs.declared.answer.Answer.TheVariants.{Refused}
@@ -22,7 +23,6 @@ use Rattle.history.specs.declared.event.EventAnswer.TheVariants.{Accepted, Took,
 use Rattle.history.specs.History.{Step, step, is_of}
 use Rattle.history.specs.Fits.{Fits as HistoryFits}
 use Rattle.slices.specs.Sliced.{Joined, all_standing, everywhere}
-use Rattle.schema.specs.declared.scale.Scale.{Scale}
 use Rattle.transactions.specs.declared.work.Work.{Work}
 use Rattle.transactions.specs.Progresses.{IsReached, works_of}
 use Rattle.world.specs.declared.desk.Active.TheVariants.{Acting}
@@ -96,7 +96,7 @@ module _ {J : Type 0} where
     pub number_is : flow.transaction.number ≡ number
     pub request : flow.transaction.request ≡ asked
     pub held : flow.transaction.held ≡ []
-    pub begins : (scale : Scale) → IsAccepted scale asked → IsReached scale asked flow.progress []
+    pub begins : (shared : Shared) → IsAccepted shared.scale asked → IsReached shared asked flow.progress []
     pub here : desk.pass ≡ Some pass
     pub pass_is : flow.transaction.pass ≡ with_asks pass (asking number asked pass.seen pass.mine)
     pub works_are : works.items ≡ works_of flow.progress

@@ -52,7 +52,11 @@ impl<J: commit_log::Naming + tickets::Naming> Parts<J> {
         requires done { HasFound progress found.items }
         ensures { GathersInto progress found.items transaction self.old self.new }
     {
-        match progress.gather(found) {
+        let Ok(gathered) = progress.gather(alloc, found) else {
+            self.release(Release::refused(transaction, Refusal::NoMemory), false);
+            return;
+        };
+        match gathered {
             Gathered::Next(progress) => match Phase::begin(alloc, &progress) {
                 Ok(Phase { works, meeting }) => {
                     self.desk.active = Some(Active::Acting(meeting));

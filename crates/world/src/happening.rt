@@ -1,5 +1,6 @@
 //! One event at a time.
 ghost use Rattle.std.specs.Prelude.{◌≡◌, [], ◌∷◌};
+ghost use Rattle.partitions.specs.Parts.{shared_of};
 ghost use Rattle.history.specs.History.{step as one_step};
 ghost use Rattle.world.specs.Flights.{nothing};
 ghost use Rattle.world.specs.Sound.{IsSoundWith};
@@ -13,8 +14,8 @@ impl<J: commit_log::Naming + tickets::Naming> Parts<J> {
     /// What an event brings.
     pub(crate) fn happen(&mut self, alloc: Global, event: &Event) -> EventAnswer
         requires warehouses { J.warehouses ≡ J.opening.scale.warehouses }
-        requires sound { IsSoundWith J.opening.scale nothing self.old }
-        ensures sound { IsSoundWith J.opening.scale nothing self.new }
+        requires sound { IsSoundWith (shared_of J.opening) nothing self.old }
+        ensures sound { IsSoundWith (shared_of J.opening) nothing self.new }
         ensures advances { Advances self.old (one_step event.now result ∷ []) self.new }
         ensures happens { Happens event.now self.old result self.new }
     {
@@ -32,8 +33,8 @@ impl<J: commit_log::Naming + tickets::Naming> Parts<J> {
     // The executor takes a message.
     fn take(&mut self, alloc: Global, executor: u32) -> EventAnswer
         requires warehouses { J.warehouses ≡ J.opening.scale.warehouses }
-        requires sound { IsSoundWith J.opening.scale nothing self.old }
-        ensures sound { IsSoundWith J.opening.scale nothing self.new }
+        requires sound { IsSoundWith (shared_of J.opening) nothing self.old }
+        ensures sound { IsSoundWith (shared_of J.opening) nothing self.new }
         ensures advances { Advances self.old (one_step (Event.Take executor) result ∷ []) self.new }
         ensures happens { Happens (Event.Take executor) self.old result self.new }
     {
@@ -50,8 +51,8 @@ impl<J: commit_log::Naming + tickets::Naming> Parts<J> {
     // The first item of the outbox is sent.
     fn send(&mut self, alloc: Global, executor: u32) -> EventAnswer
         requires warehouses { J.warehouses ≡ J.opening.scale.warehouses }
-        requires sound { IsSoundWith J.opening.scale nothing self.old }
-        ensures sound { IsSoundWith J.opening.scale nothing self.new }
+        requires sound { IsSoundWith (shared_of J.opening) nothing self.old }
+        ensures sound { IsSoundWith (shared_of J.opening) nothing self.new }
         ensures advances { Advances self.old (one_step (Event.Send executor) result ∷ []) self.new }
         ensures happens { Happens (Event.Send executor) self.old result self.new }
     {

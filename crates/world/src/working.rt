@@ -13,7 +13,7 @@ impl<J: commit_log::Naming + tickets::Naming> Parts<J> {
         requires warehouses { J.warehouses ≡ self.old.catalog.scale.warehouses }
         requires slices { AreSlicesOf self.old.catalog self.old.slices.items }
         requires room { length self.old.outbox + 4 ≤ 4096 }
-        requires can { CanWork self.old.catalog.scale message }
+        requires can { CanWork self.old.catalog message }
         ensures { TakesMessage message self.old self.new }
     {
         match message {

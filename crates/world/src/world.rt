@@ -46,6 +46,7 @@ impl<J: commit_log::Naming + tickets::Naming> Model for World<J> {
     ghost use Rattle.std.specs.Prelude.{◌≡◌};
     ghost use Rattle.world.specs.declared.world.Parts.{Parts};
     ghost use Rattle.world.specs.Flights.{nothing};
+    ghost use Rattle.partitions.specs.Parts.{shared_of};
     ghost use Rattle.world.specs.Sound.{IsSoundWith};
     ghost use Rattle.std.specs.Coded.{codes};
     ghost use Rattle.groups.specs.contracts.content.Content as content;
@@ -59,7 +60,7 @@ impl<J: commit_log::Naming + tickets::Naming> Model for World<J> {
 
     ghost view = { λ w. w.parts };
 
-    ghost invariant = { λ w. IsSoundWith J.opening.scale nothing w.parts × (J.warehouses ≡ J.opening.scale.warehouses) };
+    ghost invariant = { λ w. IsSoundWith (shared_of J.opening) nothing w.parts × (J.warehouses ≡ J.opening.scale.warehouses) };
 }
 
 impl<J: commit_log::Naming + tickets::Naming> Parts<J> {

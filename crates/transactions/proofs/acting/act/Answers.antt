@@ -1,6 +1,6 @@
 use Rattle.std.proofs.Common.{◌≡◌, [], List, sym, subst, ◌∙◌, arith}
 use Rattle.std.specs.Prelude.{All}
-use Rattle.schema.specs.declared.scale.Scale.{Scale}
+use Rattle.partitions.specs.Parts.{Shared, shared_of}
 use Rattle.groups.specs.Footprint.{groups_of}
 use Rattle.tickets.specs.Claims.{Claiming}
 use Rattle.tickets.specs.Places.{IsGroupOf}
@@ -17,7 +17,7 @@ use Rattle.transactions.proofs.acting.act.Goals as goal
 pub grant_all-requires-clause-known : goal.grant_all-requires-clause-known
 grant_all-requires-clause-known g c =
     subst (λ n. All (IsGroupOf n) (groups_of (wishes_of c.args.work))) (sym c.requires.warehouses)
-    (works_have_their_groups c.args.slice.now.tables.scale c.args.work c.requires.can)
+    (works_have_their_groups (shared_of c.args.slice.now.tables) c.args.work c.requires.can)
 
 -- all that the work claims is at the slice's warehouse
 pub grant_all-requires-clause-home : goal.grant_all-requires-clause-home
@@ -33,7 +33,7 @@ pub returns-in-Err-clause-kept : goal.returns-in-Err-clause-kept
 returns-in-Err-clause-kept g c = kept.then _ _ _ _ _ _ c.grant_all.ensures.kept c.give_back.ensures
 
 pub run-requires-clause-can : goal.run-requires-clause-can
-run-requires-clause-can g c = subst (λ (s : Scale). CanDo s c.args.work) (sym c.grant_all.ensures.kept.scale) c.requires.can
+run-requires-clause-can g c = subst (λ (s : Shared). CanDo s c.args.work) (sym (kept.same_shared _ _ _ _ c.grant_all.ensures.kept)) c.requires.can
 
 -- what was lent is the claims again
 pub returns-in-Ok-run-clause-kept : goal.returns-in-Ok-run-clause-kept
@@ -50,8 +50,8 @@ returns-in-Ok-run-clause-done g c =
     let claims = c.run.new.claims in
     let back : c.new.result ≡ claims = c.new.ensures ∙ written_back claims c.grant_all.new.claims.items c.grant_all.new.claims.len (omega (arith, c.run.auto.claims, c.deref_mut.ensures.len)) in
     let granted = subst (AreGrantedFor (wishes_of work)) (sym c.deref_mut.ensures.value) c.in_default-grant_all.ensures.granted in
-    subst (λ (cs : List Claiming). HasDone c.args.slice.now.tables.scale work c.in-Ok-run.found cs × All CanBeUndone cs) (sym back) (
-      subst (λ (s : Scale). HasDone s work c.in-Ok-run.found claims) c.grant_all.ensures.kept.scale c.in-Ok-run.ensures.done,
+    subst (λ (cs : List Claiming). HasDone (shared_of c.args.slice.now.tables) work c.in-Ok-run.found cs × All CanBeUndone cs) (sym back) (
+      subst (λ (s : Shared). HasDone s work c.in-Ok-run.found claims) (kept.same_shared _ _ _ _ c.grant_all.ensures.kept) c.in-Ok-run.ensures.done,
       wished.left_undone (wishes_of work) c.deref_mut.result.now claims granted c.run.ensures.left,
     )
 

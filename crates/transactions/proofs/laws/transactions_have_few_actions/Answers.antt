@@ -5,4 +5,4 @@ use Rattle.transactions.proofs.Reached.{within}
 use Rattle.transactions.proofs.laws.transactions_have_few_actions.Goals as goal
 
 pub returns : goal.returns
-returns c = λ scale asked progress held reached some. few_actions asked (works_of progress) held (within scale asked progress (all_claims held) reached) some
+returns c = λ shared asked progress held reached some. few_actions asked (works_of progress) held (within shared asked progress (all_claims held) reached) some

@@ -16,5 +16,5 @@ order_found-order-requires c =
 
 pub returns : goal.returns
 returns c =
-    subst (λ (r : OrderStatusReply). FollowsFrom (any_progress.OrderStatus (ReadOrder c.args.shown)) c.args.found.items (Finish (reply.Done (kind.OrderStatus r)))) (sym c.reply_of.ensures)
+    subst (λ (r : OrderStatusReply). FollowsFrom (any_progress.OrderStatus (ReadOrder c.args.shown)) c.args.found.items (Finish (reply.Done (kind.OrderStatus r)))) (sym c.reply_of-said.ensures)
     (order_follows c.args.shown c.args.found.items c.order_found-order.result c.order_found-order.ensures)

@@ -1,4 +1,5 @@
-use Rattle.std.proofs.Common.{subst, sym}
+use Rattle.std.proofs.Common.{IfOk, subst, sym}
+use Rattle.transactions.specs.declared.progress.Gathered.{Gathered}
 use Rattle.transactions.specs.declared.progress.Progress.{Progress}
 use Rattle.transactions.specs.Progresses.{FollowsFrom, HasFound}
 use Rattle.transactions.proofs.progress.Progress.gather.Goals as goal
@@ -7,4 +8,4 @@ pub gather-requires : goal.gather-requires
 gather-requires c = subst (λ (p : Progress). HasFound p c.args.found.items) c.in-Payment.is c.requires
 
 pub returns-in-Payment : goal.returns-in-Payment
-returns-in-Payment c = subst (λ (p : Progress). FollowsFrom p c.args.found.items c.gather.result) (sym c.in-Payment.is) c.gather.ensures
+returns-in-Payment c = subst (λ (p : Progress). IfOk c.gather.result (λ (g : Gathered). FollowsFrom p c.args.found.items g)) (sym c.in-Payment.is) c.gather.ensures

@@ -21,7 +21,7 @@ returns-in-Start g c =
     let old = c.args.self.now in
     let flow = c.in-Start.flow in
     let works = c.in-Start.works in
-    let some = (subst (λ (m : Message g.row.J.Denot). CanWork old.catalog.scale m) c.in-Start.is c.requires.can).0 in (
+    let some = (subst (λ (m : Message g.row.J.Denot). CanWork old.catalog m) c.in-Start.is c.requires.can).0 in (
       acts_of flow works.items,
       (
         old.slices,
@@ -42,8 +42,8 @@ returns-in-Act g c =
     let ran = c.act-ran.result in
     let slice = c.index_mut.result.now in
     let home = c.home-home.result in
-    let can : CanDo old.catalog.scale act.work = subst (λ (m : Message g.row.J.Denot). CanWork old.catalog.scale m) c.in-Act.is c.requires.can in
-    let within = warehouse_within old.catalog.scale home (subst (λ n. IsTrue (has_warehouse old.catalog.scale n)) (sym c.home-home.ensures) (works_are_at_warehouses old.catalog.scale act.work can)) in
+    let can : CanDo old.catalog act.work = subst (λ (m : Message g.row.J.Denot). CanWork old.catalog m) c.in-Act.is c.requires.can in
+    let within = warehouse_within old.catalog.scale home (subst (λ n. IsTrue (has_warehouse old.catalog.scale n)) (sym c.home-home.ensures) (works_are_at_warehouses old.catalog act.work can)) in
     let at_home : All (IsClaimAt home) (claims_of_ran ran) = subst (λ n. All (IsClaimAt n) (claims_of_ran ran)) (sym c.home-home.ensures) (ran_at_home slice act.work ran c.act-ran.ensures.done) in
     let kept = all_keep old.catalog old.slices.items c.requires.slices home slice within.0 within.1 c.index_mut.ensures.value c.act-ran.new.slice [] (claims_of_ran ran)
     (All-nil (IsClaimAt home)) at_home c.act-ran.ensures.kept in
@@ -57,7 +57,7 @@ returns-in-Settle g c =
     let claims = c.in-Settle.claims in
     let slice = c.index_mut-in-Settle.result.now in
     let home = c.home-home-in-Settle.result in
-    let can : CanAllBeSettled claims = subst (λ (m : Message g.row.J.Denot). CanWork old.catalog.scale m) c.in-Settle.is c.requires.can in
+    let can : CanAllBeSettled claims = subst (λ (m : Message g.row.J.Denot). CanWork old.catalog m) c.in-Settle.is c.requires.can in
     let last : home ≤ old.catalog.scale.warehouses = subst (λ n. home ≤ n) c.requires.warehouses c.home-home-in-Settle.ensures.known.1 in
     let kept = all_keep old.catalog old.slices.items c.requires.slices home slice c.home-home-in-Settle.ensures.known.0 last c.index_mut-in-Settle.ensures.value c.settle.new.slice claims []
     (claims_at_home claims home c.home-home-in-Settle.ensures.home can.1) (All-nil (IsClaimAt home)) c.settle.ensures in
@@ -70,7 +70,7 @@ returns-in-Undo g c =
     let claims = c.in-Undo.claims in
     let slice = c.index_mut-in-Undo.result.now in
     let home = c.home-home-in-Undo.result in
-    let can : CanAllBeUndone claims = subst (λ (m : Message g.row.J.Denot). CanWork old.catalog.scale m) c.in-Undo.is c.requires.can in
+    let can : CanAllBeUndone claims = subst (λ (m : Message g.row.J.Denot). CanWork old.catalog m) c.in-Undo.is c.requires.can in
     let last : home ≤ old.catalog.scale.warehouses = subst (λ n. home ≤ n) c.requires.warehouses c.home-home-in-Undo.ensures.known.1 in
     let kept = all_keep old.catalog old.slices.items c.requires.slices home slice c.home-home-in-Undo.ensures.known.0 last c.index_mut-in-Undo.ensures.value c.undo.new.slice claims []
     (claims_at_home claims home c.home-home-in-Undo.ensures.home can.1) (All-nil (IsClaimAt home)) c.undo.ensures in

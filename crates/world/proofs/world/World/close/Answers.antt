@@ -1,6 +1,6 @@
 use Rattle.std.proofs.Common.{◌≡◌, List, Some, sym, ◌∙◌, ap, subst, not, false}
 use Rattle.std.specs.Prelude.{is_some}
-use Rattle.partitions.specs.Parts.{Shared}
+use Rattle.partitions.specs.Parts.{Shared, shared_of}
 use Rattle.slices.specs.Sliced.{Sliced, joined}
 use Rattle.world.specs.declared.world.Parts.{Parts}
 use Rattle.world.specs.Openings.{gathered}
@@ -11,10 +11,10 @@ use Rattle.world.proofs.Runs.{of_none}
 use Rattle.world.proofs.world.World.close.Goals as goal
 
 pub returns-then-not-is_idle-clause-at_rest : goal.returns-then-not-is_idle-clause-at_rest
-returns-then-not-is_idle-clause-at_rest g c = rests_idle g.J.Naming-1.opening.scale c.self.inside.parts c.args.self c.self.view_is c.self.invariant.0
+returns-then-not-is_idle-clause-at_rest g c = rests_idle (shared_of g.J.Naming-1.opening) c.self.inside.parts c.args.self c.self.view_is c.self.invariant.0
 
 pub returns-clause-at_rest : goal.returns-clause-at_rest
-returns-clause-at_rest g c = rests_idle g.J.Naming-1.opening.scale c.self.inside.parts c.args.self c.self.view_is c.self.invariant.0
+returns-clause-at_rest g c = rests_idle (shared_of g.J.Naming-1.opening) c.self.inside.parts c.args.self c.self.view_is c.self.invariant.0
 
 pub returns-clause-tables : goal.returns-clause-tables
 returns-clause-tables g c opening history f =
@@ -23,6 +23,6 @@ returns-clause-tables g c opening history f =
     let none : is_some w.desk.active ≡ false = c.is_none-is_idle.ensures ∙ ap not c.if-not-is_idle.false in
     let moved : (joined left.result.1 left.result.2.items).tables ≡ (joined_in w).tables =
     ap (λ (s : Shared). (joined s left.result.2.items).tables) left.ensures.catalog ∙ ap (λ (l : List Sliced). (joined w.catalog l).tables) left.ensures.slices in
-    let is = idle_tables g.J.Naming-1.opening.scale w c.self.invariant.0 (of_none w.desk.active none) opening history (subst (λ (v : Parts g.row.J.Denot). Fits opening history v) (sym c.self.view_is) f) in
+    let is = idle_tables (shared_of g.J.Naming-1.opening) w c.self.invariant.0 (of_none w.desk.active none) opening history (subst (λ (v : Parts g.row.J.Denot). Fits opening history v) (sym c.self.view_is) f) in
     ap Some (c.in_ok-tables.ensures ∙ moved ∙ is) ∙ ap (λ b. gathered b (tables_now opening w.log)) (sym none)
     ∙ ap (λ (v : Parts g.row.J.Denot). gathered (is_some v.desk.active) (tables_now opening v.log)) c.self.view_is

@@ -1,6 +1,6 @@
 use Rattle.std.proofs.Common.{refl, sym, ap, subst, ◌∙◌, arith, None}
 use Rattle.schema.specs.Database.{Database}
-use Rattle.partitions.specs.Parts.{Shared}
+use Rattle.partitions.specs.Parts.{Shared, shared_of}
 use Rattle.groups.specs.Content.{content}
 use Rattle.tickets.specs.LogSeats.{SeatsTell}
 use Rattle.tickets.specs.Places.{AreInPlace}
@@ -28,8 +28,8 @@ invariant_of-result g c =
     let cut = c.in_ok-catalog in
     let scale = ap (λ (t : Database). t.scale) c.requires.opening in
     let slices = cut_slices c.args.tables cut.catalog cut.slices.items c.scale.ensures.within cut.ensures.catalog cut.ensures.slices in (
-      opened_sound g.J.Naming-1.opening.scale c.in_ok-book.lanes.items _ (record { many = omega (arith, c.in_ok-book.lanes.ok.0, c.in_ok-book.ensures.count); each = c.in_ok-book.ensures.sessions })
-          (ap (λ (s : Shared). s.scale) cut.ensures.catalog ∙ sym scale) slices.0 c.in_ok-inbox.ensures c.in_ok-outbox.ensures refl c.in_ok-sessions.ensures,
+      opened_sound (shared_of g.J.Naming-1.opening) c.in_ok-book.lanes.items _ (record { many = omega (arith, c.in_ok-book.lanes.ok.0, c.in_ok-book.ensures.count); each = c.in_ok-book.ensures.sessions })
+          (cut.ensures.catalog ∙ ap shared_of (sym c.requires.opening)) slices.0 c.in_ok-inbox.ensures c.in_ok-outbox.ensures refl c.in_ok-sessions.ensures,
       c.requires.warehouses ∙ sym (ap (λ s. s.warehouses) scale),
     )
 

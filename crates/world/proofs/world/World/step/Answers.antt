@@ -1,4 +1,5 @@
 use Rattle.std.proofs.Common.{subst, ◌∷◌, []}
+use Rattle.partitions.specs.Parts.{shared_of}
 use Rattle.history.specs.History.{step}
 use Rattle.world.specs.declared.world.Parts.{Parts}
 use Rattle.world.specs.Worlds.{Advances, Happens, IsBusyExactly}
@@ -18,4 +19,4 @@ returns-clause-nothing g c =
 pub returns-clause-busy : goal.returns-clause-busy
 returns-clause-busy g c =
     subst (λ (old : Parts g.row.J.Denot). IsBusyExactly c.args.event.now old c.happen.result) c.self.view_is
-    (busy_exactly g.J.Naming-1.opening.scale c.args.event.now c.self.inside.parts c.happen.new.self c.happen.result c.self.invariant.0 c.happen.ensures.happens)
+    (busy_exactly (shared_of g.J.Naming-1.opening) c.args.event.now c.self.inside.parts c.happen.new.self c.happen.result c.self.invariant.0 c.happen.ensures.happens)
