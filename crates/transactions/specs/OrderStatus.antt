@@ -112,6 +112,7 @@ works_of (ReadOrder given) = any_work.OrderStatus (ShowOrder given.key) ∷ []
 abbrev pub IsCustomerFound : List AnyFound → Type 0
 IsCustomerFound items = (customer : CustomerShown) × (items ≡ any_found.OrderStatus (found.Customer customer) ∷ [])
 
+-- the second phase's action found this of the last order
 abbrev pub IsOrderFound : List AnyFound → Type 0
 IsOrderFound items = (order : Option StatusOrder) × (items ≡ any_found.OrderStatus (found.Order order) ∷ [])
 

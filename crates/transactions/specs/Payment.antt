@@ -78,6 +78,7 @@ pub record AreHomeRowsPaid (p : Payment) (warehouse_name district_name : List �
   pub warehouse_left : warehouse.left ≡ OfWarehouse (Some new_warehouse)
   pub district_left : district.left ≡ OfDistrict (Some new_district)
 
+-- by what was found: the rows are missing, or a sum would leave its range, or both rows are paid
 abbrev pub FindsHome : Payment → HomePaid → Claiming → Claiming → Type 0
 FindsHome p h.Missing warehouse district = IsHomeMissing warehouse district
 FindsHome p h.OutOfRange warehouse district = IsHomeOutOfRange p warehouse district
@@ -125,6 +126,7 @@ pub record IsCustomerRowPaid (p : Payment) (reply : PaymentReply) (customers : C
   pub left : customers.left ≡ OfCustomers (map.insert rows key new_row)
   pub shown : reply ≡ payment_reply key new_row
 
+-- by what was found: there is no such customer, or a sum would leave its range, or the customer's row is paid
 abbrev pub FindsCustomer : Payment → CustomerPaid → Claiming → Type 0
 FindsCustomer p c.Missing customers = IsCustomerMissing p customers
 FindsCustomer p c.OutOfRange customers = IsCustomerOutOfRange p customers
