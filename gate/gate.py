@@ -1,8 +1,8 @@
 """Passes the tests: ./gate.sh [--whole] [--record NAME]
 
-Runs the scenarios by a program that is built without its proofs; proves every crate and its tests from nothing, tries
-must-fail edits and runs the tests (`rt ci`); runs the scenarios again by the program that was proved, and refuses each
-of its allocations in turn. The last line is `rt ci`'s: N passed, 0 failed. The exit status is 0 where all is well.
+Runs the examples by a program that is built without its proofs; proves every crate and its tests from nothing, tries
+must-fail edits and runs the tests (`rt ci`); runs all scenarios by the program that was proved, and refuses each of its
+allocations in turn. The last line is `rt ci`'s: N passed, 0 failed. The exit status is 0 where all is well.
 
 Of the must-fail edits it tries those of each crate whose own text, or whose definitions and contracts underneath, have
 changed since the last whole run, and those of a fifth of the other crates, another fifth with each commit.
@@ -111,7 +111,7 @@ def prove(whole, choice):
         (passed, failed), refused = run_ci(root, tried)
         if not failed:
             program = f"{root}/{PROGRAM}"
-            failed += not run("part 3 of 4: the scenarios by the program that was proved", "scenarios/run", "--program", program)
+            failed += not run("part 3 of 4: all scenarios by the program that was proved", "scenarios/run", "--program", program)
             failed += not run("part 4 of 4: each allocation of the program refused in turn", "gate/allocations.py", program)
     return passed, failed, refused
 
@@ -128,8 +128,9 @@ def main():
             fail("one of the gate's own tests failed")
         if not run("the definitions that the documents quote", "docs/quotes.py"):
             fail("a quote is stale")
-        if not run("part 1 of 4: the scenarios by a program that is built without its proofs", "scenarios/run"):
-            fail("a scenario failed")
+        examples = sorted(it for it in os.listdir(f"{ROOT}/scenarios") if it.startswith("the_examples"))
+        if not run("part 1 of 4: the examples by a program that is built without its proofs", "scenarios/run", *examples):
+            fail("an example failed")
         say("part 2 of 4: every crate and its tests proved from nothing; must-fail edits; the tests")
         say("every must-fail edit of every crate" if words.whole else choice.told())
         passed, failed, refused = prove(words.whole, choice)
