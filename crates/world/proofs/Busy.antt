@@ -1,5 +1,5 @@
 -- Which submissions find their session waiting for an answer.
-use Rattle.std.proofs.Common.{◌≡◌, ◌↔◌, ℕ, ◌<◌, ◌≤◌, Bool, true, false, List, [], ◌∷◌, Option, Some, None, Result, Ok, Err, refl, sym, ◌∙◌, ap, subst, cond, arith, ⊎_elim}
+use Rattle.std.proofs.Common.{◌≡◌, ◌↔◌, ℕ, ◌<◌, ◌≤◌, Bool, true, false, Option, Some, None, Result, Ok, Err, refl, sym, ◌∙◌, ap, subst, cond, arith, ⊎_elim}
 use Rattle.std.specs.Prelude.{count_by, is_some}
 use Rattle.std.specs.List.{slice_get}
 use Rattle.partitions.specs.Parts.{Shared}

@@ -1,6 +1,6 @@
 use Rattle.std.proofs.Common.{refl, sym, ap, subst, ◌∙◌, arith, None}
 use Rattle.schema.specs.Database.{Database}
-use Rattle.partitions.specs.Parts.{Shared, shared_of}
+use Rattle.partitions.specs.Parts.{shared_of}
 use Rattle.groups.specs.Content.{content}
 use Rattle.tickets.specs.LogSeats.{SeatsTell}
 use Rattle.tickets.specs.Places.{AreInPlace}
