@@ -47,12 +47,23 @@ def output_of(*words):
     return ran.stdout.strip() if ran.returncode == 0 else ""
 
 
+def files():
+    """Returns the paths of the repository's files: as git names them, or all but what runs leave, where git doesn't."""
+    named = output_of("git", "ls-files", "--cached", "--others", "--exclude-standard").splitlines()
+    if named:
+        return named
+    found = []
+    for at, folders, names in os.walk(ROOT):
+        folders[:] = [it for it in folders if it not in (".git", "out", "__pycache__")]
+        found += [os.path.relpath(f"{at}/{name}", ROOT) for name in names]
+    return found
+
+
 def copy_without(to, left_out):
     """Copies the files of the repository, but for the must-fail edits of these crates."""
-    names = output_of("git", "ls-files", "--cached", "--others", "--exclude-standard").splitlines()
-    for name in names:
+    for name in files():
         part = name.split("/")
-        is_left_out = part[0] == "crates" and part[2] == "must-fail" and part[1] in left_out
+        is_left_out = part[0] == "crates" and part[2:3] == ["must-fail"] and part[1] in left_out
         if os.path.isfile(f"{ROOT}/{name}") and not is_left_out:
             os.makedirs(os.path.dirname(f"{to}/{name}"), exist_ok=True)
             shutil.copy2(f"{ROOT}/{name}", f"{to}/{name}")
