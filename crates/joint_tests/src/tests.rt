@@ -1,5 +1,5 @@
 use fixtures::{two_warehouses, warehouses};
-use requests::{Choice, Fault, Payment, Reply, Request, Shown};
+use requests::{Choice, Fault, Payment, Reply, Request};
 use schema::{DistrictKey, Moment, NoMemory, Tables};
 use std::process::Abort;
 use std::test::Fail;

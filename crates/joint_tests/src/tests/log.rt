@@ -9,13 +9,13 @@ use std::sync::{Mutex, Wait};
 use std::thread::{Threads, join};
 
 // Two payments of a dollar by sessions 63 and 62, the second of a customer that isn't there: their
-// places, the balance that the first shows, and the sum of the warehouse.
+// places, and the sum of the warehouse.
 fn two_payments<J: Naming>(
     rt: &impl Abort,
     alloc: Global,
     seats: LogSeats,
     tables: Tables,
-) -> Result<(u32, u32, i64, i64), Fail>
+) -> Result<(u32, u32, i64), Fail>
     requires opening { J.opening ≡ tables }
     requires length { J.length ≡ seats.length }
     requires mine { (session : ℕ) → session < 64 → J.mine session ≡ table_of seats.mine session }
@@ -29,15 +29,8 @@ fn two_payments<J: Naming>(
     let nobodys = payment(6, 100);
     let (second, rollback) = append(rt, &mut log, pass, seat, &nobodys);
     assert_eq!(rt; rollback, Reply::RolledBack(Fault::NoCustomer));
-    let balance = balance(rt, reply);
-    Ok((first, second, balance, ytd(rt, &log)))
-}
-
-fn balance(rt: &impl Abort, reply: Reply) -> i64 {
-    match reply {
-        Reply::Done(Shown::Payment(shown)) => shown.balance.get(),
-        other => panic!(rt; "{other:?}"),
-    }
+    assert!(rt; matches!(reply, Reply::Done(_)));
+    Ok((first, second, ytd(rt, &log)))
 }
 
 // The session asks and logs its first request; then its seat and the log agree with its pass.
@@ -77,7 +70,7 @@ fn payments_are_logged_in_turn(rt: HostRuntime) -> Result<(), Fail> {
     let seats = LogSeats::open(rt.alloc())?;
     let tables = two_warehouses(rt.alloc())?;
     let told = two_payments::<Brand>(&rt, rt.alloc(), seats, tables)?;
-    assert_eq!(rt; told, (0, 1, -1_100, 50_100));
+    assert_eq!(rt; told, (0, 1, 50_100));
     Ok(())
 }
 
