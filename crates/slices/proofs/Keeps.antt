@@ -4,6 +4,7 @@ use Rattle.std.proofs.lemmas.List.{get_or-map, map-set, length-map}
 use Rattle.partitions.specs.Parts.{Part}
 use Rattle.requests.specs.declared.group.Group.{Group}
 use Rattle.groups.specs.Content.{Content, content}
+use Rattle.groups.specs.Laws.{ChangesOneGroup}
 use Rattle.groups.specs.Groups.{warehouse_of}
 use Rattle.groups.specs.declared.wishes.Mode.{Mode}
 use Rattle.groups.specs.declared.wishes.Mode.TheVariants.{Shared, Exclusive}
@@ -16,7 +17,7 @@ use Rattle.tickets.proofs.Committed.{grant_keeps, write_keeps, give_back_keeps}
 use Rattle.slices.specs.declared.ground.Held.{Held}
 use Rattle.slices.specs.declared.kept.Kept.{Kept}
 use Rattle.slices.specs.Grounds.{Grounded, tickets_in, sliced, IsGroundOf, AreGroundsOf, IsSlice}
-use Rattle.slices.specs.Sliced.{at_home, free_at, standing, SliceKeeps}
+use Rattle.slices.specs.Sliced.{at_home, free_at, lending, standing, taking_back, with_free, SliceKeeps}
 use Rattle.slices.specs.Undo.{all_put_back_in, ChangesGroup, IsStep}
 use Rattle.slices.proofs.Homes.{group_tells, place_known, free_here, free_set, free_elsewhere}
 use Rattle.slices.proofs.Grounds.{ground_at, one_ground, same_ground, same_homes, stepped, undone, granted, given_back}
@@ -49,6 +50,8 @@ pub record IsWritten (warehouses : ℕ) (p q : Part) (grounds later : List Groun
   pub invariant : IsSlice warehouses q later
   pub claim : now ≡ leaving was left
   pub keeps : SliceKeeps (was ∷ []) (sliced p grounds) (now ∷ []) (sliced q later)
+  pub rows : ChangesOneGroup was.group (λ before. left) p.tables q.tables
+  pub free : map tickets_in later ≡ map tickets_in grounds
 
 -- a step under an exclusive claim, with what takes it back, once there was made room for it
 pub put_keeps : (warehouses : ℕ) (p q : Part) (grounds : List Grounded) (place : ℕ) (ground roomy next : Grounded) (was now : Claiming) (own : Group) (kept : Kept) (change : Content → Content)
@@ -71,6 +74,8 @@ put_keeps warehouses p q grounds place ground roomy next was now own kept change
       };
       claim = has ∙ ap (leaving was) (step.changes.contents.here ∙ ap change (sym before));
       keeps = wrote p q grounds place ground next was now (content q.tables was.group) change is (ap (λ b. tickets_home b.mode b.shared) box_here) exclusive has refl step.changes;
+      rows = record { here = step.changes.contents.here ∙ ap change (sym before); elsewhere = step.changes.contents.elsewhere };
+      free = same_homes grounds place ground next is (ap (λ b. tickets_home b.mode b.shared) box_here);
     }
 
 -- only room was made
@@ -93,14 +98,16 @@ undo_keeps warehouses p q grounds place ground next was now is_slice known near 
     let found = ground_at p grounds was.group place ground is_slice.grounded here near at is in
     let own : was.back ≡ content q.tables was.group =
     same ∙ found.2.back ∙ ap (all_put_back_in ground.undo) found.2.left ∙ sym changes.contents.here ∙ ap (content q.tables) (sym found.1) in
+    let here_changes = subst (λ (g : Group). ChangesGroup g (all_put_back_in ground.undo) p q) (sym found.1) changes in
     record {
       invariant = record {
         many = ap (λ s. s.warehouses) changes.scale ∙ is_slice.many;
         grounded = one_ground p q grounds place ground next (all_put_back_in ground.undo) is_slice.grounded found.0 found.2 changes (undone p q place ground next found.2 changes box undo);
       };
       claim = leaves;
-      keeps = wrote p q grounds place ground next was now was.back (all_put_back_in ground.undo) is (ap (λ x. tickets_home x.mode x.shared) box) exclusive leaves own
-          (subst (λ (g : Group). ChangesGroup g (all_put_back_in ground.undo) p q) (sym found.1) changes);
+      keeps = wrote p q grounds place ground next was now was.back (all_put_back_in ground.undo) is (ap (λ x. tickets_home x.mode x.shared) box) exclusive leaves own here_changes;
+      rows = record { here = sym own; elsewhere = here_changes.contents.elsewhere };
+      free = same_homes grounds place ground next is (ap (λ x. tickets_home x.mode x.shared) box);
     }
 
 -- ---- tickets go out and come home
@@ -125,6 +132,12 @@ pub home_elsewhere : (p : Part) (grounds : List Grounded) (group : Group) (place
 home_elsewhere p grounds group place next known near at other apart same =
     ap (λ f. free_at f other) (map-set tickets_in grounds place next)
     ∙ free_elsewhere (map tickets_in grounds) group place (tickets_in next) (group_tells p.tables.scale.warehouses group known) at other (same ∙ sym near) apart
+
+-- with so many tickets of a group at home now, the slice has no other change
+now_free : (p : Part) (grounds : List Grounded) (group : Group) (place tickets : ℕ) (next : Grounded) → place ≡ place_in_warehouse group → tickets_in next ≡ tickets
+    → sliced p (set grounds place next) ≡ with_free group tickets (sliced p grounds)
+now_free p grounds group place tickets next at is =
+    ap (λ free. record { home = p.home; tables = p.tables; free = free }) (map-set tickets_in grounds place next ∙ (λ i. set (map tickets_in grounds) (at i) (is i)))
 
 -- A claim of this mode goes out, and nothing else changes in the group.
 pub record IsLent (mode : Mode) (ground next : Grounded) : Type 0 where
@@ -193,6 +206,25 @@ grant_outcome mode p grounds group place ground next (Err e) are known near at i
     let found = ground_at p grounds group place ground are known near at is in
     (same_ground p grounds place ground next are found.0 found.2 (ap (λ g. g.ticket_box) same) (ap (λ g. g.undo) same), tt, tt)
 
+-- its tickets were at home, and are out now
+pub lent_out : {C E : Type 0} (mode : Mode) (p : Part) (grounds : List Grounded) (group : Group) (place : ℕ) (ground next : Grounded) (result : Result C E) → AreGroundsOf p grounds
+    → IsGroupOf p.tables.scale.warehouses group → warehouse_of group ≡ p.home → place ≡ place_in_warehouse group → ground ≡ get_or grounds place ground → OnOk result (IsLent mode ground next)
+    → OnOk result (tickets_held mode ≤ free_at (map tickets_in grounds) group) × OnOk result (sliced p (set grounds place next) ≡ lending group mode (sliced p grounds))
+lent_out mode p grounds group place ground next (Ok claim) are known near at is out =
+    let found = ground_at p grounds group place ground are known near at is in
+    let home = home_of p grounds group place ground known near at found.0 is in
+    (omega (arith, out.tickets, home), now_free p grounds group place (free_at (map tickets_in grounds) group - tickets_held mode) next at (omega (arith, out.tickets, home)))
+lent_out mode p grounds group place ground next (Err e) are known near at is out = (tt, tt)
+
+-- with no claim out, all eight tickets are at home
+pub all_home : {C E : Type 0} (p : Part) (grounds : List Grounded) (group : Group) (place : ℕ) (ground : Grounded) (result : Result C E) → AreGroundsOf p grounds
+    → IsGroupOf p.tables.scale.warehouses group → warehouse_of group ≡ p.home → place ≡ place_in_warehouse group → ground ≡ get_or grounds place ground
+    → OnOk result ((ground.ticket_box.mode ≡ Shared) × (ground.ticket_box.shared ≡ 0)) → OnOk result (free_at (map tickets_in grounds) group ≡ 8)
+all_home p grounds group place ground (Ok claim) are known near at is free =
+    let found = ground_at p grounds group place ground are known near at is in
+    home_of p grounds group place ground known near at found.0 is ∙ (λ i. tickets_home (free.0 i) (free.1 i))
+all_home p grounds group place ground (Err e) are known near at is free = tt
+
 -- while a claim is out, not all tickets are at home
 pub some_out : {C E : Type 0} (ground : Grounded) (result : Result C E) → OnErr result ((ground.ticket_box.mode ≡ Exclusive) ⊎ (0 < ground.ticket_box.shared)) → OnErr result (tickets_in ground < 8)
 some_out ground (Ok claim) busy = tt
@@ -238,18 +270,20 @@ pub back_keeps_slice : (p : Part) (grounds : List Grounded) (place : ℕ) (groun
     → place ≡ place_in_warehouse claim.group → ground ≡ get_or grounds place ground → (claim.mode ≡ Exclusive → claim.told ≡ claim.left) → claim.mode ≡ ground.ticket_box.mode
     → (claim.mode ≡ Shared → (0 < ground.ticket_box.shared) × (ground.ticket_box.shared ≤ 8)) → (claim.mode ≡ Exclusive → ground.ticket_box.shared ≡ 0)
     → next.ticket_box ≡ taken_back ground.ticket_box → next.undo ≡ []
-    → AreGroundsOf p (set grounds place next) × SliceKeeps (claim ∷ []) (sliced p grounds) [] (sliced p (set grounds place next))
+    → AreGroundsOf p (set grounds place next) × SliceKeeps (claim ∷ []) (sliced p grounds) [] (sliced p (set grounds place next)) × (sliced p (set grounds place next) ≡ taking_back claim (sliced p grounds))
 back_keeps_slice p grounds place ground next claim are known near at is settled mode some alone box undo =
     let found = ground_at p grounds claim.group place ground are known near at is in
     let b = ground.ticket_box in
     let old : Standing = standing (sliced p grounds) in
     let new : Standing = standing (sliced p (set grounds place next)) in
+    let home : tickets_in next ≡ free_at (map tickets_in grounds) claim.group + tickets_held claim.mode =
+    ap (λ x. tickets_home x.mode x.shared) box ∙ returned claim.mode b.mode b.shared mode some alone
+    ∙ ap (λ n. n + tickets_held claim.mode) (sym (home_of p grounds claim.group place ground known near at found.0 is)) in
     let gives : IsGivenBack claim (by_itself p.home old) (by_itself p.home new) = record {
       settled = settled;
       tickets =
-          by_itself_here p.home new claim.group near ∙ home_now p grounds claim.group place next known near at found.0 ∙ ap (λ x. tickets_home x.mode x.shared) box
-          ∙ returned claim.mode b.mode b.shared mode some alone
-          ∙ ap (λ n. n + tickets_held claim.mode) (sym (by_itself_here p.home old claim.group near ∙ home_of p grounds claim.group place ground known near at found.0 is));
+          by_itself_here p.home new claim.group near ∙ home_now p grounds claim.group place next known near at found.0 ∙ home
+          ∙ ap (λ n. n + tickets_held claim.mode) (sym (by_itself_here p.home old claim.group near));
       rows = λ _. refl;
       others = λ other apart. by_itself_same p.home old new other (home_elsewhere p grounds claim.group place next known near at other apart);
     } in (
@@ -260,4 +294,5 @@ back_keeps_slice p grounds place ground next claim are known near at is settled 
         scale = refl;
         items = refl;
       },
+      now_free p grounds claim.group place _ next at home,
     )

@@ -1,5 +1,5 @@
 -- What a contract sees of a slice, and of all slices together.
-use Rattle.std.specs.Prelude.{◌≡◌, ℕ, ◌<◌, List, [], ◌∷◌, Bool, true, ◌==◌, if◌then◌else◌, All, length, map, slice_index_or, replicate}
+use Rattle.std.specs.Prelude.{◌≡◌, ℕ, ◌+◌, ◌-◌, ◌<◌, List, [], ◌∷◌, Bool, true, ◌==◌, if◌then◌else◌, All, length, map, slice_index_or, slice_set, replicate}
 use Rattle.rows.specs.Ranged.{is_between}
 use Rattle.schema.specs.Database.{Database}
 use Rattle.partitions.specs.Parts.{Shared, Part, IsPartAt, whole_of}
@@ -7,8 +7,9 @@ use Rattle.requests.specs.declared.group.Group.{Group}
 use Rattle.requests.specs.declared.group.Group.TheVariants.{Warehouse, District, Customers, Orders, History, Stock}
 use Rattle.groups.specs.Content.{content}
 use Rattle.groups.specs.Groups.{warehouse_of}
+use Rattle.groups.specs.declared.wishes.Mode.{Mode}
 use Rattle.tickets.specs.Claims.{Claiming}
-use Rattle.tickets.specs.Committed.{Standing, KeepsCommitted}
+use Rattle.tickets.specs.Committed.{Standing, KeepsCommitted, tickets_held}
 use Rattle.tickets.specs.Places.{place_in_warehouse}
 
 -- ---- one slice
@@ -48,6 +49,18 @@ standing s = record { rows = content s.tables; free = free_at s.free }
 -- a slice no claim of which is out
 abbrev pub at_rest : Part → Sliced
 at_rest part = record { home = part.home; tables = part.tables; free = replicate 105 8 }
+
+-- the slice with so many tickets of the group at home
+abbrev pub with_free : Group → ℕ → Sliced → Sliced
+with_free group tickets s = record s { free = slice_set s.free (place_in_warehouse group) tickets }
+
+-- the slice once a claim of this mode on the group is granted: the tickets that it holds are out
+abbrev pub lending : Group → Mode → Sliced → Sliced
+lending group mode s = with_free group (free_at s.free group - tickets_held mode) s
+
+-- the slice once the claim is back: the tickets that it held are at home
+abbrev pub taking_back : Claiming → Sliced → Sliced
+taking_back claim s = with_free claim.group (free_at s.free claim.group + tickets_held claim.mode) s
 
 -- the claim is on a group of the warehouse
 abbrev pub IsClaimAt : ℕ → Claiming → Type 0

@@ -1,4 +1,4 @@
-ghost use Rattle.std.specs.Prelude.{◌≡◌, ◌≢◌, ◌<◌, [], ◌∷◌, IsTrue, IfOk, IfErr, OnOk, OnErr};
+ghost use Rattle.std.specs.Prelude.{◌≡◌, ◌≢◌, ◌<◌, ◌≤◌, [], ◌∷◌, IsTrue, IfOk, IfErr, OnOk, OnErr};
 ghost use Rattle.std.specs.FinMap as map;
 ghost use Rattle.schema.specs.Database.{with_payment};
 ghost use Rattle.schema.specs.Scale.{has_customer};
@@ -9,13 +9,13 @@ ghost use Rattle.requests.specs.declared.group.Group.TheVariants as group;
 ghost use Rattle.groups.specs.declared.wishes.Mode.TheVariants.{Shared, Exclusive};
 ghost use Rattle.groups.specs.Content.{content};
 ghost use Rattle.groups.specs.Groups.{warehouse_of};
-ghost use Rattle.groups.specs.Laws.{with_warehouse, with_district, with_customer};
+ghost use Rattle.groups.specs.Laws.{ChangesOneGroup, with_warehouse, with_district, with_customer};
 ghost use Rattle.indexes.specs.LatestIndex.{FitsLatestBy};
 ghost use Rattle.indexes.specs.NameOrder.{FitsNamesBy};
 ghost use Rattle.tickets.specs.Claims.{fresh, leaving};
 ghost use Rattle.tickets.specs.Places.{IsGroupOf, place_in_warehouse};
 ghost use Rattle.slices.specs.Openings.{AreHomeBoxesOf};
-ghost use Rattle.slices.specs.Sliced.{at_rest, part_in, standing, IsClaimAt, SliceKeeps};
+ghost use Rattle.slices.specs.Sliced.{at_rest, lending, part_in, standing, taking_back, IsClaimAt, SliceKeeps};
 ghost use Rattle.slices.specs.Undo.{with_payment_more, AreNamesAt};
 
 use crate::changes::ContentOf;
@@ -116,13 +116,14 @@ impl<J: Naming> Slice<J> {
     }
 
     /// An exclusive claim on a group of the warehouse, for a transaction of this age, unless a claim on it is
-    /// out.
+    /// out. It takes all eight tickets of the group.
     pub fn grant(&mut self, age: u64, group: Group) -> Result<Claim<J>, Held>
         requires known { IsGroupOf J.warehouses group }
         requires home { warehouse_of group ≡ self.old.home }
+        ensures free { OnOk result ((standing self.old).free group ≡ 8) }
         ensures claim { IfOk result (λ claim. claim ≡ fresh group Exclusive (content self.old.tables group)) }
         ensures kept { IfOk result (λ claim. SliceKeeps [] self.old (claim ∷ []) self.new) }
-        ensures rows { OnOk result (self.new.tables ≡ self.old.tables) }
+        ensures out { OnOk result (self.new ≡ lending group Exclusive self.old) }
         ensures others { (other : AnyGroup) → other ≢ group → warehouse_of other ≡ self.old.home → (standing self.new).free other ≡ (standing self.old).free other }
         ensures busy { IfErr result (λ held. (held.group ≡ group) × (self.new ≡ self.old) × ((standing self.old).free group < 8)) }
     {
@@ -131,13 +132,14 @@ impl<J: Naming> Slice<J> {
     }
 
     /// A shared claim on a group of the warehouse, for a transaction of this age, unless an exclusive claim on it
-    /// is out, or eight shared ones are.
+    /// is out, or eight shared ones are. It takes one ticket of the group.
     pub fn grant_shared(&mut self, age: u64, group: Group) -> Result<Claim<J>, Held>
         requires known { IsGroupOf J.warehouses group }
         requires home { warehouse_of group ≡ self.old.home }
+        ensures free { OnOk result (1 ≤ (standing self.old).free group) }
         ensures claim { IfOk result (λ claim. claim ≡ fresh group Shared (content self.old.tables group)) }
         ensures kept { IfOk result (λ claim. SliceKeeps [] self.old (claim ∷ []) self.new) }
-        ensures rows { OnOk result (self.new.tables ≡ self.old.tables) }
+        ensures out { OnOk result (self.new ≡ lending group Shared self.old) }
         ensures others { (other : AnyGroup) → other ≢ group → warehouse_of other ≡ self.old.home → (standing self.new).free other ≡ (standing self.old).free other }
         ensures busy { IfErr result (λ held. (held.group ≡ group) × (self.new ≡ self.old) × ((standing self.old).free group ≡ 0)) }
     {
@@ -168,7 +170,7 @@ impl<J: Naming> Slice<J> {
         requires there { IsTrue (map.contains_key self.old.tables.warehouses w_id) }
         ensures claim { OnOk result (claim.new ≡ leaving claim.old (with_warehouse row claim.old.left)) }
         ensures kept { OnOk result (SliceKeeps (claim.old ∷ []) self.old (claim.new ∷ []) self.new) }
-        ensures tables { OnOk result (self.new.tables ≡ record self.old.tables { warehouses = map.insert self.old.tables.warehouses w_id row }) }
+        ensures rows { OnOk result (self.new ≡ record self.old { tables = record self.old.tables { warehouses = map.insert self.old.tables.warehouses w_id row } }) }
         ensures err { OnErr result ((self.new ≡ self.old) × (claim.new ≡ claim.old)) }
     {
         self.put(claim, PutWarehouse { w_id, row })
@@ -185,7 +187,7 @@ impl<J: Naming> Slice<J> {
         requires there { IsTrue (map.contains_key self.old.tables.districts key) }
         ensures claim { OnOk result (claim.new ≡ leaving claim.old (with_district row claim.old.left)) }
         ensures kept { OnOk result (SliceKeeps (claim.old ∷ []) self.old (claim.new ∷ []) self.new) }
-        ensures tables { OnOk result (self.new.tables ≡ record self.old.tables { districts = map.insert self.old.tables.districts key row }) }
+        ensures rows { OnOk result (self.new ≡ record self.old { tables = record self.old.tables { districts = map.insert self.old.tables.districts key row } }) }
         ensures err { OnErr result ((self.new ≡ self.old) × (claim.new ≡ claim.old)) }
     {
         self.put(claim, PutDistrict { key, row })
@@ -204,7 +206,7 @@ impl<J: Naming> Slice<J> {
         requires names { AreNamesAt self.old.tables key row }
         ensures claim { OnOk result (claim.new ≡ leaving claim.old (with_customer key row claim.old.left)) }
         ensures kept { OnOk result (SliceKeeps (claim.old ∷ []) self.old (claim.new ∷ []) self.new) }
-        ensures tables { OnOk result (self.new.tables ≡ record self.old.tables { customers = map.insert self.old.tables.customers key row }) }
+        ensures rows { OnOk result (self.new ≡ record self.old { tables = record self.old.tables { customers = map.insert self.old.tables.customers key row } }) }
         ensures err { OnErr result ((self.new ≡ self.old) × (claim.new ≡ claim.old)) }
     {
         self.put(claim, PutCustomer { key, row })
@@ -224,7 +226,7 @@ impl<J: Naming> Slice<J> {
         requires payer { IsTrue (has_customer self.old.tables.scale row.customer) }
         ensures claim { OnOk result (claim.new ≡ leaving claim.old (with_payment_more row claim.old.left)) }
         ensures kept { OnOk result (SliceKeeps (claim.old ∷ []) self.old (claim.new ∷ []) self.new) }
-        ensures tables { OnOk result (self.new.tables ≡ record self.old.tables { histories = with_payment self.old.tables.histories key row }) }
+        ensures rows { OnOk result (self.new ≡ record self.old { tables = record self.old.tables { histories = with_payment self.old.tables.histories key row } }) }
         ensures err { OnErr result ((self.new ≡ self.old) × (claim.new ≡ claim.old)) }
     {
         self.put(claim, AddPayment { key, row })
@@ -238,7 +240,7 @@ impl<J: Naming> Slice<J> {
         requires possible { S.is_possible step (part_in self.old) }
         ensures claim { OnOk result (claim.new ≡ leaving claim.old (S.changed step claim.old.left)) }
         ensures kept { OnOk result (SliceKeeps (claim.old ∷ []) self.old (claim.new ∷ []) self.new) }
-        ensures tables { OnOk result (self.new.tables ≡ S.done step self.old.tables) }
+        ensures rows { OnOk result (self.new ≡ record self.old { tables = S.done step self.old.tables }) }
         ensures err { OnErr result ((self.new ≡ self.old) × (claim.new ≡ claim.old)) }
     {
         // The rows that are here are the warehouse's.
@@ -254,12 +256,15 @@ impl<J: Naming> Slice<J> {
         Ok(())
     }
 
-    /// Takes back all that was done under an exclusive claim. It takes no memory.
+    /// Takes back all that was done under an exclusive claim: its group has again what the claim tells of it,
+    /// and nothing else changes. It takes no memory.
     pub fn undo(&mut self, claim: &mut Claim<J>)
         requires home { IsClaimAt self.old.home claim.old }
         requires exclusive { claim.old.mode ≡ Exclusive }
         ensures claim { claim.new ≡ leaving claim.old claim.old.back }
         ensures kept { SliceKeeps (claim.old ∷ []) self.old (claim.new ∷ []) self.new }
+        ensures rows { ChangesOneGroup claim.old.group (λ before. claim.old.back) self.old.tables self.new.tables }
+        ensures free { self.new.free ≡ self.old.free }
     {
         let ground = &mut self.grounds[place_of_claim(claim)];
         ground.undo(claim, &mut self.rows);
@@ -270,7 +275,7 @@ impl<J: Naming> Slice<J> {
         requires home { IsClaimAt self.old.home claim }
         requires committed { claim.mode ≡ Exclusive → claim.told ≡ claim.left }
         ensures kept { SliceKeeps (claim ∷ []) self.old [] self.new }
-        ensures rows { self.new.tables ≡ self.old.tables }
+        ensures back { self.new ≡ taking_back claim self.old }
     {
         let ground = &mut self.grounds[place_of_claim(&claim)];
         ground.take_back(claim);

@@ -4,6 +4,7 @@ pub mod Told
 pub mod PaymentCarriedOut
 pub mod PaymentRolledBack
 pub mod Kept
+pub mod Returned
 pub mod PaymentDone
 pub mod Undone
 pub mod InScale

@@ -1,9 +1,11 @@
 -- What actions wish for: claims that were granted for it, one after another, how many they are, and at which warehouse.
-use Rattle.std.proofs.Common.{◌≡◌, ◌≢◌, ℕ, zero, suc, ◌<◌, List, [], ◌∷◌, ◌++◌, length, refl, sym, ap, subst, ◌∙◌, arith}
+use Rattle.std.proofs.Common.{◌≡◌, ◌≢◌, ℕ, zero, suc, ◌<◌, Bool, true, false, cond, not, List, [], ◌∷◌, ◌++◌, length, refl, sym, ap, subst, ◌∙◌, arith}
 use Rattle.std.specs.Prelude.{◌+◌, Some, None, All, map, take, slice_get}
+use Rattle.std.specs.Option.{option_or}
 use Rattle.std.specs.List.{AllByRecursion}
 use Rattle.std.proofs.lemmas.List.{length-map, take_more}
 use Rattle.std.proofs.lemmas.List.Elements.{All-head, All-tail, All-from_recursion}
+use Rattle.std.proofs.lemmas.List.Folds.{find-append}
 use Rattle.std.proofs.lemmas.Option.{slice_get_within, get_or_from_slice_get}
 use Rattle.partitions.specs.Parts.{Shared}
 use Rattle.requests.specs.declared.group.Group.{Group}
@@ -12,14 +14,13 @@ use Rattle.groups.specs.Groups.{warehouse_of}
 use Rattle.groups.specs.declared.wishes.Wish.{Wish}
 use Rattle.tickets.specs.Claims.{Claiming}
 use Rattle.tickets.proofs.Committed.{All-front}
-use Rattle.slices.specs.Sliced.{Sliced, standing}
 use Rattle.slices.proofs.Steps.{All-last}
 use Rattle.transactions.specs.declared.work.Work.TheVariants.{Payment, OrderStatus}
 use Rattle.transactions.specs.declared.work.Work.{Work}
 use Rattle.transactions.specs.declared.work.Found.{Found}
 use Rattle.transactions.specs.Granted.{AreWishesAt, IsGrantedFor, AreGrantedFor, AreLeft}
 use Rattle.transactions.specs.Works.{home_of, wishes_of, HasDone}
-use Rattle.transactions.specs.Acting.{CanBeSettled, CanBeUndone, DiesOn}
+use Rattle.transactions.specs.Acting.{can_be_granted, first_held, CanBeSettled, CanBeUndone}
 use Rattle.transactions.specs.Laws.{WorksAreAtWarehouses, WorksAreDoneAtHome, WorksClaimAtHome, WorksHaveAClaimForEachWish, WorksHaveTheirGroups, WorksHaveWishes}
 use Rattle.transactions.proofs.Footprints.{AreApart}
 use Rattle.transactions.proofs.Homes.{claims_here, of_one_home}
@@ -110,11 +111,30 @@ others_more wishes k n wish other is next all =
     let parts = subst (All (λ (w : Wish). w.group ≢ other)) (wishes_more wishes k n wish is next) all in
     (All-front (λ (w : Wish). w.group ≢ other) (take k wishes) (wish ∷ []) parts, All-last (λ (w : Wish). w.group ≢ other) (take k wishes) wish parts)
 
--- who finds the group of a wish held, dies on it
-pub dies_on : (slice : Sliced) (wishes : List Wish) (k : ℕ) (wish : Wish) (group : Group) → slice_get wishes k ≡ Some wish → group ≡ wish.group
-    → (standing slice).free wish.group < 8 → DiesOn slice wishes group
-dies_on slice wishes k wish group is same held =
-    (wish, (k, slice_get_within wishes k wish is, get_or_from_slice_get wishes k wish wish is), sym same, subst (λ (g : Group). (standing slice).free g < 8) (sym same) held)
+-- where none of the first wishes is held, and the next can be granted, none of the first and the next is
+pub none_held_more : (free : Group → ℕ) (wishes : List Wish) (k n : ℕ) (wish : Wish) → slice_get wishes k ≡ Some wish → n ≡ k + 1
+    → first_held free (take k wishes) ≡ None → can_be_granted free wish ≡ true → first_held free (take n wishes) ≡ None
+none_held_more free wishes k n wish is next none can =
+    ap (first_held free) (wishes_more wishes k n wish is next)
+    ∙ find-append (λ (w : Wish). not (can_be_granted free w)) (take k wishes) (wish ∷ [])
+    ∙ (λ i. option_or (none i) (cond (not (can i)) (Some wish) None))
+
+-- and where the next can't be granted, it is the first that is held
+pub first_held_at : (free : Group → ℕ) (wishes : List Wish) (k : ℕ) (wish : Wish) → slice_get wishes k ≡ Some wish
+    → first_held free (take k wishes) ≡ None → can_be_granted free wish ≡ false → first_held free wishes ≡ Some wish
+first_held_at free [] k wish is none cannot = absurd cc
+first_held_at free (w ∷ ws) zero wish is none cannot =
+    let same : w ≡ wish = cc in
+    (λ i. cond (not (can_be_granted free (same i))) (Some (same i)) (first_held free ws)) ∙ ap (λ b. cond (not b) (Some wish) (first_held free ws)) cannot
+first_held_at free (w ∷ ws) (suc k) wish is none cannot =
+    elim (can_be_granted free w) as (λ (b : Bool). cond (not b) (Some w) (first_held free (take k ws)) ≡ None → cond (not b) (Some w) (first_held free ws) ≡ Some wish) [
+      | true ↦ λ later. first_held_at free ws k wish is later cannot
+      | false ↦ λ no. absurd cc
+    ] none
+
+-- with none of this number, none of all is held
+pub none_held : (free : Group → ℕ) (wishes : List Wish) (k : ℕ) → slice_get wishes k ≡ None → first_held free (take k wishes) ≡ None → first_held free wishes ≡ None
+none_held free wishes k none held = ap (first_held free) (sym (take_all wishes k none)) ∙ held
 
 -- ---- how many they are
 

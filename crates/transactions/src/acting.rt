@@ -1,12 +1,12 @@
 //! An action, from its claims to their return.
-ghost use Rattle.std.specs.Prelude.{◌≡◌, ◌≢◌, ◌<◌, ◌≤◌, [], ◌∷◌, All, length, IfOk, IfErr, OnOk, vec_capacity};
+ghost use Rattle.std.specs.Prelude.{◌≡◌, ◌≢◌, ◌≤◌, [], ◌∷◌, true, false, None, Some, All, length, IfOk, IfErr, OnOk, vec_capacity};
 ghost use Rattle.partitions.specs.Parts.{shared_of};
 ghost use Rattle.requests.specs.declared.group.Group.{Group as AnyGroup};
 ghost use Rattle.groups.specs.Footprint.{groups_of};
 ghost use Rattle.groups.specs.Groups.{warehouse_of};
 ghost use Rattle.tickets.specs.Places.{IsGroupOf};
-ghost use Rattle.slices.specs.Sliced.{standing, IsClaimAt, SliceKeeps};
-ghost use Rattle.transactions.specs.Acting.{claims_of_ran, CanBeSettled, CanBeUndone, DiesOn, IsRanOf};
+ghost use Rattle.slices.specs.Sliced.{lending, standing, IsClaimAt, SliceKeeps};
+ghost use Rattle.transactions.specs.Acting.{can_be_granted, claims_of_ran, dies_on, giving_back, CanBeSettled, CanBeUndone, IsRanOf};
 ghost use Rattle.transactions.specs.Granted.{AreGrantedFor, AreWishesAt, IsGrantedFor};
 ghost use Rattle.transactions.specs.Works.{CanDo, home_of, wishes_of};
 
@@ -28,14 +28,15 @@ pub enum Ran<J: Naming> {
     NoMemory,
 }
 
-/// Claims what the work needs in the slice of its warehouse, all or nothing, and does it. An action that dies
-/// or finds no memory has taken back what it did, and holds no claim.
+/// Claims what the work needs in the slice of its warehouse, all or nothing, and does it. It dies exactly on
+/// the first group, in the order of its wishes, that it can't be granted. An action that dies or finds no
+/// memory holds no claim, and has left the slice as it was.
 pub fn act<J: Naming>(alloc: Global, slice: &mut Slice<J>, age: u64, work: Work) -> Ran<J>
     requires warehouses { J.warehouses ≡ slice.old.tables.scale.warehouses }
     requires can { CanDo (shared_of slice.old.tables) work }
     requires home { home_of work ≡ slice.old.home }
     ensures kept { SliceKeeps [] slice.old (claims_of_ran result) slice.new }
-    ensures done { IsRanOf slice.old work result }
+    ensures done { IsRanOf slice.old work result slice.new }
 {
     let Ok(mut claims) = Vec::with_capacity(alloc, work.wish_count()) else {
         return Ran::NoMemory;
@@ -70,8 +71,10 @@ fn grant_all<J: Naming>(
     ensures kept { SliceKeeps [] slice.old claims.new.items slice.new }
     ensures home { All (IsClaimAt slice.new.home) claims.new.items }
     ensures settled { All CanBeSettled claims.new.items }
+    ensures back { giving_back claims.new.items slice.new ≡ slice.old }
     ensures granted { OnOk result (AreGrantedFor (wishes_of work.now) claims.new.items) }
-    ensures held { IfErr result (λ held. DiesOn slice.old (wishes_of work.now) held.group) }
+    ensures free { OnOk result (dies_on (standing slice.old).free (wishes_of work.now) ≡ None) }
+    ensures held { IfErr result (λ held. dies_on (standing slice.old).free (wishes_of work.now) ≡ Some held.group) }
 {
     while let Some(wish) = work.wish(claims.len()) {
         let claim = grant(slice, age, wish)?;
@@ -85,9 +88,11 @@ fn grant<J: Naming>(slice: &mut Slice<J>, age: u64, wish: Wish) -> Result<Claim<
     requires known { IsGroupOf J.warehouses wish.group }
     requires home { warehouse_of wish.group ≡ slice.old.home }
     ensures granted { IfOk result (λ claim. IsGrantedFor wish claim) }
+    ensures free { OnOk result (can_be_granted (standing slice.old).free wish ≡ true) }
     ensures kept { IfOk result (λ claim. SliceKeeps [] slice.old (claim ∷ []) slice.new) }
+    ensures out { OnOk result (slice.new ≡ lending wish.group wish.mode slice.old) }
     ensures others { (other : AnyGroup) → other ≢ wish.group → warehouse_of other ≡ slice.old.home → (standing slice.new).free other ≡ (standing slice.old).free other }
-    ensures held { IfErr result (λ held. (held.group ≡ wish.group) × (slice.new ≡ slice.old) × ((standing slice.old).free wish.group < 8)) }
+    ensures held { IfErr result (λ held. (held.group ≡ wish.group) × (slice.new ≡ slice.old) × (can_be_granted (standing slice.old).free wish ≡ false)) }
 {
     match wish.mode {
         Mode::Shared => slice.grant_shared(age, wish.group),
@@ -108,7 +113,8 @@ pub fn settle<J: Naming>(slice: &mut Slice<J>, claims: Claims<J>)
 fn give_back<J: Naming>(slice: &mut Slice<J>, mut claims: Vec<Claim<J>>)
     requires settled { All CanBeSettled claims.items }
     requires home { All (IsClaimAt slice.old.home) claims.items }
-    ensures { SliceKeeps claims.items slice.old [] slice.new }
+    ensures kept { SliceKeeps claims.items slice.old [] slice.new }
+    ensures back { slice.new ≡ giving_back claims.items slice.old }
 {
     while let Some(claim) = claims.pop() {
         slice.take_back(claim);

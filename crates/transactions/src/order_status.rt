@@ -133,7 +133,7 @@ impl Work {
         ensures kept { SliceKeeps claims.old slice.old claims.new slice.new }
         ensures done { IfOk result (λ found. HasDone (shared_of slice.old.tables) self found claims.new) }
         ensures left { AreLeft claims.old claims.new }
-        ensures err { OnErr result (claims.new ≡ claims.old) }
+        ensures err { OnErr result ((slice.new ≡ slice.old) × (claims.new ≡ claims.old)) }
     {
         match self {
             Work::ShowCustomer(asked) => {

@@ -5,6 +5,7 @@ ghost use Rattle.std.specs.FinMap as map;
 ghost use Rattle.schema.specs.Scale.{has_customer, has_district};
 ghost use Rattle.partitions.specs.Parts.{shared_of};
 ghost use Rattle.requests.specs.declared.group.Group.TheVariants as group;
+ghost use Rattle.groups.specs.Content.{content};
 ghost use Rattle.groups.specs.Laws.{with_district, with_warehouse};
 ghost use Rattle.tickets.specs.Claims.{leaving};
 ghost use Rattle.slices.specs.Sliced.{SliceKeeps};
@@ -145,7 +146,7 @@ impl Work {
     }
 
     // Does the work, in the slice of its warehouse, under the claims that were granted for it. Want of memory
-    // leaves the claims as they were.
+    // changes nothing.
     pub(crate) fn run<J: Naming>(
         self,
         slice: &mut Slice<J>,
@@ -157,7 +158,7 @@ impl Work {
         ensures kept { SliceKeeps claims.old slice.old claims.new slice.new }
         ensures done { IfOk result (λ found. HasDone (shared_of slice.old.tables) self found claims.new) }
         ensures left { AreLeft claims.old claims.new }
-        ensures err { OnErr result (claims.new ≡ claims.old) }
+        ensures err { OnErr result ((slice.new ≡ slice.old) × (claims.new ≡ claims.old)) }
     {
         match self {
             Work::PayHome(payment) => {
@@ -177,7 +178,7 @@ impl Work {
     }
 }
 
-/// Adds a payment's amount to its home warehouse and district. Want of memory leaves both as they were.
+/// Adds a payment's amount to its home warehouse and district. Want of memory changes nothing.
 pub fn pay_home<J: Naming>(
     slice: &mut Slice<J>,
     warehouse: &mut Claim<J>,
@@ -193,7 +194,7 @@ pub fn pay_home<J: Naming>(
     ensures paid { IfOk result (λ found. IsHomePaid payment.now found warehouse.new district.new) }
     ensures warehouse { warehouse.new ≡ leaving warehouse.old warehouse.new.left }
     ensures district { district.new ≡ leaving district.old district.new.left }
-    ensures err { OnErr result ((warehouse.new ≡ warehouse.old) × (district.new ≡ district.old)) }
+    ensures err { OnErr result ((slice.new ≡ slice.old) × (warehouse.new ≡ warehouse.old) × (district.new ≡ district.old)) }
 {
     slice.look(warehouse);
     slice.look(district);
@@ -225,7 +226,7 @@ pub fn pay_home<J: Naming>(
     Ok(found)
 }
 
-// Puts both rows in place, or neither.
+// Puts both rows in place, or changes nothing.
 fn put_home<J: Naming>(
     slice: &mut Slice<J>,
     warehouse: &mut Claim<J>,
@@ -237,13 +238,14 @@ fn put_home<J: Naming>(
     requires warehouse_claim { IsExclusiveOn (group.Warehouse payment.now.home.w_id) warehouse.old }
     requires district_claim { IsExclusiveOn (group.District payment.now.home.w_id payment.now.home.d_id) district.old }
     requires warehouse_fresh { IsFresh warehouse.old }
+    requires warehouse_left { warehouse.old.left ≡ content slice.old.tables warehouse.old.group }
     requires home { payment.now.home.w_id ≡ slice.old.home }
     requires warehouse_there { IsTrue (map.contains_key slice.old.tables.warehouses payment.now.home.w_id) }
     requires district_there { IsTrue (map.contains_key slice.old.tables.districts payment.now.home) }
     ensures kept { SliceKeeps (warehouse.old ∷ district.old ∷ []) slice.old (warehouse.new ∷ district.new ∷ []) slice.new }
     ensures warehouse { OnOk result (warehouse.new ≡ leaving warehouse.old (with_warehouse warehouse_row warehouse.old.left)) }
     ensures district { OnOk result (district.new ≡ leaving district.old (with_district district_row district.old.left)) }
-    ensures err { OnErr result ((warehouse.new ≡ warehouse.old) × (district.new ≡ district.old)) }
+    ensures err { OnErr result ((slice.new ≡ slice.old) × (warehouse.new ≡ warehouse.old) × (district.new ≡ district.old)) }
 {
     slice.put_warehouse(warehouse, payment.home.w_id, warehouse_row)?;
     match slice.put_district(district, payment.home, district_row) {

@@ -82,7 +82,7 @@ pub(crate) fn shared(group: Group) -> Wish
 }
 
 /// Does the work, in the slice of its warehouse, under the claims that were granted for it. Want of memory
-/// leaves all as it was.
+/// changes nothing.
 pub fn run<J: Naming>(
     alloc: Global,
     slice: &mut Slice<J>,
@@ -95,7 +95,7 @@ pub fn run<J: Naming>(
     ensures kept { SliceKeeps claims.old slice.old claims.new slice.new }
     ensures done { IfOk result (λ found. HasDone (shared_of slice.old.tables) work found claims.new) }
     ensures left { AreLeft claims.old claims.new }
-    ensures err { OnErr result (claims.new ≡ claims.old) }
+    ensures err { OnErr result ((slice.new ≡ slice.old) × (claims.new ≡ claims.old)) }
 {
     match work {
         Work::Payment(work) => Ok(Found::Payment(work.run(slice, claims)?)),

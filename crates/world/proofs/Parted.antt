@@ -1,8 +1,9 @@
 -- The slice of a warehouse, and all slices.
-use Rattle.std.proofs.Common.{◌≡◌, ℕ, ◌+◌, ◌-◌, ◌<◌, ◌≤◌, zero, suc, true, false, List, [], ◌∷◌, length, sym, ap, subst, ◌∙◌, cond, leb, arith}
-use Rattle.std.specs.Prelude.{All, IsTrue, slice_index_or, slice_set}
+use Rattle.std.proofs.Common.{◌≡◌, ℕ, ◌+◌, ◌-◌, ◌<◌, ◌≤◌, zero, suc, true, false, not, List, [], ◌∷◌, Some, length, refl, sym, ap, subst, ◌∙◌, cond, leb, arith}
+use Rattle.std.specs.Prelude.{All, IsTrue, option_map, slice_index_or, slice_set}
 use Rattle.std.proofs.lemmas.Bool.{and_parts, eq-eqb, leb-true, ne_eqb}
-use Rattle.std.proofs.lemmas.List.Elements.{All-contains, All-nil}
+use Rattle.std.proofs.lemmas.List.{set-get_or}
+use Rattle.std.proofs.lemmas.List.Elements.{All-head, All-nil, All-tail}
 use Rattle.schema.specs.declared.scale.Scale.{Scale}
 use Rattle.schema.specs.Scale.{has_warehouse}
 use Rattle.partitions.specs.Parts.{Shared, IsPartAt, shared_of}
@@ -10,12 +11,14 @@ use Rattle.requests.specs.declared.group.Group.{Group}
 use Rattle.groups.specs.declared.wishes.Wish.{Wish}
 use Rattle.groups.specs.Groups.{warehouse_of}
 use Rattle.tickets.specs.Claims.{Claiming}
+use Rattle.tickets.specs.Committed.{tickets_held}
 use Rattle.slices.specs.Sliced.{AreOfOneHome, AreSlicesOf, IsClaimAt, SliceKeeps, Sliced, SlicesKeep, at_home, free_at, free_in, joined, part_in}
 use Rattle.slices.proofs.Joined.{one_slice_keeps_all}
 use Rattle.transactions.specs.declared.acting.Ran.{Ran}
 use Rattle.transactions.specs.declared.acting.Ran.TheVariants as ran
 use Rattle.transactions.specs.declared.work.Work.{Work}
-use Rattle.transactions.specs.Acting.{IsRanOf, claims_of_ran}
+use Rattle.transactions.specs.Acting.{IsRanOf, claims_of_ran, dies_on, first_held}
+use Rattle.transactions.specs.Granted.{AreWishesAt}
 use Rattle.transactions.specs.Works.{HasDone, home_of, wishes_of}
 use Rattle.transactions.proofs.Wished.{works_are_done_at_home, works_claim_at_home}
 use Rattle.world.specs.Events.{ComesOf}
@@ -66,15 +69,29 @@ module _ (shared : Shared) (slices : List Sliced) (are : AreSlicesOf shared slic
       let homes : (k : ℕ) (d : Sliced) → k < length slices → (slice_index_or slices k d).home ≡ 1 + k = λ k d below. omega (arith, (are.each k d below).home) in
       free_at_home slices 1 (home - 1) slice group homes inside (omega (arith, own, next)) ∙ ap (λ (s : Sliced). free_at s.free group) (sym is)
 
+  -- so it dies there on the group on which it dies among all
+  dies_here : (wishes : List Wish) → AreWishesAt home wishes → dies_on (free_in slices) wishes ≡ dies_on (free_at slice.free) wishes
+  dies_here wishes own = ap (option_map (λ (wish : Wish). wish.group)) (held wishes own)
+    where
+      held : (wishes : List Wish) → AreWishesAt home wishes → first_held (free_in slices) wishes ≡ first_held (free_at slice.free) wishes
+      held [] own = refl
+      held (wish ∷ wishes) own =
+          let same = free_here wish.group (All-head (λ (w : Wish). warehouse_of w.group ≡ home) wish wishes own) in
+          (λ i. cond (not (leb (tickets_held wish.mode) (same i))) (Some wish) (held wishes (All-tail (λ (w : Wish). warehouse_of w.group ≡ home) wish wishes own) i))
+
+  -- where it is as it was, all are
+  stays_all : (new : Sliced) → new ≡ slice → joined shared (slice_set slices (home - 1) new) ≡ joined shared slices
+  stays_all new same = ap (joined shared) (ap (slice_set slices (home - 1)) (same ∙ is) ∙ set-get_or slices (home - 1) slice)
+
   -- what comes of work there, comes of it in all
-  pub comes_of : {J : Type 0} (work : Work) (one : Ran J) → home_of work ≡ home → IsRanOf slice work one → ComesOf (joined shared slices) work one
-  comes_of work (ran.Done claims found) own of =
-      let done = subst (λ (s : Shared). HasDone s work found claims) shared_is of.0 in
-      (done, (of.1, (works_are_done_at_home shared work found claims done).1))
-  comes_of work (ran.Died group holder) own (wish, wished, same, out) =
-      let at : warehouse_of wish.group ≡ home_of work = All-contains (λ (w : Wish). warehouse_of w.group ≡ home_of work) (wishes_of work) wish (works_claim_at_home work) wished in
-      (wish, (wished, (same, omega (arith, out, free_here group (ap warehouse_of (sym same) ∙ at ∙ own)))))
-  comes_of work ran.NoMemory own of = tt
+  pub comes_of : {J : Type 0} (work : Work) (one : Ran J) (new : Sliced) → home_of work ≡ home → IsRanOf slice work one new
+      → ComesOf (joined shared slices) work one (joined shared (slice_set slices (home - 1) new))
+  comes_of work (ran.Done claims found) new own of =
+      let done = subst (λ (s : Shared). HasDone s work found claims) shared_is of.1 in
+      (dies_here (wishes_of work) (subst (λ n. AreWishesAt n (wishes_of work)) own (works_claim_at_home work)) ∙ of.0, (done, (of.2, (works_are_done_at_home shared work found claims done).1)))
+  comes_of work (ran.Died group holder) new own of =
+      (dies_here (wishes_of work) (subst (λ n. AreWishesAt n (wishes_of work)) own (works_claim_at_home work)) ∙ of.0, stays_all new of.1)
+  comes_of work ran.NoMemory new own of = stays_all new of
 
 -- the warehouses of the scale are numbered from 1
 pub warehouse_within : (scale : Scale) (home : ℕ) → IsTrue (has_warehouse scale home) → (1 ≤ home) × (home ≤ scale.warehouses)
@@ -85,10 +102,10 @@ warehouse_within scale home has =
 -- ---- the claims of one action
 
 -- those of an action that ran are on groups of its warehouse
-pub ran_at_home : {J : Type 0} (slice : Sliced) (work : Work) (one : Ran J) → IsRanOf slice work one → All (IsClaimAt (home_of work)) (claims_of_ran one)
-ran_at_home slice work (ran.Done claims found) of = (works_are_done_at_home (shared_of slice.tables) work found claims of.0).0
-ran_at_home slice work (ran.Died group holder) of = All-nil (IsClaimAt (home_of work))
-ran_at_home slice work ran.NoMemory of = All-nil (IsClaimAt (home_of work))
+pub ran_at_home : {J : Type 0} (slice new : Sliced) (work : Work) (one : Ran J) → IsRanOf slice work one new → All (IsClaimAt (home_of work)) (claims_of_ran one)
+ran_at_home slice new work (ran.Done claims found) of = (works_are_done_at_home (shared_of slice.tables) work found claims of.1).0
+ran_at_home slice new work (ran.Died group holder) of = All-nil (IsClaimAt (home_of work))
+ran_at_home slice new work ran.NoMemory of = All-nil (IsClaimAt (home_of work))
 
 -- where they are on groups of one warehouse, all are on groups of that of the first
 pub claims_at_home : (claims : List Claiming) (home : ℕ) → ((d : Claiming) → home ≡ warehouse_of (slice_index_or claims 0 d).group) → AreOfOneHome claims

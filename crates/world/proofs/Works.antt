@@ -92,13 +92,13 @@ module _ {J : Type 0} where
         fine = λ u log sound. acts_fine (shared_of slices.tables) log u flow works.items sound;
       }
 
-  ran_soundly : (u : UnderWay) (place : ℕ) (work : Work) (one : Ran J) (old : Joined) → IsWorkAt u place work → ComesOf old work one → IsSoundRan (shared_of old.tables) u place one
-  ran_soundly u place work (ran.Done claims found) old here of = (work, (here, of))
-  ran_soundly u place work (ran.Died group holder) old here of = tt
-  ran_soundly u place work ran.NoMemory old here of = tt
+  ran_soundly : (u : UnderWay) (place : ℕ) (work : Work) (one : Ran J) (old new : Joined) → IsWorkAt u place work → ComesOf old work one new → IsSoundRan (shared_of old.tables) u place one
+  ran_soundly u place work (ran.Done claims found) old new here of = (work, (here, of.1))
+  ran_soundly u place work (ran.Died group holder) old new here of = tt
+  ran_soundly u place work ran.NoMemory old new here of = tt
 
   -- an action that runs puts its report
-  pub acts : (act : AnyAct J) (one : Ran J) (old new : Joined) → SlicesKeep [] old (claims_of_ran one) new → ComesOf old act.work one
+  pub acts : (act : AnyAct J) (one : Ran J) (old new : Joined) → SlicesKeep [] old (claims_of_ran one) new → ComesOf old act.work one new
       → Works (Act act) old (item.Report (record { place = act.place; flow = act.flow; ran = one }) ∷ []) new
   acts act one old new kept of =
       let carried = part_carried act.flow in
@@ -110,7 +110,7 @@ module _ {J : Type 0} where
         tokens = refl;
         fine = λ u log fine.
             one_fine (shared_of old.tables) log u (item.Report (record { place = act.place; flow = act.flow; ran = one }))
-            (record { flow = fine.flow; ran = ran_soundly u act.place act.work one old fine.work of });
+            (record { flow = fine.flow; ran = ran_soundly u act.place act.work one old new fine.work of });
       }
 
   -- claims whose work is committed are given back

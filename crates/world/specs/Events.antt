@@ -1,6 +1,6 @@
 -- What one event does.
 use Rattle.std.specs.Prelude.{◌≡◌, ◌<◌, ◌≤◌, ℕ, ◌+◌, ◌-◌, Bool, true, false, List, [], ◌∷◌, ◌++◌, Option, Some, None, All, Vec, nat_lt, length, map, replicate, slice_set, ◌⊎◌}
-use Rattle.std.specs.List.{Contains, slice_get}
+use Rattle.std.specs.List.{slice_get}
 use Rattle.std.specs.declared.alloc.Global.{Global}
 use Rattle.partitions.specs.Parts.{Shared, shared_of}
 use Rattle.schema.specs.Database.{Database}
@@ -10,7 +10,6 @@ use Rattle.requests.specs.declared.refusal.Refusal.{Refusal}
 use Rattle.requests.specs.declared.refusal.Refusal.TheVariants as refusal
 use Rattle.requests.specs.Check.{IsAccepted}
 use Rattle.requests.specs.Replies.{ShowsLines}
-use Rattle.groups.specs.declared.wishes.Wish.{Wish}
 use Rattle.tickets.specs.Claims.{all_claims}
 use Rattle.commit_log.specs.declared.entry.Entry.{Entry}
 use Rattle.commit_log.specs.declared.log_book.AppendFault.{AppendFault}
@@ -21,6 +20,7 @@ use Rattle.commit_log.specs.Passing.{after_item, after_refusal}
 use Rattle.history.specs.declared.event.EventAnswer.{EventAnswer}
 use Rattle.history.specs.declared.event.EventAnswer.TheVariants.{Sent, Full, Logged, Answered}
 use Rattle.slices.specs.Sliced.{AreSlicesOf, Joined, Sliced, SlicesKeep, joined}
+use Rattle.transactions.specs.Acting.{dies_on}
 use Rattle.transactions.specs.Works.{HaveAllDone, CanDo, HasDone, wishes_of}
 use Rattle.transactions.specs.Progresses.{FollowsFrom, works_of}
 use Rattle.transactions.specs.declared.progress.Gathered.{Gathered}
@@ -56,26 +56,27 @@ why_refused fault.LogFull = refusal.LogFull
 module _ {J : Type 0} where
   -- ---- a message is worked on
 
-  -- What comes of this work in the slice of its warehouse: it was done under the claims, all of which can be undone; or it
-  -- wished for a group some ticket of which is out.
-  abbrev pub ComesOf : Joined → Work → Ran J → Type 0
-  ComesOf slices work (ran.Done claims found) = HasDone (shared_of slices.tables) work found claims × CanAllBeUndone claims
-  ComesOf slices work (ran.Died group holder) = (wish : Wish) × (Contains (wishes_of work) wish × ((wish.group ≡ group) × (slices.free group < 8)))
-  ComesOf slices work ran.NoMemory = Unit {0}
+  -- What comes of this work in the slice of its warehouse: all that it wished for could be granted, and it was done under the
+  -- claims, all of which can be undone; or it died on the group of the first wish that could not, or there was no memory, and
+  -- then the slices are as they were.
+  abbrev pub ComesOf : Joined → Work → Ran J → Joined → Type 0
+  ComesOf old work (ran.Done claims found) new = (dies_on old.free (wishes_of work) ≡ None) × (HasDone (shared_of old.tables) work found claims × CanAllBeUndone claims)
+  ComesOf old work (ran.Died group holder) new = (dies_on old.free (wishes_of work) ≡ Some group) × (new ≡ old)
+  ComesOf old work ran.NoMemory new = new ≡ old
 
   -- Which items a message's work puts: the actions of the first phase, in the order of their places; the report of an
   -- action, with what came of it; or that an action has given its claims back.
-  abbrev pub PutsItems : Joined → Message J → List (Item J) → Type 0
-  PutsItems slices (Start flow works) items = items ≡ acts_of flow works.items
-  PutsItems slices (Act act) items =
-      (ran : Ran J) × ((items ≡ item.Report (record { place = act.place; flow = act.flow; ran = ran }) ∷ []) × ComesOf slices act.work ran)
-  PutsItems slices (Settle claims) items = items ≡ item.Ended ∷ []
-  PutsItems slices (Undo claims) items = items ≡ item.Ended ∷ []
+  abbrev pub PutsItems : Joined → Message J → List (Item J) → Joined → Type 0
+  PutsItems old (Start flow works) items new = items ≡ acts_of flow works.items
+  PutsItems old (Act act) items new =
+      (ran : Ran J) × ((items ≡ item.Report (record { place = act.place; flow = act.flow; ran = ran }) ∷ []) × ComesOf old act.work ran new)
+  PutsItems old (Settle claims) items new = items ≡ item.Ended ∷ []
+  PutsItems old (Undo claims) items new = items ≡ item.Ended ∷ []
 
   -- What a message does to the rows, and the items that it puts: what is committed is kept; the items have with them the
   -- transactions and the tokens that came with the message; and they are as sound as it is.
   pub record Works (message : Message J) (old : Joined) (items : List (Item J)) (new : Joined) : Type 0 where
-    pub put : PutsItems old message items
+    pub put : PutsItems old message items new
     pub kept : SlicesKeep (part_message message).claims old (parts part_item items).claims new
     pub pending : (parts part_item items).pending ≡ (part_message message).pending
     pub tokens : (parts part_item items).tokens ≡ (part_message message).tokens

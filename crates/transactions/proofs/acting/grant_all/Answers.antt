@@ -1,14 +1,17 @@
-use Rattle.std.proofs.Common.{◌≡◌, [], ◌<◌, List, Some, None, Result, Ok, Err, IfErr, IsErrAnd, slice_get, vec_len, sym, ap, subst, ◌∙◌, arith}
-use Rattle.std.specs.Prelude.{All}
+use Rattle.std.proofs.Common.{◌≡◌, true, false, [], List, Some, None, Result, Ok, Err, IfErr, IsErrAnd, leb, slice_get, vec_len, sym, ap, subst, ◌∙◌, arith}
+use Rattle.std.specs.Prelude.{All, option_map}
 use Rattle.std.proofs.lemmas.Option.{slice_get_within}
+use Rattle.groups.specs.declared.wishes.Wish.{Wish}
 use Rattle.tickets.specs.Claims.{Claiming}
+use Rattle.tickets.specs.Committed.{tickets_held}
 use Rattle.tickets.specs.Places.{IsGroupOf}
 use Rattle.slices.specs.declared.ground.Held.{Held}
-use Rattle.slices.specs.Sliced.{Sliced, IsClaimAt, SliceKeeps}
-use Rattle.transactions.specs.Acting.{DiesOn}
+use Rattle.slices.specs.Sliced.{Sliced, IsClaimAt, SliceKeeps, standing}
+use Rattle.transactions.specs.Acting.{can_be_granted, dies_on, giving_back}
 use Rattle.transactions.specs.Works.{wishes_of}
 use Rattle.transactions.proofs.Homes.{granted_here}
 use Rattle.transactions.proofs.Kept as kept
+use Rattle.transactions.proofs.Returned as returned
 use Rattle.transactions.proofs.Wished as wished
 use Rattle.transactions.proofs.acting.grant_all.Goals as goal
 
@@ -39,11 +42,18 @@ loop-wish-preserved g c =
     let is : slice_get wishes (vec_len before) ≡ Some c.in-Some.wish = ap (slice_get wishes) (sym c.len.ensures) ∙ sym c.in-Some.ensures in
     let within = slice_get_within wishes (vec_len before) c.in-Some.wish is in
     let made = c.push_reserved.ensures.items in
+    let known = wished.wished_at (IsGroupOf g.J.Naming.warehouses) wishes (vec_len before) c.in-Some.wish c.requires.known is in
+    let here = wished.wished_here c.args.slice.now.home wishes (vec_len before) c.in-Some.wish c.requires.home is in
+    let tickets = c.loop-wish.invariant.others c.in-Some.wish.group here (wished.apart_at c.args.work.now _ c.in-Some.wish is) in
     record {
       count = omega (arith, within, c.push_reserved.ensures.len);
       room = c.push_reserved.ensures.capacity ∙ c.loop-wish.invariant.room;
       kept = subst (λ (claims : List Claiming). SliceKeeps [] c.args.slice.now claims c.grant.new.slice) (sym made)
           (kept.one_more before.items claim [] c.args.slice.now c.loop-wish.slice c.grant.new.slice c.loop-wish.invariant.kept c.in_ok-claim.ensures.kept);
+      back = returned.all_granted_back before.items _ claim c.args.slice.now c.loop-wish.slice c.grant.new.slice made c.loop-wish.invariant.back
+          (returned.granted_back g.J.Naming.warehouses c.in-Some.wish claim c.loop-wish.slice c.grant.new.slice known c.in_ok-claim.ensures.granted c.in_ok-claim.ensures.free c.in_ok-claim.ensures.out);
+      free = wished.none_held_more (standing c.args.slice.now).free wishes (vec_len before) _ c.in-Some.wish is c.push_reserved.ensures.len c.loop-wish.invariant.free
+          (subst (λ n. leb (tickets_held c.in-Some.wish.mode) n ≡ true) tickets c.in_ok-claim.ensures.free);
       granted = wished.granted_more wishes (vec_len before) _ c.in-Some.wish before.items _ claim is c.push_reserved.ensures.len made c.loop-wish.invariant.granted c.in_ok-claim.ensures.granted;
       others = λ other here all.
           let both = wished.others_more wishes (vec_len before) (vec_len c.push_reserved.new.self) c.in-Some.wish other is c.push_reserved.ensures.len all in
@@ -62,6 +72,12 @@ returns-clause-granted g c =
     let none : slice_get (wishes_of c.args.work.now) (vec_len c.loop-wish.claims) ≡ None = ap (slice_get (wishes_of c.args.work.now)) (sym c.len.ensures) ∙ sym c.in_default.ensures in
     wished.all_granted (wishes_of c.args.work.now) (vec_len c.loop-wish.claims) c.loop-wish.claims.items none c.loop-wish.invariant.granted
 
+pub returns-clause-free : goal.returns-clause-free
+returns-clause-free g c =
+    let wishes = wishes_of c.args.work.now in
+    let none : slice_get wishes (vec_len c.loop-wish.claims) ≡ None = ap (slice_get wishes) (sym c.len.ensures) ∙ sym c.in_default.ensures in
+    ap (option_map (λ (wish : Wish). wish.group)) (wished.none_held (standing c.args.slice.now).free wishes (vec_len c.loop-wish.claims) none c.loop-wish.invariant.free)
+
 pub returns-in_err-claim-clause-kept : goal.returns-in_err-claim-clause-kept
 returns-in_err-claim-clause-kept g c =
     subst (λ (s : Sliced). SliceKeeps [] c.args.slice.now c.loop-wish.claims.items s) (sym c.in_err-claim.ensures.held.1) c.loop-wish.invariant.kept
@@ -74,13 +90,18 @@ returns-in_err-claim-clause-home g c =
 pub returns-in_err-claim-clause-settled : goal.returns-in_err-claim-clause-settled
 returns-in_err-claim-clause-settled g c = wished.granted_settled _ _ c.loop-wish.invariant.granted
 
+pub returns-in_err-claim-clause-back : goal.returns-in_err-claim-clause-back
+returns-in_err-claim-clause-back g c = ap (giving_back c.loop-wish.claims.items) c.in_err-claim.ensures.held.1 ∙ c.loop-wish.invariant.back
+
 pub returns-in_err-claim-clause-held : goal.returns-in_err-claim-clause-held
 returns-in_err-claim-clause-held g c =
     let work = c.args.work.now in
     let wish = c.in-Some.wish in
+    let free = (standing c.args.slice.now).free in
     let is : slice_get (wishes_of work) (vec_len c.loop-wish.claims) ≡ Some wish = ap (slice_get (wishes_of work)) (sym c.len.ensures) ∙ sym c.in-Some.ensures in
     let held = c.in_err-claim.ensures.held in
     let here = wished.wished_here c.args.slice.now.home (wishes_of work) (vec_len c.loop-wish.claims) wish c.requires.home is in
     let before = c.loop-wish.invariant.others wish.group here (wished.apart_at work _ wish is) in
-    let dies = wished.dies_on c.args.slice.now (wishes_of work) _ wish _ is held.0 (subst (λ n. n < 8) before held.2) in
-    passed_on c.from_residual.result _ _ c.from_residual.ensures.1 (λ (e : Held) same. subst (λ (h : Held). DiesOn c.args.slice.now (wishes_of work) h.group) (sym same) dies)
+    let first = wished.first_held_at free (wishes_of work) _ wish is c.loop-wish.invariant.free (subst (λ n. leb (tickets_held wish.mode) n ≡ false) before held.2) in
+    let dies = ap (option_map (λ (w : Wish). w.group)) first ∙ ap Some (sym held.0) in
+    passed_on c.from_residual.result _ _ c.from_residual.ensures.1 (λ (e : Held) same. subst (λ (h : Held). dies_on free (wishes_of work) ≡ Some h.group) (sym same) dies)

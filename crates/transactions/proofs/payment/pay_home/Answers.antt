@@ -6,7 +6,7 @@ use Rattle.schema.specs.Database.{Database}
 use Rattle.partitions.specs.Parts.{Part}
 use Rattle.groups.specs.Content.{content}
 use Rattle.groups.specs.Laws.{with_warehouse, with_district}
-use Rattle.tickets.specs.Claims.{leaving}
+use Rattle.tickets.specs.Claims.{Claiming, leaving}
 use Rattle.slices.specs.Sliced.{Sliced}
 use Rattle.machine.specs.Payment.{warehouse_paid, district_paid}
 use Rattle.transactions.specs.declared.payment.HomePaid.TheVariants as h
@@ -63,3 +63,10 @@ returns-clause-paid g c =
     (c.in_ok-put_home.ensures.district ∙ (λ i. leaving (c.look-2.ensures.same.1 i) (with_district new_d (c.look-2.ensures.same.1 i).left))) in
     subst (λ (names : List ℕ × List ℕ). IsHomePaid p (h.Paid names.0 names.1) c.put_home.new.warehouse c.put_home.new.district)
     (λ i. (sym c.copy.ensures i, sym c.copy-2.ensures i)) paid
+
+-- what the claim left stands there still
+pub put_home-requires-clause-warehouse_left : goal.put_home-requires-clause-warehouse_left
+put_home-requires-clause-warehouse_left g c =
+    let same = c.look.ensures.same.1 in
+    let seen = ap (λ (s : Sliced). s.tables) (c.look-2.ensures.same.0 ∙ c.look.ensures.same.0) in
+    ap (λ (k : Claiming). k.left) same ∙ c.look.ensures.left ∙ (λ i. content (sym seen i) (sym same i).group)

@@ -1,4 +1,4 @@
-use Rattle.std.proofs.Common.{IfOk, IfErr, [], ◌∷◌, ◌≡◌, ◌≢◌, ◌<◌, set, ap, subst, sym, ◌∙◌}
+use Rattle.std.proofs.Common.{IfOk, IfErr, OnOk, [], ◌∷◌, ◌≡◌, ◌≢◌, ◌<◌, set, ap, subst, sym, ◌∙◌}
 use Rattle.requests.specs.declared.group.Group.{Group}
 use Rattle.groups.specs.Content.{content}
 use Rattle.groups.specs.Groups.{warehouse_of}
@@ -6,8 +6,8 @@ use Rattle.groups.specs.declared.wishes.Mode.TheVariants.{Exclusive}
 use Rattle.tickets.specs.Claims.{fresh}
 use Rattle.tickets.specs.Places.{IsGroupOf}
 use Rattle.slices.specs.Grounds.{sliced}
-use Rattle.slices.specs.Sliced.{Sliced, SliceKeeps, standing}
-use Rattle.slices.proofs.Keeps.{lends, some_out, grant_outcome, busy_outcome, home_elsewhere}
+use Rattle.slices.specs.Sliced.{Sliced, SliceKeeps, lending, standing}
+use Rattle.slices.proofs.Keeps.{lends, lent_out, all_home, some_out, grant_outcome, busy_outcome, home_elsewhere}
 use Rattle.slices.proofs.slice.Slice.grant.Goals as goal
 
 pub invariant_of-self : goal.invariant_of-self
@@ -56,3 +56,22 @@ returns-clause-others g c =
     let next = set c.self.inside.grounds.items c.place_at_home.result c.grant.new.self in
     subst (λ (s : Sliced). (other : Group) → other ≢ c.args.group → warehouse_of other ≡ s.home → (standing (sliced c.self.inside.rows next)).free other ≡ (standing s).free other) c.self.view_is
     (home_elsewhere c.self.inside.rows c.self.inside.grounds.items c.args.group c.place_at_home.result c.grant.new.self known near c.place_at_home.ensures)
+
+pub returns-clause-free : goal.returns-clause-free
+returns-clause-free g c =
+    let known = subst (λ n. IsGroupOf n c.args.group) (sym c.self.invariant.many) c.requires.known in
+    let near = c.requires.home ∙ sym (ap (λ (s : Sliced). s.home) c.self.view_is) in
+    subst (λ (s : Sliced). OnOk c.grant.result ((standing s).free c.args.group ≡ 8)) c.self.view_is
+    (all_home c.self.inside.rows c.self.inside.grounds.items c.args.group c.place_at_home.result c.index_mut-ground.result.now c.grant.result c.self.invariant.grounded known near c.place_at_home.ensures
+    c.index_mut-ground.ensures.value c.grant.ensures.free)
+
+pub returns-clause-out : goal.returns-clause-out
+returns-clause-out g c =
+    let known = subst (λ n. IsGroupOf n c.args.group) (sym c.self.invariant.many) c.requires.known in
+    let near = c.requires.home ∙ sym (ap (λ (s : Sliced). s.home) c.self.view_is) in
+    let e = c.grant.ensures in
+    let out = lends c.index_mut-ground.result.now c.grant.new.self c.grant.result e.free e.out e.undo in
+    let later = sliced c.self.inside.rows (set c.self.inside.grounds.items c.place_at_home.result c.grant.new.self) in
+    subst (λ (s : Sliced). OnOk c.grant.result (later ≡ lending c.args.group Exclusive s)) c.self.view_is
+    (lent_out Exclusive c.self.inside.rows c.self.inside.grounds.items c.args.group c.place_at_home.result c.index_mut-ground.result.now c.grant.new.self c.grant.result c.self.invariant.grounded known near c.place_at_home.ensures
+    c.index_mut-ground.ensures.value out).1

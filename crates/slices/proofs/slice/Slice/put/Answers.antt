@@ -67,3 +67,11 @@ pub returns-clause-kept : goal.returns-clause-kept
 returns-clause-kept g c =
     let later = set c.self.inside.grounds.items c.place_of_claim.result c.leave.new.self in
     subst (λ (s : Sliced). SliceKeeps (c.args.claim.now ∷ []) s (c.leave.new.claim ∷ []) (sliced c.run.new.rows later)) c.self.view_is (written g c).keeps
+
+-- the step was done to the tables, and nothing else changed
+pub returns-clause-rows : goal.returns-clause-rows
+returns-clause-rows g c =
+    let w = written g c in
+    let done = g.S.Step.done c.args.step in
+    (λ i. record { home = w.keeps.home i; tables = c.in_ok-kept.ensures.tables i; free = w.free i })
+    ∙ ap (λ (s : Sliced). record s { tables = done s.tables }) c.self.view_is
