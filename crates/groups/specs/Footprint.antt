@@ -8,7 +8,7 @@ pub use Rattle.groups.specs.Modes.{exclusively, shared}
 pub use Rattle.groups.specs.Payment.{payment_footprint}
 pub use Rattle.groups.specs.OrderStatus.{order_status_footprint}
 
--- the groups that a request claims, in the order of groups
+-- the groups that a request claims
 abbrev pub footprint : Request → List Wish
 footprint (Payment p) = payment_footprint p
 footprint (OrderStatus o) = order_status_footprint o

@@ -1,8 +1,7 @@
 -- What holds of the groups of requests, and what ties the contents of groups to the tables.
-use Rattle.std.specs.Prelude.{◌≡◌, ◌≢◌, ℕ, List, Option, Some, None, if◌then◌else◌}
+use Rattle.std.specs.Prelude.{◌≡◌, ◌≢◌, ◌≤◌, ℕ, List, Option, Some, None, count_by, if◌then◌else◌}
 use Rattle.std.specs.declared.cmp.Ordering.{Ordering}
 use Rattle.std.specs.Ordering.{nat_cmp}
-use Rattle.std.specs.List.Sorted.{IsStrictlySortedBy}
 use Rattle.std.specs.FinMap as map
 use Rattle.rows.specs.declared.keys.DistrictKey.{DistrictKey}
 use Rattle.rows.specs.declared.keys.StockKey.{StockKey}
@@ -21,16 +20,16 @@ use Rattle.rows.specs.declared.records.OrderLine.{OrderLine}
 use Rattle.schema.specs.Database.{Database}
 use Rattle.requests.specs.declared.group.Group.{Group}
 use Rattle.requests.specs.declared.request.Request.{Request}
-use Rattle.groups.specs.Groups.{group_of_warehouse, group_of_district, group_of_customer, group_of_order, group_of_line, group_of_history, group_of_stock, group_cmp, is_same}
+use Rattle.groups.specs.Groups.{group_of_warehouse, group_of_district, group_of_customer, group_of_order, group_of_line, group_of_history, group_of_stock, is_same}
 use Rattle.groups.specs.Footprint.{footprint, groups_of}
 use Rattle.groups.specs.Content.{Content, content}
 use Rattle.groups.specs.Content.Content.{OfWarehouse, OfDistrict, OfCustomers, OfOrders, OfHistory, OfStock}
 
 -- ---- the groups of a request
 
--- they ascend in the order of groups, so that none comes twice
-abbrev pub FootprintsAscend : Type 0
-FootprintsAscend = (request : Request) → IsStrictlySortedBy group_cmp (groups_of (footprint request))
+-- no group comes twice among them
+abbrev pub FootprintsNameEachGroupOnce : Type 0
+FootprintsNameEachGroupOnce = (request : Request) (group : Group) → count_by (is_same group) (groups_of (footprint request)) ≤ 1
 
 -- ---- each row stands in one group
 

@@ -4,7 +4,7 @@ ghost use Rattle.std.specs.Cmp.{IsTotalOrder};
 ghost use Rattle.std.specs.FinMap.{IsAntisymmetric};
 ghost use Rattle.requests.specs.declared.group.Group.{Group};
 ghost use Rattle.groups.specs.Groups.{group_cmp};
-ghost use Rattle.groups.specs.Laws.{ContentsMakeTables, EachPutChangesOneGroup, EachRowStandsInOneGroup, FootprintsAscend, ItemsStandInNoGroup};
+ghost use Rattle.groups.specs.Laws.{ContentsMakeTables, EachPutChangesOneGroup, EachRowStandsInOneGroup, FootprintsNameEachGroupOnce, ItemsStandInNoGroup};
 
 use requests::Group;
 
@@ -15,9 +15,9 @@ pub fn groups_are_ordered()
     ensures exact { IsAntisymmetric group_cmp }
 {}
 
-/// The groups that a request claims ascend, so none comes twice.
-pub fn footprints_ascend()
-    ensures { FootprintsAscend }
+/// No group comes twice among those that a request claims.
+pub fn footprints_name_each_group_once()
+    ensures { FootprintsNameEachGroupOnce }
 {}
 
 /// Each row, and each list of HISTORY, stands in its own group as the table has it, and in no other.

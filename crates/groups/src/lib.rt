@@ -14,7 +14,7 @@ pub use content::Content;
 pub use grouping::group_of_stock;
 pub use laws::{
     contents_make_tables, each_put_changes_one_group, each_row_stands_in_one_group,
-    footprints_ascend, groups_are_ordered, items_stand_in_no_group,
+    footprints_name_each_group_once, groups_are_ordered, items_stand_in_no_group,
 };
 pub use wants::{Extent, Kind, Prefix, Want, kind_of, warehouse_of};
 pub use wishes::{Mode, Wish, footprint};

@@ -22,7 +22,7 @@ pub struct Wish {
     pub mode: Mode,
 }
 
-/// The groups that a request claims, in the order of groups. Want of memory leaves nothing behind.
+/// The groups that a request claims, none twice. Want of memory leaves nothing behind.
 pub fn footprint(alloc: Global, request: &Request) -> Result<Vec<Wish>, NoMemory>
     ensures { IfOk result (λ wishes. wishes.items ≡ spec.footprint request.now) }
 {
