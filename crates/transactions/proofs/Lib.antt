@@ -18,5 +18,4 @@ pub mod Wished
 pub mod Done
 pub mod PaymentSteps
 pub mod OrderStatusSteps
-pub mod Counts
 pub mod Reached

@@ -61,9 +61,9 @@ pub customer_missing : (o : OrderStatus) (found : List Found) → found ≡ any_
 customer_missing o found is shared asked held claims known done opening same =
     let read = customer_done shared o found claims done in
     let shown = subst (λ customer. IsCustomerShown o customer read.customers) (same_customer read.customer Missing (sym read.found_is ∙ is)) read.shown in
-    let all : held ++ all_claims claims ≡ read.customers ∷ [] = ap (λ xs. xs ++ all_claims claims) known.none ∙ ap all_claims read.claims_is in
-    subst (λ r. IsCarriedOut opening r (held ++ all_claims claims) (reply.RolledBack NoCustomer)) (sym known.is)
-    (subst (λ xs. IsCarriedOut opening (request.OrderStatus o) xs (reply.RolledBack NoCustomer)) (sym all)
+    let all : held ++ claims ≡ (read.customers ∷ []) ∷ [] = ap (λ xs. xs ++ claims) known.none ∙ read.claims_is in
+    subst (λ r. IsCarriedOut opening r (all_claims (held ++ claims)) (reply.RolledBack NoCustomer)) (sym known.is)
+    (subst (λ xs. IsCarriedOut opening (request.OrderStatus o) (all_claims xs) (reply.RolledBack NoCustomer)) (sym all)
     (rolled_back_order_statuses_are_carried_out opening o read.customers shown))
 
 pub customer_follows : (o : OrderStatus) (found : List Found) (key : CustomerKey) (customer : StatusCustomer) → found ≡ any_found.OrderStatus (Customer (Shown key customer)) ∷ []
@@ -75,7 +75,7 @@ customer_follows o found key customer is shared asked held claims known done =
       is = known.is;
       accepted = known.accepted;
       customers = read.customers;
-      claims = ap (λ xs. xs ++ all_claims claims) known.none ∙ ap all_claims read.claims_is;
+      claims = ap (λ xs. xs ++ claims) known.none ∙ read.claims_is;
       shown = subst (λ shown. IsCustomerShown o shown read.customers) (same_customer read.customer (Shown key customer) (sym read.found_is ∙ is)) read.shown;
     }
 
@@ -113,8 +113,8 @@ order_follows given found order is shared asked held claims known done opening s
     let read = order_done shared given found claims done in
     let shown = subst (λ order. IsOrderShown given.key order read.orders) (same_order read.order order (sym read.found_is ∙ is)) read.shown in
     let said = reply.Done (kind.OrderStatus (reply_shown given.key given.customer order)) in
-    let all : held ++ all_claims claims ≡ known.customers ∷ read.orders ∷ [] =
-    ap (λ xs. xs ++ all_claims claims) known.claims ∙ ap (λ xs. known.customers ∷ all_claims xs) read.claims_is in
-    subst (λ r. IsCarriedOut opening r (held ++ all_claims claims) said) (sym known.is)
-    (subst (λ xs. IsCarriedOut opening (request.OrderStatus o) xs said) (sym all)
+    let all : held ++ claims ≡ (known.customers ∷ []) ∷ (read.orders ∷ []) ∷ [] =
+    ap (λ xs. xs ++ claims) known.claims ∙ ap (λ xs. (known.customers ∷ []) ∷ xs) read.claims_is in
+    subst (λ r. IsCarriedOut opening r (all_claims (held ++ claims)) said) (sym known.is)
+    (subst (λ xs. IsCarriedOut opening (request.OrderStatus o) (all_claims xs) said) (sym all)
     (order_statuses_are_carried_out opening o given.key given.customer order known.customers read.orders known.shown shown))

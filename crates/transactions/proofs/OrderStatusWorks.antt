@@ -1,5 +1,5 @@
 -- What the actions of an Order-Status need and claim, and where.
-use Rattle.std.proofs.Common.{◌≡◌, ◌≤◌, zero, suc, true, List, [], ◌∷◌, ◌++◌, length, map, IsTrue, refl, sym, ap, subst, ◌∙◌, arith}
+use Rattle.std.proofs.Common.{◌≡◌, ◌≤◌, ◌+◌, zero, suc, true, List, [], ◌∷◌, ◌++◌, length, map, IsTrue, refl, sym, ap, subst, ◌∙◌, arith}
 use Rattle.std.specs.Prelude.{All}
 use Rattle.std.proofs.lemmas.Bool.{and_parts, and_from, not-false}
 use Rattle.std.proofs.lemmas.List.Elements.{All-nil, All-cons, All-from_recursion}
@@ -17,7 +17,7 @@ use Rattle.requests.specs.declared.refusal.Refusal.TheVariants.{BadWarehouse, Ba
 use Rattle.requests.specs.Check.{applies, IsAccepted}
 use Rattle.groups.specs.declared.wishes.Wish.{Wish}
 use Rattle.groups.specs.Footprint.{shared as sharing, footprint, groups_of, order_status_footprint}
-use Rattle.tickets.specs.Claims.{Claiming}
+use Rattle.tickets.specs.Claims.{Claiming, all_claims}
 use Rattle.tickets.specs.Places.{IsGroupOf}
 use Rattle.transactions.specs.declared.order_status.Work.{Work}
 use Rattle.transactions.specs.declared.order_status.Work.TheVariants.{ShowCustomer, ShowOrder}
@@ -97,7 +97,7 @@ done_on shared (ShowOrder key) found claims done = ap (map (λ (claim : Claiming
 
 -- ---- each phase
 
-pub accepted : (shared : Shared) (asked : Request) (progress : Progress) (held : List Claiming) → IsReached shared asked progress held → IsAccepted shared.scale asked
+pub accepted : (shared : Shared) (asked : Request) (progress : Progress) (held : List (List Claiming)) → IsReached shared asked progress held → IsAccepted shared.scale asked
 accepted shared asked (ReadCustomer o) held reached = reached.accepted
 accepted shared asked (ReadOrder given) held reached = reached.accepted
 
@@ -106,10 +106,15 @@ some_actions (ReadCustomer o) = omega arith
 some_actions (ReadOrder given) = omega arith
 
 -- the customer's district is the one that was asked of
-at_home : (shared : Shared) (asked : Request) (given : StatusShown) (held : List Claiming) (known : IsStatusShown shared asked given held) → district_of_customer given.key ≡ known.order_status.home
+at_home : (shared : Shared) (asked : Request) (given : StatusShown) (held : List (List Claiming)) (known : IsStatusShown shared asked given held) → district_of_customer given.key ≡ known.order_status.home
 at_home shared asked given held known = shown_customers_are_at_home known.order_status given.key given.customer known.customers known.shown
 
-pub can_all : (shared : Shared) (asked : Request) (progress : Progress) (held : List Claiming) → IsReached shared asked progress held → All (AnyCanDo shared) (works_of progress)
+-- they are few
+pub few_actions : (shared : Shared) (asked : Request) (progress : Progress) (held : List (List Claiming)) → IsReached shared asked progress held → length held + length (works_of progress) ≤ 2
+few_actions shared asked (ReadCustomer o) held known = omega (arith, ap (λ (hs : List (List Claiming)). length hs) known.none)
+few_actions shared asked (ReadOrder given) held known = omega (arith, ap (λ (hs : List (List Claiming)). length hs) known.claims)
+
+pub can_all : (shared : Shared) (asked : Request) (progress : Progress) (held : List (List Claiming)) → IsReached shared asked progress held → All (AnyCanDo shared) (works_of progress)
 can_all shared asked (ReadCustomer o) held known =
     All-cons (AnyCanDo shared) (any_work.OrderStatus (ShowCustomer o)) [] (subst (IsAccepted shared.scale) known.is known.accepted) (All-nil (AnyCanDo shared))
 can_all shared asked (ReadOrder given) held known =
@@ -118,18 +123,18 @@ can_all shared asked (ReadOrder given) held known =
     (accepted_statuses_have_their_district shared.scale known.order_status (subst (IsAccepted shared.scale) known.is known.accepted)))
     (All-nil (AnyCanDo shared))
 
-pub within : (shared : Shared) (asked : Request) (progress : Progress) (held : List Claiming) → IsReached shared asked progress held
-    → AreSomeOf (map wish_of held ++ all_wishes (works_of progress)) (footprint asked)
+pub within : (shared : Shared) (asked : Request) (progress : Progress) (held : List (List Claiming)) → IsReached shared asked progress held
+    → AreSomeOf (map wish_of (all_claims held) ++ all_wishes (works_of progress)) (footprint asked)
 within shared asked (ReadCustomer o) held known =
     let home = o.home in
-    subst (λ claims. AreSomeOf (map wish_of claims ++ all_wishes (works_of (ReadCustomer o))) (footprint asked)) (sym known.none)
+    subst (λ held. AreSomeOf (map wish_of (all_claims held) ++ all_wishes (works_of (ReadCustomer o))) (footprint asked)) (sym known.none)
     (subst (λ r. AreSomeOf (all_wishes (works_of (ReadCustomer o))) (footprint r)) (sym known.is)
     (first_are_some (sharing (Customers home.w_id home.d_id) ∷ []) (sharing (Orders home.w_id home.d_id) ∷ [])))
 within shared asked (ReadOrder given) held known =
     let home = known.order_status.home in
     let here = at_home shared asked given held known in
     let order = sharing (Orders given.key.w_id given.key.d_id) in
-    subst (λ claims. AreSomeOf (map wish_of claims ++ all_wishes (works_of (ReadOrder given))) (footprint asked)) (sym known.claims)
+    subst (λ held. AreSomeOf (map wish_of (all_claims held) ++ all_wishes (works_of (ReadOrder given))) (footprint asked)) (sym known.claims)
     (subst (λ r. AreSomeOf (wish_of known.customers ∷ order ∷ []) (footprint r)) (sym known.is)
     (all_are_some (wish_of known.customers ∷ order ∷ []) (footprint (request.OrderStatus known.order_status))
     (ap (λ (w : Wish). w ∷ order ∷ []) (shared_wish _ known.customers known.shown.claim)

@@ -78,14 +78,14 @@ same_customer : (home other : HomePaid) (customer another : CustomerPaid)
 same_customer home other customer another same = cc
 
 module _
-    (shared : Shared) (asked : Request) (p : Payment) (held : List Claiming) (known : IsAsked shared asked (request.Payment p) held)
-    (warehouse district customers : Claiming) (claims : List Claiming) (claims_are : claims ≡ warehouse ∷ district ∷ customers ∷ [])
+    (shared : Shared) (asked : Request) (p : Payment) (held : List (List Claiming)) (known : IsAsked shared asked (request.Payment p) held)
+    (warehouse district customers : Claiming) (claims : List (List Claiming)) (claims_are : claims ≡ (warehouse ∷ district ∷ []) ∷ (customers ∷ []) ∷ [])
   where
     rolled : (home : HomePaid) (customer : CustomerPaid) (fault : Fault) → gathered p home customer ≡ RollBack fault
         → IsHomePaid p home warehouse district → IsCustomerPaid p customer customers → Follows shared asked claims (RollBack fault)
     rolled home customer fault back home_paid customer_paid opening same =
-        subst (λ r. IsCarriedOut opening r claims (reply.RolledBack fault)) (sym known.is)
-        (subst (λ all. IsCarriedOut opening (request.Payment p) all (reply.RolledBack fault)) (sym claims_are)
+        subst (λ r. IsCarriedOut opening r (all_claims claims) (reply.RolledBack fault)) (sym known.is)
+        (subst (λ all. IsCarriedOut opening (request.Payment p) (all_claims all) (reply.RolledBack fault)) (sym claims_are)
         (rolled_back_payments_are_carried_out opening p home customer fault warehouse district customers home_paid customer_paid back))
 
     -- what was found of both, with its claims
@@ -118,10 +118,9 @@ pub rows_follow : (p : Payment) (found : List Found) (home : HomePaid) (customer
 rows_follow p found home customer g is next shared asked held claims known done =
     let rows = rows_done shared p found claims done in
     let same = sym rows.found_is ∙ is in
-    let all : held ++ all_claims claims ≡ rows.warehouse ∷ rows.district ∷ rows.customers ∷ [] =
-    ap (λ xs. xs ++ all_claims claims) known.none ∙ ap all_claims rows.claims_is in
-    let known_by = decided shared asked p held known rows.warehouse rows.district rows.customers (held ++ all_claims claims) all rows.home rows.customer rows.home_paid rows.customer_paid rows.payer in
-    subst (Follows shared asked (held ++ all_claims claims))
+    let all : held ++ claims ≡ (rows.warehouse ∷ rows.district ∷ []) ∷ (rows.customers ∷ []) ∷ [] = ap (λ xs. xs ++ claims) known.none ∙ rows.claims_is in
+    let known_by = decided shared asked p held known rows.warehouse rows.district rows.customers (held ++ claims) all rows.home rows.customer rows.home_paid rows.customer_paid rows.payer in
+    subst (Follows shared asked (held ++ claims))
     ((λ i. gathered p (same_home rows.home home rows.customer customer same i) (same_customer rows.home home rows.customer customer same i)) ∙ sym next) known_by
 
 -- ---- the second phase
@@ -132,10 +131,10 @@ row_follows given found shared asked held claims known done opening same =
     let one = first_done shared (any_work.Payment (AddPayment p given.row)) [] found claims done in
     let none = none_done shared one.others one.rest one.others_done in
     let added = one.done.2 in
-    let all : held ++ all_claims claims ≡ known.warehouse ∷ known.district ∷ known.customers ∷ added.0 ∷ [] =
-    ap (λ xs. xs ++ all_claims claims) known.claims
-    ∙ ap (λ xs. known.warehouse ∷ known.district ∷ known.customers ∷ all_claims xs) (one.claims_is ∙ (λ i. added.2 i ∷ none.1 i)) in
-    subst (λ r. IsCarriedOut opening r (held ++ all_claims claims) (reply.Done (kind.Payment given.reply))) (sym known.is)
-    (subst (λ xs. IsCarriedOut opening (request.Payment p) xs (reply.Done (kind.Payment given.reply))) (sym all)
+    let all : held ++ claims ≡ (known.warehouse ∷ known.district ∷ []) ∷ (known.customers ∷ []) ∷ (added.0 ∷ []) ∷ [] =
+    ap (λ xs. xs ++ claims) known.claims
+    ∙ ap (λ xs. (known.warehouse ∷ known.district ∷ []) ∷ (known.customers ∷ []) ∷ xs) (one.claims_is ∙ (λ i. added.2 i ∷ none.1 i)) in
+    subst (λ r. IsCarriedOut opening r (all_claims (held ++ claims)) (reply.Done (kind.Payment given.reply))) (sym known.is)
+    (subst (λ xs. IsCarriedOut opening (request.Payment p) (all_claims xs) (reply.Done (kind.Payment given.reply))) (sym all)
     (payments_are_carried_out opening p known.home known.customer given known.warehouse known.district known.customers added.0
     known.home_paid known.customer_paid known.next added.3))

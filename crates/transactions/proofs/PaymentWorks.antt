@@ -1,5 +1,5 @@
 -- What a payment's actions need and claim, and where; and who is paid.
-use Rattle.std.proofs.Common.{◌≡◌, ◌≢◌, ◌≤◌, zero, suc, true, List, [], ◌∷◌, ◌++◌, length, map, IsTrue, refl, sym, ap, subst, ◌∙◌, arith}
+use Rattle.std.proofs.Common.{◌≡◌, ◌≢◌, ◌≤◌, ◌+◌, zero, suc, true, List, [], ◌∷◌, ◌++◌, length, map, IsTrue, refl, sym, ap, subst, ◌∙◌, arith}
 use Rattle.std.specs.Prelude.{All}
 use Rattle.std.proofs.lemmas.Bool.{and_parts, and_from, not-false}
 use Rattle.std.proofs.lemmas.List.Elements.{All-nil, All-cons, All-from_recursion}
@@ -17,7 +17,7 @@ use Rattle.requests.specs.Check.{applies, IsAccepted}
 use Rattle.groups.specs.declared.wishes.Wish.{Wish}
 use Rattle.groups.specs.Footprint.{exclusively, footprint, groups_of, payment_footprint}
 use Rattle.groups.specs.Groups.{warehouse_of}
-use Rattle.tickets.specs.Claims.{Claiming}
+use Rattle.tickets.specs.Claims.{Claiming, all_claims}
 use Rattle.tickets.specs.Places.{IsGroupOf}
 use Rattle.transactions.specs.declared.payment.Work.{Work}
 use Rattle.transactions.specs.declared.payment.Work.TheVariants.{PayHome, PayCustomer, AddPayment}
@@ -137,7 +137,7 @@ gathered_payers_are_known scale p (h.Paid warehouse district) c.OutOfRange given
 
 -- ---- each phase
 
-pub accepted : (shared : Shared) (asked : Request) (progress : Progress) (held : List Claiming) → IsReached shared asked progress held → IsAccepted shared.scale asked
+pub accepted : (shared : Shared) (asked : Request) (progress : Progress) (held : List (List Claiming)) → IsReached shared asked progress held → IsAccepted shared.scale asked
 accepted shared asked (PayRows p) held reached = reached.accepted
 accepted shared asked (AddRow given) held reached = reached.accepted
 
@@ -145,7 +145,12 @@ pub some_actions : (progress : Progress) → 1 ≤ length (works_of progress)
 some_actions (PayRows p) = omega arith
 some_actions (AddRow given) = omega arith
 
-pub can_all : (shared : Shared) (asked : Request) (progress : Progress) (held : List Claiming) → IsReached shared asked progress held → All (AnyCanDo shared) (works_of progress)
+-- they are few
+pub few_actions : (shared : Shared) (asked : Request) (progress : Progress) (held : List (List Claiming)) → IsReached shared asked progress held → length held + length (works_of progress) ≤ 3
+few_actions shared asked (PayRows p) held known = omega (arith, ap (λ (hs : List (List Claiming)). length hs) known.none)
+few_actions shared asked (AddRow given) held known = omega (arith, ap (λ (hs : List (List Claiming)). length hs) known.claims)
+
+pub can_all : (shared : Shared) (asked : Request) (progress : Progress) (held : List (List Claiming)) → IsReached shared asked progress held → All (AnyCanDo shared) (works_of progress)
 can_all shared asked (PayRows p) held known =
     let accepted : IsAccepted shared.scale (request.Payment p) = subst (IsAccepted shared.scale) known.is known.accepted in
     All-cons (AnyCanDo shared) (any_work.Payment (PayHome p)) (any_work.Payment (PayCustomer p) ∷ []) accepted
@@ -156,10 +161,10 @@ can_all shared asked (AddRow given) held known =
     (subst (IsAccepted shared.scale) known.is known.accepted, gathered_payers_are_known shared.scale p known.home known.customer given known.next known.payer)
     (All-nil (AnyCanDo shared))
 
-pub within : (shared : Shared) (asked : Request) (progress : Progress) (held : List Claiming) → IsReached shared asked progress held
-    → AreSomeOf (map wish_of held ++ all_wishes (works_of progress)) (footprint asked)
+pub within : (shared : Shared) (asked : Request) (progress : Progress) (held : List (List Claiming)) → IsReached shared asked progress held
+    → AreSomeOf (map wish_of (all_claims held) ++ all_wishes (works_of progress)) (footprint asked)
 within shared asked (PayRows p) held known =
-    subst (λ claims. AreSomeOf (map wish_of claims ++ all_wishes (works_of (PayRows p))) (footprint asked)) (sym known.none)
+    subst (λ held. AreSomeOf (map wish_of (all_claims held) ++ all_wishes (works_of (PayRows p))) (footprint asked)) (sym known.none)
     (subst (λ r. AreSomeOf (all_wishes (works_of (PayRows p))) (footprint r)) (sym known.is)
     (first_are_some
     (exclusively (Warehouse p.home.w_id) ∷ exclusively (District p.home.w_id p.home.d_id) ∷ exclusively (Customers p.customer_home.w_id p.customer_home.d_id) ∷ [])
@@ -169,7 +174,7 @@ within shared asked (AddRow given) held known =
     let warehouse = exclusively (Warehouse p.home.w_id) in
     let district = exclusively (District p.home.w_id p.home.d_id) in
     let history = exclusively (HistoryGroup p.home.w_id p.home.d_id) in
-    subst (λ claims. AreSomeOf (map wish_of claims ++ all_wishes (works_of (AddRow given))) (footprint asked)) (sym known.claims)
+    subst (λ held. AreSomeOf (map wish_of (all_claims held) ++ all_wishes (works_of (AddRow given))) (footprint asked)) (sym known.claims)
     (subst (λ r. AreSomeOf (wish_of known.warehouse ∷ wish_of known.district ∷ wish_of known.customers ∷ history ∷ []) (footprint r)) (sym known.is)
     (all_are_some (wish_of known.warehouse ∷ wish_of known.district ∷ wish_of known.customers ∷ history ∷ []) (footprint (request.Payment p))
     (ap (λ (w : Wish). w ∷ wish_of known.district ∷ wish_of known.customers ∷ history ∷ []) (exclusive_wish _ known.warehouse known.home_paid.warehouse_claim)

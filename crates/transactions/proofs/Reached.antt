@@ -1,7 +1,8 @@
 -- However far a transaction of any kind has come.
+use Rattle.std.proofs.Common.{arith}
 use Rattle.requests.specs.declared.request.Request.TheVariants as request
 use Rattle.transactions.specs.declared.progress.Progress.TheVariants.{Payment, OrderStatus}
-use Rattle.transactions.specs.Laws.{AcceptedRequestsHaveTheirGroups, ActionsCanDoTheirWork, ClaimsAreOfTheFootprint, PhasesHaveActions, ReachedRequestsAreAccepted}
+use Rattle.transactions.specs.Laws.{AcceptedRequestsHaveTheirGroups, ActionsCanDoTheirWork, ClaimsAreOfTheFootprint, PhasesHaveActions, ReachedRequestsAreAccepted, TransactionsHaveFewActions}
 use Rattle.transactions.proofs.PaymentWorks as payment
 use Rattle.transactions.proofs.OrderStatusWorks as order_status
 
@@ -24,3 +25,7 @@ can_all shared asked (OrderStatus progress) held reached = order_status.can_all 
 pub within : ClaimsAreOfTheFootprint
 within shared asked (Payment progress) held reached = payment.within shared asked progress held reached
 within shared asked (OrderStatus progress) held reached = order_status.within shared asked progress held reached
+
+pub few_actions : TransactionsHaveFewActions
+few_actions shared asked (Payment progress) held reached = omega (arith, payment.few_actions shared asked progress held reached)
+few_actions shared asked (OrderStatus progress) held reached = omega (arith, order_status.few_actions shared asked progress held reached)

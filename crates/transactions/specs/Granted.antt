@@ -9,8 +9,8 @@ use Rattle.groups.specs.declared.wishes.Wish.{Wish}
 use Rattle.groups.specs.Groups.{warehouse_of}
 use Rattle.tickets.specs.Claims.{Claiming, leaving}
 
--- it is the request, which its check accepts, and nothing is claimed yet
-pub record IsAsked (shared : Shared) (asked given : Request) (held : List Claiming) : Type 0 where
+-- it is the request, which its check accepts, and no action has claimed anything yet
+pub record IsAsked (shared : Shared) (asked given : Request) (held : List (List Claiming)) : Type 0 where
   pub is : asked ≡ given
   pub accepted : IsAccepted shared.scale asked
   pub none : held ≡ []

@@ -19,7 +19,7 @@ use Rattle.transactions.specs.declared.work.Found.{Found}
 use Rattle.transactions.specs.declared.progress.Progress.{Progress}
 use Rattle.transactions.specs.Granted.{AreSomeOf, AreWishesAt, wish_of}
 use Rattle.transactions.specs.Works.{CanDo, HasDone, all_wishes, home_of, wishes_of}
-use Rattle.transactions.specs.Progresses.{HoldsSome, IsReached, works_of}
+use Rattle.transactions.specs.Progresses.{IsReached, works_of}
 
 -- the claim once what was done under it is taken back
 abbrev pub undone : Claiming → Claiming
@@ -74,27 +74,27 @@ WorksAreDoneAtHome =
 -- The actions of a phase can do their work.
 abbrev pub ActionsCanDoTheirWork : Type 0
 ActionsCanDoTheirWork =
-    (shared : Shared) (asked : Request) (progress : Progress) (held : List Claiming) → IsReached shared asked progress held
+    (shared : Shared) (asked : Request) (progress : Progress) (held : List (List Claiming)) → IsReached shared asked progress held
     → All (CanDo shared) (works_of progress)
 
 -- What a transaction holds, and what the actions of its phase claim, is some of its request's footprint, each once.
 abbrev pub ClaimsAreOfTheFootprint : Type 0
 ClaimsAreOfTheFootprint =
-    (shared : Shared) (asked : Request) (progress : Progress) (held : List Claiming) → IsReached shared asked progress held
-    → AreSomeOf (map wish_of held ++ all_wishes (works_of progress)) (footprint asked)
+    (shared : Shared) (asked : Request) (progress : Progress) (held : List (List Claiming)) → IsReached shared asked progress held
+    → AreSomeOf (map wish_of (all_claims held) ++ all_wishes (works_of progress)) (footprint asked)
 
 -- What is carried out is a request that its check accepts.
 abbrev pub ReachedRequestsAreAccepted : Type 0
 ReachedRequestsAreAccepted =
-    (shared : Shared) (asked : Request) (progress : Progress) (held : List Claiming) → IsReached shared asked progress held
+    (shared : Shared) (asked : Request) (progress : Progress) (held : List (List Claiming)) → IsReached shared asked progress held
     → IsAccepted shared.scale asked
 
 -- Each phase has an action.
 abbrev pub PhasesHaveActions : Type 0
 PhasesHaveActions = (progress : Progress) → 1 ≤ length (works_of progress)
 
--- The actions of the phases before, with what each of them holds, and those of the phase are few in all.
+-- The actions of the phases before and those of the phase are few in all.
 abbrev pub TransactionsHaveFewActions : Type 0
 TransactionsHaveFewActions =
-    (shared : Shared) (asked : Request) (progress : Progress) (held : List (List Claiming)) → IsReached shared asked progress (all_claims held)
-    → All HoldsSome held → length held + length (works_of progress) ≤ MOST_ACTIONS
+    (shared : Shared) (asked : Request) (progress : Progress) (held : List (List Claiming)) → IsReached shared asked progress held
+    → length held + length (works_of progress) ≤ MOST_ACTIONS

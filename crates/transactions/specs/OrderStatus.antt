@@ -90,16 +90,16 @@ HasDone shared (ShowOrder key) one claims =
 -- ---- the phases
 
 -- the customer was read under this claim
-pub record IsStatusShown (shared : Shared) (asked : Request) (given : StatusShown) (held : List Claiming) : Type 0 where
+pub record IsStatusShown (shared : Shared) (asked : Request) (given : StatusShown) (held : List (List Claiming)) : Type 0 where
   pub order_status : OrderStatus
   pub is : asked ≡ request.OrderStatus order_status
   pub accepted : IsAccepted shared.scale asked
   pub customers : Claiming
-  pub claims : held ≡ customers ∷ []
+  pub claims : held ≡ (customers ∷ []) ∷ []
   pub shown : IsCustomerShown order_status (Shown given.key given.customer) customers
 
--- what is known of how far an Order-Status has come, beside the claims of the phases before
-abbrev pub IsReached : Shared → Request → Progress → List Claiming → Type 0
+-- what is known of how far an Order-Status has come, beside the claims of each action of the phases before
+abbrev pub IsReached : Shared → Request → Progress → List (List Claiming) → Type 0
 IsReached shared asked (ReadCustomer o) held = IsAsked shared asked (request.OrderStatus o) held
 IsReached shared asked (ReadOrder given) held = IsStatusShown shared asked given held
 

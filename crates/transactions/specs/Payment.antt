@@ -201,13 +201,13 @@ gathered p (h.Paid warehouse district) c.Missing = RollBack NoCustomer
 gathered p _ _ = RollBack Range
 
 -- the home rows and the customer's have been paid under these claims, and the row and the reply are what follows
-pub record IsPaid (shared : Shared) (asked : Request) (given : Paid) (held : List Claiming) : Type 0 where
+pub record IsPaid (shared : Shared) (asked : Request) (given : Paid) (held : List (List Claiming)) : Type 0 where
   pub is : asked ≡ request.Payment given.payment
   pub accepted : IsAccepted shared.scale asked
   pub warehouse : Claiming
   pub district : Claiming
   pub customers : Claiming
-  pub claims : held ≡ warehouse ∷ district ∷ customers ∷ []
+  pub claims : held ≡ (warehouse ∷ district ∷ []) ∷ (customers ∷ []) ∷ []
   pub home : HomePaid
   pub customer : CustomerPaid
   pub home_paid : IsHomePaid given.payment home warehouse district
@@ -215,8 +215,8 @@ pub record IsPaid (shared : Shared) (asked : Request) (given : Paid) (held : Lis
   pub payer : IsPayerKnown shared.scale given.payment customer
   pub next : gathered given.payment home customer ≡ Next (any_progress.Payment (AddRow given))
 
--- what is known of how far a payment has come, beside the claims of the phases before
-abbrev pub IsReached : Shared → Request → Progress → List Claiming → Type 0
+-- what is known of how far a payment has come, beside the claims of each action of the phases before
+abbrev pub IsReached : Shared → Request → Progress → List (List Claiming) → Type 0
 IsReached shared asked (PayRows p) held = IsAsked shared asked (request.Payment p) held
 IsReached shared asked (AddRow given) held = IsPaid shared asked given held
 

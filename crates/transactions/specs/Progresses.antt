@@ -1,5 +1,5 @@
 -- How far a transaction of any kind has come, and what follows.
-use Rattle.std.specs.Prelude.{◌≡◌, ◌≤◌, List, ◌++◌, length}
+use Rattle.std.specs.Prelude.{◌≡◌, List, ◌++◌}
 use Rattle.partitions.specs.Parts.{Shared, shared_of}
 use Rattle.schema.specs.Database.{Database}
 use Rattle.requests.specs.declared.request.Request.{Request}
@@ -16,8 +16,8 @@ use Rattle.transactions.specs.Payment as payment
 use Rattle.transactions.specs.OrderStatus as order_status
 use Rattle.transactions.specs.Works.{HaveAllDone}
 
--- what is known of how far it has come, for a request, beside the claims of the phases before
-abbrev pub IsReached : Shared → Request → Progress → List Claiming → Type 0
+-- what is known of how far it has come, for a request, beside the claims of each action of the phases before, by place
+abbrev pub IsReached : Shared → Request → Progress → List (List Claiming) → Type 0
 IsReached shared asked (Payment progress) held = payment.IsReached shared asked progress held
 IsReached shared asked (OrderStatus progress) held = order_status.IsReached shared asked progress held
 
@@ -26,27 +26,23 @@ abbrev pub works_of : Progress → List Work
 works_of (Payment progress) = payment.works_of progress
 works_of (OrderStatus progress) = order_status.works_of progress
 
--- an action that claimed a group at least
-abbrev pub HoldsSome : List Claiming → Type 0
-HoldsSome claims = 1 ≤ length claims
-
 -- ---- what follows
 
 -- all actions of its phase have done their work, and found this
 abbrev pub HasFound : Progress → List Found → Type 0
 HasFound progress found = (shared : Shared) × (claims : List (List Claiming)) × HaveAllDone shared (works_of progress) found claims
 
--- Under these claims the next phase is given what is known to it, or the request was carried out with this reply, or with this
--- rollback, whatever tables of this scale with these items there were in the beginning.
-abbrev pub Follows : Shared → Request → List Claiming → Gathered → Type 0
+-- Under these claims of each action the next phase is given what is known to it, or the request was carried out with this
+-- reply, or with this rollback, whatever tables of this scale with these items there were in the beginning.
+abbrev pub Follows : Shared → Request → List (List Claiming) → Gathered → Type 0
 Follows shared asked claims (Next progress) = IsReached shared asked progress claims
-Follows shared asked claims (Finish shown) = (opening : Database) → shared_of opening ≡ shared → IsCarriedOut opening asked claims shown
-Follows shared asked claims (RollBack fault) = (opening : Database) → shared_of opening ≡ shared → IsCarriedOut opening asked claims (RolledBack fault)
+Follows shared asked claims (Finish shown) = (opening : Database) → shared_of opening ≡ shared → IsCarriedOut opening asked (all_claims claims) shown
+Follows shared asked claims (RollBack fault) = (opening : Database) → shared_of opening ≡ shared → IsCarriedOut opening asked (all_claims claims) (RolledBack fault)
 
--- The law of each phase: whatever the request, the claims of the phases before and those of its own actions, this follows of
--- what the actions found.
+-- The law of each phase: whatever the request, the claims of each action of the phases before and those of its own actions,
+-- this follows of what the actions found.
 abbrev pub FollowsFrom : Progress → List Found → Gathered → Type 0
 FollowsFrom progress found gathered =
-    (shared : Shared) (asked : Request) (held : List Claiming) (claims : List (List Claiming))
+    (shared : Shared) (asked : Request) (held claims : List (List Claiming))
     → IsReached shared asked progress held → HaveAllDone shared (works_of progress) found claims
-    → Follows shared asked (held ++ all_claims claims) gathered
+    → Follows shared asked (held ++ claims) gathered

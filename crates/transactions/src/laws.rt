@@ -2,7 +2,7 @@
 ghost use Rattle.transactions.specs.Laws.{AcceptedRequestsHaveTheirGroups, ActionsCanDoTheirWork, ClaimsAreOfTheFootprint, PhasesHaveActions, ReachedRequestsAreAccepted, RolledBackClaimsCanBeUndone, TransactionsHaveFewActions, WorksAreAtWarehouses, WorksAreDoneAtHome, WorksClaimAtHome, WorksHaveAClaimForEachWish, WorksHaveTheirGroups, WorksHaveWishes};
 
 /// No transaction has more actions, those of all its phases together.
-pub const MOST_ACTIONS: usize = 4;
+pub const MOST_ACTIONS: usize = 18;
 
 /// What was carried out and rolled back, was so also once all that was done under its claims is taken back.
 pub fn rolled_back_claims_can_be_undone()
@@ -61,8 +61,7 @@ pub fn phases_have_actions()
     ensures { PhasesHaveActions }
 {}
 
-/// The actions of the phases before, where each holds a claim, and those of the phase are no more than
-/// `MOST_ACTIONS`.
+/// The actions of the phases before and those of the phase are no more than `MOST_ACTIONS`.
 pub fn transactions_have_few_actions()
     ensures { TransactionsHaveFewActions }
 {}

@@ -33,7 +33,7 @@ pub enum Gathered {
 impl Progress {
     /// Where a transaction begins.
     pub fn begin(request: Request) -> Progress
-        ensures { (shared : Shared) (asked : AnyRequest) (held : List Claiming) → IsAsked shared asked request held → IsReached shared asked result held }
+        ensures { (shared : Shared) (asked : AnyRequest) (held : List (List Claiming)) → IsAsked shared asked request held → IsReached shared asked result held }
     {
         match request {
             Request::Payment(payment) => Progress::Payment(payment::Progress::PayRows(payment)),

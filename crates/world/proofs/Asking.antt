@@ -25,10 +25,9 @@ use Rattle.slices.specs.Sliced.{all_standing, everywhere}
 use Rattle.transactions.specs.declared.work.Work.{Work}
 use Rattle.transactions.specs.Works.{CanDo}
 use Rattle.transactions.specs.declared.progress.Progress.{Progress}
-use Rattle.transactions.specs.Progresses.{HoldsSome, IsReached, works_of}
-use Rattle.transactions.proofs.Reached.{can_all, within, some_actions}
+use Rattle.transactions.specs.Progresses.{IsReached, works_of}
+use Rattle.transactions.proofs.Reached.{can_all, few_actions, some_actions}
 use Rattle.rendezvous.specs.Awaited.{awaited_from, reported}
-use Rattle.transactions.proofs.Counts.{few_actions}
 use Rattle.world.specs.declared.desk.Active.{Active}
 use Rattle.world.specs.declared.desk.Active.TheVariants as active
 use Rattle.world.specs.declared.desk.SessionDesk.{SessionDesk}
@@ -53,11 +52,6 @@ abbrev pub one_each : Token → ℕ
 one_each t = 1
 
 -- ---- the actions of a phase
-
--- a transaction has no more than four, those of the phases before and those of the phase
-pub few_at : (shared : Shared) (asked : Request) (progress : Progress) (held : List (List Claiming)) → IsReached shared asked progress (all_claims held) → All HoldsSome held
-    → length held + length (works_of progress) ≤ 4
-few_at shared asked progress held reached some = few_actions asked (works_of progress) held (within shared asked progress (all_claims held) reached) some
 
 -- each has its token
 acting_tokens : (place : ℕ) (works : List Work) → sum_by one_each (acting_from place works) ≡ length works
@@ -175,14 +169,13 @@ module _ {J : Type 0} where
       few = omega (
         arith,
         ap (λ (ws : List Work). length ws) a.works_are,
-        few_at shared asked a.flow.progress [] reached (All-nil HoldsSome),
+        few_actions shared asked a.flow.progress [] reached,
       );
     }
 
     sound_phase : IsSoundPhase shared u slots
     sound_phase = record {
       reached = reached;
-      hold = All-nil HoldsSome;
       undo = All-nil CanAllBeUndone;
       many = length-replicate (length a.works.items) None ∙ ap (λ (ws : List Work). length ws) a.works_are;
       reports = λ at r is. absurd (no_report_at (Report J) (length a.works.items) at r is);

@@ -25,6 +25,7 @@ use Rattle.history.specs.Laws.{with_place}
 use Rattle.history.proofs.Recorded.{slice_get-front, slice_get-last}
 use Rattle.slices.specs.Sliced.{AreOfOneHome, IsClaimAt}
 use Rattle.transactions.specs.Acting.{CanBeSettled}
+use Rattle.transactions.specs.declared.laws.TheConstants.{MOST_ACTIONS}
 use Rattle.world.specs.declared.desk.Active.TheVariants as active
 use Rattle.world.specs.declared.flight.Item.{Item}
 use Rattle.world.specs.declared.flight.Item.TheVariants as item
@@ -175,7 +176,7 @@ module _ {J : Type 0} where
         let claims = claims_logged shown (all_claims t.held) in
         let hand : Part = part claims (u ∷ []) [] in
         let settle = is_settled shown in
-        let few : length held ≤ 4 = subst (λ n. n ≤ 4) (sym (length-map t.held (claims_logged shown))) s.few in (
+        let few : length held ≤ MOST_ACTIONS = subst (λ n. n ≤ MOST_ACTIONS) (sym (length-map t.held (claims_logged shown))) s.few in (
           releases_sound shared h.under_way logged_w hand settle r h.shared_is h.slices h.inbox
               (All-weaker (IsSoundItem shared w.log h.under_way) (IsSoundItem shared log h.under_way) (λ i sound. item_in_more shared w.log h.under_way entry i sound) w.outbox h.outbox)
               h.seats h.sessions s.asked.session s.asked.number (entry, (slice_get-last w.log entry, refl)) (all_logged_given shown t.held s.undo) few refl

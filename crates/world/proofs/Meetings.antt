@@ -19,14 +19,14 @@ use Rattle.tickets.specs.Claims.{Claiming, all_claims}
 use Rattle.commit_log.specs.Claimed.{IsCarriedOut}
 use Rattle.history.specs.History.{Step}
 use Rattle.transactions.specs.Works.{HaveAllDone, HasDone}
-use Rattle.transactions.specs.Progresses.{Follows, FollowsFrom, HoldsSome, IsReached, works_of}
+use Rattle.transactions.specs.Progresses.{Follows, FollowsFrom, IsReached, works_of}
+use Rattle.transactions.specs.declared.laws.TheConstants.{MOST_ACTIONS}
 use Rattle.transactions.specs.declared.progress.Gathered.{Gathered}
 use Rattle.transactions.specs.declared.progress.Gathered.TheVariants.{Next, Finish, RollBack}
 use Rattle.transactions.specs.declared.work.Work.{Work}
 use Rattle.transactions.specs.declared.work.Found.{Found}
-use Rattle.transactions.proofs.Wished.{works_have_wishes, works_have_a_claim_for_each_wish}
 use Rattle.transactions.specs.declared.progress.Progress.{Progress}
-use Rattle.transactions.proofs.Reached.{can_all, accepted, some_actions}
+use Rattle.transactions.proofs.Reached.{can_all, accepted, few_actions, some_actions}
 use Rattle.rendezvous.specs.Awaited.{awaited_from, reported}
 use Rattle.rendezvous.proofs.Awaiting.{all_awaited, report_takes_one_number, none_awaited}
 use Rattle.world.specs.declared.desk.Active.{Active}
@@ -47,16 +47,12 @@ use Rattle.world.specs.Worlds.{FitsPart}
 use Rattle.world.proofs.Joins.{IsSame, same-refl, same-sym, same-trans, same-join, join-assoc, join-nothing}
 use Rattle.world.proofs.Balances.{fly, fly_last, in_inbox, in_outbox, balanced_same}
 use Rattle.world.proofs.Fitting.{fits_same}
-use Rattle.world.proofs.Asking.{all_acting, few_at, no_message, one_each, other_under_way}
+use Rattle.world.proofs.Asking.{all_acting, no_message, one_each, other_under_way}
 use Rattle.world.proofs.Puts.{AreServed, GoesOn, lots, puts_fits, puts_sound}
 use Rattle.world.proofs.Releases.{releases_fits, releases_sound}
 use Rattle.world.proofs.Reporting.{beside, beside_now, first_met, served_same}
-use Rattle.world.proofs.Reported.{HaveReported, all_claims-append, all_done, all_hold, all_undo, few_hold, is_carried, met_one_more, met_tokens, parts_all, phase_reported, put_at, reported-map}
+use Rattle.world.proofs.Reported.{HaveReported, all_claims-append, all_done, all_undo, few_hold, is_carried, met_one_more, met_tokens, parts_all, phase_reported, put_at, reported-map}
 use Rattle.world.proofs.Works.{acts_fine, part_acts}
-
--- an action that has done its work holds some claim
-work_holds : (shared : Shared) (work : Work) (found : Found) (claims : List Claiming) → HasDone shared work found claims → HoldsSome claims
-work_holds shared work found claims has = omega (arith, works_have_a_claim_for_each_wish shared work found claims has, works_have_wishes work)
 
 -- nothing has been reported of a phase that begins
 none_reported : {R : Type 0} (n : ℕ) → reported {R = R} (replicate n None) ≡ []
@@ -171,7 +167,6 @@ module _ {J : Type 0} where
             outbox = h.outbox;
             active = record {
               reached = at.reached;
-              hold = at.hold;
               undo = at.undo;
               many = length-set slots r.place (Some r) ∙ at.many;
               reports = still_sound;
@@ -241,17 +236,13 @@ module _ {J : Type 0} where
         undo : All CanAllBeUndone t.held
         undo = subst (λ hs. All CanAllBeUndone hs) (sym held_is) (All-append CanAllBeUndone u.held (held_in reports) at.undo (all_undo shared u 0 (works_of u.progress) reports have))
 
-        hold : All HoldsSome t.held
-        hold = subst (λ hs. All HoldsSome hs) (sym held_is)
-            (All-append HoldsSome u.held (held_in reports) at.hold (all_hold shared u (work_holds shared) 0 (works_of u.progress) reports have))
-
-        few : length t.held ≤ 4
+        few : length t.held ≤ MOST_ACTIONS
         few = omega (
           arith,
           ap (λ (hs : List (List Claiming)). length hs) held_is,
           length-append u.held (held_in reports),
           few_hold shared u 0 (works_of u.progress) reports have,
-          few_at shared u.request u.progress u.held at.reached at.hold,
+          few_actions shared u.request u.progress u.held at.reached,
         )
 
         asked : IsAskedBy t
@@ -291,7 +282,7 @@ module _ {J : Type 0} where
             let one : Item J = item.Commit (record { transaction = t; reply = shown }) in
             let sound : IsSoundCommit shared (record { transaction = t; reply = shown }) = record {
               asked = asked;
-              accepted = subst (λ q. IsAccepted shared.scale q) (sym sound_flow.request) (accepted shared u.request u.progress (all_claims u.held) at.reached);
+              accepted = subst (λ q. IsAccepted shared.scale q) (sym sound_flow.request) (accepted shared u.request u.progress u.held at.reached);
               carried_out = λ opening same. subst (λ q. IsCarriedOut opening q (all_claims t.held) shown) (sym sound_flow.request) (carried opening same);
               undo = undo;
               few = few;
@@ -307,7 +298,7 @@ module _ {J : Type 0} where
                   (IsPermutation-refl (unanswered_transaction t ∷ [])) (fits_in_hand opening history f);
             }
 
-        next : (progress : Progress) → IsReached shared u.request progress (all_claims t.held) → GoesOn shared (part_report r) w (goes_on t (Next progress) w)
+        next : (progress : Progress) → IsReached shared u.request progress t.held → GoesOn shared (part_report r) w (goes_on t (Next progress) w)
         next progress reached =
             let works = works_of progress in
             let flow_now : Flow J = record { transaction = t; progress = progress } in
@@ -317,14 +308,13 @@ module _ {J : Type 0} where
             let start : IsSoundStart shared v flow_now works = record {
               flow_is = record { asked = asked; request = sound_flow.request; held = refl; progress = refl };
               works_are = refl;
-              can = can_all shared u.request progress (all_claims t.held) reached;
-              few = omega (arith, few_at shared u.request progress t.held reached hold);
+              can = can_all shared u.request progress t.held reached;
+              few = omega (arith, few_actions shared u.request progress t.held reached);
             } in
             let acts = part_acts flow_now works some in
             let awaits : map Acting (awaited_from 0 (replicate (length works) None)) ≡ acting_from 0 works = all_acting (Report J) 0 works in
             let phase : IsSoundPhase shared v (replicate (length works) None) = record {
               reached = reached;
-              hold = hold;
               undo = undo;
               many = length-replicate (length works) None;
               reports = λ place q stands. absurd (no_report (length works) place q stands);
@@ -349,25 +339,19 @@ module _ {J : Type 0} where
                   (fits_in_hand opening history f);
             }
 
-        -- what the actions hold together
-        all_held : all_claims u.held ++ all_claims (held_in reports) ≡ all_claims t.held
-        all_held = sym (all_claims-append u.held (held_in reports)) ∙ ap all_claims (sym held_is)
-
         follows : (g : Gathered) → refusal_of None reports ≡ None → FollowsFrom flow.progress (found_in reports) g → GoesOn shared (part_report r) w (goes_on t g w)
-        follows g none leads = by g (leads shared u.request (all_claims u.held) (held_in reports) reached done)
+        follows g none leads = by g (subst (λ hs. Follows shared u.request hs g) (sym held_is) (leads shared u.request u.held (held_in reports) reached done))
           where
-            reached : IsReached shared u.request flow.progress (all_claims u.held)
-            reached = subst (λ p. IsReached shared u.request p (all_claims u.held)) (sym sound_flow.progress) at.reached
+            reached : IsReached shared u.request flow.progress u.held
+            reached = subst (λ p. IsReached shared u.request p u.held) (sym sound_flow.progress) at.reached
 
             done : HaveAllDone shared (works_of flow.progress) (found_in reports) (held_in reports)
             done = subst (λ p. HaveAllDone shared (works_of p) (found_in reports) (held_in reports)) (sym sound_flow.progress) (all_done shared u 0 (works_of u.progress) reports have none)
 
-            by : (g : Gathered)
-                → Follows shared u.request (all_claims u.held ++ all_claims (held_in reports)) g
-                → GoesOn shared (part_report r) w (goes_on t g w)
-            by (Next progress) is = next progress (subst (λ cs. IsReached shared u.request progress cs) all_held is)
-            by (Finish shown) is = commits shown (λ opening same. subst (λ cs. IsCarriedOut opening u.request cs shown) all_held (is opening same))
-            by (RollBack fault) is = commits (reply.RolledBack fault) (λ opening same. subst (λ cs. IsCarriedOut opening u.request cs (reply.RolledBack fault)) all_held (is opening same))
+            by : (g : Gathered) → Follows shared u.request t.held g → GoesOn shared (part_report r) w (goes_on t g w)
+            by (Next progress) is = next progress is
+            by (Finish shown) is = commits shown is
+            by (RollBack fault) is = commits (reply.RolledBack fault) is
 
         goes_by : {new next_w : Parts J} → new ≡ next_w → GoesOn shared (part_report r) w next_w → GoesOn shared (part_report r) w new
         goes_by is goes = subst (λ v. GoesOn shared (part_report r) w v) (sym is) goes

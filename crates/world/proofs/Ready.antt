@@ -9,7 +9,8 @@ use Rattle.tickets.specs.Claims.{Claiming}
 use Rattle.transactions.specs.Works.{HaveAllDone}
 use Rattle.transactions.specs.declared.work.Work.{Work}
 use Rattle.transactions.specs.Progresses.{works_of}
-use Rattle.transactions.proofs.Reached.{some_actions}
+use Rattle.transactions.specs.declared.laws.TheConstants.{MOST_ACTIONS}
+use Rattle.transactions.proofs.Reached.{few_actions, some_actions}
 use Rattle.world.specs.declared.flight.Flow.{Flow}
 use Rattle.world.specs.declared.flight.Message.{Message}
 use Rattle.world.specs.declared.flight.Message.TheVariants.{Start, Act, Settle, Undo}
@@ -21,7 +22,6 @@ use Rattle.world.specs.Flights.{Acting, Ending, part_item}
 use Rattle.world.specs.Following.{IfCarried, found_in, held_in}
 use Rattle.world.specs.Sound.{IsSoundWith, IsSoundMessage, IsSoundItem, IsSoundActive, IsSoundPhase, IsSoundReport, UnderWay, awaited, flight}
 use Rattle.world.specs.Events.{CanWork, CanSend, CanMeet, CanMeetFor}
-use Rattle.world.proofs.Asking.{few_at}
 use Rattle.world.proofs.Reported.{HaveReported, all_done, is_carried, phase_reported}
 use Rattle.world.proofs.Tokens.{is_awaited, weigh_acting, weigh_ending, one_weighs, acting_under_way, ending_under_way}
 
@@ -44,7 +44,7 @@ module _ {J : Type 0} where
   -- ---- a report
 
   -- where all actions of a phase have reported, the first has the transaction with it
-  can_meet : (shared : Shared) (u : UnderWay) (works : List Work) (reports : List (Report J)) → works ≡ works_of u.progress → 1 ≤ length works → length u.held + length works ≤ 4
+  can_meet : (shared : Shared) (u : UnderWay) (works : List Work) (reports : List (Report J)) → works ≡ works_of u.progress → 1 ≤ length works → length u.held + length works ≤ MOST_ACTIONS
       → length reports ≡ length works → HaveReported shared u 0 works reports → CanMeet reports
   can_meet shared u works [] are some few many h = absurd (omega (arith, some, many))
   can_meet shared u [] (r ∷ reports) are some few many h = absurd h
@@ -70,7 +70,7 @@ module _ {J : Type 0} where
       let meets : (reports : List (Report J)) → map Some reports ≡ slice_set at.0 r.place (Some r) → CanMeet reports = λ reports all.
       let many : length reports ≡ length (works_of u.progress) =
       sym (length-map reports Some) ∙ ap (λ (l : List (Option (Report J))). length l) all ∙ length-set at.0 r.place (Some r) ∙ phase.many in
-      can_meet shared u (works_of u.progress) reports refl (some_actions u.progress) (few_at shared u.request u.progress u.held phase.reached phase.hold) many
+      can_meet shared u (works_of u.progress) reports refl (some_actions u.progress) (few_actions shared u.request u.progress u.held phase.reached) many
       (phase_reported shared u at.0 r reports phase s all) in
       (at.0, (at.1.0, (at.1.1, meets)))
 

@@ -12,6 +12,7 @@ use Rattle.tickets.specs.Claims.{Claiming, all_claims}
 use Rattle.commit_log.specs.declared.entry.Entry.{Entry}
 use Rattle.history.specs.History.{Step, Unanswered}
 use Rattle.slices.specs.Sliced.{AreSlicesOf}
+use Rattle.transactions.specs.declared.laws.TheConstants.{MOST_ACTIONS}
 use Rattle.world.specs.declared.desk.SessionDesk.{SessionDesk}
 use Rattle.world.specs.declared.sending.Release.{Release}
 use Rattle.world.specs.declared.world.Parts.{Parts}
@@ -52,7 +53,7 @@ module _ (J : Type 0) where
   nothing_met zero = refl
   nothing_met (suc n) = refl
 
-  pub ending_sound : (shared : Shared) (u : UnderWay) (left : ℕ) → left ≤ 4 → IsSoundActive {J = J} shared u (ending left)
+  pub ending_sound : (shared : Shared) (u : UnderWay) (left : ℕ) → left ≤ MOST_ACTIONS → IsSoundActive {J = J} shared u (ending left)
   ending_sound shared u zero few = tt
   ending_sound shared u (suc n) few = (omega arith, few)
 
@@ -116,7 +117,7 @@ module _ {J : Type 0} where
       → All (IsSoundMessage shared u) w.inbox → All (IsSoundItem shared w.log u) w.outbox → length w.desk.sessions.items ≡ 64
       → ((number : ℕ) (session : SessionDesk J) → slice_get w.desk.sessions.items number ≡ Some session → IsSessionOf number session)
       → r.pass.session < 64 → r.pass.asks.number ≡ r.number → IsAnswerIn w.log r.answer
-      → All (AreGiven settle) r.held → length r.held ≤ 4
+      → All (AreGiven settle) r.held → length r.held ≤ MOST_ACTIONS
       → hand.pending ≡ unanswered_release r ∷ [] → AreServed w.desk (hand.pending ++ (lots w).pending)
       → WeighAlike (lots w).tokens []
       → IsSoundWith shared nothing (releasing settle r w)

@@ -15,7 +15,7 @@ use Rattle.transactions.specs.declared.work.Found.{Found}
 use Rattle.transactions.specs.declared.acting.Ran.{Ran}
 use Rattle.transactions.specs.declared.acting.Ran.TheVariants as ran
 use Rattle.transactions.specs.Acting.{claims_of_ran}
-use Rattle.transactions.specs.Progresses.{HoldsSome, works_of}
+use Rattle.transactions.specs.Progresses.{works_of}
 use Rattle.rendezvous.specs.Awaited.{reported}
 use Rattle.world.specs.declared.flight.Flow.{Flow}
 use Rattle.world.specs.declared.flight.Report.{Report}
@@ -218,19 +218,7 @@ module _ {J : Type 0} where
         one_undo (ran.Died group holder) has = All-nil CanAllBeUndone
         one_undo ran.NoMemory has = All-nil CanAllBeUndone
 
-    -- each that holds claims holds some
-    pub all_hold : ((work : Work) (found : Found) (claims : List Claiming) → HasDone shared work found claims → HoldsSome claims)
-        → (place : ℕ) (works : List Work) (reports : List (Report J)) → HaveReported place works reports → All HoldsSome (held_in reports)
-    all_hold hold place [] [] h = All-nil HoldsSome
-    all_hold hold place [] (r ∷ reports) h = absurd h
-    all_hold hold place (work ∷ works) [] h = absurd h
-    all_hold hold place (work ∷ works) (r ∷ reports) h = All-append HoldsSome (held_by r.ran) (held_in reports) (one_hold r.ran h.0.1) (all_hold hold (suc place) works reports h.1)
-      where
-        one_hold : (own : Ran J) → HasRan work own → All HoldsSome (held_by own)
-        one_hold (ran.Done claims found) has = All-cons HoldsSome claims [] (hold work found claims has.0) (All-nil HoldsSome)
-        one_hold (ran.Died group holder) has = All-nil HoldsSome
-        one_hold ran.NoMemory has = All-nil HoldsSome
-
+    -- those that hold claims are no more than they are
     pub few_hold : (place : ℕ) (works : List Work) (reports : List (Report J)) → HaveReported place works reports → length (held_in reports) ≤ length works
     few_hold place [] [] h = omega arith
     few_hold place [] (r ∷ reports) h = absurd h

@@ -6,6 +6,8 @@ use Rattle.std.proofs.lemmas.List.Sums.{sum_by-cons, sum_by-append}
 use Rattle.rendezvous.specs.Awaited.{awaited_from}
 use Rattle.rendezvous.proofs.Awaiting.{awaited_at_most}
 use Rattle.partitions.specs.Parts.{Shared}
+use Rattle.transactions.specs.declared.laws.TheConstants.{MOST_ACTIONS}
+use Rattle.transactions.proofs.Reached.{few_actions}
 use Rattle.world.specs.declared.desk.Active.{Active}
 use Rattle.world.specs.declared.desk.Active.TheVariants as active
 use Rattle.world.specs.declared.flight.Message.TheVariants.{Start, Act, Settle, Undo}
@@ -15,7 +17,7 @@ use Rattle.world.specs.declared.world.Parts.{Parts}
 use Rattle.world.specs.Flights.{Acting, Ending, Part, parts, part_item}
 use Rattle.world.specs.Sound.{IsSoundWith, IsSoundActive, UnderWay, awaited, flight}
 use Rattle.world.proofs.Balances.{in_inbox, in_outbox, in_meeting}
-use Rattle.world.proofs.Asking.{few_at, one_each}
+use Rattle.world.proofs.Asking.{one_each}
 
 length-more : {X : Type 0} (xs ys : List X) → length (xs ++ ys) ≡ length xs + length ys
 length-more xs ys = length-append xs ys
@@ -47,15 +49,15 @@ module _ {J : Type 0} where
   items_weigh (i ∷ items) =
       omega (arith, item_weighs i, items_weigh items, sum_by-append one_each (part_item i).tokens (parts part_item items).tokens, length-more (part_item i).pending (parts part_item items).pending)
 
-  few_awaited : (shared : Shared) (u : UnderWay) (a : Option (Active J)) → IsSoundActive shared u a → sum_by one_each (awaited a) ≤ 4
+  few_awaited : (shared : Shared) (u : UnderWay) (a : Option (Active J)) → IsSoundActive shared u a → sum_by one_each (awaited a) ≤ MOST_ACTIONS
   few_awaited shared u None h = omega arith
   few_awaited shared u (Some (active.Acting slots)) h =
-      omega (arith, as_many (awaited_from 0 slots), awaited_at_most 0 slots, h.many, few_at shared u.request u.progress u.held h.reached h.hold)
+      omega (arith, as_many (awaited_from 0 slots), awaited_at_most 0 slots, h.many, few_actions shared u.request u.progress u.held h.reached)
   few_awaited shared u (Some active.Committing) h = omega arith
   few_awaited shared u (Some (active.Ending left)) h = omega (arith, so_many_end left, h.1)
 
   -- there is room for some more
-  pub has_room : (shared : Shared) (hand : Part) (w : Parts J) → IsSoundWith shared hand w → length w.outbox + 8 ≤ 4096
+  pub has_room : (shared : Shared) (hand : Part) (w : Parts J) → IsSoundWith shared hand w → length w.outbox + (MOST_ACTIONS + 1) ≤ 4096
   has_room shared hand w h =
       let met = in_meeting w in
       let tokens = h.balance.tokens one_each in

@@ -11,6 +11,7 @@ use Rattle.transactions.specs.declared.work.Found.{Found}
 use Rattle.transactions.specs.declared.acting.Ran.{Ran}
 use Rattle.transactions.specs.declared.acting.Ran.TheVariants as ran
 use Rattle.transactions.specs.Progresses.{HasFound, works_of}
+use Rattle.transactions.specs.declared.laws.TheConstants.{MOST_ACTIONS}
 use Rattle.world.specs.declared.desk.Active.{Active}
 use Rattle.world.specs.declared.flight.Flow.{Flow}
 use Rattle.world.specs.declared.flight.Report.{Report}
@@ -42,7 +43,7 @@ module _ {J : Type 0} where
     held_more held new all put before =
         ap (λ hs. hs ++ held_in rest) put ∙ append_assoc held (held_by r.ran) (held_in rest) ∙ ap (λ rs. held ++ held_in rs) (sym is) ∙ before
 
-    pub room_more : (held new : List (List Claiming)) → new ≡ held ++ held_by r.ran → length held + length results ≤ 4 → length new + length rest ≤ 4
+    pub room_more : (held new : List (List Claiming)) → new ≡ held ++ held_by r.ran → length held + length results ≤ MOST_ACTIONS → length new + length rest ≤ MOST_ACTIONS
     room_more held new put room =
         omega (arith, room, ap (λ rs. length rs) is, ap (λ hs. length hs) put, length-append held (held_by r.ran), one_holds r.ran)
 
@@ -131,9 +132,9 @@ module _ {J : Type 0} where
   few_held [] = omega arith
   few_held (r ∷ reports) = omega (arith, one_holds r.ran, few_held reports, length-append (held_by r.ran) (held_in reports))
 
-  pub sorted_room : (reports : List (Report J)) (last : Flow J) → CanMeet reports → IsSorted reports last → length last.transaction.held ≤ 4
+  pub sorted_room : (reports : List (Report J)) (last : Flow J) → CanMeet reports → IsSorted reports last → length last.transaction.held ≤ MOST_ACTIONS
   sorted_room reports last can sorted =
-      carried_both reports (CanMeetFor reports) (λ f. last ≡ record f { transaction = holding f.transaction (held_in reports) }) (length last.transaction.held ≤ 4)
+      carried_both reports (CanMeetFor reports) (λ f. last ≡ record f { transaction = holding f.transaction (held_in reports) }) (length last.transaction.held ≤ MOST_ACTIONS)
       (λ f meets is.
       omega (arith, meets.room, ap (λ (x : Flow J). length x.transaction.held) is, length-append f.transaction.held (held_in reports), few_held reports)) can sorted
 

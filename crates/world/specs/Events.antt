@@ -23,6 +23,7 @@ use Rattle.slices.specs.Sliced.{AreSlicesOf, Joined, Sliced, SlicesKeep, joined}
 use Rattle.transactions.specs.Acting.{dies_on}
 use Rattle.transactions.specs.Works.{HaveAllDone, CanDo, HasDone, wishes_of}
 use Rattle.transactions.specs.Progresses.{FollowsFrom, works_of}
+use Rattle.transactions.specs.declared.laws.TheConstants.{MOST_ACTIONS}
 use Rattle.transactions.specs.declared.progress.Gathered.{Gathered}
 use Rattle.transactions.specs.declared.progress.Gathered.TheVariants.{Next, Finish, RollBack}
 use Rattle.transactions.specs.declared.acting.Ran.{Ran}
@@ -84,7 +85,7 @@ module _ {J : Type 0} where
 
   -- what is asked of a message that is worked on
   abbrev pub CanWork : Shared → Message J → Type 0
-  CanWork shared (Start flow works) = (1 ≤ length works.items) × ((length works.items ≤ 4) × All (CanDo shared) works.items)
+  CanWork shared (Start flow works) = (1 ≤ length works.items) × ((length works.items ≤ MOST_ACTIONS) × All (CanDo shared) works.items)
   CanWork shared (Act act) = CanDo shared act.work
   CanWork shared (Settle claims) = CanAllBeSettled claims
   CanWork shared (Undo claims) = CanAllBeUndone claims
@@ -130,7 +131,7 @@ module _ {J : Type 0} where
 
   -- what is asked of them
   pub record CanMeetFor (reports : List (Report J)) (flow : Flow J) : Type 0 where
-    pub room : length flow.transaction.held + length reports ≤ 4
+    pub room : length flow.transaction.held + length reports ≤ MOST_ACTIONS
     pub done : refusal_of None reports ≡ None → (shared : Shared) × HaveAllDone shared (works_of flow.progress) (found_in reports) (held_in reports)
 
   -- what is asked of the reports of a phase, by the transaction that the first of them carries
@@ -180,7 +181,7 @@ module _ {J : Type 0} where
     pub number : commit.transaction.pass.asks.number ≡ commit.transaction.number
     pub asks : commit.transaction.pass.asks.request ≡ commit.transaction.request
     pub carried_out : IsCarriedOut opening commit.transaction.request (all_claims commit.transaction.held) commit.reply
-    pub few : length commit.transaction.held ≤ 4
+    pub few : length commit.transaction.held ≤ MOST_ACTIONS
 
   -- ---- the sessions
 

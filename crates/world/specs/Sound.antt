@@ -18,7 +18,8 @@ use Rattle.transactions.specs.declared.acting.Ran.{Ran}
 use Rattle.transactions.specs.declared.acting.Ran.TheVariants as ran
 use Rattle.transactions.specs.Works.{CanDo, HasDone}
 use Rattle.transactions.specs.declared.progress.Progress.{Progress}
-use Rattle.transactions.specs.Progresses.{HoldsSome, IsReached, works_of}
+use Rattle.transactions.specs.Progresses.{IsReached, works_of}
+use Rattle.transactions.specs.declared.laws.TheConstants.{MOST_ACTIONS}
 use Rattle.rendezvous.specs.Awaited.{awaited_from, reported}
 use Rattle.world.specs.declared.desk.Active.{Active}
 use Rattle.world.specs.declared.desk.Active.TheVariants as active
@@ -87,12 +88,12 @@ module _ {J : Type 0} where
 
   -- ---- one thing that is under way
 
-  -- a beginning has the works of the first phase, at most four, all of which can be done
+  -- a beginning has the works of the first phase, which are few and can all be done
   pub record IsSoundStart (shared : Shared) (u : UnderWay) (flow : Flow J) (works : List Work) : Type 0 where
     pub flow_is : IsSoundFlow u flow
     pub works_are : works ≡ works_of u.progress
     pub can : All (CanDo shared) works
-    pub few : length works ≤ 4
+    pub few : length works ≤ MOST_ACTIONS
 
   -- an action does the work of its place, which can be done
   pub record IsSoundAct (shared : Shared) (u : UnderWay) (act : Act J) : Type 0 where
@@ -125,7 +126,7 @@ module _ {J : Type 0} where
     pub accepted : IsAccepted shared.scale commit.transaction.request
     pub carried_out : (opening : Database) → shared_of opening ≡ shared → IsCarriedOut opening commit.transaction.request (all_claims commit.transaction.held) commit.reply
     pub undo : All CanAllBeUndone commit.transaction.held
-    pub few : length commit.transaction.held ≤ 4
+    pub few : length commit.transaction.held ≤ MOST_ACTIONS
 
   -- an answer is for one of 64 sessions, which asks its number, and the log has what it tells
   abbrev pub IsSoundReply : List Entry → ReplyItem J → Type 0
@@ -158,8 +159,7 @@ module _ {J : Type 0} where
   -- A phase that is under way: the request has come so far under what its earlier phases hold, all of which can be taken
   -- back; each of its actions has its place; what was reported is sound; and some action has not reported.
   pub record IsSoundPhase (shared : Shared) (u : UnderWay) (slots : List (Option (Report J))) : Type 0 where
-    pub reached : IsReached shared u.request u.progress (all_claims u.held)
-    pub hold : All HoldsSome u.held
+    pub reached : IsReached shared u.request u.progress u.held
     pub undo : All CanAllBeUndone u.held
     pub many : length slots ≡ length (works_of u.progress)
     pub reports : (place : ℕ) (r : Report J) → slice_get slots place ≡ Some (Some r) → (r.place ≡ place) × IsSoundReport shared u r
@@ -170,7 +170,7 @@ module _ {J : Type 0} where
   IsSoundActive shared u None = Unit {0}
   IsSoundActive shared u (Some (active.Acting slots)) = IsSoundPhase shared u slots
   IsSoundActive shared u (Some active.Committing) = Unit {0}
-  IsSoundActive shared u (Some (active.Ending left)) = (1 ≤ left) × (left ≤ 4)
+  IsSoundActive shared u (Some (active.Ending left)) = (1 ≤ left) × (left ≤ MOST_ACTIONS)
 
   -- ---- the sessions
 

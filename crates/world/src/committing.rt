@@ -16,11 +16,12 @@ use crate::world::Parts;
 use commit_log::{AppendFault, Entry, Log, Pass};
 use history::EventAnswer;
 use requests::{Answer, Refusal, Reply};
+use transactions::MOST_ACTIONS;
 
 impl<J: commit_log::Naming + tickets::Naming> Parts<J> {
     // The transaction is logged, or refused where there is no memory, or the log is full.
     pub(crate) fn commit(&mut self, commit: CommitItem<J>) -> EventAnswer
-        requires room { length self.old.outbox + 8 ≤ 4096 }
+        requires room { length self.old.outbox + (MOST_ACTIONS + 1) ≤ 4096 }
         requires can { CanCommit J.opening commit }
         ensures { Commits commit self.old result self.new }
     {

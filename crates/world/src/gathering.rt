@@ -14,13 +14,13 @@ use crate::world::Parts;
 use rendezvous::Results;
 use requests::{Refusal, Reply};
 use std::alloc::Global;
-use transactions::{Found, Gathered, Progress, Ran};
+use transactions::{Found, Gathered, MOST_ACTIONS, Progress, Ran};
 
 impl<J: commit_log::Naming + tickets::Naming> Parts<J> {
     // All actions of a phase have reported. The first death by place is answered, and else want of memory;
     // where there is none, what they found is gathered.
     pub(crate) fn follow(&mut self, alloc: Global, results: Results<Report<J>>)
-        requires room { length self.old.outbox + 8 ≤ 4096 }
+        requires room { length self.old.outbox + (MOST_ACTIONS + 1) ≤ 4096 }
         requires can { CanMeet results }
         ensures { MeetsAs results self.old self.new }
     {
@@ -47,8 +47,8 @@ impl<J: commit_log::Naming + tickets::Naming> Parts<J> {
         progress: Progress,
         found: Vec<Found>,
     )
-        requires room { length self.old.outbox + 8 ≤ 4096 }
-        requires held { length transaction.held ≤ 4 }
+        requires room { length self.old.outbox + (MOST_ACTIONS + 1) ≤ 4096 }
+        requires held { length transaction.held ≤ MOST_ACTIONS }
         requires done { HasFound progress found.items }
         ensures { GathersInto progress found.items transaction self.old self.new }
     {
@@ -120,7 +120,7 @@ fn sort_one<J: commit_log::Naming + tickets::Naming>(
     found: &mut Vec<Found>,
     refusal: Option<Refusal>,
 ) -> Option<Refusal>
-    requires held { length held.old + 1 ≤ 4 }
+    requires held { length held.old + 1 ≤ MOST_ACTIONS }
     requires found { refusal ≡ None → length found.old.items + 1 ≤ vec_capacity found.old }
     ensures refusal { result ≡ spec.refused_by refusal ran }
     ensures held { held.new ≡ held.old ++ spec.held_by ran }

@@ -19,6 +19,7 @@ impl<J: Naming> Model for Held<J> {
     ghost use Rattle.std.specs.Prelude.{List, ◌≤◌, vec_capacity};
     ghost use Rattle.groups.specs.contracts.content.Content as content;
     ghost use Rattle.tickets.specs.Claims.{Claiming};
+    ghost use Rattle.transactions.specs.declared.laws.TheConstants.{MOST_ACTIONS};
 
     ghost Value = { List (List Claiming) };
 
@@ -26,7 +27,7 @@ impl<J: Naming> Model for Held<J> {
 
     ghost view = { λ h. h.places.items };
 
-    ghost invariant = { λ h. 4 ≤ vec_capacity h.places };
+    ghost invariant = { λ h. MOST_ACTIONS ≤ vec_capacity h.places };
 }
 
 impl<J: Naming> Held<J> {
@@ -47,7 +48,7 @@ impl<J: Naming> Held<J> {
 
     /// The action of the next place holds these.
     pub fn put(&mut self, claims: Claims<J>)
-        requires { length self.old < 4 }
+        requires { length self.old < MOST_ACTIONS }
         ensures { self.new ≡ self.old ++ claims ∷ [] }
     {
         self.places.push_reserved(claims);

@@ -13,6 +13,7 @@ use history::EventAnswer;
 use rendezvous::{Meeting, Reported};
 use requests::{Answer, Refusal};
 use std::alloc::Global;
+use transactions::MOST_ACTIONS;
 
 /// A transaction that is over: its answer, and what its actions hold.
 #[derive(Drop)]
@@ -49,7 +50,7 @@ impl<J: commit_log::Naming + tickets::Naming> Release<J> {
 impl<J: commit_log::Naming + tickets::Naming> Parts<J> {
     // Sends an item.
     pub(crate) fn send_item(&mut self, alloc: Global, item: Item<J>) -> EventAnswer
-        requires room { length self.old.outbox + 8 ≤ 4096 }
+        requires room { length self.old.outbox + (MOST_ACTIONS + 1) ≤ 4096 }
         requires can { CanSend J.opening item self.old }
         ensures sends { SendsItem item self.old result self.new }
     {
@@ -70,7 +71,7 @@ impl<J: commit_log::Naming + tickets::Naming> Parts<J> {
 
     // A message goes to the inbox, if there is room.
     fn push(&mut self, message: Message<J>) -> EventAnswer
-        requires room { length self.old.outbox + 8 ≤ 4096 }
+        requires room { length self.old.outbox + (MOST_ACTIONS + 1) ≤ 4096 }
         ensures sends { SendsItem (Item.Push message) self.old result self.new }
     {
         if self.inbox.len() < INBOX {
@@ -84,7 +85,7 @@ impl<J: commit_log::Naming + tickets::Naming> Parts<J> {
 
     // A report comes to where its phase meets.
     fn meet(&mut self, alloc: Global, report: Report<J>)
-        requires room { length self.old.outbox + 8 ≤ 4096 }
+        requires room { length self.old.outbox + (MOST_ACTIONS + 1) ≤ 4096 }
         requires awaited { CanSend J.opening (Item.Report report) self.old }
         ensures { Reports report self.old self.new }
     {

@@ -6,13 +6,14 @@ ghost use Rattle.world.specs.Events.{CanWork, TakesMessage};
 use crate::flight::{Act, Item, Message, Report};
 use crate::world::Parts;
 use std::alloc::Global;
+use transactions::MOST_ACTIONS;
 
 impl<J: commit_log::Naming + tickets::Naming> Parts<J> {
     // Works on a message, at the slice of its warehouse.
     pub(crate) fn work(&mut self, alloc: Global, message: Message<J>)
         requires warehouses { J.warehouses ≡ self.old.catalog.scale.warehouses }
         requires slices { AreSlicesOf self.old.catalog self.old.slices.items }
-        requires room { length self.old.outbox + 4 ≤ 4096 }
+        requires room { length self.old.outbox + MOST_ACTIONS ≤ 4096 }
         requires can { CanWork self.old.catalog message }
         ensures { TakesMessage message self.old self.new }
     {

@@ -1,4 +1,5 @@
 use Rattle.std.proofs.Common.{◌≡◌, ◌≤◌, ◌+◌, ◌++◌, length, vec_capacity, None}
+use Rattle.transactions.specs.declared.laws.TheConstants.{MOST_ACTIONS}
 use Rattle.world.specs.Following.{found_in, held_in, refusal_of}
 use Rattle.world.proofs.gathering.sort_out.Given as goal
 
@@ -8,7 +9,7 @@ abbrev pub invariant-loop-report : goal.invariant-loop-report
 invariant-loop-report g l = record {
   flow : l.flow ≡ record l.initial.flow { transaction = record l.initial.flow.transaction { held = l.flow.transaction.held } };
   held : l.flow.transaction.held ++ held_in l.results ≡ l.initial.flow.transaction.held ++ held_in l.initial.results;
-  room : length l.flow.transaction.held + length l.results ≤ 4;
+  room : length l.flow.transaction.held + length l.results ≤ MOST_ACTIONS;
   refusal : refusal_of l.refusal l.results ≡ refusal_of l.initial.refusal l.initial.results;
   found : l.refusal ≡ None → l.found.items ++ found_in l.results ≡ l.initial.found.items ++ found_in l.initial.results;
   found_room : l.refusal ≡ None → length l.found.items + length l.results ≤ vec_capacity l.found;
