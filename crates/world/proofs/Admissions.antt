@@ -68,7 +68,7 @@ module _ {J : Type 0} where
       → left.seat ≡ seating desk.seat.session flow.transaction.pass.asks → left.pass ≡ None
       → new.catalog ≡ old.catalog → new.slices ≡ old.slices → new.inbox ≡ old.inbox ++ Start flow works ∷ []
       → new.outbox ≡ old.outbox → new.log ≡ old.log → new.desk.admitted ≡ old.desk.admitted + 1
-      → new.desk.active ≡ Some (Acting meeting) → new.desk.sessions.items ≡ slice_set old.desk.sessions.items session left
+      → new.desk.active ≡ Some (Acting 0 meeting) → new.desk.sessions.items ≡ slice_set old.desk.sessions.items session left
       → Admits session number asked desk old new
   admits session number asked desk left old new flow works meeting there age same request held begins told works_are first seat away catalog slices inbox outbox log admitted active sessions =
       let with_pass = asked_with desk.pass (λ was. with_asks was (asking number asked was.seen was.mine)) flow.transaction.pass there told in
@@ -90,6 +90,6 @@ module _ {J : Type 0} where
         outbox = outbox;
         log = log;
         admitted = admitted;
-        active = active ∙ ap (λ (slots : List (Option (Report J))). Some (Acting slots)) first;
+        active = active ∙ ap (λ (slots : List (Option (Report J))). Some (Acting 0 slots)) first;
         sessions = sessions ∙ ap (slice_set old.desk.sessions.items session) (left_at left desk.seat.session flow.transaction.pass seat away);
       }

@@ -67,6 +67,15 @@ as_many_awaited : (R : Type 0) (place count : ℕ) → length (awaited_from {R =
 as_many_awaited R place zero = refl
 as_many_awaited R place (suc count) = omega (arith, as_many_awaited R (place + 1) count)
 
+-- as many are awaited, whatever the first is numbered
+pub as_many_from : {R : Type 0} (n : ℕ) (slots : List (Option R)) → length (awaited_from n slots) ≡ length (awaited_from 0 slots)
+as_many_from n slots = from n 0 slots
+  where
+    from : {R : Type 0} (n m : ℕ) (slots : List (Option R)) → length (awaited_from n slots) ≡ length (awaited_from m slots)
+    from n m [] = refl
+    from n m (None ∷ slots) = ap suc (from (n + 1) (m + 1) slots)
+    from n m (Some r ∷ slots) = from (n + 1) (m + 1) slots
+
 -- none of them has reported
 none_reported : (R : Type 0) (count : ℕ) → reported {R = R} (replicate count None) ≡ []
 none_reported R zero = refl
@@ -82,7 +91,7 @@ module _ {J : Type 0} where
 
   pub some_token : (shared : Shared) (u : UnderWay) (message : Message J) → IsSoundMessage shared u message → 1 ≤ sum_by one_each (part_message message).tokens
   some_token shared u (Start flow works) h =
-      omega (arith, acting_tokens 0 works.items, ap (λ (ws : List Work). length ws) h.works_are, some_actions u.progress)
+      omega (arith, acting_tokens (length flow.transaction.held) works.items, ap (λ (ws : List Work). length ws) h.works_are, some_actions u.progress)
   some_token shared u (Act act) h = omega arith
   some_token shared u (Settle claims) h = omega arith
   some_token shared u (Undo claims) h = omega arith
@@ -152,6 +161,9 @@ module _ {J : Type 0} where
     reached : IsReached shared asked a.flow.progress []
     reached = a.begins shared accepted
 
+    no_held : length a.flow.transaction.held ≡ 0
+    no_held = ap (λ (hs : List (List Claiming)). length hs) a.held
+
     sound_start : IsSoundStart shared u a.flow a.works.items
     sound_start = record {
       flow_is = record {
@@ -170,11 +182,13 @@ module _ {J : Type 0} where
         arith,
         ap (λ (ws : List Work). length ws) a.works_are,
         few_actions shared asked a.flow.progress [] reached,
+        no_held,
       );
     }
 
-    sound_phase : IsSoundPhase shared u slots
+    sound_phase : IsSoundPhase shared u 0 slots
     sound_phase = record {
+      first_is = refl;
       reached = reached;
       undo = All-nil CanAllBeUndone;
       many = length-replicate (length a.works.items) None ∙ ap (λ (ws : List Work). length ws) a.works_are;
@@ -190,7 +204,7 @@ module _ {J : Type 0} where
     -- ---- the world with it
 
     abbrev with_desk : Parts J
-    with_desk = record w { desk = record { admitted = new.desk.admitted; sessions = new.desk.sessions; active = Some (active.Acting slots) } }
+    with_desk = record w { desk = record { admitted = new.desk.admitted; sessions = new.desk.sessions; active = Some (active.Acting 0 slots) } }
 
     new_is : new ≡ record with_desk { inbox = w.inbox ++ Start a.flow a.works ∷ [] }
     new_is = λ i. record {
@@ -232,7 +246,8 @@ module _ {J : Type 0} where
           tokens = λ weight. omega (
             arith,
             at_rest weight,
-            sum_by-append weight (acting_from 0 a.works.items) rest.tokens,
+            sum_by-append weight (acting_from (length a.flow.transaction.held) a.works.items) rest.tokens,
+            ap (λ n. sum_by weight (acting_from n a.works.items)) no_held,
             ap (λ (ts : List Token). sum_by weight ts) (all_acting (Report J) 0 a.works.items),
           );
           alone = subst (λ l. AreAlone l (t ∷ rest.pending)) (sym a.sessions) alone;

@@ -1,5 +1,5 @@
 -- An item is sent.
-use Rattle.std.proofs.Common.{◌≡◌, ℕ, Bool, true, false, List, [], ◌∷◌, ◌++◌, length, Option, Some, None, refl, sym, subst, nat_lt}
+use Rattle.std.proofs.Common.{◌≡◌, ℕ, Bool, true, false, List, [], ◌∷◌, ◌++◌, length, Option, Some, None, refl, sym, subst, nat_lt, ◌+◌, ◌-◌, ◌≤◌, arith}
 use Rattle.std.specs.List.{slice_get}
 use Rattle.partitions.specs.Parts.{Shared}
 use Rattle.schema.specs.Database.{Database}
@@ -78,21 +78,29 @@ module _ {J : Type 0} where
   sends_commit shared w new commit Nothing h s said = absurd said
 
   -- the phase that is under way where a report comes
-  pub phase_at : (shared : Shared) (w : Parts J) (r : Report J) (h : IsSoundWith shared (part_item (item.Report r)) w) (slots : List (Option (Report J))) → w.desk.active ≡ Some (active.Acting slots)
-      → IsSoundPhase shared h.under_way slots × (slice_get slots r.place ≡ Some None)
-  phase_at shared w r h slots is =
+  pub phase_at : (shared : Shared) (w : Parts J) (r : Report J) (h : IsSoundWith shared (part_item (item.Report r)) w) (first : ℕ) (slots : List (Option (Report J))) → w.desk.active ≡ Some (active.Acting first slots)
+      → IsSoundPhase shared h.under_way first slots × ((first ≤ r.place) × (slice_get slots (r.place - first) ≡ Some None))
+  phase_at shared w r h first slots is =
       let at = acting_under_way r.place w.desk.active (is_awaited (weigh_acting r.place) (Acting r.place) (flight w).tokens (awaited w.desk.active) (one_weighs r.place) h.balance.tokens) in
-      let found = at.1.0 in
-      let same : at.0 ≡ slots = cc in
-      (subst (λ a. IsSoundActive shared h.under_way a) is h.active, subst (λ (l : List (Option (Report J))). slice_get l r.place ≡ Some None) same at.1.1)
+      let found = at.1.1.0 in
+      let same : at.0 ≡ first = cc in
+      let alike : at.1.0 ≡ slots = cc in (
+        subst (λ a. IsSoundActive shared h.under_way a) is h.active,
+        (
+          subst (λ n. n ≤ r.place) same at.1.1.1.0,
+          subst (λ (l : List (Option (Report J))). slice_get l (r.place - first) ≡ Some None) alike (subst (λ n. slice_get at.1.0 (r.place - n) ≡ Some None) same at.1.1.1.1),
+        ),
+      )
 
   pub sends_on : (shared : Shared) (w new : Parts J) (i : Item J) (answer : EventAnswer) (h : IsSoundWith shared (part_item i) w) → IsSoundItem shared w.log h.under_way i
       → SendsItem i w answer new → SendsOn shared (part_item i) w answer new
   sends_on shared w new (item.Push message) answer h s said = sends_push shared w new message answer (nat_lt (length w.inbox) 1024) h s said
   sends_on shared w new (item.Report r) answer h s said =
-      let slots = said.1.0 in
-      let at = phase_at shared w r h slots said.1.1.0 in
-      quietly shared (part_item (item.Report r)) w new new answer (reports_go_on shared w r h s slots said.1.1.0 at.0 at.1 new said.1.1.1) said.0 refl
+      let first = said.1.0 in
+      let slots = said.1.1.0 in
+      let at = phase_at shared w r h first slots said.1.1.1.0 in
+      let place : r.place ≡ first + (r.place - first) = omega (arith, at.1.0) in
+      quietly shared (part_item (item.Report r)) w new new answer (reports_go_on shared w r h s first (r.place - first) place slots said.1.1.1.0 at.0 at.1.1 new said.1.1.1.1) said.0 refl
   sends_on shared w new item.Ended answer h s said =
       quietly shared (part_item {J = J} item.Ended) w _ new answer (ended_goes_on shared w h said.1.0 said.1.1.0) said.0 said.1.1.1
   sends_on shared w new (item.Commit commit) answer h s said = sends_commit shared w new commit answer h s said

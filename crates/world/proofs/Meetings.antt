@@ -76,14 +76,14 @@ module _ {J : Type 0} where
       (subst (λ q. IsSame (fly (in_inbox w) (in_outbox w) q) (join p (lots w))) (join-nothing p) (fly_last p (in_inbox w) (in_outbox w) nothing)))
 
   -- all reports together, once the last one has come
-  all_together : (w : Parts J) (slots : List (Option (Report J))) (r : Report J) (reports : List (Report J)) → slice_get slots r.place ≡ Some None
-      → map Some reports ≡ slice_set slots r.place (Some r)
+  all_together : (w : Parts J) (slots : List (Option (Report J))) (k : ℕ) (r : Report J) (reports : List (Report J)) → slice_get slots k ≡ Some None
+      → map Some reports ≡ slice_set slots k (Some r)
       → IsSame (beside (part_report r) w (reported slots)) (join (part (parts part_met reports).claims (parts part_met reports).pending (Acting r.place ∷ [])) (lots w))
-  all_together w slots r reports waits all =
+  all_together w slots k r reports waits all =
       let met = parts part_met (reported slots) in
       let now = parts part_met reports in
-      let is : reports ≡ reported (slice_set slots r.place (Some r)) = sym (reported-map reports) ∙ ap (λ (l : List (Option (Report J))). reported l) all in
-      let more : IsSame now (join (part_met r) met) = subst (λ rs. IsSame (parts part_met rs) (join (part_met r) met)) (sym is) (met_one_more slots r.place r waits) in
+      let is : reports ≡ reported (slice_set slots k (Some r)) = sym (reported-map reports) ∙ ap (λ (l : List (Option (Report J))). reported l) all in
+      let more : IsSame now (join (part_met r) met) = subst (λ rs. IsSame (parts part_met rs) (join (part_met r) met)) (sym is) (met_one_more slots k r waits) in
       let same : IsSame (join (part_report r) met) (part now.claims now.pending (Acting r.place ∷ [])) = record {
         claims = IsPermutation-sym now.claims ((part_met r).claims ++ met.claims) more.claims;
         pending = IsPermutation-sym now.pending ((part_met r).pending ++ met.pending) more.pending;
@@ -94,29 +94,29 @@ module _ {J : Type 0} where
       (same-join (join (part_report r) met) (part now.claims now.pending (Acting r.place ∷ [])) (lots w) (lots w) same (same-refl (lots w)))
 
   -- the tokens of those that are awaited, before a report and after it
-  awaited_less : (slots : List (Option (Report J))) (r : Report J) → slice_get slots r.place ≡ Some None
-      → WeighAlike (Acting r.place ∷ map Acting (awaited_from 0 (slice_set slots r.place (Some r)))) (map Acting (awaited_from 0 slots))
-  awaited_less slots r waits weight =
-      let rest = awaited_from 0 (slice_set slots r.place (Some r)) in
-      let same : 0 + r.place ≡ r.place = omega arith in
-      let fewer : IsPermutation (awaited_from 0 slots) (r.place ∷ rest) =
-      subst (λ (n : ℕ). IsPermutation (awaited_from 0 slots) (n ∷ rest)) same (report_takes_one_number 0 r.place slots r waits) in
-      sum_by-IsPermutation weight (map Acting (awaited_from 0 slots)) (map Acting (r.place ∷ rest)) (IsPermutation-map Acting (awaited_from 0 slots) (r.place ∷ rest) fewer)
+  awaited_less : (first k : ℕ) (slots : List (Option (Report J))) (r : Report J) → r.place ≡ first + k → slice_get slots k ≡ Some None
+      → WeighAlike (Acting r.place ∷ map Acting (awaited_from first (slice_set slots k (Some r)))) (map Acting (awaited_from first slots))
+  awaited_less first k slots r here waits weight =
+      let rest = awaited_from first (slice_set slots k (Some r)) in
+      let fewer : IsPermutation (awaited_from first slots) (r.place ∷ rest) =
+      subst (λ (n : ℕ). IsPermutation (awaited_from first slots) (n ∷ rest)) (sym here) (report_takes_one_number first k slots r waits) in
+      sum_by-IsPermutation weight (map Acting (awaited_from first slots)) (map Acting (r.place ∷ rest)) (IsPermutation-map Acting (awaited_from first slots) (r.place ∷ rest) fewer)
 
   -- ---- a report is kept, since another is awaited
 
   module _ (shared : Shared) (w : Parts J) (r : Report J) (h : IsSoundWith shared (part_report r) w) (s : IsSoundReport shared h.under_way r)
-      (slots : List (Option (Report J))) (is : w.desk.active ≡ Some (active.Acting slots)) (at : IsSoundPhase shared h.under_way slots) (waits : slice_get slots r.place ≡ Some None) where
+      (first k : ℕ) (here : r.place ≡ first + k) (slots : List (Option (Report J))) (is : w.desk.active ≡ Some (active.Acting first slots)) (at : IsSoundPhase shared h.under_way first slots)
+      (waits : slice_get slots k ≡ Some None) where
     abbrev u : UnderWay
     u = h.under_way
 
     abbrev filled : List (Option (Report J))
-    filled = slice_set slots r.place (Some r)
+    filled = slice_set slots k (Some r)
 
     met_is : reported_to w.desk.active ≡ reported slots
-    met_is = first_met w slots is
+    met_is = first_met w first slots is
 
-    awaits_are : awaited w.desk.active ≡ map Acting (awaited_from 0 slots)
+    awaits_are : awaited w.desk.active ≡ map Acting (awaited_from first slots)
     awaits_are = ap awaited is
 
     fits_beside : (opening : Database) (history : List Step) → FitsPart opening history w.log (joined_in w) w.desk.admitted (join (part_report r) (flight w))
@@ -124,39 +124,39 @@ module _ {J : Type 0} where
     fits_beside opening history f = subst (λ rs. FitsPart opening history w.log (joined_in w) w.desk.admitted (beside (part_report r) w rs)) met_is f
 
     -- what stands at a place is sound
-    still_sound : (place : ℕ) (q : Report J) → slice_get filled place ≡ Some (Some q) → (q.place ≡ place) × IsSoundReport shared u q
-    still_sound place q stands = by (put_at slots r.place place (Some r) (Some q) stands)
+    still_sound : (number : ℕ) (q : Report J) → slice_get filled number ≡ Some (Some q) → (q.place ≡ first + number) × IsSoundReport shared u q
+    still_sound number q stands = by (put_at slots k number (Some r) (Some q) stands)
       where
-        by : ((place ≡ r.place) × (Some r ≡ Some q)) ⊎ (slice_get slots place ≡ Some (Some q)) → (q.place ≡ place) × IsSoundReport shared u q
+        by : ((number ≡ k) × (Some r ≡ Some q)) ⊎ (slice_get slots number ≡ Some (Some q)) → (q.place ≡ first + number) × IsSoundReport shared u q
         by (inl put) =
             let both = put.1 in
             let same : r ≡ q = cc in
-            subst (λ (p : Report J). (p.place ≡ place) × IsSoundReport shared u p) same (sym put.0, s)
-        by (inr stood) = at.reports place q stood
+            subst (λ (p : Report J). (p.place ≡ first + number) × IsSoundReport shared u p) same (omega (arith, put.0, here), s)
+        by (inr stood) = at.reports number q stood
 
-    keeps : 1 ≤ length (awaited_from 0 filled) → GoesOn shared (part_report r) w (with_active (Some (active.Acting filled)) w)
+    keeps : 1 ≤ length (awaited_from 0 filled) → GoesOn shared (part_report r) w (with_active (Some (active.Acting first filled)) w)
     keeps awaits =
-        let new = with_active (Some (active.Acting filled)) w in
-        let b = beside_now (part_report r) w (reported slots) (map Acting (awaited_from 0 slots)) h.balance met_is awaits_are in
+        let new = with_active (Some (active.Acting first filled)) w in
+        let b = beside_now (part_report r) w (reported slots) (map Acting (awaited_from first slots)) h.balance met_is awaits_are in
         let hand : Part = part_met r in
         let met = parts part_met (reported slots) in
         -- without its token, the report is among what has met
         let same : IsSame (fly (in_inbox w) (in_outbox w) (parts part_met (reported filled))) (join (join hand met) (lots w)) =
         same-trans (fly (in_inbox w) (in_outbox w) (parts part_met (reported filled))) (join (parts part_met (reported filled)) (lots w)) (join (join hand met) (lots w))
         (subst (λ q. IsSame (fly (in_inbox w) (in_outbox w) q) (join (parts part_met (reported filled)) (lots w))) (join-nothing (parts part_met (reported filled))) (fly_last (parts part_met (reported filled)) (in_inbox w) (in_outbox w) nothing))
-        (same-join (parts part_met (reported filled)) (join hand met) (lots w) (lots w) (met_one_more slots r.place r waits) (same-refl (lots w))) in
+        (same-join (parts part_met (reported filled)) (join hand met) (lots w) (lots w) (met_one_more slots k r waits) (same-refl (lots w))) in
         let with_token = front (part_report r) w (reported slots) in
-        let lighter : WeighAlike ((join hand met).tokens ++ (lots w).tokens) (map Acting (awaited_from 0 filled)) = λ weight.
+        let lighter : WeighAlike ((join hand met).tokens ++ (lots w).tokens) (map Acting (awaited_from first filled)) = λ weight.
         omega (
           arith,
           b.tokens weight,
           sum_by-IsPermutation weight (beside (part_report r) w (reported slots)).tokens (join (join (part_report r) met) (lots w)).tokens with_token.tokens,
           sum_by-cons weight (Acting r.place) (met.tokens ++ (lots w).tokens),
-          sum_by-cons weight (Acting r.place) (map Acting (awaited_from 0 filled)),
-          awaited_less slots r waits weight,
+          sum_by-cons weight (Acting r.place) (map Acting (awaited_from first filled)),
+          awaited_less first k slots r here waits weight,
         ) in
         let served = served_same w.desk (beside (part_report r) w (reported slots)).pending (join (join hand met) (lots w)).pending with_token.pending b.served in
-        let desk : Desk J = record w.desk { active = Some (active.Acting filled) } in
+        let desk : Desk J = record w.desk { active = Some (active.Acting first filled) } in
         let balance : IsBalanced desk (join (join hand met) (lots w)) = record { tokens = lighter; alone = served.alone; many = served.many } in
         record {
           sound = record {
@@ -166,9 +166,10 @@ module _ {J : Type 0} where
             inbox = h.inbox;
             outbox = h.outbox;
             active = record {
+              first_is = at.first_is;
               reached = at.reached;
               undo = at.undo;
-              many = length-set slots r.place (Some r) ∙ at.many;
+              many = length-set slots k (Some r) ∙ at.many;
               reports = still_sound;
               awaits = awaits;
             };
@@ -186,16 +187,16 @@ module _ {J : Type 0} where
 
     module _ (reports : List (Report J)) (all : map Some reports ≡ filled) where
       have : HaveReported shared u 0 (works_of u.progress) reports
-      have = phase_reported shared u slots r reports at s all
+      have = phase_reported shared u first k slots r reports at s here all
 
-      none_left : awaited_from 0 filled ≡ []
-      none_left = ap (λ (l : List (Option (Report J))). awaited_from 0 l) (sym all) ∙ none_awaited 0 reports
+      none_left : awaited_from first filled ≡ []
+      none_left = ap (λ (l : List (Option (Report J))). awaited_from first l) (sym all) ∙ none_awaited first reports
 
       -- nothing else is awaited
       at_rest : (hand : Part) → hand.tokens ≡ Acting r.place ∷ [] → IsSame (beside (part_report r) w (reported slots)) (join hand (lots w)) → WeighAlike (lots w).tokens []
       at_rest hand one same weight =
-          let b = beside_now (part_report r) w (reported slots) (map Acting (awaited_from 0 slots)) h.balance met_is awaits_are in
-          let less : WeighAlike (Acting r.place ∷ []) (map Acting (awaited_from 0 slots)) = subst (λ ns. WeighAlike (Acting r.place ∷ map Acting ns) (map Acting (awaited_from 0 slots))) none_left (awaited_less slots r waits) in
+          let b = beside_now (part_report r) w (reported slots) (map Acting (awaited_from first slots)) h.balance met_is awaits_are in
+          let less : WeighAlike (Acting r.place ∷ []) (map Acting (awaited_from first slots)) = subst (λ ns. WeighAlike (Acting r.place ∷ map Acting ns) (map Acting (awaited_from first slots))) none_left (awaited_less first k slots r here waits) in
           omega (
             arith,
             b.tokens weight,
@@ -216,14 +217,14 @@ module _ {J : Type 0} where
         hand = part_transaction t (Acting r.place ∷ [])
 
         in_hand : IsSame (beside (part_report r) w (reported slots)) (join hand (lots w))
-        in_hand = subst (λ (q : Part). IsSame (beside (part_report r) w (reported slots)) (join (part q.claims q.pending (Acting r.place ∷ [])) (lots w))) together (all_together w slots r reports waits all)
+        in_hand = subst (λ (q : Part). IsSame (beside (part_report r) w (reported slots)) (join (part q.claims q.pending (Acting r.place ∷ [])) (lots w))) together (all_together w slots k r reports waits all)
 
         rests : WeighAlike (lots w).tokens []
         rests = at_rest hand refl in_hand
 
         served : AreServed w.desk (unanswered_transaction t ∷ (lots w).pending)
         served =
-            let b = beside_now (part_report r) w (reported slots) (map Acting (awaited_from 0 slots)) h.balance met_is awaits_are in
+            let b = beside_now (part_report r) w (reported slots) (map Acting (awaited_from first slots)) h.balance met_is awaits_are in
             served_same w.desk (beside (part_report r) w (reported slots)).pending (unanswered_transaction t ∷ (lots w).pending) in_hand.pending b.served
 
         fits_in_hand : (opening : Database) (history : List Step) → FitsPart opening history w.log (joined_in w) w.desk.admitted (join (part_report r) (flight w))
@@ -303,7 +304,7 @@ module _ {J : Type 0} where
             let works = works_of progress in
             let flow_now : Flow J = record { transaction = t; progress = progress } in
             let v : UnderWay = record { request = u.request; progress = progress; held = t.held } in
-            let begun : Option (Active J) = Some (active.Acting (replicate (length works) None)) in
+            let begun : Option (Active J) = Some (active.Acting (length t.held) (replicate (length works) None)) in
             let some : 1 ≤ length works = some_actions progress in
             let start : IsSoundStart shared v flow_now works = record {
               flow_is = record { asked = asked; request = sound_flow.request; held = refl; progress = refl };
@@ -312,8 +313,9 @@ module _ {J : Type 0} where
               few = omega (arith, few_actions shared u.request progress t.held reached);
             } in
             let acts = part_acts flow_now works some in
-            let awaits : map Acting (awaited_from 0 (replicate (length works) None)) ≡ acting_from 0 works = all_acting (Report J) 0 works in
-            let phase : IsSoundPhase shared v (replicate (length works) None) = record {
+            let awaits : map Acting (awaited_from (length t.held) (replicate (length works) None)) ≡ acting_from (length t.held) works = all_acting (Report J) (length t.held) works in
+            let phase : IsSoundPhase shared v (length t.held) (replicate (length works) None) = record {
+              first_is = refl;
               reached = reached;
               undo = undo;
               many = length-replicate (length works) None;
@@ -376,7 +378,7 @@ module _ {J : Type 0} where
             let of_flow : MeetsUnless (refusal_of None (q ∷ reports)) (q ∷ reports) flow w new = subst (λ (o : Option (Flow J)). IfCarried o (λ f. MeetsUnless (refusal_of None (q ∷ reports)) (q ∷ reports) f w new)) carried.1.0 said in
             meets_unless (q ∷ reports) all flow carried.1.1 (parts_all shared u (work ∷ works) q reports flow some carried.1.0) (refusal_of None (q ∷ reports)) new refl of_flow
 
-    pub reports_go_on : (new : Parts J) → ReportsInto filled w new → GoesOn shared (part_report r) w new
+    pub reports_go_on : (new : Parts J) → ReportsInto first filled w new → GoesOn shared (part_report r) w new
     reports_go_on new said =
         ⊎_elim (λ kept. subst (λ v. GoesOn shared (part_report r) w v) (sym kept.1) (keeps kept.0))
-        (λ met. carried_met met.0 new met.1.0 (phase_reported shared u slots r met.0 at s met.1.0) met.1.1) said
+        (λ met. carried_met met.0 new met.1.0 (phase_reported shared u first k slots r met.0 at s here met.1.0) met.1.1) said

@@ -31,7 +31,7 @@ use Rattle.world.specs.Sound.{IsSoundWith, IsSoundActive, IsSoundItem, UnderWay,
 use Rattle.world.specs.Events.{Pushes, Commits, SendsItem}
 use Rattle.world.specs.Worlds.{Fits, IsAtRest, tables_now}
 use Rattle.world.proofs.Balances.{in_inbox, in_outbox}
-use Rattle.world.proofs.Asking.{one_each, some_token, no_message}
+use Rattle.world.proofs.Asking.{as_many_from, one_each, some_token, no_message}
 use Rattle.world.proofs.Reported.{met_tokens}
 use Rattle.world.proofs.Rooms.{as_many, so_many_end}
 
@@ -40,7 +40,7 @@ module _ {J : Type 0} where
 
   none_active : (shared : Shared) (u : UnderWay) (a : Option (Active J)) → IsSoundActive shared u a → sum_by one_each (awaited a) ≡ 0 → a ≡ None
   none_active shared u None h none = refl
-  none_active shared u (Some (active.Acting slots)) h none = absurd (omega (arith, none, as_many (awaited_from 0 slots), h.awaits))
+  none_active shared u (Some (active.Acting first slots)) h none = absurd (omega (arith, none, as_many (awaited_from first slots), as_many_from first slots, h.awaits))
   none_active shared u (Some active.Committing) h none = absurd (omega (arith, none))
   none_active shared u (Some (active.Ending left)) h none = absurd (omega (arith, none, so_many_end left, h.0))
 

@@ -1,5 +1,5 @@
 -- What is in hand can be worked on, or sent.
-use Rattle.std.proofs.Common.{◌≡◌, ℕ, ◌+◌, ◌<◌, ◌≤◌, List, [], ◌∷◌, length, zero, suc, Option, Some, refl, sym, ◌∙◌, ap, subst, arith}
+use Rattle.std.proofs.Common.{◌≡◌, ℕ, ◌+◌, ◌-◌, ◌<◌, ◌≤◌, List, [], ◌∷◌, length, zero, suc, Option, Some, refl, sym, ◌∙◌, ap, subst, arith}
 use Rattle.std.specs.Prelude.{map, slice_set}
 use Rattle.std.specs.List.{slice_get}
 use Rattle.std.proofs.lemmas.List.{length-map, length-set}
@@ -66,13 +66,16 @@ module _ {J : Type 0} where
       let shared = shared_of opening in
       let u = h.under_way in
       let at = acting_under_way r.place w.desk.active (is_awaited (weigh_acting r.place) (Acting r.place) (flight w).tokens (awaited w.desk.active) (one_weighs r.place) h.balance.tokens) in
-      let phase : IsSoundPhase shared u at.0 = subst (λ a. IsSoundActive shared u a) at.1.0 h.active in
-      let meets : (reports : List (Report J)) → map Some reports ≡ slice_set at.0 r.place (Some r) → CanMeet reports = λ reports all.
+      let phase : IsSoundPhase shared u at.0 at.1.0 = subst (λ a. IsSoundActive shared u a) at.1.1.0 h.active in
+      let first = at.0 in
+      let slots = at.1.0 in
+      let place : r.place ≡ first + (r.place - first) = omega (arith, at.1.1.1.0) in
+      let meets : (reports : List (Report J)) → map Some reports ≡ slice_set slots (r.place - first) (Some r) → CanMeet reports = λ reports all.
       let many : length reports ≡ length (works_of u.progress) =
-      sym (length-map reports Some) ∙ ap (λ (l : List (Option (Report J))). length l) all ∙ length-set at.0 r.place (Some r) ∙ phase.many in
+      sym (length-map reports Some) ∙ ap (λ (l : List (Option (Report J))). length l) all ∙ length-set slots (r.place - first) (Some r) ∙ phase.many in
       can_meet shared u (works_of u.progress) reports refl (some_actions u.progress) (few_actions shared u.request u.progress u.held phase.reached) many
-      (phase_reported shared u at.0 r reports phase s all) in
-      (at.0, (at.1.0, (at.1.1, meets)))
+      (phase_reported shared u first (r.place - first) slots r reports phase s place all) in
+      (first, (slots, (at.1.1.0, (at.1.1.1.0, (at.1.1.1.1, meets)))))
 
   -- ---- an item
 

@@ -22,7 +22,7 @@ use Rattle.world.specs.declared.flight.Report.{Report}
 use Rattle.world.specs.Flights.{part, join, parts, part_carried, part_met, unanswered_transaction}
 use Rattle.world.specs.Parted.{CanAllBeUndone}
 use Rattle.world.specs.Following.{found_by, found_in, held_by, held_in, refusal_of, refused_by, refused_still}
-use Rattle.world.specs.Sound.{UnderWay, IsWorkAt, IsSoundFlow, IsCarriedAt, IsSoundRan, IsSoundReport, IsSoundPhase}
+use Rattle.world.specs.Sound.{UnderWay, IsPlaceOf, IsWorkAt, IsSoundFlow, IsCarriedAt, IsSoundRan, IsSoundReport, IsSoundPhase}
 use Rattle.world.proofs.Joins.{IsSame, same-refl, same-trans, same-join, same-middle}
 
 -- ---- lists
@@ -113,7 +113,7 @@ module _ {J : Type 0} where
 
     have_reported : (place : ℕ) (works : List Work) (reports : List (Report J)) → length reports ≡ length works
         → ((i : ℕ) → slice_get (works_of u.progress) (place + i) ≡ slice_get works i)
-        → ((i : ℕ) (r : Report J) → slice_get reports i ≡ Some r → (r.place ≡ place + i) × IsSoundReport shared u r)
+        → ((i : ℕ) (r : Report J) → slice_get reports i ≡ Some r → IsPlaceOf u (place + i) r.place × IsSoundReport shared u r)
         → HaveReported place works reports
     have_reported place [] [] many at each = tt
     have_reported place [] (r ∷ reports) many at each = absurd (omega (arith, many))
@@ -121,7 +121,7 @@ module _ {J : Type 0} where
     have_reported place (work ∷ works) (r ∷ reports) many at each =
         let first = each 0 r refl in
         let zero_more : place + 0 ≡ place = omega arith in
-        let here : r.place ≡ place = first.0 ∙ zero_more in
+        let here : first.1.number ≡ place = omega (arith, first.0, first.1.place) in
         let own : IsWorkAt u place work = subst (λ n. slice_get (works_of u.progress) n ≡ Some work) zero_more (at 0) in (
           (subst (λ n. IsCarriedAt u n r.flow) here first.1.flow, ran_at place work r.ran own (subst (λ n. IsSoundRan shared u n r.ran) here first.1.ran)),
           have_reported (suc place) works reports (omega (arith, many))
@@ -130,24 +130,24 @@ module _ {J : Type 0} where
         )
 
     -- where all places of the phase have reported
-    pub phase_reported : (slots : List (Option (Report J))) (r : Report J) (reports : List (Report J)) → IsSoundPhase shared u slots → IsSoundReport shared u r
-        → map Some reports ≡ slice_set slots r.place (Some r) → HaveReported 0 (works_of u.progress) reports
-    phase_reported slots r reports at s all =
+    pub phase_reported : (first k : ℕ) (slots : List (Option (Report J))) (r : Report J) (reports : List (Report J)) → IsSoundPhase shared u first slots → IsSoundReport shared u r
+        → r.place ≡ first + k → map Some reports ≡ slice_set slots k (Some r) → HaveReported 0 (works_of u.progress) reports
+    phase_reported first k slots r reports at s here all =
         let many : length reports ≡ length (works_of u.progress) =
-        sym (length-map reports Some) ∙ ap (λ (l : List (Option (Report J))). length l) all ∙ length-set slots r.place (Some r) ∙ at.many in
+        sym (length-map reports Some) ∙ ap (λ (l : List (Option (Report J))). length l) all ∙ length-set slots k (Some r) ∙ at.many in
         have_reported 0 (works_of u.progress) reports many (λ i. let same : 0 + i ≡ i = omega arith in ap (λ n. slice_get (works_of u.progress) n) same)
-        (λ i q is. by i q (put_at slots r.place i (Some r) (Some q) (subst (λ (l : List (Option (Report J))). slice_get l i ≡ Some (Some q)) all (slice_get-map Some reports i ∙ ap (λ o. some_of o) is))))
+        (λ i q is. by i q (put_at slots k i (Some r) (Some q) (subst (λ (l : List (Option (Report J))). slice_get l i ≡ Some (Some q)) all (slice_get-map Some reports i ∙ ap (λ o. some_of o) is))))
       where
         some_of : Option (Report J) → Option (Option (Report J))
         some_of None = None
         some_of (Some q) = Some (Some q)
 
-        by : (i : ℕ) (q : Report J) → ((i ≡ r.place) × (Some r ≡ Some q)) ⊎ (slice_get slots i ≡ Some (Some q)) → (q.place ≡ 0 + i) × IsSoundReport shared u q
+        by : (i : ℕ) (q : Report J) → ((i ≡ k) × (Some r ≡ Some q)) ⊎ (slice_get slots i ≡ Some (Some q)) → IsPlaceOf u (0 + i) q.place × IsSoundReport shared u q
         by i q (inl put) =
             let both = put.1 in
             let same : r ≡ q = cc in
-            subst (λ (p : Report J). (p.place ≡ 0 + i) × IsSoundReport shared u p) same (omega (arith, put.0), s)
-        by i q (inr stood) = let told = at.reports i q stood in (omega (arith, told.0), told.1)
+            subst (λ (p : Report J). IsPlaceOf u (0 + i) p.place × IsSoundReport shared u p) same (omega (arith, put.0, here, at.first_is), s)
+        by i q (inr stood) = let told = at.reports i q stood in (omega (arith, told.0, at.first_is), told.1)
 
     -- ---- who carries the transaction
 

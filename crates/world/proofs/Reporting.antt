@@ -102,8 +102,8 @@ module _ {J : Type 0} where
         tokens = subst (λ ts. WeighAlike (beside hand w met).tokens ts) awaits b.tokens;
       }
 
-  pub first_met : (w : Parts J) (slots : List (Option (Report J))) → w.desk.active ≡ Some (active.Acting slots) → reported_to w.desk.active ≡ reported slots
-  first_met w slots is = ap reported_to is
+  pub first_met : (w : Parts J) (first : ℕ) (slots : List (Option (Report J))) → w.desk.active ≡ Some (active.Acting first slots) → reported_to w.desk.active ≡ reported slots
+  first_met w first slots is = ap reported_to is
 
   pub none_met : (w : Parts J) → w.desk.active ≡ Some active.Committing → reported_to w.desk.active ≡ []
   none_met w is = ap reported_to is

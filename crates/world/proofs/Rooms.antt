@@ -51,8 +51,8 @@ module _ {J : Type 0} where
 
   few_awaited : (shared : Shared) (u : UnderWay) (a : Option (Active J)) → IsSoundActive shared u a → sum_by one_each (awaited a) ≤ MOST_ACTIONS
   few_awaited shared u None h = omega arith
-  few_awaited shared u (Some (active.Acting slots)) h =
-      omega (arith, as_many (awaited_from 0 slots), awaited_at_most 0 slots, h.many, few_actions shared u.request u.progress u.held h.reached)
+  few_awaited shared u (Some (active.Acting first slots)) h =
+      omega (arith, as_many (awaited_from first slots), awaited_at_most first slots, h.many, few_actions shared u.request u.progress u.held h.reached)
   few_awaited shared u (Some active.Committing) h = omega arith
   few_awaited shared u (Some (active.Ending left)) h = omega (arith, so_many_end left, h.1)
 

@@ -1,5 +1,5 @@
 -- What the tokens that are under way tell of the active transaction.
-use Rattle.std.proofs.Common.{◌≡◌, ℕ, ◌+◌, ◌≤◌, ◌==◌, zero, suc, Bool, true, false, List, [], ◌∷◌, Option, Some, None, replicate, refl, ◌∙◌, ap, subst, cond, arith}
+use Rattle.std.proofs.Common.{◌≡◌, ℕ, ◌+◌, ◌-◌, ◌≤◌, ◌==◌, zero, suc, Bool, true, false, List, [], ◌∷◌, Option, Some, None, replicate, refl, ◌∙◌, ap, subst, cond, arith}
 use Rattle.std.specs.Prelude.{map}
 use Rattle.std.specs.List.{sum_by, slice_get}
 use Rattle.std.proofs.lemmas.List.Sums.{sum_by-cons}
@@ -77,24 +77,24 @@ waiting_slot place n (Some u ∷ xs) some =
 
 module _ {J : Type 0} where
   pub acting_under_way : (place : ℕ) (a : Option (Active J)) → 1 ≤ sum_by (weigh_acting place) (awaited a)
-      → (slots : List (Option (Report J))) × ((a ≡ Some (active.Acting slots)) × (slice_get slots place ≡ Some None))
+      → (first : ℕ) × ((slots : List (Option (Report J))) × ((a ≡ Some (active.Acting first slots)) × ((first ≤ place) × (slice_get slots (place - first) ≡ Some None))))
   acting_under_way place None some = absurd (omega (arith, some))
-  acting_under_way place (Some (active.Acting slots)) some =
-      let r = waiting_slot place 0 slots some in
-      let here : r.0 ≡ place = omega (arith, r.1.0) in
-      (slots, (refl, subst (λ k. slice_get slots k ≡ Some None) here r.1.1))
+  acting_under_way place (Some (active.Acting first slots)) some =
+      let r = waiting_slot place first slots some in
+      let here : r.0 ≡ place - first = omega (arith, r.1.0) in
+      (first, (slots, (refl, (omega (arith, r.1.0), subst (λ k. slice_get slots k ≡ Some None) here r.1.1))))
   acting_under_way place (Some active.Committing) some = absurd (omega (arith, some))
   acting_under_way place (Some (active.Ending left)) some = absurd (omega (arith, some, no_ending (weigh_acting place) refl left))
 
   pub commit_under_way : (a : Option (Active J)) → 1 ≤ sum_by weigh_committing (awaited a) → a ≡ Some active.Committing
   commit_under_way None some = absurd (omega (arith, some))
-  commit_under_way (Some (active.Acting slots)) some = absurd (omega (arith, some, no_acting weigh_committing (λ n. refl) (awaited_from 0 slots)))
+  commit_under_way (Some (active.Acting first slots)) some = absurd (omega (arith, some, no_acting weigh_committing (λ n. refl) (awaited_from first slots)))
   commit_under_way (Some active.Committing) some = refl
   commit_under_way (Some (active.Ending left)) some = absurd (omega (arith, some, no_ending weigh_committing refl left))
 
   pub ending_under_way : (a : Option (Active J)) → 1 ≤ sum_by weigh_ending (awaited a) → (left : ℕ) × ((a ≡ Some (active.Ending left)) × (1 ≤ left))
   ending_under_way None some = absurd (omega (arith, some))
-  ending_under_way (Some (active.Acting slots)) some = absurd (omega (arith, some, no_acting weigh_ending (λ n. refl) (awaited_from 0 slots)))
+  ending_under_way (Some (active.Acting first slots)) some = absurd (omega (arith, some, no_acting weigh_ending (λ n. refl) (awaited_from first slots)))
   ending_under_way (Some active.Committing) some = absurd (omega (arith, some))
   ending_under_way (Some (active.Ending zero)) some = absurd (omega (arith, some))
   ending_under_way (Some (active.Ending (suc left))) some = (suc left, (refl, omega arith))

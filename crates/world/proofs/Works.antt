@@ -22,7 +22,7 @@ use Rattle.world.specs.declared.flight.Message.TheVariants.{Start, Act, Settle, 
 use Rattle.world.specs.declared.world.Parts.{Parts}
 use Rattle.world.specs.Flights.{Acting, Part, part, join, parts, part_carried, part_item, acting_from, unanswered_transaction}
 use Rattle.world.specs.Following.{acts_from, acts_of}
-use Rattle.world.specs.Sound.{IsCarriedAt, IsSoundAct, IsSoundItem, IsSoundRan, IsSoundStart, IsWorkAt, UnderWay}
+use Rattle.world.specs.Sound.{IsCarriedAt, IsSoundAct, IsSoundItem, IsSoundRan, IsSoundStart, IsPlaceOf, IsWorkAt, UnderWay}
 use Rattle.world.specs.Parted.{joined_in}
 use Rattle.world.specs.Events.{ComesOf, TakesMessage, Works}
 use Rattle.world.proofs.Keeping.{more, stays}
@@ -32,10 +32,10 @@ part_acts_from : (J : Type 0) (place age : ℕ) (works : List Work) → parts pa
 part_acts_from J place age [] = refl
 part_acts_from J place age (work ∷ works) = ap (λ (p : Part). join (part [] [] (Acting place ∷ [])) p) (part_acts_from J (place + 1) age works)
 
--- where nothing is carried but with place 0
-carried_later : (J : Type 0) (u : UnderWay) (place : ℕ) → 1 ≤ place → IsCarriedAt {J = J} u place None
+-- where nothing is carried but with the first action
+carried_later : (J : Type 0) (u : UnderWay) (number : ℕ) → 1 ≤ number → IsCarriedAt {J = J} u number None
 carried_later J u zero some = absurd (omega (arith, some))
-carried_later J u (suc place) some = tt
+carried_later J u (suc number) some = tt
 
 module _ {J : Type 0} where
   one_fine : (shared : Shared) (log : List Entry) (u : UnderWay) (one : Item J) → IsSoundItem shared log u one → All (IsSoundItem {J = J} shared log u) (one ∷ [])
@@ -45,36 +45,38 @@ module _ {J : Type 0} where
 
   -- all of them have the transaction, and their tokens
   pub part_acts : (flow : Flow J) (works : List Work) → 1 ≤ length works
-      → parts part_item (acts_of flow works) ≡ part (all_claims flow.transaction.held) (unanswered_transaction flow.transaction ∷ []) (acting_from 0 works)
+      → parts part_item (acts_of flow works) ≡ part (all_claims flow.transaction.held) (unanswered_transaction flow.transaction ∷ []) (acting_from (length flow.transaction.held) works)
   part_acts flow [] some = absurd (omega (arith, some))
   part_acts flow (work ∷ works) some =
       let t = flow.transaction in
-      let first = part (all_claims t.held) (unanswered_transaction t ∷ []) (Acting 0 ∷ []) in
-      ap (λ (p : Part). join first p) (part_acts_from J (0 + 1) t.age works)
-      ∙ ap (λ (claims : List Claiming). part claims (unanswered_transaction t ∷ []) (acting_from 0 (work ∷ works))) (append-nil (all_claims t.held))
+      let first = part (all_claims t.held) (unanswered_transaction t ∷ []) (Acting (length t.held) ∷ []) in
+      ap (λ (p : Part). join first p) (part_acts_from J (length t.held + 1) t.age works)
+      ∙ ap (λ (claims : List Claiming). part claims (unanswered_transaction t ∷ []) (acting_from (length t.held) (work ∷ works))) (append-nil (all_claims t.held))
 
-  -- those from a place on are sound
-  acts_fine_from : (shared : Shared) (log : List Entry) (u : UnderWay) (place age : ℕ) (carried : Option (Flow J)) (works : List Work)
-      → IsCarriedAt u place carried → ((k : ℕ) (work : Work) → slice_get works k ≡ Some work → IsWorkAt u (place + k) work) → All (CanDo shared) works
+  -- those from a number on are sound
+  acts_fine_from : (shared : Shared) (log : List Entry) (u : UnderWay) (number place age : ℕ) (carried : Option (Flow J)) (works : List Work)
+      → IsPlaceOf u number place → IsCarriedAt u number carried → ((k : ℕ) (work : Work) → slice_get works k ≡ Some work → IsWorkAt u (number + k) work) → All (CanDo shared) works
       → All (IsSoundItem shared log u) (acts_from place age carried works)
-  acts_fine_from shared log u place age carried [] here at can = All-nil (IsSoundItem shared log u)
-  acts_fine_from shared log u place age carried (work ∷ works) here at can =
+  acts_fine_from shared log u number place age carried [] is here at can = All-nil (IsSoundItem shared log u)
+  acts_fine_from shared log u number place age carried (work ∷ works) is here at can =
       let act : AnyAct J = record { place = place; age = age; work = work; flow = carried } in
-      let first : place + 0 ≡ place = omega arith in
-      let later : (k : ℕ) → place + suc k ≡ (place + 1) + k = λ k. omega arith in
+      let first : number + 0 ≡ number = omega arith in
+      let later : (k : ℕ) → number + suc k ≡ (number + 1) + k = λ k. omega arith in
       let sound : IsSoundAct shared u act = record {
+        number = number;
+        place = is;
         flow = here;
         work = subst (λ n. IsWorkAt u n work) first (at 0 work refl);
         can = All-head (CanDo shared) work works can;
       } in
       All-cons (IsSoundItem shared log u) (item.Push (Act act)) (acts_from (place + 1) age None works) sound
-      (acts_fine_from shared log u (place + 1) age None works (carried_later J u (place + 1) (omega arith))
+      (acts_fine_from shared log u (number + 1) (place + 1) age None works (omega (arith, is)) (carried_later J u (number + 1) (omega arith))
       (λ k other is. subst (λ n. IsWorkAt u n other) (later k) (at (suc k) other is)) (All-tail (CanDo shared) work works can))
 
   pub acts_fine : (shared : Shared) (log : List Entry) (u : UnderWay) (flow : Flow J) (works : List Work) → IsSoundStart shared u flow works → All (IsSoundItem shared log u) (acts_of flow works)
   acts_fine shared log u flow works h =
       let from_zero : (k : ℕ) → k ≡ 0 + k = λ k. omega arith in
-      acts_fine_from shared log u 0 flow.transaction.age (Some flow) works h.flow_is
+      acts_fine_from shared log u 0 (length flow.transaction.held) flow.transaction.age (Some flow) works (omega (arith, ap (λ (hs : List (List Claiming)). length hs) h.flow_is.held)) h.flow_is
       (λ k work is. subst (λ n. IsWorkAt u n work) (from_zero k) (subst (λ (ws : List Work). slice_get ws k ≡ Some work) h.works_are is)) h.can
 
   -- ---- each message
@@ -92,10 +94,10 @@ module _ {J : Type 0} where
         fine = λ u log sound. acts_fine (shared_of slices.tables) log u flow works.items sound;
       }
 
-  ran_soundly : (u : UnderWay) (place : ℕ) (work : Work) (one : Ran J) (old new : Joined) → IsWorkAt u place work → ComesOf old work one new → IsSoundRan (shared_of old.tables) u place one
-  ran_soundly u place work (ran.Done claims found) old new here of = (work, (here, of.1))
-  ran_soundly u place work (ran.Died group holder) old new here of = tt
-  ran_soundly u place work ran.NoMemory old new here of = tt
+  ran_soundly : (u : UnderWay) (number : ℕ) (work : Work) (one : Ran J) (old new : Joined) → IsWorkAt u number work → ComesOf old work one new → IsSoundRan (shared_of old.tables) u number one
+  ran_soundly u number work (ran.Done claims found) old new here of = (work, (here, of.1))
+  ran_soundly u number work (ran.Died group holder) old new here of = tt
+  ran_soundly u number work ran.NoMemory old new here of = tt
 
   -- an action that runs puts its report
   pub acts : (act : AnyAct J) (one : Ran J) (old new : Joined) → SlicesKeep [] old (claims_of_ran one) new → ComesOf old act.work one new
@@ -110,7 +112,7 @@ module _ {J : Type 0} where
         tokens = refl;
         fine = λ u log fine.
             one_fine (shared_of old.tables) log u (item.Report (record { place = act.place; flow = act.flow; ran = one }))
-            (record { flow = fine.flow; ran = ran_soundly u act.place act.work one old new fine.work of });
+            (record { number = fine.number; place = fine.place; flow = fine.flow; ran = ran_soundly u fine.number act.work one old new fine.work of });
       }
 
   -- claims whose work is committed are given back

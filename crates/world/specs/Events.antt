@@ -85,7 +85,7 @@ module _ {J : Type 0} where
 
   -- what is asked of a message that is worked on
   abbrev pub CanWork : Shared → Message J → Type 0
-  CanWork shared (Start flow works) = (1 ≤ length works.items) × ((length works.items ≤ MOST_ACTIONS) × All (CanDo shared) works.items)
+  CanWork shared (Start flow works) = (1 ≤ length works.items) × ((length flow.transaction.held + length works.items ≤ MOST_ACTIONS) × All (CanDo shared) works.items)
   CanWork shared (Act act) = CanDo shared act.work
   CanWork shared (Settle claims) = CanAllBeSettled claims
   CanWork shared (Undo claims) = CanAllBeUndone claims
@@ -110,7 +110,7 @@ module _ {J : Type 0} where
   -- The actions of the next phase are put, and nothing is reported yet; or the transaction is to be logged.
   abbrev pub goes_on : Transaction J → Gathered → Parts J → Parts J
   goes_on t (Next progress) old =
-      putting (acts_of (record { transaction = t; progress = progress }) (works_of progress)) (Some (Acting (replicate (length (works_of progress)) None))) old
+      putting (acts_of (record { transaction = t; progress = progress }) (works_of progress)) (Some (Acting (length t.held) (replicate (length (works_of progress)) None))) old
   goes_on t (Finish shown) old = committing t shown old
   goes_on t (RollBack fault) old = committing t (reply.RolledBack fault) old
 
@@ -139,18 +139,18 @@ module _ {J : Type 0} where
   CanMeet reports = CarriesFirst reports (CanMeetFor reports)
 
   -- Another action is awaited, and the report is kept; or the phase has met.
-  abbrev pub ReportsInto : List (Option (Report J)) → Parts J → Parts J → Type 0
-  ReportsInto slots old new =
-      ((1 ≤ length (awaited_from 0 slots)) × (new ≡ with_active (Some (Acting slots)) old))
+  abbrev pub ReportsInto : ℕ → List (Option (Report J)) → Parts J → Parts J → Type 0
+  ReportsInto first slots old new =
+      ((1 ≤ length (awaited_from 0 slots)) × (new ≡ with_active (Some (Acting first slots)) old))
       ⊎ ((reports : List (Report J)) × ((map Some reports ≡ slots) × MeetsAs reports old new))
 
-  -- the phase that is under way, in these places
-  abbrev pub OfPhase : Parts J → (List (Option (Report J)) → Type 0) → Type 0
-  OfPhase w P = (slots : List (Option (Report J))) × ((w.desk.active ≡ Some (Acting slots)) × P slots)
+  -- the phase that is under way: the place of its first action, and what has been reported, from that place on
+  abbrev pub OfPhase : Parts J → (ℕ → List (Option (Report J)) → Type 0) → Type 0
+  OfPhase w P = (first : ℕ) × ((slots : List (Option (Report J))) × ((w.desk.active ≡ Some (Acting first slots)) × P first slots))
 
   -- A report comes to the phase that is under way.
   abbrev pub Reports : Report J → Parts J → Parts J → Type 0
-  Reports r old new = OfPhase old (λ slots. ReportsInto (slice_set slots r.place (Some r)) old new)
+  Reports r old new = OfPhase old (λ first slots. ReportsInto first (slice_set slots (r.place - first) (Some r)) old new)
 
   -- ---- a transaction is logged
 
@@ -208,8 +208,8 @@ module _ {J : Type 0} where
   abbrev pub CanSend : Database → Item J → Parts J → Type 0
   CanSend opening (item.Push message) w = Unit {0}
   CanSend opening (item.Report r) w =
-      OfPhase w (λ slots. (slice_get slots r.place ≡ Some None)
-      × ((reports : List (Report J)) → map Some reports ≡ slice_set slots r.place (Some r) → CanMeet reports))
+      OfPhase w (λ first slots. (first ≤ r.place) × ((slice_get slots (r.place - first) ≡ Some None)
+      × ((reports : List (Report J)) → map Some reports ≡ slice_set slots (r.place - first) (Some r) → CanMeet reports)))
   CanSend opening item.Ended w = OfEnding w (λ left. 1 ≤ left)
   CanSend opening (item.Commit commit) w = CanCommit opening commit
   CanSend opening (item.Reply told) w = (desk : SessionDesk J) × (slice_get w.desk.sessions.items told.pass.session ≡ Some desk)

@@ -1,5 +1,5 @@
 -- What is under way: which claims, which transactions without an answer, and which tokens messages, reports and items have.
-use Rattle.std.specs.Prelude.{ℕ, ◌+◌, List, [], ◌∷◌, ◌++◌, Option, Some, None}
+use Rattle.std.specs.Prelude.{ℕ, ◌+◌, List, [], ◌∷◌, ◌++◌, Option, Some, None, length}
 use Rattle.requests.specs.declared.answer.Answer.{Answer}
 use Rattle.requests.specs.declared.answer.Answer.TheVariants.{Done, Refused}
 use Rattle.tickets.specs.Claims.{Claiming, all_claims}
@@ -17,8 +17,8 @@ use Rattle.world.specs.declared.flight.Item.TheVariants as item
 
 -- ---- tokens
 
--- What has to come back of the active transaction: that the action of a place of its phase has run, that it was logged, or
--- that an action has given its claims back.
+-- What has to come back of the active transaction: that the action of a place has run, that it was logged, or that an action
+-- has given its claims back.
 pub data Token : Type 0 where
   Acting : ℕ → Token
   Committing : Token
@@ -97,7 +97,7 @@ module _ {J : Type 0} where
 
   -- what a message has with it
   abbrev pub part_message : Message J → Part
-  part_message (Start flow works) = part_transaction flow.transaction (acting_from 0 works.items)
+  part_message (Start flow works) = part_transaction flow.transaction (acting_from (length flow.transaction.held) works.items)
   part_message (Act act) = part (part_carried act.flow).claims (part_carried act.flow).pending (Acting act.place ∷ [])
   part_message (Settle claims) = part_held claims
   part_message (Undo claims) = part_held claims

@@ -45,9 +45,9 @@ module _ {J : Type 0} where
   acts_from place age carried (work ∷ works) =
       item.Push (Act (record { place = place; age = age; work = work; flow = carried })) ∷ acts_from (place + 1) age None works
 
-  -- all actions of a phase: the first carries the transaction
+  -- all actions of a phase, whose places come after those of the phases before: the first carries the transaction
   abbrev pub acts_of : Flow J → List Work → List (Item J)
-  acts_of flow works = acts_from 0 flow.transaction.age (Some flow) works
+  acts_of flow works = acts_from (length flow.transaction.held) flow.transaction.age (Some flow) works
 
   -- ---- what they report
 
@@ -117,7 +117,7 @@ module _ {J : Type 0} where
 
   -- a phase is under way
   abbrev pub IsActing : Active J → Type 0
-  IsActing (Acting meeting) = Unit {0}
+  IsActing (Acting first meeting) = Unit {0}
   IsActing Committing = ⊥
   IsActing (Ending left) = ⊥
 

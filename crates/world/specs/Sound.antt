@@ -59,9 +59,13 @@ pub record UnderWay : Type 0 where
   pub progress : Progress
   pub held : List (List Claiming)
 
--- the action of this place of its phase does this
+-- the action of this number of its phase, from 0, does this
 abbrev pub IsWorkAt : UnderWay → ℕ → Work → Type 0
-IsWorkAt u place work = slice_get (works_of u.progress) place ≡ Some work
+IsWorkAt u number work = slice_get (works_of u.progress) number ≡ Some work
+
+-- and has this place, after the actions of the phases before
+abbrev pub IsPlaceOf : UnderWay → ℕ → ℕ → Type 0
+IsPlaceOf u number place = place ≡ length u.held + number
 
 module _ {J : Type 0} where
   -- ---- transactions
@@ -79,12 +83,12 @@ module _ {J : Type 0} where
     pub held : flow.transaction.held ≡ u.held
     pub progress : flow.progress ≡ u.progress
 
-  -- the transaction goes with place 0, and with no other
+  -- the transaction goes with the first action of its phase, and with no other
   abbrev pub IsCarriedAt : UnderWay → ℕ → Option (Flow J) → Type 0
   IsCarriedAt u zero None = ⊥
   IsCarriedAt u zero (Some flow) = IsSoundFlow u flow
-  IsCarriedAt u (suc place) None = Unit {0}
-  IsCarriedAt u (suc place) (Some flow) = ⊥
+  IsCarriedAt u (suc number) None = Unit {0}
+  IsCarriedAt u (suc number) (Some flow) = ⊥
 
   -- ---- one thing that is under way
 
@@ -93,12 +97,14 @@ module _ {J : Type 0} where
     pub flow_is : IsSoundFlow u flow
     pub works_are : works ≡ works_of u.progress
     pub can : All (CanDo shared) works
-    pub few : length works ≤ MOST_ACTIONS
+    pub few : length flow.transaction.held + length works ≤ MOST_ACTIONS
 
   -- an action does the work of its place, which can be done
   pub record IsSoundAct (shared : Shared) (u : UnderWay) (act : Act J) : Type 0 where
-    pub flow : IsCarriedAt u act.place act.flow
-    pub work : IsWorkAt u act.place act.work
+    pub number : ℕ
+    pub place : IsPlaceOf u number act.place
+    pub flow : IsCarriedAt u number act.flow
+    pub work : IsWorkAt u number act.work
     pub can : CanDo shared act.work
 
   -- a message is sound, by its kind
@@ -108,16 +114,18 @@ module _ {J : Type 0} where
   IsSoundMessage shared u (message.Settle claims) = CanAllBeSettled claims
   IsSoundMessage shared u (message.Undo claims) = CanAllBeUndone claims
 
-  -- an action that ran did the work of its place, and all of it can be taken back
+  -- an action that ran did the work of its number, and all of it can be taken back
   abbrev pub IsSoundRan : Shared → UnderWay → ℕ → Ran J → Type 0
-  IsSoundRan shared u place (ran.Done claims found) = (work : Work) × (IsWorkAt u place work × (HasDone shared work found claims × CanAllBeUndone claims))
-  IsSoundRan shared u place (ran.Died group holder) = Unit {0}
-  IsSoundRan shared u place ran.NoMemory = Unit {0}
+  IsSoundRan shared u number (ran.Done claims found) = (work : Work) × (IsWorkAt u number work × (HasDone shared work found claims × CanAllBeUndone claims))
+  IsSoundRan shared u number (ran.Died group holder) = Unit {0}
+  IsSoundRan shared u number ran.NoMemory = Unit {0}
 
   -- a report is of its place, and what it tells of was done as the phase has it
   pub record IsSoundReport (shared : Shared) (u : UnderWay) (r : Report J) : Type 0 where
-    pub flow : IsCarriedAt u r.place r.flow
-    pub ran : IsSoundRan shared u r.place r.ran
+    pub number : ℕ
+    pub place : IsPlaceOf u number r.place
+    pub flow : IsCarriedAt u number r.flow
+    pub ran : IsSoundRan shared u number r.ran
 
   -- A commit is of a request that its check accepts, and that was carried out under the transaction's claims with this
   -- reply, from any opening; and all can be undone.
@@ -145,30 +153,32 @@ module _ {J : Type 0} where
   -- the reports of the phase that is under way, as far as they have met
   abbrev pub reported_to : Option (Active J) → List (Report J)
   reported_to None = []
-  reported_to (Some (active.Acting slots)) = reported slots
+  reported_to (Some (active.Acting first slots)) = reported slots
   reported_to (Some active.Committing) = []
   reported_to (Some (active.Ending left)) = []
 
   -- what has to come back before the transaction goes on
   abbrev pub awaited : Option (Active J) → List Token
   awaited None = []
-  awaited (Some (active.Acting slots)) = map Acting (awaited_from 0 slots)
+  awaited (Some (active.Acting first slots)) = map Acting (awaited_from first slots)
   awaited (Some active.Committing) = Committing ∷ []
   awaited (Some (active.Ending left)) = replicate left Ending
 
-  -- A phase that is under way: the request has come so far under what its earlier phases hold, all of which can be taken
-  -- back; each of its actions has its place; what was reported is sound; and some action has not reported.
-  pub record IsSoundPhase (shared : Shared) (u : UnderWay) (slots : List (Option (Report J))) : Type 0 where
+  -- A phase that is under way: its first place comes after those of the phases before; the request has come so far under what
+  -- these hold, all of which can be taken back; each of its actions has its place; what was reported is sound; and some action
+  -- has not reported.
+  pub record IsSoundPhase (shared : Shared) (u : UnderWay) (first : ℕ) (slots : List (Option (Report J))) : Type 0 where
+    pub first_is : first ≡ length u.held
     pub reached : IsReached shared u.request u.progress u.held
     pub undo : All CanAllBeUndone u.held
     pub many : length slots ≡ length (works_of u.progress)
-    pub reports : (place : ℕ) (r : Report J) → slice_get slots place ≡ Some (Some r) → (r.place ≡ place) × IsSoundReport shared u r
+    pub reports : (number : ℕ) (r : Report J) → slice_get slots number ≡ Some (Some r) → (r.place ≡ first + number) × IsSoundReport shared u r
     pub awaits : 1 ≤ length (awaited_from 0 slots)
 
   -- the active transaction is sound, by how far it has come
   abbrev pub IsSoundActive : Shared → UnderWay → Option (Active J) → Type 0
   IsSoundActive shared u None = Unit {0}
-  IsSoundActive shared u (Some (active.Acting slots)) = IsSoundPhase shared u slots
+  IsSoundActive shared u (Some (active.Acting first slots)) = IsSoundPhase shared u first slots
   IsSoundActive shared u (Some active.Committing) = Unit {0}
   IsSoundActive shared u (Some (active.Ending left)) = (1 ≤ left) × (left ≤ MOST_ACTIONS)
 

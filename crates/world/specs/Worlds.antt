@@ -106,7 +106,7 @@ module _ {J : Type 0} where
     pub outbox : new.outbox ≡ old.outbox
     pub log : new.log ≡ old.log
     pub admitted : new.desk.admitted ≡ old.desk.admitted + 1
-    pub active : new.desk.active ≡ Some (Acting (replicate (length works.items) None))
+    pub active : new.desk.active ≡ Some (Acting 0 (replicate (length works.items) None))
     pub sessions : new.desk.sessions.items
         ≡ slice_set old.desk.sessions.items session (record { seat = seating desk.seat.session flow.transaction.pass.asks; pass = None })
 

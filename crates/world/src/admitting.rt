@@ -85,7 +85,7 @@ impl<J: commit_log::Naming + tickets::Naming> Parts<J> {
         };
         self.inbox.put(Message::Start(flow, works));
         self.desk.admitted = age + 1;
-        self.desk.active = Some(Active::Acting(meeting));
+        self.desk.active = Some(Active::Acting { first: 0, meeting });
         Ok(age)
     }
 }

@@ -8,7 +8,7 @@ use crate::world::Parts;
 use rendezvous::Meeting;
 use schema::NoMemory;
 use std::alloc::Global;
-use transactions::{Progress, Work, phases_have_actions};
+use transactions::{MOST_ACTIONS, Progress, Work, phases_have_actions};
 
 /// The actions of a phase that begins: what they do, by place, and where they meet.
 #[derive(Drop)]
@@ -31,14 +31,16 @@ impl<J: commit_log::Naming + tickets::Naming> Phase<J> {
 }
 
 impl<J: commit_log::Naming + tickets::Naming> Parts<J> {
-    // Puts the actions of a phase at the end of the outbox, by place. The first carries the transaction.
+    // Puts the actions of a phase at the end of the outbox, by place, after those of the phases before. The
+    // first carries the transaction.
     pub(crate) fn put_acts(&mut self, flow: Flow<J>, works: Vec<Work>)
         requires room { length self.old.outbox + length works.items ≤ 4096 }
+        requires held { length flow.transaction.held ≤ MOST_ACTIONS }
         ensures { self.new ≡ record self.old { outbox = self.old.outbox ++ acts_of flow works.items } }
     {
         let age = flow.transaction.age;
+        let mut place = flow.transaction.held.len();
         let mut carried = Some(flow);
-        let mut place = 0;
         for work in works {
             self.outbox.put(Item::Push(Message::Act(Act {
                 place,

@@ -14,8 +14,11 @@ pub struct SessionDesk<J: commit_log::Naming + tickets::Naming> {
 /// How far the transaction has come that is active.
 #[derive(Drop)]
 pub enum Active<J: commit_log::Naming + tickets::Naming> {
-    /// The actions of a phase are under way, and meet here.
-    Acting(Meeting<Report<J>>),
+    /// The actions of a phase are under way, and meet here: each by its place, less that of the first.
+    Acting {
+        first: usize,
+        meeting: Meeting<Report<J>>,
+    },
     /// It is to be logged.
     Committing,
     /// So many actions have yet to give their claims back.

@@ -28,12 +28,12 @@ pub struct Flow<J: commit_log::Naming + tickets::Naming> {
 /// An action of a phase.
 #[derive(Drop)]
 pub struct Act<J: commit_log::Naming + tickets::Naming> {
-    /// Its place in the phase, from 0.
+    /// Its place among all actions of its transaction, those of earlier phases before it, from 0.
     pub place: usize,
     /// That of its transaction.
     pub age: u64,
     pub work: Work,
-    /// With place 0, and no other.
+    /// With the least place of its phase, and no other.
     pub flow: Option<Flow<J>>,
 }
 
@@ -52,6 +52,7 @@ pub enum Message<J: commit_log::Naming + tickets::Naming> {
 /// What an action reports where its phase meets.
 #[derive(Drop)]
 pub struct Report<J: commit_log::Naming + tickets::Naming> {
+    /// That of the action.
     pub place: usize,
     pub flow: Option<Flow<J>>,
     pub ran: Ran<J>,

@@ -59,7 +59,8 @@ impl<J: commit_log::Naming + tickets::Naming> Parts<J> {
         match gathered {
             Gathered::Next(progress) => match Phase::begin(alloc, &progress) {
                 Ok(Phase { works, meeting }) => {
-                    self.desk.active = Some(Active::Acting(meeting));
+                    let first = transaction.held.len();
+                    self.desk.active = Some(Active::Acting { first, meeting });
                     let flow = Flow {
                         transaction,
                         progress,

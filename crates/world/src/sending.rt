@@ -92,10 +92,10 @@ impl<J: commit_log::Naming + tickets::Naming> Parts<J> {
         let Some(active) = self.desk.active.take() else {
             unreachable!()
         };
-        let mut meeting = meeting_of(active);
-        let place = report.place;
+        let (first, mut meeting) = meeting_of(active);
+        let place = report.place - first;
         match meeting.report(place, report) {
-            Reported::NotLast => self.desk.active = Some(Active::Acting(meeting)),
+            Reported::NotLast => self.desk.active = Some(Active::Acting { first, meeting }),
             Reported::Last(results) => self.follow(alloc, results),
         }
     }
@@ -171,13 +171,15 @@ impl<J: commit_log::Naming + tickets::Naming> Parts<J> {
     }
 }
 
-// Where the actions of the phase meet that is under way.
-fn meeting_of<J: commit_log::Naming + tickets::Naming>(active: Active<J>) -> Meeting<Report<J>>
+// The place of the first action of the phase that is under way, and where they meet.
+fn meeting_of<J: commit_log::Naming + tickets::Naming>(
+    active: Active<J>,
+) -> (usize, Meeting<Report<J>>)
     requires { spec.IsActing active }
-    ensures { active ≡ Active.Acting result }
+    ensures { active ≡ Active.Acting result.0 result.1 }
 {
     match active {
-        Active::Acting(meeting) => meeting,
+        Active::Acting { first, meeting } => (first, meeting),
         Active::Committing => unreachable!(),
         Active::Ending(_) => unreachable!(),
     }

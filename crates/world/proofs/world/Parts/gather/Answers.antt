@@ -1,7 +1,10 @@
-use Rattle.std.proofs.Common.{inr, subst}
+use Rattle.std.proofs.Common.{rules, ◌≡◌, Some, None, length, replicate, inr, subst, ◌∙◌}
 use Rattle.transactions.specs.declared.progress.Gathered.{Gathered}
-use Rattle.transactions.specs.declared.progress.Gathered.TheVariants.{Finish, RollBack}
-use Rattle.transactions.specs.Progresses.{FollowsFrom}
+use Rattle.transactions.specs.declared.progress.Gathered.TheVariants.{Next, Finish, RollBack}
+use Rattle.transactions.specs.Progresses.{FollowsFrom, works_of}
+use Rattle.world.specs.declared.desk.Active.TheVariants.{Acting}
+use Rattle.world.specs.declared.flight.Flow.{Flow}
+use Rattle.world.specs.Following.{acts_of, putting}
 use Rattle.world.proofs.world.Parts.gather.Goals as goal
 
 pub returns-in-Finish : goal.returns-in-Finish
@@ -16,4 +19,20 @@ returns-in-RollBack g c =
     inr (
       RollBack c.in-RollBack.fault,
       (subst (λ (g : Gathered). FollowsFrom c.args.progress c.args.found.items g) c.in-RollBack.is c.in-Ok.ensures, c.put_commit-in-RollBack.ensures),
+    )
+
+pub returns-in-Ok-begin : goal.returns-in-Ok-begin
+returns-in-Ok-begin g c =
+    let t = c.args.transaction in
+    let progress = c.in-Next.progress in
+    let flow : Flow g.row.J.Denot = record { transaction = t; progress = progress } in
+    let works : c.in-Ok-begin.field-0.works.items ≡ works_of progress = search rules in
+    let first : c.len-first.result ≡ length t.held = c.len-first.ensures in
+    let meeting : c.in-Ok-begin.field-0.meeting ≡ replicate (length (works_of progress)) None = search rules in
+    inr (
+      Next progress,
+      (
+        subst (λ (g : Gathered). FollowsFrom c.args.progress c.args.found.items g) c.in-Next.is c.in-Ok.ensures,
+        c.put_acts.ensures ∙ (λ i. putting (acts_of flow (works i)) (Some (Acting (first i) (meeting i))) c.args.self.now),
+      ),
     )

@@ -1,4 +1,5 @@
 use Rattle.std.proofs.Common.{◌≡◌, ◌≤◌, ◌+◌, ◌++◌, length}
+use Rattle.transactions.specs.declared.laws.TheConstants.{MOST_ACTIONS}
 use Rattle.world.specs.Following.{acts_from, acts_of}
 use Rattle.world.proofs.world.Parts.put_acts.Given as goal
 
@@ -10,5 +11,5 @@ invariant-loop-work g l = record {
   now : record l.self { outbox = l.self.outbox ++ acts_from l.place l.age l.carried l.work-iterator.rest.items }
       ≡ record l.fn.self { outbox = l.fn.self.outbox ++ acts_of l.fn.flow l.fn.works.items };
   room : length l.self.outbox + length l.work-iterator.rest.items ≤ 4096;
-  small : l.place ≤ length l.self.outbox;
+  small : l.place ≤ MOST_ACTIONS + length l.self.outbox;
 }
