@@ -1,5 +1,5 @@
 -- An order's total (TPC-C 5.11, clause 2.4.2.2).
-use Rattle.std.specs.Prelude.{ℕ, ◌+◌, ◌-◌, ℤ, pos, ◌+ℤ◌, ◌*ℤ◌, ◌≤ℤ◌, ◌<ℤ◌}
+use Rattle.std.specs.Prelude.{◌≡◌, ◌↔◌, ℕ, ◌+◌, ◌-◌, ◌*◌, ◌/◌, ℤ, pos, ◌+ℤ◌, ◌*ℤ◌, ◌≤ℤ◌, ◌<ℤ◌}
 
 -- the sum less the discount, with both taxes, in hundred-millionths of a cent
 abbrev pub scaled_total : ℤ → ℕ → ℕ → ℕ → ℤ
@@ -10,3 +10,13 @@ scaled_total sum discount warehouse_tax district_tax =
 pub record IsNearestCent (scaled total : ℤ) : Type 0 where
   pub low : (pos 100000000 *ℤ total) ≤ℤ (scaled +ℤ pos 50000000)
   pub high : scaled <ℤ (pos 100000000 *ℤ total +ℤ pos 50000000)
+
+-- the total in whole cents, of a sum that isn't negative
+abbrev pub total_of : ℕ → ℕ → ℕ → ℕ → ℕ
+total_of sum discount warehouse_tax district_tax =
+    (sum * (10000 - discount) * (10000 + warehouse_tax + district_tax) + 50000000) / 100000000
+
+-- the function is the relation's one answer
+abbrev pub TotalIsNearestCent : Type 0
+TotalIsNearestCent = (sum discount warehouse_tax district_tax : ℕ) (total : ℤ)
+    → IsNearestCent (scaled_total (pos sum) discount warehouse_tax district_tax) total ↔ (total ≡ pos (total_of sum discount warehouse_tax district_tax))

@@ -8,7 +8,7 @@ mod totals;
 
 pub use cents::Cents;
 pub use rate::Rate;
-pub use totals::{line_amount, order_total};
+pub use totals::{line_amount, order_total, total_is_nearest_cent};
 
 #[cfg(test)]
 mod tests;

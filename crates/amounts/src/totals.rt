@@ -1,6 +1,6 @@
-ghost use Rattle.std.specs.Prelude.{◌≡◌, ◌*◌, ◌^◌, ◌≤◌, ◌*ℤ◌, ◌≤ℤ◌, pos};
+ghost use Rattle.std.specs.Prelude.{◌≡◌, ◌+◌, ◌-◌, ◌*◌, ◌^◌, ◌≤◌, ◌*ℤ◌, ◌≤ℤ◌, pos, unsigned_abs};
 ghost use Rattle.amounts.specs.Money.{IsMoney};
-ghost use Rattle.amounts.specs.Total.{IsNearestCent, scaled_total};
+ghost use Rattle.amounts.specs.Total.{IsNearestCent, TotalIsNearestCent, scaled_total, total_of};
 
 use crate::{Cents, Rate};
 
@@ -19,16 +19,22 @@ pub fn line_amount(quantity: u8, price: Cents) -> Cents
 pub fn order_total(sum: Cents, discount: Rate, warehouse_tax: Rate, district_tax: Rate) -> Cents
     requires low { pos 0 ≤ℤ sum }
     requires fits { IsMoney (pos 3 *ℤ sum) }
-    ensures { IsNearestCent (scaled_total sum discount warehouse_tax district_tax) result }
+    ensures value { result ≡ pos (total_of (unsigned_abs sum) discount warehouse_tax district_tax) }
+    ensures nearest { IsNearestCent (scaled_total sum discount warehouse_tax district_tax) result }
 {
     let scaled = scaled(sum.get() as u64, discount, warehouse_tax, district_tax);
     Cents::new(((scaled + 50_000_000) / 100_000_000) as i64)
 }
 
+/// A law, proved and of no effect: the total that `order_total` gives is the one nearest cent.
+pub fn total_is_nearest_cent()
+    ensures { TotalIsNearestCent }
+{}
+
 // The total in hundred-millionths of a cent.
 fn scaled(sum: u64, discount: Rate, warehouse_tax: Rate, district_tax: Rate) -> u128
     requires { 3 * sum ≤ 10 ^ 15 }
-    ensures value { pos result ≡ scaled_total (pos sum) discount warehouse_tax district_tax }
+    ensures value { result ≡ sum * (10000 - discount) * (10000 + warehouse_tax + district_tax) }
     ensures bound { result ≤ 300000000 * sum }
 {
     let after_discount = u128::from(10_000 - discount.get());
