@@ -1,2 +1,4 @@
 pub mod Fitting
 pub mod Decimals
+pub mod Restocks
+pub mod Words

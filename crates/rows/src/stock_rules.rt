@@ -1,14 +1,14 @@
-ghost use Rattle.std.specs.Prelude.{◌≡◌, ◌↔◌, IsTrue};
-ghost use Rattle.rows.specs.Restock.{IsRestocked};
-ghost use Rattle.rows.specs.Brand.{IsOriginal};
-ghost use Rattle.rows.specs.declared.stock_rules.BrandGeneric.TheVariants.{Brand};
+ghost use Rattle.std.specs.Prelude.{◌≡◌, ◌≤◌};
+ghost use Rattle.rows.specs.Restock.{RestockedIsTheOne, restocked};
+ghost use Rattle.rows.specs.Brand.{HasOriginalIsExact, brand_of, has_original};
+ghost use Rattle.rows.specs.StockInfo.{dist_info_of};
 
-use crate::{LineQuantity, StockQuantity, Text};
+use crate::{LineQuantity, Stock, StockQuantity, Text};
 
 /// The stock of an item after `ordered` of it were taken: what is left where that is at least 10,
 /// and 91 more where it would be less (clause 2.4.2.2).
 pub fn restock(quantity: StockQuantity, ordered: LineQuantity) -> StockQuantity
-    ensures { IsRestocked quantity ordered result }
+    ensures { result ≡ restocked quantity ordered }
 {
     let quantity = quantity.get();
     let ordered = ordered.get();
@@ -18,6 +18,11 @@ pub fn restock(quantity: StockQuantity, ordered: LineQuantity) -> StockQuantity
         StockQuantity::new(quantity + 91 - ordered)
     }
 }
+
+/// A law, proved and of no effect: what `restock` leaves is the one number that the rule allows.
+pub fn restocked_is_the_one()
+    ensures { RestockedIsTheOne }
+{}
 
 /// Whether the item of an order line is a brand item, `B`, or generic, `G` (clause 2.4.2.2).
 #[derive(Clone, Copy, Debug, PartialEq, Eq)]
@@ -30,7 +35,7 @@ pub enum BrandGeneric {
 
 /// `Brand` where I_DATA and S_DATA both contain `ORIGINAL`, else `Generic`.
 pub fn brand(i_data: &Text<50>, s_data: &Text<50>) -> BrandGeneric
-    ensures { (result ≡ Brand) ↔ (IsOriginal i_data.now × IsOriginal s_data.now) }
+    ensures { result ≡ brand_of i_data.now s_data.now }
 {
     if is_original(i_data) && is_original(s_data) {
         BrandGeneric::Brand
@@ -39,8 +44,24 @@ pub fn brand(i_data: &Text<50>, s_data: &Text<50>) -> BrandGeneric
     }
 }
 
+/// A law, proved and of no effect: the test that `brand` goes by is that the word stands in the text.
+pub fn has_original_is_exact()
+    ensures { HasOriginalIsExact }
+{}
+
 fn is_original(text: &Text<50>) -> bool
-    ensures { IsTrue result ↔ IsOriginal text.now }
+    ensures { result ≡ has_original text.now }
 {
     text.as_str().contains("ORIGINAL")
+}
+
+impl Stock {
+    /// S_DIST_xx of the district, from 1 to 10: what a line of an order from there shows (clause 2.4.2.2).
+    pub fn dist_info(&self, d_id: u32) -> &Text<24>
+        requires low { 1 ≤ d_id }
+        requires high { d_id ≤ 10 }
+        ensures { result.now ≡ dist_info_of self.now d_id }
+    {
+        &self.dist[d_id as usize - 1]
+    }
 }
