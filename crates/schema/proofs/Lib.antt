@@ -9,3 +9,8 @@ pub mod OrderedParts
 pub mod DistrictRows
 pub mod TableSums
 pub mod ScaleKept
+pub mod TableWrites
+pub mod OrderLines
+pub mod Deliveries
+pub mod OrderSpans
+pub mod OrdersKept

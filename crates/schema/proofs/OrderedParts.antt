@@ -165,7 +165,7 @@ later_number home a b h k less =
     let number : nat_cmp a.o_id b.o_id ≡ Less = sym (rw (same_warehouse, same_district) refl) ∙ less in
     grind (arith, nat_tests)
 
-from_later : (home : DistrictKey) (a : OrderKey) (ks : List OrderKey) → IsTrue (is_of_district home a) → AllByRecursion (λ k. order_cmp a k ≡ Less) ks → AllByRecursion (λ k. IsTrue (is_of_district home k) → a.o_id + 1 ≤ k.o_id) ks
+pub from_later : (home : DistrictKey) (a : OrderKey) (ks : List OrderKey) → IsTrue (is_of_district home a) → AllByRecursion (λ k. order_cmp a k ≡ Less) ks → AllByRecursion (λ k. IsTrue (is_of_district home k) → a.o_id + 1 ≤ k.o_id) ks
 from_later home a [] h below = tt
 from_later home a (k ∷ ks) h below = (λ there. later_number home a k h there below.0, from_later home a ks h below.1)
 

@@ -2,8 +2,10 @@ pub mod Limits
 pub mod Dense
 pub mod EachRow
 pub mod Entries
+pub mod MapRows
 pub mod Scale
 pub mod Database
 pub mod Rows
 pub mod Sums
 pub mod Consistency
+pub mod OrderRows

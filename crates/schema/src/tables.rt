@@ -1,16 +1,21 @@
 ghost use Rattle.std.specs.Prelude.{◌≡◌, ◌↔◌, ◌+◌, ◌^◌, ◌<◌, ◌≤◌, ℕ, length, IsTrue, is_some, IfSome, IsOk, IfOk, IfErr, OnOk, OnErr};
 ghost use Rattle.std.specs.Option.{option_copied};
 ghost use Rattle.std.specs.FinMap as map;
-ghost use Rattle.std.specs.List.{slice_get};
+ghost use Rattle.std.specs.List.{list_all, slice_get};
 ghost use Rattle.rows.specs.Keys.{order_of_line};
-ghost use Rattle.schema.specs.Scale.{has_district, customer_key};
-ghost use Rattle.schema.specs.Database.{IsWithinScale, with_payment, without_payment, rows_where, is_of_district, is_of_order};
+ghost use Rattle.schema.specs.Scale.{has_customer, has_district, customer_key};
+ghost use Rattle.schema.specs.Database.{IsWithinScale, customer_of_order, is_order_id, with_payment, without_payment, rows_where, is_of_district, is_of_order};
 ghost use Rattle.schema.specs.Rows.{database, FitsScale, Breaks};
+ghost use Rattle.schema.specs.OrderRows.{StoodThere, is_in_span, is_line_within, line_key, oldest_new_order, with_delivery, with_order, without_order};
 
+use crate::order_rows::{
+    Replaced, add_order_rows, deliver_order_rows, lines_in_span, oldest_number,
+    take_back_order_rows,
+};
 use crate::{Entries, Lines, NewOrders, NoMemory, Orders, Scale, ScaleFault, TableRows};
 use rows::{
-    Customer, CustomerKey, District, DistrictKey, History, Item, NewOrder, Order, OrderKey,
-    OrderLine, OrderLineKey, Stock, StockKey, Warehouse,
+    CarrierId, Customer, CustomerKey, District, DistrictKey, History, Item, Moment, NewOrder,
+    Order, OrderKey, OrderLine, OrderLineKey, Stock, StockKey, Warehouse,
 };
 use std::marker::Model;
 use std::mem;
@@ -251,6 +256,22 @@ impl Tables {
         Entries::of_map(self.rows.lines.range(first..=last))
     }
 
+    /// The number of the district's oldest new order, `None` where it has none (clause 2.7.4.2). It reads one row.
+    pub fn oldest_new_order(&self, home: DistrictKey) -> Option<u32>
+        ensures { result ≡ oldest_new_order self.now home }
+    {
+        oldest_number(&self.rows.new_orders, home)
+    }
+
+    /// The lines of the district's orders numbered from `from` up to, but without, `to`, by O_ID and then by
+    /// OL_NUMBER.
+    pub fn lines_of_span(&self, home: DistrictKey, from: u32, to: u32) -> Lines<'_>
+        ensures rows { result ≡ rows_where (is_in_span home from to) self.now.lines }
+        ensures fits { length result < 2 ^ 63 }
+    {
+        lines_in_span(&self.rows.lines, home, from, to)
+    }
+
     /// The customers of the district, by C_ID from 1; `None` where the scale has no such district.
     pub fn customers_of(&self, home: DistrictKey) -> Option<&[Customer]>
         ensures district { is_some result ≡ has_district self.now.scale home }
@@ -321,6 +342,66 @@ impl Tables {
         if let Some(slot) = self.scale.district_slot(key) {
             self.rows.histories[slot].pop();
         }
+    }
+
+    /// Adds an order, its row of NEW-ORDER and its lines, which are numbered from 1 (clause 2.4.2.2), and gives what
+    /// stood in their places. Want of memory changes nothing.
+    pub fn add_order(
+        &mut self,
+        key: OrderKey,
+        order: Order,
+        lines: Vec<OrderLine>,
+    ) -> Result<Replaced, NoMemory>
+        requires number { IsTrue (is_order_id key.o_id) }
+        requires customer { IsTrue (has_customer self.old.scale (customer_of_order key order)) }
+        requires few { length lines.items ≤ 15 }
+        requires lines { IsTrue (list_all (is_line_within self.old.scale) lines.items) }
+        ensures ok { OnOk result (self.new ≡ with_order self.old key order lines.items) }
+        ensures replaced { IfOk result (StoodThere self.old key (length lines.items)) }
+        ensures err { OnErr result (self.new ≡ self.old) }
+    {
+        add_order_rows(
+            &mut self.rows.orders,
+            &mut self.rows.new_orders,
+            &mut self.rows.lines,
+            key,
+            order,
+            lines,
+        )
+    }
+
+    /// Takes an order back that was added: puts back what stood in the places of its rows, or nothing where nothing
+    /// stood. It takes no memory.
+    pub fn take_back_order(&mut self, key: OrderKey, replaced: Replaced)
+        requires few { length replaced.lines.items ≤ 15 }
+        requires order { IsTrue (map.contains_key self.old.orders key) }
+        requires new_order { IsTrue (map.contains_key self.old.new_orders key) }
+        requires lines { (n : ℕ) → n < length replaced.lines.items → IsTrue (map.contains_key self.old.lines (line_key key (1 + n))) }
+        requires within { IsWithinScale (without_order self.old key replaced) }
+        ensures { self.new ≡ without_order self.old key replaced }
+    {
+        take_back_order_rows(
+            &mut self.rows.orders,
+            &mut self.rows.new_orders,
+            &mut self.rows.lines,
+            key,
+            replaced,
+        );
+    }
+
+    /// Delivers an order: it is new no more, it gets the carrier, and its lines get the moment (clause 2.7.4.2). It
+    /// takes no memory.
+    pub fn deliver_order(&mut self, key: OrderKey, carrier: CarrierId, moment: Moment)
+        ensures { self.new ≡ with_delivery self.old key carrier moment }
+    {
+        deliver_order_rows(
+            &mut self.rows.orders,
+            &mut self.rows.new_orders,
+            &mut self.rows.lines,
+            key,
+            carrier,
+            moment,
+        );
     }
 }
 

@@ -1,4 +1,6 @@
 use super::*;
+use std::collections::BTreeMap;
+use std::test::Fail;
 
 #[test]
 fn a_scale_has_its_limits(rt: HostRuntime) {
@@ -53,4 +55,55 @@ fn keys_have_their_slots(rt: HostRuntime) {
         Some(19)
     );
     assert_eq!(rt; scale.warehouse_slot(3), None);
+}
+
+fn order() -> Order {
+    Order {
+        c_id: 1,
+        entry_d: Moment::new(0),
+        carrier_id: None,
+        ol_cnt: LineCount::new(3),
+        all_local: true,
+    }
+}
+
+fn line(i_id: u32) -> OrderLine {
+    OrderLine {
+        i_id,
+        supply_w_id: 1,
+        delivery_d: None,
+        quantity: LineQuantity::new(5),
+        amount: LineAmount::new(0),
+        dist_info: Text::new(),
+    }
+}
+
+// Whichever allocation of the call is refused, nothing is left of the order; where none is, all of it is there.
+#[test]
+fn an_order_is_added_whole_or_not_at_all(rt: HostRuntime) -> Result<(), Fail> {
+    let mut orders = BTreeMap::new(rt.alloc());
+    let mut new_orders = BTreeMap::new(rt.alloc());
+    let mut lines = BTreeMap::new(rt.alloc());
+    let key = OrderKey {
+        w_id: 1,
+        d_id: 2,
+        o_id: 3,
+    };
+    let home = DistrictKey { w_id: 1, d_id: 2 };
+    let rows = vec![in rt.alloc(); line(4), line(6), line(4)]?;
+    match add_order_rows(&mut orders, &mut new_orders, &mut lines, key, order(), rows) {
+        Ok(replaced) => {
+            assert!(rt; replaced.order.is_none() && replaced.new_order.is_none());
+            assert_eq!(rt; replaced.lines.len(), 3);
+            assert_eq!(rt; (orders.len(), new_orders.len(), lines.len()), (1, 1, 3));
+            for (key, _) in lines_in_span(&lines, home, 3, 4) {
+                assert_eq!(rt; key.o_id, 3);
+            }
+            assert_eq!(rt; lines_in_span(&lines, home, 4, 3).count(), 0);
+        }
+        Err(NoMemory) => {
+            assert_eq!(rt; (orders.len(), new_orders.len(), lines.len()), (0, 0, 0));
+        }
+    }
+    Ok(())
 }

@@ -1,0 +1,18 @@
+use Rattle.std.proofs.Common.{sym, rules}
+use Rattle.rows.specs.declared.records.Order.{Order}
+use Rattle.schema.specs.OrderRows.{carried_by}
+use Rattle.schema.proofs.KeyOrders.{orders_total, orders_exact}
+use Rattle.schema.proofs.TableWrites.{changed, not_there}
+use Rattle.schema.proofs.order_rows.set_carrier.Goals as goal
+
+pub returns-in-Some : goal.returns-in-Some
+returns-in-Some c =
+    let w : Order = carried_by c.args.carrier c.in-Some.row.now in
+    let held = c.get_mut.follows.holds w in
+    changed orders_total orders_exact (carried_by c.args.carrier) c.args.orders.now (c.get_mut.follows.lender w) c.args.key c.in-Some.row.now
+    (sym c.in-Some.ensures.value) (held.3 (search rules))
+
+pub returns-in_default : goal.returns-in_default
+returns-in_default c =
+    not_there orders_total orders_exact (carried_by c.args.carrier) c.args.orders.now c.get_mut.follows.lender-at-none c.args.key
+    (sym c.in_default.ensures.value) c.get_mut.follows.holds-at-none

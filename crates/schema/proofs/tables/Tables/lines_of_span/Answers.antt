@@ -1,0 +1,8 @@
+use Rattle.std.proofs.Common.{ap, ◌∙◌}
+use Rattle.schema.specs.Database.{Database, rows_where}
+use Rattle.schema.specs.OrderRows.{is_in_span}
+use Rattle.schema.proofs.tables.Tables.lines_of_span.Goals as goal
+
+pub returns-clause-rows : goal.returns-clause-rows
+returns-clause-rows c =
+    c.lines_in_span.ensures.rows ∙ ap (λ (m : Database). rows_where (is_in_span c.args.home c.args.from c.args.to) m.lines) c.self.view_is
