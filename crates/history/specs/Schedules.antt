@@ -68,3 +68,7 @@ Plays [] tellings steps = (tellings ≡ []) × (steps ≡ [])
 Plays (item ∷ schedule) tellings steps =
     (first : List Told) × ((rest : List Told) × ((begun : List Step) × ((later : List Step)
     × ((tellings ≡ first ++ rest) × ((steps ≡ begun ++ later) × (Follows item first begun × Plays schedule rest later))))))
+
+-- These events, with their answers, are the first of the schedule's: with some more after them they are a play of all of it.
+abbrev pub Begins : List Scheduled → List Step → Type 0
+Begins schedule steps = (later : List Step) × ((tellings : List Told) × Plays schedule tellings (steps ++ later))

@@ -1,6 +1,7 @@
 -- Schedules, one item more at a time.
-use Rattle.std.proofs.Common.{◌≡◌, ◌≢◌, ◌⊎◌, ⊎_elim, ℕ, ◌+◌, ◌<◌, List, [], ◌∷◌, ◌++◌, length, refl, sym, ap, subst, ◌∙◌, arith, append_assoc, append-nil, length-append, Result, Ok, Err, OnErr}
+use Rattle.std.proofs.Common.{◌≡◌, ◌≢◌, ◌⊎◌, ⊎_elim, ℕ, ◌+◌, ◌<◌, ◌≤◌, List, [], ◌∷◌, ◌++◌, length, refl, sym, ap, subst, ◌∙◌, arith, append_assoc, append-nil, length-append, Result, Ok, Err, OnErr}
 use Rattle.std.specs.List.{All, flat_map}
+use Rattle.std.proofs.lemmas.Bool.{cases_lt}
 use Rattle.std.proofs.lemmas.Grind.{flat_map-append}
 use Rattle.std.proofs.lemmas.List.Elements.{All-append, All-cons, All-nil}
 use Rattle.history.specs.declared.event.Event.{Event}
@@ -8,10 +9,11 @@ use Rattle.history.specs.declared.event.Event.TheVariants.{Take, Send}
 use Rattle.history.specs.declared.event.EventAnswer.{EventAnswer}
 use Rattle.history.specs.declared.event.EventAnswer.TheVariants.{Nothing}
 use Rattle.history.specs.declared.schedule.Scheduled.{Scheduled}
+use Rattle.history.specs.declared.schedule.Scheduled.TheVariants as scheduled
 use Rattle.history.specs.declared.schedule.Told.{Told}
 use Rattle.history.specs.declared.schedule.Told.TheVariants as told
 use Rattle.history.specs.History.{Step, step}
-use Rattle.history.specs.Schedules.{EndAs, Follows, IsBusy, IsIdle, Plays, Round, steps_of_round, told_in_round, told_of_round}
+use Rattle.history.specs.Schedules.{Begins, EndAs, Follows, IsBusy, IsIdle, Plays, Round, steps_of_round, told_in_round, told_of_round}
 use Rattle.world.specs.declared.flight.Item.{Item}
 use Rattle.world.specs.declared.flight.Message.{Message}
 use Rattle.world.specs.declared.world.Parts.{Parts}
@@ -21,14 +23,13 @@ use Rattle.world.proofs.Runs.{comes_after, happens_once}
 
 -- ---- schedules
 
--- one item more
-pub plays_more : (schedule : List Scheduled) (item : Scheduled) (tellings more : List Told) (steps later : List Step) → Plays schedule tellings steps → Follows item more later
-    → Plays (schedule ++ item ∷ []) (tellings ++ more) (steps ++ later)
-plays_more [] item tellings more steps later played follows =
-    let same : tellings ++ more ≡ more ++ [] = ap (λ (l : List Told). l ++ more) played.0 ∙ sym (append-nil more) in
-    let alike : steps ++ later ≡ later ++ [] = ap (λ (l : List Step). l ++ later) played.1 ∙ sym (append-nil later) in
-    (more, ([], (later, ([], (same, (alike, (follows, (refl, refl))))))))
-plays_more (first ∷ schedule) item tellings more steps later played follows =
+-- one schedule, and then another
+plays_on : (schedule after : List Scheduled) (tellings more : List Told) (steps later : List Step) → Plays schedule tellings steps → Plays after more later
+    → Plays (schedule ++ after) (tellings ++ more) (steps ++ later)
+plays_on [] after tellings more steps later played next =
+    subst (λ (l : List Told). Plays after (l ++ more) (steps ++ later)) (sym played.0)
+    (subst (λ (l : List Step). Plays after more (l ++ later)) (sym played.1) next)
+plays_on (first ∷ schedule) after tellings more steps later played next =
     let told_first = played.0 in
     let told_rest = played.1.0 in
     let begun = played.1.1.0 in
@@ -45,13 +46,23 @@ plays_more (first ∷ schedule) item tellings more steps later played follows =
               ap (λ (l : List Told). l ++ more) facts.0 ∙ append_assoc told_first told_rest more,
               (
                 ap (λ (l : List Step). l ++ later) facts.1.0 ∙ append_assoc begun rest later,
-                (facts.1.1.0, plays_more schedule item told_rest more rest later facts.1.1.1 follows),
+                (facts.1.1.0, plays_on schedule after told_rest more rest later facts.1.1.1 next),
               ),
             ),
           ),
         ),
       ),
     )
+
+-- one item
+plays_one : (item : Scheduled) (tellings : List Told) (steps : List Step) → Follows item tellings steps → Plays (item ∷ []) tellings steps
+plays_one item tellings steps follows = (tellings, ([], (steps, ([], (sym (append-nil tellings), (sym (append-nil steps), (follows, (refl, refl))))))))
+
+-- one item more
+pub plays_more : (schedule : List Scheduled) (item : Scheduled) (tellings more : List Told) (steps later : List Step) → Plays schedule tellings steps → Follows item more later
+    → Plays (schedule ++ item ∷ []) (tellings ++ more) (steps ++ later)
+plays_more schedule item tellings more steps later played follows =
+    plays_on schedule (item ∷ []) tellings more steps later played (plays_one item more later follows)
 
 -- ---- rounds
 
@@ -92,6 +103,75 @@ round_more rounds count r are busy = record {
 pub end_quiet : (rounds : List Round) (count : ℕ) (last : Round) → AreRounds rounds count → count < 100000 → IsIdle last → EndAs (rounds ++ last ∷ []) told.Quiet
 end_quiet rounds count last are few idle =
     (rounds, (last, (refl, (are.busy, (idle, omega (arith, length-append rounds (last ∷ []), are.many, few))))))
+
+-- ---- beginnings
+
+-- a round in which nothing happens
+abbrev still : Round
+still = record { took = Nothing; sent = Nothing }
+
+-- rounds in which something happened, and one in which nothing does
+ends_still : (rounds : List Round) (count : ℕ) → AreRounds rounds count → count < 100000
+    → Follows scheduled.Rounds (flat_map told_of_round (rounds ++ still ∷ []) ++ told.Quiet ∷ []) (flat_map steps_of_round (rounds ++ still ∷ []))
+ends_still rounds count are few = (rounds ++ still ∷ [], (told.Quiet, (refl, (refl, end_quiet rounds count still are few (refl, refl)))))
+
+-- an item at which nothing happens
+idle_item : (item : Scheduled) → (tellings : List Told) × ((steps : List Step) × Follows item tellings steps)
+idle_item (scheduled.Event event) = (told.Event Nothing ∷ [], (step event Nothing ∷ [], (Nothing, (refl, refl))))
+idle_item scheduled.Rounds = (
+  flat_map told_of_round (still ∷ []) ++ told.Quiet ∷ [],
+  (flat_map steps_of_round (still ∷ []), ends_still [] 0 (record { busy = All-nil IsBusy; many = refl }) (omega arith)),
+)
+
+-- a play in which nothing happens
+idle_play : (schedule : List Scheduled) → (tellings : List Told) × ((steps : List Step) × Plays schedule tellings steps)
+idle_play [] = ([], ([], (refl, refl)))
+idle_play (item ∷ schedule) =
+    let first = idle_item item in
+    let rest = idle_play schedule in
+    (first.0 ++ rest.0, (first.1.0 ++ rest.1.0, (first.0, (rest.0, (first.1.0, (rest.1.0, (refl, (refl, (first.1.1, rest.1.1)))))))))
+
+-- no event
+pub begins_none : (schedule : List Scheduled) → Begins schedule []
+begins_none schedule = let play = idle_play schedule in (play.1.0, (play.0, play.1.1))
+
+-- all events of an item
+pub begins_all : (item : Scheduled) (tellings : List Told) (steps : List Step) → Follows item tellings steps → Begins (item ∷ []) steps
+begins_all item tellings steps follows =
+    ([], (tellings, subst (λ (l : List Step). Plays (item ∷ []) tellings l) (sym (append-nil steps)) (plays_one item tellings steps follows)))
+
+-- rounds in which something happened
+pub begins_rounds : (rounds : List Round) (count : ℕ) → AreRounds rounds count → count ≤ 100000 → Begins (scheduled.Rounds ∷ []) (flat_map steps_of_round rounds)
+begins_rounds rounds count are most = ⊎_elim go_on stop (cases_lt count 100000)
+  where
+    go_on : count < 100000 → Begins (scheduled.Rounds ∷ []) (flat_map steps_of_round rounds)
+    go_on few =
+        let all = rounds ++ still ∷ [] in
+        let tellings = flat_map told_of_round all ++ told.Quiet ∷ [] in (
+          steps_of_round still,
+          (
+            tellings,
+            subst (λ (l : List Step). Plays (scheduled.Rounds ∷ []) tellings l) (flat_map_one_more steps_of_round rounds still)
+                (plays_one scheduled.Rounds tellings (flat_map steps_of_round all) (ends_still rounds count are few)),
+          ),
+        )
+    stop : 100000 ≤ count → Begins (scheduled.Rounds ∷ []) (flat_map steps_of_round rounds)
+    stop reached =
+        begins_all scheduled.Rounds (flat_map told_of_round rounds ++ told.Limit ∷ []) (flat_map steps_of_round rounds)
+        (rounds, (told.Limit, (refl, (refl, (are.busy, omega (arith, are.many, most, reached))))))
+
+-- all events of some items, and a beginning of the next
+pub begins_after : (schedule : List Scheduled) (item : Scheduled) (after : List Scheduled) (tellings : List Told) (steps some : List Step) → Plays schedule tellings steps
+    → Begins (item ∷ []) some → Begins ((schedule ++ item ∷ []) ++ after) (steps ++ some)
+begins_after schedule item after tellings steps some played begins =
+    let later = begins.0 in
+    let more = begins.1.0 in
+    let rest = idle_play after in
+    let so_far = plays_on schedule (item ∷ []) tellings more steps (some ++ later) played begins.1.1 in
+    let all = plays_on (schedule ++ item ∷ []) after (tellings ++ more) rest.0 (steps ++ (some ++ later)) rest.1.0 so_far rest.1.1 in
+    let same : (steps ++ (some ++ later)) ++ rest.1.0 ≡ (steps ++ some) ++ (later ++ rest.1.0) =
+    ap (λ (l : List Step). l ++ rest.1.0) (sym (append_assoc steps some later)) ∙ append_assoc (steps ++ some) later rest.1.0 in
+    (later ++ rest.1.0, ((tellings ++ more) ++ rest.0, subst (λ (l : List Step). Plays ((schedule ++ item ∷ []) ++ after) ((tellings ++ more) ++ rest.0) l) same all))
 
 -- ---- worlds
 

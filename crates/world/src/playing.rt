@@ -1,7 +1,7 @@
 //! Schedules are played.
-ghost use Rattle.std.specs.Prelude.{◌≡◌, ◌↔◌, ◌++◌, List, IfOk, IsTrue, OnErr, OnOk};
+ghost use Rattle.std.specs.Prelude.{◌≡◌, ◌↔◌, ◌++◌, [], ◌∷◌, List, IfOk, IsTrue, OnErr, OnOk};
 ghost use Rattle.history.specs.History.{Step};
-ghost use Rattle.history.specs.Schedules.{EndsQuiet, Follows, Plays, told_in_round};
+ghost use Rattle.history.specs.Schedules.{Begins, EndsQuiet, Follows, Plays, told_in_round};
 ghost use Rattle.history.specs.declared.schedule.Scheduled.TheVariants.{Rounds};
 ghost use Rattle.history.specs.declared.schedule.Told.{Told};
 ghost use Rattle.world.specs.Worlds.{ComeAbout, IsAtRest};
@@ -15,12 +15,12 @@ impl<J: commit_log::Naming + tickets::Naming> World<J> {
     /// Plays a schedule, item by item, and gives what is told of it.
     ///
     /// Where the last thing told is that rounds ended quiet, no message can be taken and no item be sent.
-    /// After an error, which says that there was no memory for what is told, some of the schedule's
-    /// events have come about.
+    /// After an error, which says that there was no memory for what is told, the first of the schedule's
+    /// events have come about, and nothing else.
     pub fn play(&mut self, alloc: Global, schedule: &[Scheduled]) -> Result<Vec<Told>, NoMemory>
         ensures plays { IfOk result (λ told. (steps : List Step) × (Plays schedule.now told.items steps × ComeAbout steps self.old self.new)) }
         ensures rest { IfOk result (λ told. EndsQuiet told.items → IsAtRest self.new) }
-        ensures err { OnErr result ((steps : List Step) × ComeAbout steps self.old self.new) }
+        ensures err { OnErr result ((steps : List Step) × (Begins schedule.now steps × ComeAbout steps self.old self.new)) }
     {
         let mut told = Vec::with_capacity(alloc, schedule.len())?;
         for item in schedule {
@@ -39,7 +39,7 @@ impl<J: commit_log::Naming + tickets::Naming> World<J> {
         ensures follows { OnOk result ((tellings : List Told) × ((steps : List Step)
             × ((told.new.items ≡ told.old.items ++ tellings) × (Follows item.now tellings steps × ComeAbout steps self.old self.new)))) }
         ensures rest { OnOk result (EndsQuiet told.new.items → IsAtRest self.new) }
-        ensures err { OnErr result ((steps : List Step) × ComeAbout steps self.old self.new) }
+        ensures err { OnErr result ((steps : List Step) × (Begins (item.now ∷ []) steps × ComeAbout steps self.old self.new)) }
     {
         match item {
             Scheduled::Event(event) => {
@@ -57,7 +57,7 @@ impl<J: commit_log::Naming + tickets::Naming> World<J> {
         ensures follows { OnOk result ((tellings : List Told) × ((steps : List Step)
             × ((told.new.items ≡ told.old.items ++ tellings) × (Follows Rounds tellings steps × ComeAbout steps self.old self.new)))) }
         ensures rest { OnOk result (EndsQuiet told.new.items → IsAtRest self.new) }
-        ensures err { OnErr result ((steps : List Step) × ComeAbout steps self.old self.new) }
+        ensures err { OnErr result ((steps : List Step) × (Begins (Rounds ∷ []) steps × ComeAbout steps self.old self.new)) }
     {
         for _ in 0..MOST_ROUNDS {
             let took = self.step(alloc, &Event::Take { executor: 0 });

@@ -1,18 +1,35 @@
-use Rattle.std.proofs.Common.{◌≡◌, ◌∙◌, ◌+◌, ◌++◌, ◌∷◌, [], List, take, ap, sym, subst}
-use Rattle.std.proofs.lemmas.List.{take_more}
+use Rattle.std.proofs.Common.{◌≡◌, ◌∙◌, ◌+◌, ◌++◌, ◌∷◌, [], List, take, drop, ap, refl, sym, subst}
+use Rattle.std.proofs.lemmas.List.{take-append-drop, take_more}
 use Rattle.history.specs.declared.schedule.Scheduled.{Scheduled}
 use Rattle.history.specs.declared.schedule.Told.{Told}
-use Rattle.history.specs.Schedules.{Plays}
-use Rattle.world.proofs.Runs.{comes_after}
-use Rattle.world.proofs.Schedules.{on_err, plays_more}
+use Rattle.history.specs.Schedules.{Begins, Plays}
+use Rattle.world.proofs.Runs.{comes_after, no_events}
+use Rattle.world.proofs.Schedules.{begins_after, begins_none, on_err, plays_more}
 use Rattle.world.proofs.world.World.play.Goals as goal
+
+pub returns-in_err-told-clause-err : goal.returns-in_err-told-clause-err
+returns-in_err-told-clause-err g c =
+    on_err c.from_residual.result ([], (begins_none c.args.schedule.now, (refl, no_events c.args.self.now)))
 
 pub returns-in_err-play_item-clause-err : goal.returns-in_err-play_item-clause-err
 returns-in_err-play_item-clause-err g c =
+    let i = c.loop-item.item-index in
+    let schedule = c.args.schedule.now in
+    let item = c.item-item.result in
+    let one_more : take (i + 1) schedule ≡ take i schedule ++ item ∷ [] =
+    take_more schedule i item c.loop-item-test.true ∙ ap (λ (s : Scheduled). take i schedule ++ s ∷ []) (sym c.item-item.is) in
     let so_far = c.loop-item.invariant.0 in
     let more = c.in_err-play_item.ensures.err in
-    on_err c.from_residual-in_err-play_item.result
-    (so_far.0 ++ more.0, comes_after so_far.0 more.0 c.args.self.now c.loop-item.self c.play_item.new.self so_far.1.1 more.1)
+    let whole : (take i schedule ++ item ∷ []) ++ drop (i + 1) schedule ≡ schedule =
+    ap (λ (some : List Scheduled). some ++ drop (i + 1) schedule) (sym one_more) ∙ take-append-drop (i + 1) schedule in
+    on_err c.from_residual-in_err-play_item.result (
+      so_far.0 ++ more.0,
+      (
+        subst (λ (some : List Scheduled). Begins some (so_far.0 ++ more.0)) whole
+            (begins_after (take i schedule) item (drop (i + 1) schedule) c.loop-item.told.items so_far.0 more.0 so_far.1.0 more.1.0),
+        comes_after so_far.0 more.0 c.args.self.now c.loop-item.self c.play_item.new.self so_far.1.1 more.1.1,
+      ),
+    )
 
 pub loop-item-preserved : goal.loop-item-preserved
 loop-item-preserved g c =

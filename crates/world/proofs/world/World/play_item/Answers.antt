@@ -1,17 +1,23 @@
-use Rattle.std.proofs.Common.{[], ◌∷◌, refl, sym, subst}
-use Rattle.history.specs.History.{step}
-use Rattle.history.specs.Schedules.{Follows}
+use Rattle.std.proofs.Common.{List, OnErr, [], ◌∷◌, refl, sym, subst}
+use Rattle.history.specs.History.{Step, step}
+use Rattle.history.specs.Schedules.{Begins, Follows}
+use Rattle.history.specs.declared.schedule.Scheduled.TheVariants as scheduled
 use Rattle.history.specs.declared.schedule.Told.TheVariants as told
-use Rattle.world.proofs.Schedules.{event_comes, on_err}
+use Rattle.world.specs.Worlds.{ComeAbout}
+use Rattle.world.proofs.Schedules.{begins_all, event_comes, on_err}
 use Rattle.world.proofs.world.World.play_item.Goals as goal
 
 pub returns-in_err-push-in-Event-clause-err : goal.returns-in_err-push-in-Event-clause-err
 returns-in_err-push-in-Event-clause-err g c =
     let event = c.in-Event.event in
     let answer = c.step-answer.result in
+    let steps = step event answer ∷ [] in
     on_err c.from_residual.result (
-      step event answer ∷ [],
-      event_comes event answer c.args.self.now c.step-answer.new.self c.step-answer.ensures.happens c.step-answer.ensures.advances,
+      steps,
+      (
+        subst (λ item. Begins (item ∷ []) steps) (sym c.in-Event.is) (begins_all (scheduled.Event event) (told.Event answer ∷ []) steps (answer, (refl, refl))),
+        event_comes event answer c.args.self.now c.step-answer.new.self c.step-answer.ensures.happens c.step-answer.ensures.advances,
+      ),
     )
 
 pub returns-in_ok-push-in-Event-clause-follows : goal.returns-in_ok-push-in-Event-clause-follows
@@ -32,3 +38,8 @@ returns-in_ok-push-in-Event-clause-follows g c =
         ),
       ),
     )
+
+pub returns-in-Rounds-clause-err : goal.returns-in-Rounds-clause-err
+returns-in-Rounds-clause-err g c =
+    subst (λ item. OnErr c.run_rounds.result ((steps : List Step) × (Begins (item ∷ []) steps × ComeAbout steps c.args.self.now c.run_rounds.new.self))) (sym c.in-Rounds.is)
+    c.run_rounds.ensures.err

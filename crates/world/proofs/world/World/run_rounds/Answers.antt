@@ -1,9 +1,10 @@
-use Rattle.std.proofs.Common.{◌∙◌, ◌++◌, ◌∷◌, [], ap, refl}
+use Rattle.std.proofs.Common.{◌∙◌, ◌+◌, ◌++◌, ◌∷◌, [], ap, arith, refl}
 use Rattle.std.specs.List.{flat_map}
 use Rattle.history.specs.declared.event.Event.TheVariants.{Take, Send}
+use Rattle.history.specs.declared.schedule.Scheduled.TheVariants as scheduled
 use Rattle.history.specs.declared.schedule.Told.TheVariants as told
 use Rattle.history.specs.Schedules.{IsIdle, Round, steps_of_round, told_of_round}
-use Rattle.world.proofs.Schedules.{end_quiet, event_comes, on_err, round_comes, round_more, told_more, told_quiet}
+use Rattle.world.proofs.Schedules.{begins_all, begins_rounds, end_quiet, event_comes, on_err, round_comes, round_more, told_more, told_quiet}
 use Rattle.world.proofs.world.World.run_rounds.Goals as goal
 use Rattle.world.proofs.world.World.run_rounds.Goals.{else-is_nothing-via-then-is_nothing+else-is_nothing-2, else-is_nothing-via-else-is_nothing}
 
@@ -11,11 +12,17 @@ pub returns-in_err-push-clause-err : goal.returns-in_err-push-clause-err
 returns-in_err-push-clause-err g c =
     let inv = c.loop.invariant in
     let r : Round = record { took = c.step-took.result; sent = c.step-sent.result } in
+    let idle : IsIdle r = (c.is_nothing.ensures.0 c.if-is_nothing.true, c.is_nothing-then-is_nothing.ensures.0 c.if-is_nothing-2.true) in
+    let rounds = inv.0 ++ r ∷ [] in
     on_err c.from_residual.result (
-      flat_map steps_of_round (inv.0 ++ r ∷ []),
-      round_comes inv.0 r c.args.self.now c.loop.self c.step-took.new.self c.step-sent.new.self inv.1.1.1
-          (event_comes (Take 0) r.took c.loop.self c.step-took.new.self c.step-took.ensures.happens c.step-took.ensures.advances)
-          (event_comes (Send 0) r.sent c.step-took.new.self c.step-sent.new.self c.step-sent.ensures.happens c.step-sent.ensures.advances),
+      flat_map steps_of_round rounds,
+      (
+        begins_all scheduled.Rounds (flat_map told_of_round rounds ++ told.Quiet ∷ []) (flat_map steps_of_round rounds)
+            (rounds, (told.Quiet, (refl, (refl, end_quiet inv.0 c.loop.counter r inv.1.0 c.loop-test.true idle)))),
+        round_comes inv.0 r c.args.self.now c.loop.self c.step-took.new.self c.step-sent.new.self inv.1.1.1
+            (event_comes (Take 0) r.took c.loop.self c.step-took.new.self c.step-took.ensures.happens c.step-took.ensures.advances)
+            (event_comes (Send 0) r.sent c.step-took.new.self c.step-sent.new.self c.step-sent.ensures.happens c.step-sent.ensures.advances),
+      ),
     )
 
 pub returns-then-is_nothing-2-clause-follows : goal.returns-then-is_nothing-2-clause-follows
@@ -42,23 +49,43 @@ pub returns-in_err-tell-clause-err : goal.returns-in_err-tell-clause-err
 returns-in_err-tell-clause-err g c =
     let inv = c.loop.invariant in
     let r : Round = record { took = c.step-took.result; sent = c.step-sent.result } in
+    let rounds = round_more inv.0 c.loop.counter r inv.1.0 (λ idle. elim c.else-is_nothing.branch [
+      | else-is_nothing-via-then-is_nothing+else-is_nothing-2 w ↦ let is = w.is_nothing-then-is_nothing.ensures.1 idle.1 in let isnt = w.if-is_nothing-2.false in cc
+      | else-is_nothing-via-else-is_nothing w ↦ let is = c.is_nothing.ensures.1 idle.0 in let isnt = w.if-is_nothing.false in cc
+    ]) in
     on_err c.from_residual-in_err-tell.result (
       flat_map steps_of_round (inv.0 ++ r ∷ []),
-      round_comes inv.0 r c.args.self.now c.loop.self c.step-took.new.self c.step-sent.new.self inv.1.1.1
-          (event_comes (Take 0) r.took c.loop.self c.step-took.new.self c.step-took.ensures.happens c.step-took.ensures.advances)
-          (event_comes (Send 0) r.sent c.step-took.new.self c.step-sent.new.self c.step-sent.ensures.happens c.step-sent.ensures.advances),
+      (
+        begins_rounds (inv.0 ++ r ∷ []) (c.loop.counter + 1) rounds (omega (arith, c.loop-test.true)),
+        round_comes inv.0 r c.args.self.now c.loop.self c.step-took.new.self c.step-sent.new.self inv.1.1.1
+            (event_comes (Take 0) r.took c.loop.self c.step-took.new.self c.step-took.ensures.happens c.step-took.ensures.advances)
+            (event_comes (Send 0) r.sent c.step-took.new.self c.step-sent.new.self c.step-sent.ensures.happens c.step-sent.ensures.advances),
+      ),
     )
 
 pub returns-in_err-tell-2-clause-err : goal.returns-in_err-tell-2-clause-err
 returns-in_err-tell-2-clause-err g c =
     let inv = c.loop.invariant in
     let r : Round = record { took = c.step-took.result; sent = c.step-sent.result } in
+    let rounds = round_more inv.0 c.loop.counter r inv.1.0 (λ idle. elim c.else-is_nothing.branch [
+      | else-is_nothing-via-then-is_nothing+else-is_nothing-2 w ↦ let is = w.is_nothing-then-is_nothing.ensures.1 idle.1 in let isnt = w.if-is_nothing-2.false in cc
+      | else-is_nothing-via-else-is_nothing w ↦ let is = c.is_nothing.ensures.1 idle.0 in let isnt = w.if-is_nothing.false in cc
+    ]) in
     on_err c.from_residual-in_err-tell-2.result (
       flat_map steps_of_round (inv.0 ++ r ∷ []),
-      round_comes inv.0 r c.args.self.now c.loop.self c.step-took.new.self c.step-sent.new.self inv.1.1.1
-          (event_comes (Take 0) r.took c.loop.self c.step-took.new.self c.step-took.ensures.happens c.step-took.ensures.advances)
-          (event_comes (Send 0) r.sent c.step-took.new.self c.step-sent.new.self c.step-sent.ensures.happens c.step-sent.ensures.advances),
+      (
+        begins_rounds (inv.0 ++ r ∷ []) (c.loop.counter + 1) rounds (omega (arith, c.loop-test.true)),
+        round_comes inv.0 r c.args.self.now c.loop.self c.step-took.new.self c.step-sent.new.self inv.1.1.1
+            (event_comes (Take 0) r.took c.loop.self c.step-took.new.self c.step-took.ensures.happens c.step-took.ensures.advances)
+            (event_comes (Send 0) r.sent c.step-took.new.self c.step-sent.new.self c.step-sent.ensures.happens c.step-sent.ensures.advances),
+      ),
     )
+
+pub returns-in_err-push-2-clause-err : goal.returns-in_err-push-2-clause-err
+returns-in_err-push-2-clause-err g c =
+    let inv = c.loop.invariant in
+    on_err c.from_residual-in_err-push-2.result
+    (flat_map steps_of_round inv.0, (begins_rounds inv.0 c.loop.counter inv.1.0 (omega (arith, c.loop.auto.counter-end)), inv.1.1.1))
 
 pub loop-preserved : goal.loop-preserved
 loop-preserved g c =
