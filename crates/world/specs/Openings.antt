@@ -2,10 +2,8 @@
 use Rattle.std.specs.Prelude.{◌≡◌, ◌<◌, ℕ, Bool, true, false, List, [], Option, Some, None, is_some, slice_get, length}
 use Rattle.schema.specs.Database.{Database}
 use Rattle.consistency.specs.Broken.{BreaksFirst}
-use Rattle.commit_log.specs.declared.entry.Entry.{Entry}
 use Rattle.commit_log.specs.Passing.{Passing, Seating, new_pass, new_seat}
-use Rattle.history.specs.History.{Step, Unanswered}
-use Rattle.history.specs.Fits.{Fits as HistoryFits}
+use Rattle.history.specs.History.{Step}
 use Rattle.history.specs.declared.schedule.Scheduled.{Scheduled}
 use Rattle.history.specs.Schedules.{Plays}
 use Rattle.world.specs.declared.desk.SessionDesk.{SessionDesk}
@@ -15,7 +13,7 @@ use Rattle.slices.specs.Sliced.{AreSlicesOf, all_at_rest}
 use Rattle.world.specs.declared.simulating.Simulation.{Simulation}
 use Rattle.world.specs.declared.world.Parts.{Parts}
 use Rattle.world.specs.Parted.{joined_in}
-use Rattle.world.specs.Worlds.{HappenInTurn, tables_now}
+use Rattle.world.specs.Worlds.{Fits, HappenInTurn, tables_now}
 
 -- NotConsistent names the least condition that these tables break
 abbrev pub IsFaultOf : Database → OpenFault → Type 0
@@ -28,13 +26,6 @@ abbrev pub number_of : OpenFault → ℕ
 number_of NoMemory = 1
 number_of BadExecutors = 2
 number_of (NotConsistent n) = 3
-
--- A history, as the answers tell it, is honest: there are a number of admitted transactions and those of them without an
--- answer with which it fits the opening and the log.
-pub record IsHonest (opening : Database) (history : List Step) (log : List Entry) : Type 0 where
-  pub admitted : ℕ
-  pub pending : List Unanswered
-  pub fits : HistoryFits opening history log (tables_now opening log) admitted pending
 
 -- the tables that are gathered of a world: none while a transaction is active
 abbrev pub gathered : Bool → Database → Option Database
@@ -64,9 +55,9 @@ module _ {J : Type 0} where
     pub many : length w.desk.sessions.items ≡ 64
     pub each : (session : ℕ) → session < 64 → slice_get w.desk.sessions.items session ≡ Some (session_with (new_pass session, new_seat session))
 
--- A schedule was simulated on tables: in a new world on them its events happened in turn, and they are an honest history;
--- this is what is told of them; the log is the world's; and so are the tables, the machine's last, unless a transaction is
--- active.
+-- A schedule was simulated on tables: in a new world on them its events happened in turn; this is what is told of them; with
+-- their answers they are a history that fits the last world; the log is that world's; and so are the tables, the machine's
+-- last, unless a transaction is active.
 pub record Simulates (J : Type 0) (opening : Database) (schedule : List Scheduled) (s : Simulation) : Type 0 where
   pub first : Parts J
   pub last : Parts J
@@ -74,6 +65,6 @@ pub record Simulates (J : Type 0) (opening : Database) (schedule : List Schedule
   pub new : IsNew opening first
   pub plays : Plays schedule s.told.items steps
   pub happen : HappenInTurn steps first last
-  pub honest : IsHonest opening steps s.log.items
+  pub fits : Fits opening steps last
   pub log : s.log.items ≡ last.log
   pub tables : s.tables ≡ gathered (is_some last.desk.active) (tables_now opening s.log.items)

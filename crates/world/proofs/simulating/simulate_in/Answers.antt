@@ -1,8 +1,7 @@
-use Rattle.std.proofs.Common.{◌∙◌, [], List, ap, sym, subst}
+use Rattle.std.proofs.Common.{◌∙◌, [], List, ap, sym}
 use Rattle.std.specs.Prelude.{is_some}
 use Rattle.commit_log.specs.declared.entry.Entry.{Entry}
-use Rattle.world.specs.Openings.{IsHonest, gathered}
-use Rattle.world.specs.Sound.{flight}
+use Rattle.world.specs.Openings.{gathered}
 use Rattle.world.specs.Worlds.{tables_now}
 use Rattle.world.proofs.simulating.simulate_in.Goals as goal
 
@@ -19,11 +18,7 @@ returns-clause-simulates g c = λ opening new fits.
       new = new;
       plays = played.1.0;
       happen = played.1.1.0;
-      honest = subst (IsHonest opening played.0) (sym log) (record {
-        admitted = last.desk.admitted;
-        pending = (flight last).pending;
-        fits = after.told;
-      });
+      fits = after;
       log = log;
       tables = c.in_ok-log.ensures.tables opening played.0 after ∙ ap (λ (l : List Entry). gathered (is_some last.desk.active) (tables_now opening l)) (sym log);
     }
