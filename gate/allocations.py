@@ -2,8 +2,9 @@
 
 `tpcc run` and `tpcc sim` serve a few requests on a small set, once for each of their allocations, with that one refused.
 Each must end with status 4, or with answers that are all done or refused for want of memory (12) or as died (11); then
-`replay` and `check` of what was written must agree with it. No log that was written in part may pass for a whole one.
-The first run in which no allocation is left to refuse ends the sweep.
+`replay` and `check` of what was written must agree with it. No log that was written in part may pass for a whole one; with a
+whole one all answers are printed, also where `tpcc sim` finds no memory for its tables, which has to be among its runs. The
+first run in which no allocation is left to refuse ends the sweep.
 """
 
 import os
@@ -35,6 +36,17 @@ def read(path):
         return file.read()
 
 
+def is_whole(folder):
+    """Whether a whole log was written."""
+    return "\nEND," in read(f"{folder}/log.csv")
+
+
+def has_kept_its_log(ends):
+    """Whether a run without memory for its tables had its log: they are made before the first record is printed, and printing
+    takes memory too."""
+    return True in ends and False in ends[ends.index(True) :]
+
+
 def library(room):
     """Builds what refuses an allocation, by the toolchain's clang."""
     told = subprocess.run(["rt", "doc"], stdout=subprocess.PIPE, text=True, check=True).stdout
@@ -59,7 +71,9 @@ class Sweep:
         return subprocess.run([self.program, *words], cwd=folder, capture_output=True, text=True, check=False, **more)
 
     def one(self, number):
-        """Runs the command with this allocation refused. Returns whether there was one, and what is wrong, or None."""
+        """Runs the command with this allocation refused. Returns whether there was one, whether the run ended for want of memory
+        with a whole log, or without one (None, where it went on), and what is wrong, or None.
+        """
         folder = f"{self.room}/{self.command}-{number}"
         os.mkdir(folder)
         mark = f"{folder}/refused"
@@ -67,23 +81,27 @@ class Sweep:
         ran = self.call(folder, *self.words, env={**os.environ, **more})
         wrong = self.fault(folder, ran)
         was_refused = os.path.exists(mark)
+        has_log = is_whole(folder) if ran.returncode == 4 else None
         shutil.rmtree(folder)
-        return was_refused, wrong
+        return was_refused, has_log, wrong
 
     def fault(self, folder, ran):
         """Returns what is wrong with how a run ended, or None."""
-        log = read(f"{folder}/log.csv")
         if ran.returncode == 4 and ran.stderr in ("tpcc: no memory\n", ""):
-            return self.replayed(folder, None) if "\nEND," in log else self.refused(folder)
+            return self.answered(folder, ran, False) if is_whole(folder) else self.refused(folder)
         if ran.returncode == 1 and ran.stderr == "tpcc: no thread\n" and self.command == "run":
-            return "a log though no thread was started" if log else None
+            return "a log though no thread was started" if read(f"{folder}/log.csv") else None
         if ran.returncode != 0:
             return f"status {ran.returncode}, {ran.stderr.strip() or 'no message'}"
+        return self.answered(folder, ran, self.command == "sim")
+
+    def answered(self, folder, ran, has_tables):
+        """Returns what is wrong with the answers and the log of a run whose log is whole, or None."""
         answers = self.answers(ran.stdout)
         bad = [it for it in answers if it[0] != "done" and it[:2] not in (["refused", "11"], ["refused", "12"])]
         if bad or len(answers) != self.requests:
             return f"answers: {answers}"
-        return self.replayed(folder, sum(it[0] == "done" for it in answers))
+        return self.replayed(folder, sum(it[0] == "done" for it in answers), has_tables)
 
     def answers(self, printed):
         """Returns, of each answer that was printed, what follows its session and number."""
@@ -98,27 +116,31 @@ class Sweep:
         is_refused = ran.returncode == 1 and ran.stderr.endswith((": fault 7\n", ": fault 10\n"))
         return None if is_refused else f"a log that was cut off is not refused: {ran.stdout.strip() or ran.stderr.strip()}"
 
-    def replayed(self, folder, done):
+    def replayed(self, folder, done, has_tables):
         """Replays the log; it must be equal, have as many entries as requests were done, and lead to what was written."""
         ran = self.call(folder, "replay", self.dataset, "log.csv", "--tables", "replayed.csv")
-        if done is not None and ran.stdout != f"equal {done}\n" or not ran.stdout.startswith("equal "):
+        if ran.stdout != f"equal {done}\n":
             return f"{done} done, but replay says {ran.stdout.strip() or ran.stderr.strip()}"
-        if self.command == "sim" and done is not None and read(f"{folder}/tables.csv") != read(f"{folder}/replayed.csv"):
+        if has_tables and read(f"{folder}/tables.csv") != read(f"{folder}/replayed.csv"):
             return "the tables are not those of the replay"
         ran = self.call(folder, "check", "replayed.csv")
         return None if ran.returncode == 0 else f"check says {ran.stdout.strip()}"
 
     def whole(self):
         """Refuses each allocation in turn. Returns whether all was well."""
-        well = True
+        well, ends = True, []
         with ThreadPoolExecutor(AT_ONCE) as pool:
             for first in count(1, AT_ONCE):
                 numbers = range(first, first + AT_ONCE)
-                for number, (was_refused, wrong) in zip(numbers, pool.map(self.one, numbers)):
+                for number, (was_refused, has_log, wrong) in zip(numbers, pool.map(self.one, numbers)):
                     if wrong:
                         print(f"allocations: tpcc {self.command}, allocation {number} refused: {wrong}")
                         well = False
+                    ends.append(has_log)
                     if not was_refused:
+                        if self.command == "sim" and not has_kept_its_log(ends):
+                            print("allocations: tpcc sim: no log where there was no memory for the tables")
+                            well = False
                         print(f"allocations: tpcc {self.command}: each of {number - 1} allocations refused in turn", flush=True)
                         return well
 

@@ -7,13 +7,14 @@ use crate::streams::{STANDARD_OUTPUT, read_tables, write_entries, write_tables};
 use std::alloc::Global;
 use std::io::{Read, Write};
 use terminals::{read_schedule, write_told};
-use world::{OpenFault, simulate};
+use world::{GatherFault, OpenFault, simulate};
 
 /// Simulates a schedule on the dataset, event by event, and gives the exit status.
 ///
 /// `data` is read first, and then the schedule; the first fault decides, and then nothing was run. What is
 /// told of the schedule goes to `told`, one record for each event, then the log to `log`, and then the
-/// tables to `tables`; there are none while a transaction is active. Why a simulation ended early is told
+/// tables to `tables`; there are none while a transaction is active, or where there is no memory for them,
+/// which is no fault where none are asked for. Why a simulation ended early is told
 /// on `errors`, as `tpcc: PATH: row R: fault N`, `tpcc: not consistent: N`, `tpcc: not idle` or
 /// `tpcc: no memory`.
 pub fn sim_over<
@@ -68,8 +69,9 @@ fn sim<'a, D: Read + Drop, S: Read + Drop, A: Write, L: Write + Drop, T: Write +
     }
     write_entries(alloc, settings.log, log, simulation.log.as_slice())?;
     match &simulation.tables {
-        Some(last) => write_tables(alloc, settings.tables, tables, last),
-        None if tables.is_some() => Err(CommandFault::NotIdle),
-        None => Ok(()),
+        Ok(last) => write_tables(alloc, settings.tables, tables, last),
+        Err(_) if tables.is_none() => Ok(()),
+        Err(GatherFault::NotIdle) => Err(CommandFault::NotIdle),
+        Err(GatherFault::NoMemory) => Err(CommandFault::NoMemory),
     }
 }

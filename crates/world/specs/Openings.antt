@@ -1,5 +1,5 @@
 -- Why no world was opened, what its sessions are then, and what a simulation tells.
-use Rattle.std.specs.Prelude.{◌≡◌, ◌<◌, ℕ, Bool, true, false, List, [], Option, Some, None, is_some, slice_get, length}
+use Rattle.std.specs.Prelude.{◌≡◌, ◌⊎◌, ◌<◌, ℕ, Bool, true, false, List, [], Some, None, Result, Ok, Err, is_some, slice_get, length}
 use Rattle.schema.specs.Database.{Database}
 use Rattle.consistency.specs.Broken.{BreaksFirst}
 use Rattle.commit_log.specs.Passing.{Passing, Seating, new_pass, new_seat}
@@ -11,6 +11,8 @@ use Rattle.world.specs.declared.opening.OpenFault.{OpenFault}
 use Rattle.world.specs.declared.opening.OpenFault.TheVariants.{NoMemory, BadExecutors, NotConsistent}
 use Rattle.slices.specs.Sliced.{AreSlicesOf, all_at_rest}
 use Rattle.world.specs.declared.simulating.Simulation.{Simulation}
+use Rattle.world.specs.declared.world.GatherFault.{GatherFault}
+use Rattle.world.specs.declared.world.GatherFault.TheVariants as gather
 use Rattle.world.specs.declared.world.Parts.{Parts}
 use Rattle.world.specs.Parted.{joined_in}
 use Rattle.world.specs.Worlds.{Fits, HappenInTurn, tables_now}
@@ -27,10 +29,10 @@ number_of NoMemory = 1
 number_of BadExecutors = 2
 number_of (NotConsistent n) = 3
 
--- the tables that are gathered of a world: none while a transaction is active
-abbrev pub gathered : Bool → Database → Option Database
-gathered true tables = None
-gathered false tables = Some tables
+-- What is gathered of a world: nothing while a transaction is active, and else these tables, unless there is no memory for them.
+abbrev pub IsGathered : Bool → Database → Result Database GatherFault → Type 0
+IsGathered true tables gathered = gathered ≡ Err gather.NotIdle
+IsGathered false tables gathered = (gathered ≡ Ok tables) ⊎ (gathered ≡ Err gather.NoMemory)
 
 -- the passes and the seats of 64 sessions that have asked, seen and logged nothing, by the sessions' numbers
 pub record AreNewLanes (lanes : List (Passing × Seating)) : Type 0 where
@@ -57,7 +59,7 @@ module _ {J : Type 0} where
 
 -- A schedule was simulated on tables: in a new world on them its events happened in turn; this is what is told of them; with
 -- their answers they are a history that fits the last world; the log is that world's; and so are the tables, the machine's
--- last, unless a transaction is active.
+-- last, unless a transaction is active or there is no memory for them.
 pub record Simulates (J : Type 0) (opening : Database) (schedule : List Scheduled) (s : Simulation) : Type 0 where
   pub first : Parts J
   pub last : Parts J
@@ -67,4 +69,4 @@ pub record Simulates (J : Type 0) (opening : Database) (schedule : List Schedule
   pub happen : HappenInTurn steps first last
   pub fits : Fits opening steps last
   pub log : s.log.items ≡ last.log
-  pub tables : s.tables ≡ gathered (is_some last.desk.active) (tables_now opening s.log.items)
+  pub tables : IsGathered (is_some last.desk.active) (tables_now opening s.log.items) s.tables

@@ -1,5 +1,5 @@
 //! Schedules are simulated, event by event.
-ghost use Rattle.std.specs.Prelude.{◌≡◌, ◌≢◌, ◌<◌, ◌↔◌, ℕ, [], IfOk, IfErr, IsErrAnd, IsTrue, is_some};
+ghost use Rattle.std.specs.Prelude.{◌≡◌, ◌≢◌, ◌<◌, ◌↔◌, ℕ, [], IfOk, IfErr, IsErrAnd};
 ghost use Rattle.schema.specs.Database.{Database};
 ghost use Rattle.tickets.specs.Openings.{AreNamed};
 ghost use Rattle.slices.specs.Openings.{AreOpenedFor};
@@ -10,7 +10,7 @@ ghost use Rattle.world.specs.Openings.{IsFaultOf, IsNew, Simulates};
 ghost use Rattle.world.specs.Worlds.{Fits};
 
 use crate::opening::{OpenFault, Opening};
-use crate::world::World;
+use crate::world::{GatherFault, World};
 use commit_log::Entry;
 use history::{Scheduled, Told};
 use schema::{NoMemory, Tables};
@@ -23,9 +23,9 @@ pub struct Simulation {
     /// What is told of each item, in order.
     pub told: Vec<Told>,
     pub log: Vec<Entry>,
-    /// The tables as the transactions of the log left them; `None` where a transaction was active at the
+    /// The tables as the transactions of the log left them; `NotIdle` where a transaction was active at the
     /// end.
-    pub tables: Option<Tables>,
+    pub tables: Result<Tables, GatherFault>,
 }
 
 /// Plays a schedule from these tables, event by event, in a world of so many executors.
@@ -33,7 +33,8 @@ pub struct Simulation {
 /// However its events follow one another, the replies of the log and the tables at the end are those of a
 /// machine that carries out the log's requests one at a time, in log order. Each event is answered as
 /// `World::step` tells, from a new world on; where the last thing told is that rounds ended quiet, the
-/// tables are given.
+/// tables are given, unless there is no memory for them. An error says that nothing was played, or that
+/// there was no memory for what is told.
 pub fn simulate(
     alloc: Global,
     tables: Tables,
@@ -41,7 +42,7 @@ pub fn simulate(
     schedule: &[Scheduled],
 ) -> Result<Simulation, OpenFault>
     ensures simulates { IfOk result (Simulates Brand tables schedule.now) }
-    ensures quiet { IfOk result (λ s. EndsQuiet s.told.items → IsTrue (is_some s.tables)) }
+    ensures quiet { IfOk result (λ s. EndsQuiet s.told.items → s.tables ≢ Err GatherFault.NotIdle) }
     ensures bad_executors { IsErrAnd result (λ fault. fault ≡ OpenFault.BadExecutors) ↔ (executors ≢ 1) }
     ensures fault { IfErr result (λ fault. IsFaultOf tables fault) }
 {
@@ -68,7 +69,7 @@ fn simulate_from<J: commit_log::Naming + tickets::Naming>(
     requires mine { (session : ℕ) → session < 64 → J.mine session ≡ table_of opening.log.mine session }
     requires asks { (session : ℕ) → session < 64 → J.asks session ≡ table_of opening.log.asks session }
     ensures simulates { IfOk result (Simulates J tables schedule.now) }
-    ensures quiet { IfOk result (λ s. EndsQuiet s.told.items → IsTrue (is_some s.tables)) }
+    ensures quiet { IfOk result (λ s. EndsQuiet s.told.items → s.tables ≢ Err GatherFault.NotIdle) }
     ensures bad_executors { IsErrAnd result (λ fault. fault ≡ OpenFault.BadExecutors) ↔ (executors ≢ 1) }
     ensures fault { IfErr result (λ fault. IsFaultOf tables fault) }
 {
@@ -84,9 +85,9 @@ fn simulate_in<J: commit_log::Naming + tickets::Naming>(
     schedule: &[Scheduled],
 ) -> Result<Simulation, NoMemory>
     ensures simulates { IfOk result (λ s. (opening : Database) → IsNew opening world → Fits opening [] world → Simulates J opening schedule.now s) }
-    ensures quiet { IfOk result (λ s. EndsQuiet s.told.items → IsTrue (is_some s.tables)) }
+    ensures quiet { IfOk result (λ s. EndsQuiet s.told.items → s.tables ≢ Err GatherFault.NotIdle) }
 {
     let told = world.play(alloc, schedule)?;
-    let (log, tables) = world.close()?;
+    let (log, tables) = world.close();
     Ok(Simulation { told, log, tables })
 }

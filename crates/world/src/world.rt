@@ -2,7 +2,7 @@ ghost use Rattle.std.specs.Prelude.{◌≡◌, ◌↔◌, [], ◌∷◌, length,
 ghost use Rattle.schema.specs.Database.{Database};
 ghost use Rattle.std.specs.Prelude.{List};
 ghost use Rattle.history.specs.History.{Step, step as one_step};
-ghost use Rattle.world.specs.Openings.{gathered};
+ghost use Rattle.world.specs.Openings.{IsGathered};
 ghost use Rattle.world.specs.Sound.{flight};
 ghost use Rattle.world.specs.Worlds.{Advances, CannotHappen, Fits, HappenInTurn, Happens, IsAtRest, IsBusyExactly, steps_of, tables_now};
 
@@ -85,7 +85,7 @@ impl<J: commit_log::Naming + tickets::Naming> Parts<J> {
 pub enum GatherFault {
     /// A transaction is active.
     NotIdle,
-    /// There was no memory for a copy.
+    /// There was no memory for them.
     NoMemory,
 }
 
@@ -138,22 +138,24 @@ impl<J: commit_log::Naming + tickets::Naming> World<J> {
         }
     }
 
-    /// Ends the world, and gives its log, and the tables as the transactions of the log left them: `None`
-    /// exactly where a transaction is active. Entries and rows are moved, and none is copied. Nothing is
-    /// left after an error.
-    pub fn close(self) -> Result<(Vec<Entry>, Option<Tables>), NoMemory>
-        ensures log { IfOk result (λ left. left.0.items ≡ self.log) }
-        ensures tables { IfOk result (λ left. (opening : Database) (history : List Step) → Fits opening history self → left.1 ≡ gathered (is_some self.desk.active) (tables_now opening self.log)) }
-        ensures idle { IfOk result (λ left. IsTrue (is_some left.1) ↔ (self.desk.active ≡ None)) }
+    /// Ends the world, and gives its log, and the tables as the transactions of the log left them: `NotIdle`
+    /// exactly where a transaction is active. Entries and rows are moved, and none is copied; where there is
+    /// no memory for the tables, the log is given all the same.
+    pub fn close(self) -> (Vec<Entry>, Result<Tables, GatherFault>)
+        ensures log { result.0.items ≡ self.log }
+        ensures tables { (opening : Database) (history : List Step) → Fits opening history self → IsGathered (is_some self.desk.active) (tables_now opening self.log) result.1 }
+        ensures idle { IsErrAnd result.1 (λ fault. fault ≡ GatherFault.NotIdle) ↔ IsTrue (is_some self.desk.active) }
         ensures at_rest { IsAtRest self → self.desk.active ≡ None }
     {
         let is_idle = self.parts.desk.active.is_none();
         let (entries, catalog, slices) = self.parts.into_log_and_slices();
         if !is_idle {
-            return Ok((entries, None));
+            return (entries, Err(GatherFault::NotIdle));
         }
-        let tables = whole(catalog, slices)?;
-        Ok((entries, Some(tables)))
+        match whole(catalog, slices) {
+            Ok(tables) => (entries, Ok(tables)),
+            Err(NoMemory) => (entries, Err(GatherFault::NoMemory)),
+        }
     }
 
     /// Whether no message can be taken and no item be sent. Then no transaction is active and no claim is

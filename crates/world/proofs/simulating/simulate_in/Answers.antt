@@ -1,7 +1,7 @@
-use Rattle.std.proofs.Common.{◌∙◌, [], List, ap, sym}
+use Rattle.std.proofs.Common.{[], List, sym, subst}
 use Rattle.std.specs.Prelude.{is_some}
 use Rattle.commit_log.specs.declared.entry.Entry.{Entry}
-use Rattle.world.specs.Openings.{gathered}
+use Rattle.world.specs.Openings.{IsGathered}
 use Rattle.world.specs.Worlds.{tables_now}
 use Rattle.world.proofs.simulating.simulate_in.Goals as goal
 
@@ -10,7 +10,7 @@ returns-clause-simulates g c = λ opening new fits.
     let played = c.in_ok-told.ensures.plays in
     let last = c.play.new.self in
     let after = played.1.1.1 opening [] fits in
-    let log = c.in_ok-log.ensures.log in
+    let log = c.close-log.ensures.log in
     record {
       first = c.args.world;
       last = last;
@@ -20,5 +20,6 @@ returns-clause-simulates g c = λ opening new fits.
       happen = played.1.1.0;
       fits = after;
       log = log;
-      tables = c.in_ok-log.ensures.tables opening played.0 after ∙ ap (λ (l : List Entry). gathered (is_some last.desk.active) (tables_now opening l)) (sym log);
+      tables = subst (λ (l : List Entry). IsGathered (is_some last.desk.active) (tables_now opening l) c.close-log.result.1) (sym log)
+          (c.close-log.ensures.tables opening played.0 after);
     }
