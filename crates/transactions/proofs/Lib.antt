@@ -19,3 +19,4 @@ pub mod Done
 pub mod PaymentSteps
 pub mod OrderStatusSteps
 pub mod Reached
+pub mod Unasked

@@ -8,9 +8,6 @@ use Rattle.std.proofs.lemmas.Option.{slice_get-map, slice_get_within}
 use Rattle.schema.specs.Database.{Database, IsWithinScale}
 use Rattle.partitions.specs.Parts.{Shared, parts_of, shared_of}
 use Rattle.schema.specs.Consistency.{Consistent}
-use Rattle.requests.specs.declared.request.Choice.TheVariants.{Number}
-use Rattle.requests.specs.declared.payment.Payment.{Payment}
-use Rattle.requests.specs.declared.request.Request.TheVariants as request
 use Rattle.groups.specs.Content.{content}
 use Rattle.tickets.specs.Boxes.{Boxed}
 use Rattle.tickets.specs.LogSeats.{Committed}
@@ -20,8 +17,7 @@ use Rattle.tickets.proofs.Committed as kept
 use Rattle.commit_log.specs.declared.entry.Entry.{Entry}
 use Rattle.commit_log.specs.Passing.{Passing, Seating, new_pass, new_seat}
 use Rattle.history.proofs.Fitting.{empty_history_fits}
-use Rattle.transactions.specs.declared.payment.Progress.TheVariants.{PayRows}
-use Rattle.transactions.specs.declared.progress.Progress.TheVariants as progress
+use Rattle.transactions.proofs.Unasked.{unasked, unasked_progress}
 use Rattle.slices.specs.Openings.{AreOpenedFor, IsBoxOf}
 use Rattle.slices.specs.Sliced.{Sliced, AreSlicesOf, all_at_rest, all_standing, at_rest, everywhere, joined}
 use Rattle.slices.proofs.Joined.{cut_slices_are_at_rest}
@@ -57,13 +53,9 @@ cut_slices t shared slices within same are =
 
 -- ---- the sessions
 
--- a payment, where there is none
-no_payment : Payment
-no_payment = record { home = record { w_id = 1; d_id = 1 }; customer_home = record { w_id = 1; d_id = 1 }; customer = Number 1; amount = 100; moment = 0 }
-
 -- a transaction, where there is none
 none_under_way : UnderWay
-none_under_way = record { request = request.Payment no_payment; progress = progress.Payment (PayRows no_payment); held = [] }
+none_under_way = record { request = unasked; progress = unasked_progress; held = [] }
 
 found_in : {X Y : Type 0} (f : X → Y) (o : Option X) (y : Y) (x : X) → option_map f o ≡ Some y → o ≡ Some x → y ≡ f x
 found_in f o y x found is = cc
