@@ -1,12 +1,18 @@
--- Why no world was opened, what its sessions are then, and what a simulation tells.
+-- For what a world is opened, why none was, what its sessions are then, and what a simulation tells.
 use Rattle.std.specs.Prelude.{◌≡◌, ◌⊎◌, ◌<◌, ℕ, Bool, true, false, List, [], Some, None, Result, Ok, Err, is_some, slice_get, length}
 use Rattle.schema.specs.Database.{Database}
 use Rattle.consistency.specs.Broken.{BreaksFirst}
+use Rattle.tickets.specs.declared.naming.Naming.{Ghosts as GroupNames}
+use Rattle.tickets.specs.Openings.{AreNamed}
+use Rattle.commit_log.specs.declared.naming.Naming.{Ghosts as LogNames}
+use Rattle.commit_log.specs.LogTables.{table_of}
 use Rattle.commit_log.specs.Passing.{Passing, Seating, new_pass, new_seat}
 use Rattle.history.specs.History.{Step}
 use Rattle.history.specs.declared.schedule.Scheduled.{Scheduled}
 use Rattle.history.specs.Schedules.{Plays}
 use Rattle.world.specs.declared.desk.SessionDesk.{SessionDesk}
+use Rattle.slices.specs.Openings.{AreOpenedFor}
+use Rattle.world.specs.declared.opening.Opening.{Opening}
 use Rattle.world.specs.declared.opening.OpenFault.{OpenFault}
 use Rattle.world.specs.declared.opening.OpenFault.TheVariants.{NoMemory, BadExecutors, NotConsistent}
 use Rattle.slices.specs.Sliced.{AreSlicesOf, all_at_rest}
@@ -16,6 +22,17 @@ use Rattle.world.specs.declared.world.GatherFault.TheVariants as gather
 use Rattle.world.specs.declared.world.Parts.{Parts}
 use Rattle.world.specs.Parted.{joined_in}
 use Rattle.world.specs.Worlds.{Fits, HappenInTurn, tables_now}
+
+-- A world's names were picked for these tables and this opening: there are agreements for each group of the tables, with what
+-- the group has; and the names of the groups' agreements and of the log's are those that were opened.
+pub record IsNamedFor {J : Type 0} (log : LogNames J) (groups : GroupNames J) (tables : Database) (opening : Opening) : Type 0 where
+  pub opened : AreOpenedFor tables opening.groups.items
+  pub tables_are : log.opening ≡ tables
+  pub warehouses : groups.warehouses ≡ tables.scale.warehouses
+  pub agreements : AreNamed tables.scale.warehouses groups.committed groups.work opening.groups.items
+  pub length : log.length ≡ opening.log.length
+  pub mine : (session : ℕ) → session < 64 → log.mine session ≡ table_of opening.log.mine session
+  pub asks : (session : ℕ) → session < 64 → log.asks session ≡ table_of opening.log.asks session
 
 -- NotConsistent names the least condition that these tables break
 abbrev pub IsFaultOf : Database → OpenFault → Type 0

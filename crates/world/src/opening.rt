@@ -1,10 +1,8 @@
 //! A world is opened over tables that meet the consistency conditions.
-ghost use Rattle.std.specs.Prelude.{◌≡◌, ◌≢◌, ◌<◌, ◌↔◌, ℕ, [], map, IfOk, IfErr, OnOk, IsErrAnd};
+ghost use Rattle.std.specs.Prelude.{◌≡◌, ◌≢◌, ◌↔◌, [], map, IfOk, IfErr, OnOk, IsErrAnd};
 ghost use Rattle.schema.specs.Consistency.{Consistent};
-ghost use Rattle.tickets.specs.Openings.{AreNamed};
 ghost use Rattle.slices.specs.Openings.{AreOpenedFor};
-ghost use Rattle.commit_log.specs.LogTables.{table_of};
-ghost use Rattle.world.specs.Openings.{IsFaultOf, IsNew, number_of, session_with};
+ghost use Rattle.world.specs.Openings.{IsFaultOf, IsNamedFor, IsNew, number_of, session_with};
 ghost use Rattle.world.specs.Worlds.{Fits};
 
 use crate::desk::{Desk, SessionDesk};
@@ -81,13 +79,7 @@ impl<J: commit_log::Naming + tickets::Naming> World<J> {
         executors: u32,
         opening: Opening,
     ) -> Result<World<J>, OpenFault>
-        requires opened { AreOpenedFor tables opening.groups.items }
-        requires opening { J.opening ≡ tables }
-        requires warehouses { J.warehouses ≡ tables.scale.warehouses }
-        requires groups { AreNamed tables.scale.warehouses J.committed J.work opening.groups.items }
-        requires length { J.length ≡ opening.log.length }
-        requires mine { (session : ℕ) → session < 64 → J.mine session ≡ table_of opening.log.mine session }
-        requires asks { (session : ℕ) → session < 64 → J.asks session ≡ table_of opening.log.asks session }
+        requires named { IsNamedFor J.Naming-1 J.Naming-2 tables opening }
         ensures fits { IfOk result (λ world. Fits tables [] world) }
         ensures new { IfOk result (λ world. IsNew tables world) }
         ensures consistent { OnOk result (Consistent tables) }
@@ -107,13 +99,7 @@ impl<J: commit_log::Naming + tickets::Naming> World<J> {
     // A world over tables that are consistent.
     fn over(alloc: Global, tables: Tables, opening: Opening) -> Result<World<J>, NoMemory>
         requires consistent { Consistent tables }
-        requires opened { AreOpenedFor tables opening.groups.items }
-        requires opening { J.opening ≡ tables }
-        requires warehouses { J.warehouses ≡ tables.scale.warehouses }
-        requires groups { AreNamed tables.scale.warehouses J.committed J.work opening.groups.items }
-        requires length { J.length ≡ opening.log.length }
-        requires mine { (session : ℕ) → session < 64 → J.mine session ≡ table_of opening.log.mine session }
-        requires asks { (session : ℕ) → session < 64 → J.asks session ≡ table_of opening.log.asks session }
+        requires named { IsNamedFor J.Naming-1 J.Naming-2 tables opening }
         ensures fits { IfOk result (λ world. Fits tables [] world) }
         ensures new { IfOk result (λ world. IsNew tables world) }
     {

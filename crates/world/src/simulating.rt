@@ -1,12 +1,9 @@
 //! Schedules are simulated, event by event.
-ghost use Rattle.std.specs.Prelude.{◌≡◌, ◌≢◌, ◌<◌, ◌↔◌, ℕ, [], IfOk, IfErr, IsErrAnd};
+ghost use Rattle.std.specs.Prelude.{◌≡◌, ◌≢◌, ◌↔◌, [], IfOk, IfErr, IsErrAnd};
 ghost use Rattle.schema.specs.Database.{Database};
-ghost use Rattle.tickets.specs.Openings.{AreNamed};
-ghost use Rattle.slices.specs.Openings.{AreOpenedFor};
-ghost use Rattle.commit_log.specs.LogTables.{table_of};
 ghost use Rattle.history.specs.Schedules.{EndsQuiet};
 ghost use Rattle.std.specs.declared.marker.Brand.{Brand};
-ghost use Rattle.world.specs.Openings.{IsFaultOf, IsNew, Simulates};
+ghost use Rattle.world.specs.Openings.{IsFaultOf, IsNamedFor, IsNew, Simulates};
 ghost use Rattle.world.specs.Worlds.{Fits};
 
 use crate::opening::{OpenFault, Opening};
@@ -61,13 +58,7 @@ fn simulate_from<J: commit_log::Naming + tickets::Naming>(
     opening: Opening,
     schedule: &[Scheduled],
 ) -> Result<Simulation, OpenFault>
-    requires opened { AreOpenedFor tables opening.groups.items }
-    requires opening { J.opening ≡ tables }
-    requires warehouses { J.warehouses ≡ tables.scale.warehouses }
-    requires groups { AreNamed tables.scale.warehouses J.committed J.work opening.groups.items }
-    requires length { J.length ≡ opening.log.length }
-    requires mine { (session : ℕ) → session < 64 → J.mine session ≡ table_of opening.log.mine session }
-    requires asks { (session : ℕ) → session < 64 → J.asks session ≡ table_of opening.log.asks session }
+    requires named { IsNamedFor J.Naming-1 J.Naming-2 tables opening }
     ensures simulates { IfOk result (Simulates J tables schedule.now) }
     ensures quiet { IfOk result (λ s. EndsQuiet s.told.items → s.tables ≢ Err GatherFault.NotIdle) }
     ensures bad_executors { IsErrAnd result (λ fault. fault ≡ OpenFault.BadExecutors) ↔ (executors ≢ 1) }

@@ -14,23 +14,23 @@ pub cut-requires-clause-boxes : goal.cut-requires-clause-boxes
 cut-requires-clause-boxes g c =
     let boxed = c.in_ok-boxes.ensures in
     let in_place : AreInPlace c.args.tables.scale.warehouses c.in_ok-boxes.seats = subst (λ s. AreInPlace s.warehouses c.in_ok-boxes.seats) c.scale.ensures.value boxed.places in
-    subst (AreBoxesOf c.args.tables) (sym boxed.boxes) (opened_groups_have_boxes c.args.tables c.args.opening.groups.items c.in_ok-boxes.seats c.requires.opened in_place boxed.contents)
+    subst (AreBoxesOf c.args.tables) (sym boxed.boxes) (opened_groups_have_boxes c.args.tables c.args.opening.groups.items c.in_ok-boxes.seats c.requires.named.opened in_place boxed.contents)
 
 pub new-requires-clause-opening : goal.new-requires-clause-opening
 new-requires-clause-opening g c =
     let boxed = c.in_ok-boxes.ensures in
     let in_place : AreInPlace c.args.tables.scale.warehouses c.in_ok-boxes.seats = subst (λ s. AreInPlace s.warehouses c.in_ok-boxes.seats) c.scale.ensures.value boxed.places in
-    subst (λ (t : Database). SeatsTell (content t) c.in_ok-boxes.seats) (sym c.requires.opening)
-    (seats_tell c.args.tables c.args.opening.groups.items c.in_ok-boxes.seats c.requires.opened in_place boxed.contents)
+    subst (λ (t : Database). SeatsTell (content t) c.in_ok-boxes.seats) (sym c.requires.named.tables_are)
+    (seats_tell c.args.tables c.args.opening.groups.items c.in_ok-boxes.seats c.requires.named.opened in_place boxed.contents)
 
 pub invariant_of-result : goal.invariant_of-result
 invariant_of-result g c =
     let cut = c.in_ok-catalog in
-    let scale = ap (λ (t : Database). t.scale) c.requires.opening in
+    let scale = ap (λ (t : Database). t.scale) c.requires.named.tables_are in
     let slices = cut_slices c.args.tables cut.catalog cut.slices.items c.scale.ensures.within cut.ensures.catalog cut.ensures.slices in (
       opened_sound (shared_of g.J.Naming-1.opening) c.in_ok-book.lanes.items _ (record { many = omega (arith, c.in_ok-book.lanes.ok.0, c.in_ok-book.ensures.count); each = c.in_ok-book.ensures.sessions })
-          (cut.ensures.catalog ∙ ap shared_of (sym c.requires.opening)) slices.0 c.in_ok-inbox.ensures c.in_ok-outbox.ensures refl c.in_ok-sessions.ensures,
-      c.requires.warehouses ∙ sym (ap (λ s. s.warehouses) scale),
+          (cut.ensures.catalog ∙ ap shared_of (sym c.requires.named.tables_are)) slices.0 c.in_ok-inbox.ensures c.in_ok-outbox.ensures refl c.in_ok-sessions.ensures,
+      c.requires.named.warehouses ∙ sym (ap (λ s. s.warehouses) scale),
     )
 
 pub returns-clause-fits : goal.returns-clause-fits
