@@ -3,7 +3,7 @@ use Rattle.std.specs.Prelude.{◌≡◌, ℕ, List, [], length, map, All}
 use Rattle.atomic_table.specs.Seated.{TableId}
 use Rattle.agreement.specs.Telling.{Telling}
 use Rattle.length_word.specs.Reaching.{Reaching, reaching}
-use Rattle.commit_log.specs.declared.log_seats.Lane.{Lane}
+use Rattle.commit_log.specs.declared.unnamed_log.Lane.{Lane}
 use Rattle.commit_log.specs.declared.mine.Mine.{Mine}
 use Rattle.commit_log.specs.Asks.{nothing_asked}
 use Rattle.commit_log.specs.Items.{mine_of}

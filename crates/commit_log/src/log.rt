@@ -9,7 +9,7 @@ ghost use Rattle.commit_log.specs.Items.{item};
 ghost use Rattle.commit_log.specs.Log.{replies_of, requests_of};
 ghost use Rattle.commit_log.specs.Passing.{after_item, after_refusal};
 
-use crate::{AppendFault, Entry, LogBook, MOST_ENTRIES, Naming, Pass};
+use crate::{AppendFault, Entry, LogBook, MOST_ENTRIES, Names, Pass};
 use requests::Reply;
 use std::marker::Model;
 use tickets::{Claims, LogSeats};
@@ -17,12 +17,12 @@ use tickets::{Claims, LogSeats};
 /// A log of transactions that were carried out under claims, in any hands. It has no tables: its seats
 /// tell what is committed in each group.
 #[derive(Drop)]
-pub struct Log<J: Naming + tickets::Naming> {
+pub struct Log<J: Names> {
     book: LogBook<J>,
     seats: LogSeats<J>,
 }
 
-impl<J: Naming + tickets::Naming> Model for Log<J> {
+impl<J: Names> Model for Log<J> {
     ghost use Rattle.std.specs.Prelude.{List};
     ghost use Rattle.std.specs.Coded.{coded_list};
     ghost use Rattle.commit_log.specs.declared.entry.Entry.{Entry};
@@ -38,7 +38,7 @@ impl<J: Naming + tickets::Naming> Model for Log<J> {
     ghost invariant = { λ l. IsKept J.opening l.book.entries l.seats };
 }
 
-impl<J: Naming + tickets::Naming> Log<J> {
+impl<J: Names> Log<J> {
     /// A log without entries, whose seats tell what the groups have in the tables of its opening.
     pub fn new(book: LogBook<J>, seats: LogSeats<J>) -> Log<J>
         requires empty { book.entries ≡ [] }
@@ -109,11 +109,7 @@ impl<J: Naming + tickets::Naming> Log<J> {
 
 // Learns that the claims tell what is committed, and commits what they left, unless the transaction was
 // rolled back.
-fn commit<J: Naming + tickets::Naming>(
-    seats: &mut LogSeats<J>,
-    held: &mut [Claims<J>],
-    reply: &Reply,
-)
+fn commit<J: Names>(seats: &mut LogSeats<J>, held: &mut [Claims<J>], reply: &Reply)
     ensures told { All (IsToldIn seats.old) (all_claims held.old) }
     ensures seats { seats.new ≡ seats_logged reply.now (all_claims held.old) seats.old }
     ensures claims { held.new ≡ map (claims_logged reply.now) held.old }

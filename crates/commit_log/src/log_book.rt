@@ -6,7 +6,7 @@ ghost use Rattle.commit_log.specs.LogTables.{table_of};
 ghost use Rattle.commit_log.specs.Logged.{booked};
 
 use crate::mine::{Logs, tell};
-use crate::{Entry, LogSeats, Mine, Naming, Pass, SessionSeat};
+use crate::{Entry, LogNames, Mine, Pass, SessionSeat, UnnamedLog};
 use agreement::Seat;
 use length_word::{Length, Mark};
 use requests::{Reply, Request};
@@ -28,15 +28,15 @@ pub enum AppendFault {
 /// The entries of a log, which tell each session what it has logged and how far the log has reached.
 /// It knows nothing of the engine that carries out what is logged.
 #[derive(Drop)]
-pub struct LogBook<J: Naming> {
+pub struct LogBook<J: LogNames> {
     entries: Vec<Entry>,
     length: Length,
     /// What each session has logged, by its number.
     mine: Vec<Seat<Mine>>,
-    naming: PhantomData<J>,
+    names: PhantomData<J>,
 }
 
-impl<J: Naming> Model for LogBook<J> {
+impl<J: LogNames> Model for LogBook<J> {
     ghost use Rattle.std.specs.Prelude.{◌-◌, vec_len, vec_capacity, refl};
     ghost use Rattle.std.specs.Coded.{code_by, coded×, coded_list, coded_ℕ};
     ghost use Rattle.commit_log.specs.contracts.entry.Entry as entry;
@@ -52,12 +52,12 @@ impl<J: Naming> Model for LogBook<J> {
     ghost invariant = { λ b. IsBookOf J.length J.mine b.entries.items b.length b.mine.items };
 }
 
-impl<J: Naming> LogBook<J> {
+impl<J: LogNames> LogBook<J> {
     /// A book without entries, and each session's pass and seat, in the order of the sessions. Nothing is
     /// left after an error.
     pub fn open(
         alloc: Global,
-        seats: LogSeats,
+        seats: UnnamedLog,
     ) -> Result<(LogBook<J>, Vec<(Pass<J>, SessionSeat<J>)>), NoMemory>
         requires length { J.length ≡ seats.length }
         requires mine { (session : ℕ) → session < 64 → J.mine session ≡ table_of seats.mine session }
@@ -67,7 +67,7 @@ impl<J: Naming> LogBook<J> {
         ensures sessions { IfOk result (λ opened.
             (session : ℕ) → session < 64 → slice_get opened.1.items session ≡ Some (new_pass session, new_seat session)) }
     {
-        let LogSeats {
+        let UnnamedLog {
             length,
             mine,
             mut lanes,
@@ -81,12 +81,12 @@ impl<J: Naming> LogBook<J> {
                 mark: lane.mark,
                 mine: lane.mine,
                 asks: lane.asks,
-                naming: PhantomData,
+                names: PhantomData,
             };
             let seat = SessionSeat {
                 session,
                 asks: lane.asked,
-                naming: PhantomData,
+                names: PhantomData,
             };
             sessions.push((pass, seat))?;
         }
@@ -94,7 +94,7 @@ impl<J: Naming> LogBook<J> {
             entries: Vec::new(alloc),
             length,
             mine,
-            naming: PhantomData,
+            names: PhantomData,
         };
         Ok((book, sessions))
     }

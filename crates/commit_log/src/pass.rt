@@ -1,7 +1,7 @@
 ghost use Rattle.std.specs.Prelude.{◌≡◌};
 ghost use Rattle.commit_log.specs.Passing.{having_met};
 
-use crate::{Asking, Mine, Naming};
+use crate::{Asking, LogNames, Mine};
 use agreement::Seat;
 use length_word::Mark;
 use std::marker::{Model, PhantomData};
@@ -9,7 +9,7 @@ use std::marker::{Model, PhantomData};
 /// What a session knows of the log: how far it has reached, and what the session has logged. It goes
 /// with the session's request to the log, and comes back with the answer.
 #[derive(Drop)]
-pub struct Pass<J: Naming> {
+pub struct Pass<J: LogNames> {
     /// The session, 0 to 63.
     pub(crate) session: u32,
     /// How many entries the log had when the session, or one that it met, had an answer from it.
@@ -18,10 +18,10 @@ pub struct Pass<J: Naming> {
     pub(crate) mark: Mark,
     pub(crate) mine: Seat<Mine>,
     pub(crate) asks: Seat<Asking>,
-    pub(crate) naming: PhantomData<J>,
+    pub(crate) names: PhantomData<J>,
 }
 
-impl<J: Naming> Model for Pass<J> {
+impl<J: LogNames> Model for Pass<J> {
     ghost use Rattle.commit_log.specs.Passing.{Passing, passing};
     ghost use Rattle.commit_log.specs.Kept.{IsPassOf};
 
@@ -32,7 +32,7 @@ impl<J: Naming> Model for Pass<J> {
     ghost invariant = { λ p. IsPassOf J.length (J.mine p.session) (J.asks p.session) p.session p.seen p.mark p.mine p.asks };
 }
 
-impl<J: Naming> Pass<J> {
+impl<J: LogNames> Pass<J> {
     /// The session whose pass it is, 0 to 63.
     pub fn session(&self) -> u32
         ensures { result ≡ self.now.session }
@@ -57,7 +57,7 @@ impl<J: Naming> Pass<J> {
 
 /// Two sessions meet: both passes have seen the larger number of entries from then on. It waits for
 /// nobody.
-pub fn meet<J: Naming>(one: &mut Pass<J>, other: &mut Pass<J>)
+pub fn meet<J: LogNames>(one: &mut Pass<J>, other: &mut Pass<J>)
     ensures one { one.new ≡ having_met one.old other.old }
     ensures other { other.new ≡ having_met other.old one.old }
 {

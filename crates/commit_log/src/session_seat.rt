@@ -3,21 +3,21 @@ ghost use Rattle.commit_log.specs.Asks.{asking};
 ghost use Rattle.commit_log.specs.Passing.{with_asks, seating};
 
 use crate::asking::Asks;
-use crate::{Asking, Naming, Pass};
+use crate::{Asking, LogNames, Pass};
 use agreement::Seat;
 use requests::Request;
 use std::marker::{Model, PhantomData};
 
 /// What a session keeps while its pass is away: what it asked, and what its pass was when it asked.
 #[derive(Drop)]
-pub struct SessionSeat<J: Naming> {
+pub struct SessionSeat<J: LogNames> {
     /// The session, 0 to 63.
     pub(crate) session: u32,
     pub(crate) asks: Seat<Asking>,
-    pub(crate) naming: PhantomData<J>,
+    pub(crate) names: PhantomData<J>,
 }
 
-impl<J: Naming> Model for SessionSeat<J> {
+impl<J: LogNames> Model for SessionSeat<J> {
     ghost use Rattle.commit_log.specs.Passing.{Seating, seating};
     ghost use Rattle.commit_log.specs.Kept.{IsSeatOf};
 
@@ -28,7 +28,7 @@ impl<J: Naming> Model for SessionSeat<J> {
     ghost invariant = { λ s. IsSeatOf (J.asks s.session) s.session s.asks };
 }
 
-impl<J: Naming> SessionSeat<J> {
+impl<J: LogNames> SessionSeat<J> {
     /// The session whose seat it is, 0 to 63.
     pub fn session(&self) -> u32
         ensures { result ≡ self.now.session }

@@ -6,7 +6,7 @@ ghost use Rattle.commit_log.specs.Log.{IsLegal};
 ghost use Rattle.commit_log.specs.LogTables.{table_of};
 ghost use Rattle.commit_log.specs.Passing.{new_pass, new_seat, after_item, after_refusal, IsRefused};
 
-use crate::{AppendFault, Entry, LogBook, LogSeats, MOST_ENTRIES, Naming, Pass, SessionSeat};
+use crate::{AppendFault, Entry, LogBook, LogNames, MOST_ENTRIES, Pass, SessionSeat, UnnamedLog};
 use machine::Plain;
 use requests::{Reply, Request};
 use schema::{NoMemory, Tables};
@@ -15,12 +15,12 @@ use std::marker::Model;
 
 /// A log over the plain engine: each request is carried out and logged in one step.
 #[derive(Drop)]
-pub struct StepLog<J: Naming> {
+pub struct StepLog<J: LogNames> {
     plain: Plain,
     book: LogBook<J>,
 }
 
-impl<J: Naming> Model for StepLog<J> {
+impl<J: LogNames> Model for StepLog<J> {
     ghost use Rattle.std.specs.Prelude.{refl};
     ghost use Rattle.std.specs.Coded.{code_by, coded×, coded_list};
     ghost use Rattle.schema.specs.contracts.tables.Tables as tables_kind;
@@ -37,12 +37,12 @@ impl<J: Naming> Model for StepLog<J> {
     ghost invariant = { λ l. IsLegal J.opening l.book.entries l.plain };
 }
 
-impl<J: Naming> StepLog<J> {
+impl<J: LogNames> StepLog<J> {
     /// A log without entries over the tables of its opening, and each session's pass and seat, in the
     /// order of the sessions. Nothing is left after an error.
     pub fn open(
         alloc: Global,
-        seats: LogSeats,
+        seats: UnnamedLog,
         tables: Tables,
     ) -> Result<(StepLog<J>, Vec<(Pass<J>, SessionSeat<J>)>), NoMemory>
         requires opening { J.opening ≡ tables }

@@ -7,7 +7,7 @@ ghost use Rattle.engine.specs.Sessions.{AreNewFrom};
 
 use crate::threads::Finished;
 use crate::{Answers, MOST_SESSIONS};
-use commit_log::{Naming, Pass, SessionSeat, StepLog};
+use commit_log::{LogNames, Pass, SessionSeat, StepLog};
 use requests::Script;
 use schema::NoMemory;
 use std::alloc::Global;
@@ -15,7 +15,7 @@ use std::vec::IntoIter;
 
 /// The answers to the scripts, whose sessions are compared with the log: each has logged just what stands
 /// there of it.
-pub(crate) fn audit_served<J: Naming>(
+pub(crate) fn audit_served<J: LogNames>(
     alloc: Global,
     log: &mut StepLog<J>,
     served: Vec<Result<Finished<J>, NoMemory>>,
@@ -46,7 +46,7 @@ pub(crate) fn audit_served<J: Naming>(
 
 /// The sessions from the first on, which have asked nothing, are compared with the log: nothing stands
 /// there of them.
-pub(crate) fn audit_idle<J: Naming>(
+pub(crate) fn audit_idle<J: LogNames>(
     log: &mut StepLog<J>,
     mut idle: IntoIter<(Pass<J>, SessionSeat<J>)>,
     first: usize,

@@ -3,21 +3,21 @@ ghost use Rattle.requests.specs.Check.{IsAccepted};
 ghost use Rattle.engine.specs.Served.{Logs, session_of};
 
 use crate::Gate;
-use commit_log::{AppendFault, Naming, Pass, StepLog};
+use commit_log::{AppendFault, LogNames, Pass, StepLog};
 use requests::{Answer, Refusal, Request};
 use schema::Scale;
 use std::sync::{Mutex, Wait};
 
 /// What the threads of all sessions share: the log under its lock, and what needs no lock.
 #[derive(Drop)]
-pub struct Engine<J: Naming, G: Gate> {
+pub struct Engine<J: LogNames, G: Gate> {
     scale: Scale,
     gate: G,
     log: Mutex<StepLog<J>>,
     ghost opening_scale: { scale ≡ J.opening.scale },
 }
 
-impl<J: Naming, G: Gate> Engine<J, G> {
+impl<J: LogNames, G: Gate> Engine<J, G> {
     /// An engine over a log.
     pub fn new(log: StepLog<J>, gate: G) -> Engine<J, G> {
         Engine {
@@ -57,7 +57,7 @@ impl<J: Naming, G: Gate> Engine<J, G> {
     }
 }
 
-impl<J: Naming, G: Gate + Drop> Engine<J, G> {
+impl<J: LogNames, G: Gate + Drop> Engine<J, G> {
     /// The log, when no thread has the engine any more.
     pub fn into_log(self) -> StepLog<J> {
         self.log.into_inner()
@@ -65,7 +65,7 @@ impl<J: Naming, G: Gate + Drop> Engine<J, G> {
 }
 
 // The scale of the tables of a log, from their opening on.
-fn opening_scale<J: Naming>(log: &StepLog<J>) -> Scale
+fn opening_scale<J: LogNames>(log: &StepLog<J>) -> Scale
     ensures { result ≡ J.opening.scale }
 {
     let _entries = log.entries();
@@ -73,7 +73,7 @@ fn opening_scale<J: Naming>(log: &StepLog<J>) -> Scale
 }
 
 // Carries out what the pass asks, and logs it. The pass comes back with the answer.
-fn append_step<J: Naming>(
+fn append_step<J: LogNames>(
     log: &mut StepLog<J>,
     pass: Pass<J>,
     number: u32,

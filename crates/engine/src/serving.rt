@@ -7,7 +7,7 @@ ghost use Rattle.engine.specs.Opening.{IsFaultOf, IsOfServing};
 use crate::audits::{audit_idle, audit_served};
 use crate::threads::{Ended, serve_all};
 use crate::{Engine, Gate, Outcome, ServeFault};
-use commit_log::{LogSeats, Naming, StepLog};
+use commit_log::{LogNames, StepLog, UnnamedLog};
 use consistency::first_broken;
 use requests::Script;
 use schema::Tables;
@@ -44,15 +44,15 @@ pub fn serve<R: Threads + Wait + Sync, G: Gate + Send + Sync + Drop>(
     if let Some(condition) = first_broken(alloc, &opening)? {
         return Err(ServeFault::NotConsistent(condition));
     }
-    let seats = LogSeats::open(alloc)?;
+    let seats = UnnamedLog::open(alloc)?;
     serve_from::<Brand, R, G>(rt, alloc, seats, opening, scripts, gate)
 }
 
 // Serves the scripts with a log that has the name `J`.
-fn serve_from<J: Naming + Send + Sync, R: Threads + Wait + Sync, G: Gate + Send + Sync + Drop>(
+fn serve_from<J: LogNames + Send + Sync, R: Threads + Wait + Sync, G: Gate + Send + Sync + Drop>(
     rt: &R,
     alloc: Global,
-    seats: LogSeats,
+    seats: UnnamedLog,
     opening: Tables,
     scripts: &[Script],
     gate: G,

@@ -3,14 +3,14 @@ ghost use Rattle.commit_log.specs.Items.{items_of};
 ghost use Rattle.engine.specs.Served.{Asks, session_of, having_met};
 
 use crate::{Engine, Gate};
-use commit_log::{Naming, Pass, SessionSeat, StepLog};
+use commit_log::{LogNames, Pass, SessionSeat, StepLog};
 use requests::{Answer, Request, check};
 use std::marker::Model;
 use std::sync::Wait;
 
 /// A session. Contracts see how many entries of the log it has seen, and what it has logged.
 #[derive(Drop)]
-pub struct Session<J: Naming> {
+pub struct Session<J: LogNames> {
     /// The session, 0 to 63.
     number: u32,
     /// Away while a request is being carried out.
@@ -18,7 +18,7 @@ pub struct Session<J: Naming> {
     seat: SessionSeat<J>,
 }
 
-impl<J: Naming> Model for Session<J> {
+impl<J: LogNames> Model for Session<J> {
     ghost use Rattle.engine.specs.Served.{Sessioned, session_with, IsAtHome};
 
     ghost Value = { Sessioned };
@@ -28,7 +28,7 @@ impl<J: Naming> Model for Session<J> {
     ghost invariant = { λ s. IsAtHome s.number s.pass s.seat };
 }
 
-impl<J: Naming> Session<J> {
+impl<J: LogNames> Session<J> {
     /// A session with its pass and its seat.
     pub fn new(pass: Pass<J>, seat: SessionSeat<J>) -> Session<J>
         requires { seat.session ≡ pass.session }
@@ -108,7 +108,7 @@ impl<J: Naming> Session<J> {
 
 /// Two sessions meet: both have seen the larger number of entries from then on, and have logged what they
 /// had before. It waits for nobody.
-pub fn meet<J: Naming>(one: &mut Session<J>, other: &mut Session<J>)
+pub fn meet<J: LogNames>(one: &mut Session<J>, other: &mut Session<J>)
     ensures one { one.new ≡ having_met one.old other.old }
     ensures other { other.new ≡ having_met other.old one.old }
 {

@@ -6,7 +6,7 @@ ghost use Rattle.engine.specs.Sessions.{AreNewFrom};
 ghost use Rattle.engine.specs.Opening.{IsOfServing};
 
 use crate::{Answers, Engine, Gate, ServeFault, Session};
-use commit_log::{Naming, Pass, SessionSeat};
+use commit_log::{LogNames, Pass, SessionSeat};
 use requests::Script;
 use schema::NoMemory;
 use std::alloc::Global;
@@ -17,7 +17,7 @@ use std::vec::IntoIter;
 
 /// A session that has asked its script, and the answers.
 #[derive(Drop)]
-pub(crate) struct Finished<J: Naming> {
+pub(crate) struct Finished<J: LogNames> {
     pub(crate) session: Session<J>,
     pub(crate) answers: Answers,
 }
@@ -29,7 +29,7 @@ struct Serves<'a> {
     script: &'a Script,
 }
 
-impl<'a, J: Naming> Promise<Result<Finished<J>, NoMemory>> for Serves<'a> {
+impl<'a, J: LogNames> Promise<Result<Finished<J>, NoMemory>> for Serves<'a> {
     ghost use Rattle.std.specs.Prelude.{IfOk};
     ghost use Rattle.engine.specs.Served.{ServedAs};
 
@@ -40,21 +40,21 @@ type Handle<'a, J> = PromisedHandle<Result<Finished<J>, NoMemory>, Serves<'a>>;
 
 /// The threads of the scripts, and the sessions without a script.
 #[derive(Drop)]
-struct Started<'a, J: Naming> {
+struct Started<'a, J: LogNames> {
     handles: Vec<Handle<'a, J>>,
     idle: IntoIter<(Pass<J>, SessionSeat<J>)>,
 }
 
 /// What the threads of the scripts came to, and the sessions without a script.
 #[derive(Drop)]
-pub(crate) struct Ended<J: Naming> {
+pub(crate) struct Ended<J: LogNames> {
     pub(crate) served: Vec<Result<Finished<J>, NoMemory>>,
     pub(crate) idle: IntoIter<(Pass<J>, SessionSeat<J>)>,
 }
 
 /// Serves each script in a thread of its own: script s is session s. It returns when all threads have
 /// ended, also where one could not be started.
-pub(crate) fn serve_all<J: Naming + Send + Sync, G: Gate + Send + Sync, R: Threads + Wait + Sync>(
+pub(crate) fn serve_all<J: LogNames + Send + Sync, G: Gate + Send + Sync, R: Threads + Wait + Sync>(
     rt: &R,
     alloc: Global,
     engine: &Engine<J, G>,
@@ -91,7 +91,7 @@ pub(crate) fn serve_all<J: Naming + Send + Sync, G: Gate + Send + Sync, R: Threa
 }
 
 // Starts a thread for each script.
-fn start_all<'s, E, J: Naming + Send + Sync, G: Gate + Send + Sync, R: Threads + Wait + Sync>(
+fn start_all<'s, E, J: LogNames + Send + Sync, G: Gate + Send + Sync, R: Threads + Wait + Sync>(
     scope: &Scope<'s, E>,
     rt: &'s R,
     alloc: Global,
@@ -133,7 +133,7 @@ fn start_all<'s, E, J: Naming + Send + Sync, G: Gate + Send + Sync, R: Threads +
 }
 
 // Waits for the threads, and gives what each came to, in the order of the scripts.
-fn join_all<'s, J: Naming + Send + Sync, R: Threads>(
+fn join_all<'s, J: LogNames + Send + Sync, R: Threads>(
     rt: &R,
     handles: Vec<Handle<'s, J>>,
     scripts: &[Script],
@@ -153,7 +153,7 @@ fn join_all<'s, J: Naming + Send + Sync, R: Threads>(
 }
 
 // Asks the requests of a script, one after the other.
-fn ask_all<J: Naming, G: Gate, R: Wait>(
+fn ask_all<J: LogNames, G: Gate, R: Wait>(
     rt: &R,
     alloc: Global,
     engine: &Engine<J, G>,

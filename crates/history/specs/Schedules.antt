@@ -1,4 +1,4 @@
--- What schedules say, and what is told of them.
+-- What schedules say, and what is printed of them.
 use Rattle.std.specs.Prelude.{◌≡◌, ◌≤◌, List, [], ◌∷◌, ◌++◌, length}
 use Rattle.std.specs.List.{All, flat_map}
 use Rattle.history.specs.declared.event.Event.TheVariants as event
@@ -6,8 +6,8 @@ use Rattle.history.specs.declared.event.EventAnswer.{EventAnswer}
 use Rattle.history.specs.declared.event.EventAnswer.TheVariants.{Took, Sent, Full, Nothing}
 use Rattle.history.specs.declared.schedule.Scheduled.{Scheduled}
 use Rattle.history.specs.declared.schedule.Scheduled.TheVariants as scheduled
-use Rattle.history.specs.declared.schedule.Told.{Told}
-use Rattle.history.specs.declared.schedule.Told.TheVariants as told
+use Rattle.history.specs.declared.schedule.Output.{Output}
+use Rattle.history.specs.declared.schedule.Output.TheVariants as output
 use Rattle.history.specs.History.{Step, step}
 
 -- ---- rounds
@@ -29,46 +29,46 @@ IsIdle r = (r.took ≡ Nothing) × (r.sent ≡ Nothing)
 abbrev pub IsBusy : Round → Type 0
 IsBusy r = ¬ IsIdle r
 
--- of an event in a round it is told only where a transaction was logged or answered
-abbrev pub told_in_round : EventAnswer → List Told
-told_in_round Took = []
-told_in_round Sent = []
-told_in_round Full = []
-told_in_round Nothing = []
-told_in_round answer = told.Event answer ∷ []
+-- of an event in a round it is printed only where a transaction was logged or answered
+abbrev pub outputs_in_round : EventAnswer → List Output
+outputs_in_round Took = []
+outputs_in_round Sent = []
+outputs_in_round Full = []
+outputs_in_round Nothing = []
+outputs_in_round answer = output.Event answer ∷ []
 
 -- what is printed of a round
-abbrev pub told_of_round : Round → List Told
-told_of_round r = told_in_round r.took ++ told_in_round r.sent
+abbrev pub outputs_of_round : Round → List Output
+outputs_of_round r = outputs_in_round r.took ++ outputs_in_round r.sent
 
 -- Rounds end quiet with the first in which nothing could happen, and at the limit of 100,000 where something happened in
 -- each.
-abbrev pub EndAs : List Round → Told → Type 0
-EndAs rounds told.Quiet =
+abbrev pub EndAs : List Round → Output → Type 0
+EndAs rounds output.Quiet =
     (before : List Round) × ((last : Round) × ((rounds ≡ before ++ last ∷ []) × (All IsBusy before × (IsIdle last × (length rounds ≤ 100000)))))
-EndAs rounds told.Limit = All IsBusy rounds × (length rounds ≡ 100000)
+EndAs rounds output.Limit = All IsBusy rounds × (length rounds ≡ 100000)
 EndAs rounds other = ⊥
 
--- the last thing told is that rounds ended quiet
-abbrev pub EndsQuiet : List Told → Type 0
-EndsQuiet tellings = (before : List Told) × (tellings ≡ before ++ told.Quiet ∷ [])
+-- the last output is that rounds ended quiet
+abbrev pub EndsQuiet : List Output → Type 0
+EndsQuiet outputs = (before : List Output) × (outputs ≡ before ++ output.Quiet ∷ [])
 
 -- ---- schedules
 
--- What is told of an item of a schedule, and what happens: an event, which is told with its answer; or rounds.
-abbrev pub Follows : Scheduled → List Told → List Step → Type 0
-Follows (scheduled.Event event) tellings steps = (answer : EventAnswer) × ((tellings ≡ told.Event answer ∷ []) × (steps ≡ step event answer ∷ []))
-Follows scheduled.Rounds tellings steps =
-    (rounds : List Round) × ((ending : Told)
-    × ((tellings ≡ flat_map told_of_round rounds ++ ending ∷ []) × ((steps ≡ flat_map steps_of_round rounds) × EndAs rounds ending)))
+-- What is printed of an item of a schedule, and what happens: an event, which is printed with its answer; or rounds.
+abbrev pub Follows : Scheduled → List Output → List Step → Type 0
+Follows (scheduled.Event event) outputs steps = (answer : EventAnswer) × ((outputs ≡ output.Event answer ∷ []) × (steps ≡ step event answer ∷ []))
+Follows scheduled.Rounds outputs steps =
+    (rounds : List Round) × ((ending : Output)
+    × ((outputs ≡ flat_map outputs_of_round rounds ++ ending ∷ []) × ((steps ≡ flat_map steps_of_round rounds) × EndAs rounds ending)))
 
--- What is told of a schedule, and what happens, item by item.
-abbrev pub Plays : List Scheduled → List Told → List Step → Type 0
-Plays [] tellings steps = (tellings ≡ []) × (steps ≡ [])
-Plays (item ∷ schedule) tellings steps =
-    (first : List Told) × ((rest : List Told) × ((begun : List Step) × ((later : List Step)
-    × ((tellings ≡ first ++ rest) × ((steps ≡ begun ++ later) × (Follows item first begun × Plays schedule rest later))))))
+-- What is printed of a schedule, and what happens, item by item.
+abbrev pub Plays : List Scheduled → List Output → List Step → Type 0
+Plays [] outputs steps = (outputs ≡ []) × (steps ≡ [])
+Plays (item ∷ schedule) outputs steps =
+    (first : List Output) × ((rest : List Output) × ((begun : List Step) × ((later : List Step)
+    × ((outputs ≡ first ++ rest) × ((steps ≡ begun ++ later) × (Follows item first begun × Plays schedule rest later))))))
 
 -- These events, with their answers, are the first of the schedule's: with some more after them they are a play of all of it.
 abbrev pub Begins : List Scheduled → List Step → Type 0
-Begins schedule steps = (later : List Step) × ((tellings : List Told) × Plays schedule tellings (steps ++ later))
+Begins schedule steps = (later : List Step) × ((outputs : List Output) × Plays schedule outputs (steps ++ later))

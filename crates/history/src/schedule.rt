@@ -13,10 +13,10 @@ pub enum Scheduled {
     Rounds,
 }
 
-/// What is told of a schedule.
+/// What is printed of a schedule.
 #[derive(Clone, Debug, PartialEq, Eq, Drop)]
-pub enum Told {
-    /// What came of an event. Of rounds it is told only where a transaction was logged or answered.
+pub enum Output {
+    /// What came of an event. Of rounds it is printed only where a transaction was logged or answered.
     Event(EventAnswer),
     /// The rounds ended with one in which nothing could happen.
     Quiet,

@@ -11,11 +11,11 @@ ghost use Rattle.local_locks.specs.Wishes.{IsWanted};
 use crate::lock::Lock;
 use crate::places::{place_of_claim, places_of};
 use groups::{Mode, Want};
-use tickets::{Claim, Naming};
+use tickets::{Claim, GroupNames};
 use wait_die::Holder;
 
 /// How many groups are wanted.
-pub(crate) fn count_of<J: Naming>(wants: &[Want]) -> usize
+pub(crate) fn count_of<J: GroupNames>(wants: &[Want]) -> usize
     requires there { All (IsWanted J.warehouses) wants.now }
     requires few { length (flat_map spots_of wants.now) ≤ 105 }
     ensures { result ≡ length (flat_map spots_of wants.now) }
@@ -29,7 +29,7 @@ pub(crate) fn count_of<J: Naming>(wants: &[Want]) -> usize
 }
 
 // The group at a place is granted.
-fn grant_at<J: Naming>(locks: &mut [Lock<J>], number: usize, mode: Mode, by: Holder) -> Claim<J>
+fn grant_at<J: GroupNames>(locks: &mut [Lock<J>], number: usize, mode: Mode, by: Holder) -> Claim<J>
     requires inside { number < length locks.old }
     requires open { IsOpen locks.old (spot number mode) }
     ensures claim { result ≡ claim_at (map stand_in locks.old) (spot number mode) }
@@ -39,7 +39,12 @@ fn grant_at<J: Naming>(locks: &mut [Lock<J>], number: usize, mode: Mode, by: Hol
 }
 
 // Each of these groups is granted.
-fn grant_want<J: Naming>(locks: &mut [Lock<J>], want: Want, by: Holder, claims: &mut Vec<Claim<J>>)
+fn grant_want<J: GroupNames>(
+    locks: &mut [Lock<J>],
+    want: Want,
+    by: Holder,
+    claims: &mut Vec<Claim<J>>,
+)
     requires there { IsWanted J.warehouses want }
     requires places { 105 ≤ length locks.old }
     requires open { All (IsOpen locks.old) (spots_of want) }
@@ -56,7 +61,7 @@ fn grant_want<J: Naming>(locks: &mut [Lock<J>], want: Want, by: Holder, claims: 
 }
 
 /// All groups that are wanted are granted. There is room for the claims.
-pub(crate) fn grant_all<J: Naming>(
+pub(crate) fn grant_all<J: GroupNames>(
     locks: &mut [Lock<J>],
     wants: &[Want],
     by: Holder,
@@ -76,7 +81,7 @@ pub(crate) fn grant_all<J: Naming>(
 }
 
 /// Takes claims back that this one holds, once what they left is committed.
-pub(crate) fn take_all_back<J: Naming>(locks: &mut [Lock<J>], by: Holder, claims: Vec<Claim<J>>)
+pub(crate) fn take_all_back<J: GroupNames>(locks: &mut [Lock<J>], by: Holder, claims: Vec<Claim<J>>)
     requires locks { AreLocks J.warehouses locks.old }
     requires held { AreHeld (flat_map holdings_of locks.old) by claims.items }
     requires committed { All IsSettled claims.items }

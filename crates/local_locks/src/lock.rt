@@ -11,18 +11,18 @@ use arrayvec::ArrayVec;
 use groups::{Content, Mode};
 use requests::Group;
 use std::marker::Model;
-use tickets::{Claim, Naming, TicketBox};
+use tickets::{Claim, GroupNames, TicketBox};
 use wait_die::Holder;
 
 /// A group's ticket box, and who holds its claims that are out: an exclusive one, or up to eight shared
 /// ones.
 #[derive(Drop)]
-pub(crate) struct Lock<J: Naming> {
+pub(crate) struct Lock<J: GroupNames> {
     ticket_box: TicketBox<J>,
     holders: ArrayVec<Holder, 8>,
 }
 
-impl<J: Naming> Model for Lock<J> {
+impl<J: GroupNames> Model for Lock<J> {
     ghost use Rattle.std.specs.Coded.{codes};
     ghost use Rattle.groups.specs.contracts.content.Content as content;
     ghost use Rattle.local_locks.specs.Locks.{Locked, locked, IsLocked};
@@ -36,7 +36,7 @@ impl<J: Naming> Model for Lock<J> {
     ghost invariant = { λ l. IsLocked (locked l.ticket_box l.holders.items) };
 }
 
-impl<J: Naming> Lock<J> {
+impl<J: GroupNames> Lock<J> {
     /// The lock of a group of which no claim is out.
     pub(crate) fn new(ticket_box: TicketBox<J>) -> Lock<J>
         requires { ticket_box ≡ sharing ticket_box.group ticket_box.left 0 }

@@ -7,10 +7,10 @@ ghost use Rattle.local_locks.specs.Wishes.{IsThere};
 
 use groups::{Extent, Kind};
 use requests::Group;
-use tickets::{Claim, GROUPS_PER_WAREHOUSE, Naming, place_of};
+use tickets::{Claim, GROUPS_PER_WAREHOUSE, GroupNames, place_of};
 
 /// The place of a group.
-pub(crate) fn place_in_warehouse<J: Naming>(group: Group) -> usize
+pub(crate) fn place_in_warehouse<J: GroupNames>(group: Group) -> usize
     requires { IsGroupOf J.warehouses group }
     ensures { result ≡ spec.place_in_warehouse group }
 {
@@ -18,7 +18,7 @@ pub(crate) fn place_in_warehouse<J: Naming>(group: Group) -> usize
 }
 
 /// The place of a claim's group.
-pub(crate) fn place_of_claim<J: Naming>(claim: &Claim<J>) -> usize
+pub(crate) fn place_of_claim<J: GroupNames>(claim: &Claim<J>) -> usize
     ensures known { IsGroupOf J.warehouses claim.now.group }
     ensures place { result ≡ spec.place_in_warehouse claim.now.group }
 {
@@ -26,7 +26,7 @@ pub(crate) fn place_of_claim<J: Naming>(claim: &Claim<J>) -> usize
 }
 
 /// The places of groups that are wanted: the first, and the one after the last.
-pub(crate) fn places_of<J: Naming>(extent: Extent) -> (usize, usize)
+pub(crate) fn places_of<J: GroupNames>(extent: Extent) -> (usize, usize)
     requires { IsThere J.warehouses extent }
     ensures first { result.0 ≡ first_place extent }
     ensures end { result.1 ≡ first_place extent + count_in extent }

@@ -7,7 +7,7 @@ ghost use Rattle.local_locks.specs.Wishes.{IsWanted};
 use crate::lock::Lock;
 use crate::places::places_of;
 use groups::{Mode, Want};
-use tickets::Naming;
+use tickets::GroupNames;
 use wait_die::{Age, Decision, verdict};
 
 /// What is said to one who wants some groups.
@@ -36,7 +36,7 @@ impl Ruling {
 }
 
 // What is said to a wish for the group at a place.
-fn ruling_at<J: Naming>(locks: &[Lock<J>], age: Age, number: usize, mode: Mode) -> Ruling
+fn ruling_at<J: GroupNames>(locks: &[Lock<J>], age: Age, number: usize, mode: Mode) -> Ruling
     requires { number < length locks.now }
     ensures { IsRuling age locks.now (spot number mode ∷ []) result }
 {
@@ -48,7 +48,7 @@ fn ruling_at<J: Naming>(locks: &[Lock<J>], age: Age, number: usize, mode: Mode) 
 }
 
 // What is said to a wish for each of these groups.
-fn ruling_on_want<J: Naming>(locks: &[Lock<J>], age: Age, want: Want) -> Ruling
+fn ruling_on_want<J: GroupNames>(locks: &[Lock<J>], age: Age, want: Want) -> Ruling
     requires there { IsWanted J.warehouses want }
     requires places { 105 ≤ length locks.now }
     ensures { IsRuling age locks.now (spots_of want) result }
@@ -62,7 +62,7 @@ fn ruling_on_want<J: Naming>(locks: &[Lock<J>], age: Age, want: Want) -> Ruling
 }
 
 /// What is said to one of this age who wants groups of the warehouse.
-pub(crate) fn ruling_on<J: Naming>(locks: &[Lock<J>], age: Age, wants: &[Want]) -> Ruling
+pub(crate) fn ruling_on<J: GroupNames>(locks: &[Lock<J>], age: Age, wants: &[Want]) -> Ruling
     requires there { All (IsWanted J.warehouses) wants.now }
     requires places { 105 ≤ length locks.now }
     ensures { IsRuling age locks.now (flat_map spots_of wants.now) result }

@@ -21,12 +21,12 @@ use requests::Group;
 use schema::NoMemory;
 use std::alloc::Global;
 use std::marker::Model;
-use tickets::{Claim, Naming, TicketBox};
+use tickets::{Claim, GroupNames, TicketBox};
 use wait_die::{Age, Holder};
 
 /// What is answered to an action that asks for groups.
 #[derive(Drop)]
-pub enum Asked<J: Naming> {
+pub enum Asked<J: GroupNames> {
     /// A claim on each group, want by want, those of a prefix in the order of groups.
     Granted(Vec<Claim<J>>),
     /// It waits, for younger holders alone.
@@ -38,7 +38,7 @@ pub enum Asked<J: Naming> {
 
 /// The turn of an action that waited.
 #[derive(Drop)]
-pub enum Turn<J: Naming> {
+pub enum Turn<J: GroupNames> {
     /// It has a claim on each group, want by want, those of a prefix in the order of groups.
     Granted(Holder, Vec<Claim<J>>),
     /// It dies, as `Asked::Dies` tells.
@@ -53,13 +53,13 @@ pub enum Turn<J: Naming> {
 ///
 /// Contracts see the warehouse, what stands in each group, all claims that are out, and all who wait.
 #[derive(Drop)]
-pub struct LockTable<J: Naming> {
+pub struct LockTable<J: GroupNames> {
     w_id: u32,
     locks: Vec<Lock<J>>,
     waiters: Vec<Waiter<J>>,
 }
 
-impl<J: Naming> Model for LockTable<J> {
+impl<J: GroupNames> Model for LockTable<J> {
     ghost use Rattle.std.specs.Prelude.{All};
     ghost use Rattle.std.specs.Coded.{codes};
     ghost use Rattle.groups.specs.contracts.content.Content as content;
@@ -75,7 +75,7 @@ impl<J: Naming> Model for LockTable<J> {
     ghost invariant = { λ t. AreLocksOf J.warehouses t.w_id t.locks.items × All (IsParked J.warehouses t.w_id) t.waiters.items };
 }
 
-impl<J: Naming> LockTable<J> {
+impl<J: GroupNames> LockTable<J> {
     /// The table of a warehouse with these boxes of its groups, in the order of groups. Nothing is left
     /// after an error.
     pub fn open(

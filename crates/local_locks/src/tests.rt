@@ -13,7 +13,7 @@ use std::alloc::Global;
 use std::marker::{Brand, Model};
 use std::process::Abort;
 use std::test::Fail;
-use tickets::{Claim, GROUPS_PER_WAREHOUSE, GroupSeats, Naming, named_all};
+use tickets::{Claim, GROUPS_PER_WAREHOUSE, GroupNames, GroupSeats, named_all};
 use wait_die::{Age, Holder};
 
 // Each group has no row.
@@ -28,12 +28,12 @@ impl Change<Content> for NoRow {
 
 // Claims that are out, and who holds them.
 #[derive(Drop)]
-struct Grant<J: Naming> {
+struct Grant<J: GroupNames> {
     by: Holder,
     claims: Vec<Claim<J>>,
 }
 
-impl<J: Naming> Model for Grant<J> {
+impl<J: GroupNames> Model for Grant<J> {
     ghost use Rattle.std.specs.Prelude.{List};
     ghost use Rattle.std.specs.Coded.{codes};
     ghost use Rattle.groups.specs.contracts.content.Content as content;
@@ -49,12 +49,12 @@ impl<J: Naming> Model for Grant<J> {
 
 // A table with all its claims that are out. Contracts see how many grants are.
 #[derive(Drop)]
-struct Trial<J: Naming> {
+struct Trial<J: GroupNames> {
     table: LockTable<J>,
     out: Vec<Grant<J>>,
 }
 
-impl<J: Naming> Model for Trial<J> {
+impl<J: GroupNames> Model for Trial<J> {
     ghost use Rattle.std.specs.Prelude.{◌≡◌, ℕ, vec_len};
     ghost use Rattle.local_locks.specs.Trials.{AreOut};
 
@@ -73,7 +73,7 @@ enum Said {
     Dies(Group, Age),
 }
 
-impl<J: Naming> Trial<J> {
+impl<J: GroupNames> Trial<J> {
     fn open(alloc: Global, openings: Vec<GroupSeats>) -> Result<Trial<J>, NoMemory>
         requires known { J.warehouses ≡ 1 }
         requires all { vec_len openings ≡ 105 }
@@ -182,7 +182,7 @@ fn one_warehouse(alloc: Global) -> Result<Vec<GroupSeats>, NoMemory>
 }
 
 // The ninth shared claim waits for the youngest, or dies of the oldest.
-fn nine_share<J: Naming>(
+fn nine_share<J: GroupNames>(
     rt: &impl Abort,
     alloc: Global,
     openings: Vec<GroupSeats>,
@@ -360,7 +360,7 @@ impl Random {
 }
 
 // One group or all of a prefix, or both groups that a new order claims at first, are asked for.
-fn ask_at_random<J: Naming>(
+fn ask_at_random<J: GroupNames>(
     rt: &impl Abort,
     alloc: Global,
     trial: &mut Trial<J>,
@@ -397,7 +397,7 @@ fn ask_at_random<J: Naming>(
 }
 
 // Whose turn it is has it, until all have to wait.
-fn take_turns<J: Naming>(
+fn take_turns<J: GroupNames>(
     rt: &impl Abort,
     trial: &mut Trial<J>,
     plain: &mut Plain,
@@ -413,7 +413,7 @@ fn take_turns<J: Naming>(
     Ok(())
 }
 
-fn run_at_random<J: Naming>(
+fn run_at_random<J: GroupNames>(
     rt: &impl Abort,
     alloc: Global,
     openings: Vec<GroupSeats>,

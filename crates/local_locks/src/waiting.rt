@@ -10,18 +10,18 @@ use groups::Want;
 use schema::NoMemory;
 use std::alloc::Global;
 use std::marker::Model;
-use tickets::{Claim, Naming};
+use tickets::{Claim, GroupNames};
 use wait_die::Holder;
 
 /// One who waits, for what, and with room for the claims.
 #[derive(Drop)]
-pub(crate) struct Waiter<J: Naming> {
+pub(crate) struct Waiter<J: GroupNames> {
     pub(crate) by: Holder,
     pub(crate) wants: Vec<Want>,
     pub(crate) room: Vec<Claim<J>>,
 }
 
-impl<J: Naming> Model for Waiter<J> {
+impl<J: GroupNames> Model for Waiter<J> {
     ghost use Rattle.std.specs.Prelude.{◌≡◌, [], vec_capacity};
     ghost use Rattle.std.specs.Coded.{codes};
     ghost use Rattle.local_locks.specs.Locks.{Parked, parked};
@@ -33,7 +33,7 @@ impl<J: Naming> Model for Waiter<J> {
     ghost invariant = { λ w. w.room.items ≡ [] };
 }
 
-impl<J: Naming> Waiter<J> {
+impl<J: GroupNames> Waiter<J> {
     /// One who waits from now on, with room for so many claims.
     pub(crate) fn new(
         alloc: Global,
@@ -58,7 +58,7 @@ pub(crate) struct Next {
 }
 
 /// The oldest of those who need not wait any more, and of one age the one of the least place.
-pub(crate) fn next_of<J: Naming>(locks: &[Lock<J>], waiters: &[Waiter<J>]) -> Option<Next>
+pub(crate) fn next_of<J: GroupNames>(locks: &[Lock<J>], waiters: &[Waiter<J>]) -> Option<Next>
     requires there { All (IsParkedThere J.warehouses) waiters.now }
     requires places { 105 ≤ length locks.now }
     ensures none { IfNone result (All (StaysParked locks.now) waiters.now) }

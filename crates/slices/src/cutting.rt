@@ -8,11 +8,11 @@ use crate::Slice;
 use partitions::Catalog;
 use schema::{NoMemory, Tables};
 use std::alloc::Global;
-use tickets::{GROUPS_PER_WAREHOUSE, Naming, TicketBox};
+use tickets::{GROUPS_PER_WAREHOUSE, GroupNames, TicketBox};
 
 /// A slice for each warehouse of the tables, in order, with the boxes of its groups. The rows are moved, and
 /// none is copied. Nothing is left after an error.
-pub fn cut<J: Naming>(
+pub fn cut<J: GroupNames>(
     alloc: Global,
     tables: Tables,
     mut boxes: Vec<TicketBox<J>>,
@@ -35,7 +35,7 @@ pub fn cut<J: Naming>(
 
 /// The tables that the slices make, with their rows as they stand. The rows are moved, and none is copied.
 /// Nothing is left after an error.
-pub fn whole<J: Naming>(catalog: Catalog, slices: Vec<Slice<J>>) -> Result<Tables, NoMemory>
+pub fn whole<J: GroupNames>(catalog: Catalog, slices: Vec<Slice<J>>) -> Result<Tables, NoMemory>
     requires { AreSlicesOf catalog slices.items }
     ensures { IfOk result (λ tables. tables ≡ (joined catalog slices.items).tables) }
 {
@@ -47,7 +47,7 @@ pub fn whole<J: Naming>(catalog: Catalog, slices: Vec<Slice<J>>) -> Result<Table
 }
 
 /// Tables equal to those that the slices make. The slices stay, and nothing more is left after an error.
-pub fn copy_whole<J: Naming>(
+pub fn copy_whole<J: GroupNames>(
     alloc: Global,
     catalog: &Catalog,
     slices: &[Slice<J>],

@@ -14,7 +14,7 @@ use requests::Group;
 use schema::NoMemory;
 use std::alloc::Global;
 use std::marker::Model;
-use tickets::{Claim, Naming, TicketBox};
+use tickets::{Claim, GroupNames, TicketBox};
 
 /// A group that is not free, and the age of who was granted the last claim on it.
 #[derive(Clone, Copy, Debug, PartialEq, Eq)]
@@ -26,13 +26,13 @@ pub struct Held {
 /// A group's ticket box, what takes back what was done under the exclusive claim on it, and the age of who
 /// was granted the last claim on it, of either kind.
 #[derive(Drop)]
-pub(crate) struct Ground<J: Naming> {
+pub(crate) struct Ground<J: GroupNames> {
     ticket_box: TicketBox<J>,
     undo: Vec<Kept>,
     holder: u64,
 }
 
-impl<J: Naming> Model for Ground<J> {
+impl<J: GroupNames> Model for Ground<J> {
     ghost use Rattle.std.specs.Prelude.{vec_capacity};
     ghost use Rattle.std.specs.Coded.{codes};
     ghost use Rattle.groups.specs.contracts.content.Content as content;
@@ -46,7 +46,7 @@ impl<J: Naming> Model for Ground<J> {
     ghost view = { λ g. grounded g.ticket_box g.undo.items (vec_capacity g.undo) g.holder };
 }
 
-impl<J: Naming> Ground<J> {
+impl<J: GroupNames> Ground<J> {
     /// A group in which nothing was done.
     pub(crate) fn new(alloc: Global, ticket_box: TicketBox<J>) -> Ground<J>
         ensures ticket_box { result.ticket_box ≡ ticket_box }

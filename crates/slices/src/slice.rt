@@ -29,7 +29,7 @@ use requests::Group;
 use schema::{Customer, CustomerKey, District, DistrictKey, History, NoMemory, Warehouse};
 use std::alloc::Global;
 use std::marker::Model;
-use tickets::{Claim, GROUPS_PER_WAREHOUSE, Naming, TicketBox, place_of};
+use tickets::{Claim, GROUPS_PER_WAREHOUSE, GroupNames, TicketBox, place_of};
 
 /// The rows of one warehouse, who of its customers has which name and which order is the customer's latest,
 /// and the ticket boxes of its 105 groups.
@@ -37,12 +37,12 @@ use tickets::{Claim, GROUPS_PER_WAREHOUSE, Naming, TicketBox, place_of};
 /// Contracts see the warehouse, its rows as they stand, with what open transactions have done to them, and how
 /// many of each group's tickets are at home.
 #[derive(Drop)]
-pub struct Slice<J: Naming> {
+pub struct Slice<J: GroupNames> {
     rows: IndexedRows,
     grounds: Vec<Ground<J>>,
 }
 
-impl<J: Naming> Model for Slice<J> {
+impl<J: GroupNames> Model for Slice<J> {
     ghost use Rattle.std.specs.Coded.{codes};
     ghost use Rattle.schema.specs.contracts.tables.Tables as tables_kind;
     ghost use Rattle.slices.specs.Sliced.{Sliced};
@@ -58,7 +58,7 @@ impl<J: Naming> Model for Slice<J> {
     ghost invariant = { λ s. IsSlice J.warehouses s.rows s.grounds.items };
 }
 
-impl<J: Naming> Slice<J> {
+impl<J: GroupNames> Slice<J> {
     /// The slice of this warehouse's rows, with the boxes of its groups. It sorts the customers by last name,
     /// and finds the latest order of each. Nothing is left after an error.
     pub(crate) fn open(
@@ -283,7 +283,7 @@ impl<J: Naming> Slice<J> {
 }
 
 // The place of a group among those of its warehouse.
-fn place_at_home<J: Naming>(group: Group) -> usize
+fn place_at_home<J: GroupNames>(group: Group) -> usize
     requires { IsGroupOf J.warehouses group }
     ensures { result ≡ place_in_warehouse group }
 {
@@ -291,7 +291,7 @@ fn place_at_home<J: Naming>(group: Group) -> usize
 }
 
 // The place of a claim's group among those of its warehouse.
-fn place_of_claim<J: Naming>(claim: &Claim<J>) -> usize
+fn place_of_claim<J: GroupNames>(claim: &Claim<J>) -> usize
     ensures known { IsGroupOf J.warehouses claim.now.group }
     ensures place { result ≡ place_in_warehouse claim.now.group }
 {

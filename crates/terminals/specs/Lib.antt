@@ -11,4 +11,4 @@ pub mod Script
 pub mod Schedule
 pub mod Answers
 pub mod LogRecord
-pub mod Tellings
+pub mod Outputs

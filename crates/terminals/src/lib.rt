@@ -20,7 +20,7 @@
 //! A schedule has the records `S,session,number` and the fields of a request, which is submitted,
 //! `T,executor` where an executor takes a message, `X,executor` where it sends an item, and `R` for
 //! rounds, and then `END,n`, with the number of records before it. What is told of it has a record for
-//! each telling: `accepted,age`, `took`, `sent`, `full`, `logged,place`, `answered` and the fields of
+//! each output: `accepted,age`, `took`, `sent`, `full`, `logged,place`, `answered` and the fields of
 //! the answer, and `nothing`, of an event; and `quiet` or `limit`, of rounds that ended.
 #![tactic(auto)]
 
@@ -30,20 +30,20 @@ mod laws;
 mod listing;
 mod log_records;
 mod order_status;
+mod outputs;
 mod payment;
 mod reply;
 mod request;
 mod schedules;
 mod scripts;
-mod tellings;
 
 pub use answers::{answer_record, write_answers};
 pub use files::{FaultKind, FileError, FileFault};
 pub use laws::choice_texts_differ;
 pub use log_records::{log_record, read_log, write_log};
+pub use outputs::write_outputs;
 pub use schedules::read_schedule;
 pub use scripts::read_script;
-pub use tellings::write_told;
 
 #[cfg(test)]
 mod tests;

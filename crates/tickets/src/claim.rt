@@ -4,7 +4,7 @@ ghost use Rattle.groups.specs.Groups.{warehouse_of};
 ghost use Rattle.tickets.specs.Places.{place_of, IsBetween, IsGroupOf};
 
 use crate::work::{Told, Work};
-use crate::{Naming, places};
+use crate::{GroupNames, places};
 use agreement::Seat;
 use groups::{Mode, warehouse_of};
 use requests::Group;
@@ -16,7 +16,7 @@ use std::marker::{Model, PhantomData};
 /// slice's seat. It can't be copied, and goes back to the `TicketBox` that gave it. The group of a claim
 /// that is dropped stays held for good.
 #[derive(Drop)]
-pub struct Claim<J: Naming> {
+pub struct Claim<J: GroupNames> {
     pub(crate) group: Group,
     pub(crate) mode: Mode,
     pub(crate) tickets: Seat<Told>,
@@ -24,7 +24,7 @@ pub struct Claim<J: Naming> {
     pub(crate) names: PhantomData<J>,
 }
 
-impl<J: Naming> Model for Claim<J> {
+impl<J: GroupNames> Model for Claim<J> {
     ghost use Rattle.std.specs.Coded.{codes};
     ghost use Rattle.groups.specs.contracts.content.Content as content;
     ghost use Rattle.tickets.specs.Claims.{Claiming};
@@ -41,7 +41,7 @@ impl<J: Naming> Model for Claim<J> {
     ghost invariant = { λ c. HoldsClaim (J.committed c.group) (J.work c.group) c.mode c.tickets c.work × IsGroupOf J.warehouses c.group };
 }
 
-impl<J: Naming> Claim<J> {
+impl<J: GroupNames> Claim<J> {
     /// The group that is claimed.
     pub fn group(&self) -> Group
         ensures { result ≡ self.now.group }

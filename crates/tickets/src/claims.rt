@@ -3,18 +3,18 @@ ghost use Rattle.groups.specs.Groups.{warehouse_of};
 ghost use Rattle.tickets.specs.Claims.{Claiming};
 ghost use Rattle.tickets.specs.Places.{IsBetween};
 
-use crate::{Claim, Naming};
+use crate::{Claim, GroupNames};
 use std::marker::Model;
 
 /// The claims of one action.
 ///
 /// Contracts see them in order.
 #[derive(Drop)]
-pub struct Claims<J: Naming> {
+pub struct Claims<J: GroupNames> {
     pub(crate) claims: Vec<Claim<J>>,
 }
 
-impl<J: Naming> Model for Claims<J> {
+impl<J: GroupNames> Model for Claims<J> {
     ghost use Rattle.std.specs.Coded.{codes};
     ghost use Rattle.std.specs.Prelude.{List};
     ghost use Rattle.groups.specs.contracts.content.Content as content;
@@ -27,7 +27,7 @@ impl<J: Naming> Model for Claims<J> {
     ghost view = { λ c. c.claims.items };
 }
 
-impl<J: Naming> Claims<J> {
+impl<J: GroupNames> Claims<J> {
     /// These claims, as those of one action.
     pub fn new(claims: Vec<Claim<J>>) -> Claims<J>
         ensures { result ≡ claims.items }

@@ -11,10 +11,10 @@
 
 mod claim;
 mod claims;
+mod group_names;
 mod laws;
 mod log_seat;
 mod log_seats;
-mod naming;
 mod opening;
 mod places;
 mod ticket_box;
@@ -22,6 +22,7 @@ mod work;
 
 pub use claim::Claim;
 pub use claims::Claims;
+pub use group_names::GroupNames;
 pub use laws::{
     claims_elsewhere_say_nothing, claims_given_back_keep_committed, claims_tell_what_is_committed,
     commits_make_the_next_tables, exclusive_claims_are_alone, grants_keep_committed,
@@ -30,7 +31,6 @@ pub use laws::{
 };
 pub use log_seat::LogSeat;
 pub use log_seats::LogSeats;
-pub use naming::Naming;
 pub use opening::{GroupSeats, named_all};
 pub use places::{GROUPS_PER_WAREHOUSE, group_at, place_of};
 pub use ticket_box::{TICKETS, TicketBox};

@@ -3,7 +3,7 @@ ghost use Rattle.tickets.specs.Claims.{committed_by, settled};
 ghost use Rattle.tickets.specs.LogSeats.{with_content};
 
 use crate::work::Told;
-use crate::{Claim, Naming};
+use crate::{Claim, GroupNames};
 use agreement::Seat;
 use groups::Mode;
 use requests::Group;
@@ -11,13 +11,13 @@ use std::marker::{Model, PhantomData};
 
 /// The log's seat of a group. It tells the group's committed content, and no one changes that without it.
 #[derive(Drop)]
-pub struct LogSeat<J: Naming> {
+pub struct LogSeat<J: GroupNames> {
     pub(crate) group: Group,
     pub(crate) seat: Seat<Told>,
     pub(crate) names: PhantomData<J>,
 }
 
-impl<J: Naming> Model for LogSeat<J> {
+impl<J: GroupNames> Model for LogSeat<J> {
     ghost use Rattle.std.specs.Coded.{codes};
     ghost use Rattle.groups.specs.contracts.content.Content as content;
     ghost use Rattle.tickets.specs.LogSeats.{Committed};
@@ -36,7 +36,7 @@ impl<J: Naming> Model for LogSeat<J> {
     ghost invariant = { λ l. (l.seat ≡ committed_seat (J.committed l.group) l.seat.value.content 1) × IsGroupOf J.warehouses l.group };
 }
 
-impl<J: Naming> LogSeat<J> {
+impl<J: GroupNames> LogSeat<J> {
     /// The group.
     pub fn group(&self) -> Group
         ensures { result ≡ self.now.group }

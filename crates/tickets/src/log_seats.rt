@@ -6,7 +6,7 @@ ghost use Rattle.tickets.specs.LogSeats.{after_all, after_one, IsToldIn};
 ghost use Rattle.tickets.specs.Places as spec;
 
 use crate::places::place_of;
-use crate::{Claim, Claims, LogSeat, Naming};
+use crate::{Claim, Claims, GroupNames, LogSeat};
 use std::marker::Model;
 
 /// The log's seats of all groups there are.
@@ -14,11 +14,11 @@ use std::marker::Model;
 /// Contracts see each group with its committed content. A claim is always on one of the groups, so that
 /// nothing is asked of a call. A group's seat is found by its place.
 #[derive(Drop)]
-pub struct LogSeats<J: Naming> {
+pub struct LogSeats<J: GroupNames> {
     seats: Vec<LogSeat<J>>,
 }
 
-impl<J: Naming> Model for LogSeats<J> {
+impl<J: GroupNames> Model for LogSeats<J> {
     ghost use Rattle.std.specs.Coded.{codes};
     ghost use Rattle.std.specs.Prelude.{List};
     ghost use Rattle.groups.specs.contracts.content.Content as content;
@@ -35,7 +35,7 @@ impl<J: Naming> Model for LogSeats<J> {
     ghost invariant = { λ l. AreInPlace J.warehouses l.seats.items };
 }
 
-impl<J: Naming> LogSeats<J> {
+impl<J: GroupNames> LogSeats<J> {
     /// The seats of all groups, each at its group's place.
     pub fn new(seats: Vec<LogSeat<J>>) -> LogSeats<J>
         requires { spec.AreInPlace J.warehouses seats.items }

@@ -6,7 +6,7 @@ ghost use Rattle.tickets.specs.Places.{AreInPlace, IsGroupOf};
 ghost use Rattle.tickets.specs.Unset.{nothing};
 
 use crate::work::{Leaves, Told, Work};
-use crate::{LogSeat, LogSeats, Naming, TicketBox, group_at};
+use crate::{GroupNames, LogSeat, LogSeats, TicketBox, group_at};
 use agreement::{Change, Seat};
 use groups::{Content, Mode};
 use requests::Group;
@@ -63,7 +63,7 @@ impl GroupSeats {
     }
 
     /// The slice's side of the group's tickets and the log's seat, under the names of their agreements.
-    pub fn named<J: Naming>(self, group: Group) -> (TicketBox<J>, LogSeat<J>)
+    pub fn named<J: GroupNames>(self, group: Group) -> (TicketBox<J>, LogSeat<J>)
         requires known { IsGroupOf J.warehouses group }
         requires committed { J.committed group ≡ self.committed }
         requires work { J.work group ≡ self.work }
@@ -96,7 +96,7 @@ impl GroupSeats {
 
 /// The boxes and the log's seats of all groups there are, from those opened for each place. Nothing is
 /// left after an error.
-pub fn named_all<J: Naming>(
+pub fn named_all<J: GroupNames>(
     alloc: Global,
     warehouses: u32,
     openings: Vec<GroupSeats>,

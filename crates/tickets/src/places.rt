@@ -3,7 +3,7 @@ ghost use Rattle.std.specs.Prelude.{◌≡◌, ◌+◌, ◌-◌, ◌*◌, ◌<�
 ghost use Rattle.tickets.specs.Places as spec;
 ghost use Rattle.tickets.specs.Places.{IsGroupOf};
 
-use crate::Naming;
+use crate::GroupNames;
 use requests::Group;
 
 /// How many groups a warehouse has: its row, the rows, customers, orders and payments of its ten
@@ -46,7 +46,7 @@ pub fn group_at(warehouses: u32, place: usize) -> Group
 }
 
 /// The place of a group.
-pub fn place_of<J: Naming>(group: Group) -> usize
+pub fn place_of<J: GroupNames>(group: Group) -> usize
     requires { IsGroupOf J.warehouses group }
     ensures { result ≡ spec.place_of group }
 {

@@ -35,7 +35,7 @@ impl Change<Content> for NoList {
 }
 
 // Shared claims go out and come back, and exclude an exclusive one meanwhile. It tells how many go out at most.
-fn shared_by_many<J: Naming>(seats: GroupSeats) -> Option<u32>
+fn shared_by_many<J: GroupNames>(seats: GroupSeats) -> Option<u32>
     requires known { J.warehouses ≡ 1 }
     requires committed { J.committed (History 1 10) ≡ seats.committed }
     requires work { J.work (History 1 10) ≡ seats.work }
@@ -67,7 +67,7 @@ fn eight_claims_are_shared(rt: HostRuntime) -> Result<(), Fail> {
 }
 
 // An exclusive claim changes the content, undoes it, changes it again, and is committed.
-fn changed_by_one<J: Naming>(seats: GroupSeats) -> Option<Mode>
+fn changed_by_one<J: GroupNames>(seats: GroupSeats) -> Option<Mode>
     requires known { J.warehouses ≡ 1 }
     requires committed { J.committed (History 1 10) ≡ seats.committed }
     requires work { J.work (History 1 10) ≡ seats.work }
@@ -108,7 +108,10 @@ fn one_warehouse(alloc: Global) -> Result<Vec<GroupSeats>, AllocError>
 }
 
 // All groups are claimed, changed, and committed at once. It tells how many claims there were.
-fn settled_at_once<J: Naming>(alloc: Global, openings: Vec<GroupSeats>) -> Result<usize, AllocError>
+fn settled_at_once<J: GroupNames>(
+    alloc: Global,
+    openings: Vec<GroupSeats>,
+) -> Result<usize, AllocError>
     requires known { J.warehouses ≡ 1 }
     requires all { vec_len openings ≡ 105 }
     requires names { AreNamed 1 J.committed J.work openings.items }
@@ -136,7 +139,7 @@ fn all_groups_are_settled_at_once(rt: HostRuntime) -> Result<(), Fail> {
 }
 
 // A shared claim goes to another thread and back, while another stays.
-fn shared_by_two_threads<J: Naming + Send + 'static>(
+fn shared_by_two_threads<J: GroupNames + Send + 'static>(
     rt: &(impl Threads + Wait),
     seats: GroupSeats,
 ) -> Result<Option<Mode>, Fail>

@@ -4,7 +4,7 @@ ghost use Rattle.tickets.specs.Claims.{fresh, leaving, HoldsClaim};
 ghost use Rattle.tickets.specs.Boxes.{BoxKeepsCommitted, sharing, lent, taken_back, with_left};
 
 use crate::work::{Leaves, Told, Undone, Work};
-use crate::{Claim, Naming};
+use crate::{Claim, GroupNames};
 use agreement::{Change, Seat};
 use groups::{Content, Mode};
 use requests::Group;
@@ -18,7 +18,7 @@ pub const TICKETS: u32 = 8;
 /// Contracts see the group, whether an exclusive claim is out, how many shared claims are out, what is in
 /// the group now, and what is there again once all that was done under the exclusive claim is taken back.
 #[derive(Drop)]
-pub struct TicketBox<J: Naming> {
+pub struct TicketBox<J: GroupNames> {
     pub(crate) group: Group,
     pub(crate) mode: Mode,
     pub(crate) shared: u32,
@@ -28,7 +28,7 @@ pub struct TicketBox<J: Naming> {
     pub(crate) names: PhantomData<J>,
 }
 
-impl<J: Naming> Model for TicketBox<J> {
+impl<J: GroupNames> Model for TicketBox<J> {
     ghost use Rattle.std.specs.Coded.{codes};
     ghost use Rattle.groups.specs.contracts.content.Content as content;
     ghost use Rattle.tickets.specs.Boxes.{Boxed};
@@ -48,7 +48,7 @@ impl<J: Naming> Model for TicketBox<J> {
         × IsGroupOf J.warehouses b.group };
 }
 
-impl<J: Naming> TicketBox<J> {
+impl<J: GroupNames> TicketBox<J> {
     /// The group.
     pub fn group(&self) -> Group
         ensures { result ≡ self.now.group }

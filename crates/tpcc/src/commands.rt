@@ -4,7 +4,7 @@ ghost use Rattle.tpcc.specs.Settings.{IsWithinLimits, HasOneExecutor, HasSession
 use crate::check::check_over;
 use crate::command_fault::CommandFault;
 use crate::populate::populate_over;
-use crate::progress::Progress;
+use crate::progress::ProgressReader;
 use crate::replay::replay_over;
 use crate::run::run_over;
 use crate::settings::{
@@ -143,8 +143,8 @@ fn carry_out_replay<R: Files + AllocGlobal>(
 // The files of a run: those that are read, told of on a terminal, and the one that is written.
 #[derive(Drop)]
 struct RunFiles<'a, F> {
-    data: Progress<'a, F, Stderr>,
-    scripts: Vec<Progress<'a, F, Stderr>>,
+    data: ProgressReader<'a, F, Stderr>,
+    scripts: Vec<ProgressReader<'a, F, Stderr>>,
     log: Option<F>,
 }
 
@@ -169,8 +169,8 @@ impl<'a, F: Drop> RunFiles<'a, F> {
 // The files of a simulation: those that are read, told of on a terminal, and those that are written.
 #[derive(Drop)]
 struct SimFiles<'a, F> {
-    data: Progress<'a, F, Stderr>,
-    schedule: Progress<'a, F, Stderr>,
+    data: ProgressReader<'a, F, Stderr>,
+    schedule: ProgressReader<'a, F, Stderr>,
     log: Option<F>,
     tables: Option<F>,
 }
@@ -197,8 +197,8 @@ impl<'a, F: Drop> SimFiles<'a, F> {
 // The files of a replay: those that are read, told of on a terminal, and the one that is written.
 #[derive(Drop)]
 struct ReplayFiles<'a, F> {
-    data: Progress<'a, F, Stderr>,
-    log: Progress<'a, F, Stderr>,
+    data: ProgressReader<'a, F, Stderr>,
+    log: ProgressReader<'a, F, Stderr>,
     tables: Option<F>,
 }
 
@@ -220,14 +220,14 @@ fn open_watched<'a, R: Files>(
     rt: &R,
     path: &'a str,
     stderr: Stderr,
-) -> Result<Progress<'a, R::File, Stderr>, CommandFault<'a>> {
+) -> Result<ProgressReader<'a, R::File, Stderr>, CommandFault<'a>> {
     let file = opened(path, fs::open(rt, path))?;
     let terminal = if stderr.is_terminal() {
         Some(stderr)
     } else {
         None
     };
-    Ok(Progress::new(path, file, terminal))
+    Ok(ProgressReader::new(path, file, terminal))
 }
 
 // Makes the file that is to be written, if there is to be one.

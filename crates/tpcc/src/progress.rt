@@ -6,7 +6,7 @@ const STRIDE: u64 = 16_000_000;
 
 /// A reader that tells on a terminal how much of a large file was read.
 #[derive(Drop)]
-pub struct Progress<'a, R, W> {
+pub struct ProgressReader<'a, R, W> {
     path: &'a str,
     source: R,
     // Where it is told, if anywhere.
@@ -16,10 +16,10 @@ pub struct Progress<'a, R, W> {
     told: u64,
 }
 
-impl<'a, R: Read + Drop, W: Write + Drop> Progress<'a, R, W> {
+impl<'a, R: Read + Drop, W: Write + Drop> ProgressReader<'a, R, W> {
     /// Reads `source`, the file of that path, and tells of it on `terminal`.
     pub fn new(path: &'a str, source: R, terminal: Option<W>) -> Self {
-        Progress {
+        ProgressReader {
             path,
             source,
             terminal,
@@ -49,7 +49,7 @@ impl<'a, R: Read + Drop, W: Write + Drop> Progress<'a, R, W> {
     }
 }
 
-impl<R: Read + Drop, W: Write + Drop> Read for Progress<'_, R, W> {
+impl<R: Read + Drop, W: Write + Drop> Read for ProgressReader<'_, R, W> {
     fn read(&mut self, buf: &mut [u8]) -> io::Result<usize> {
         let count = self.source.read(buf)?;
         self.count(count as u64);

@@ -6,7 +6,7 @@ use crate::status::Status;
 use crate::streams::{STANDARD_OUTPUT, read_tables, write_entries, write_tables};
 use std::alloc::Global;
 use std::io::{Read, Write};
-use terminals::{read_schedule, write_told};
+use terminals::{read_schedule, write_outputs};
 use world::{GatherFault, OpenFault, simulate};
 
 /// Simulates a schedule on the dataset, event by event, and gives the exit status.
@@ -64,7 +64,7 @@ fn sim<'a, D: Read + Drop, S: Read + Drop, A: Write, L: Write + Drop, T: Write +
         Err(OpenFault::NotConsistent(number)) => return Err(CommandFault::NotConsistent(number)),
         Err(OpenFault::BadExecutors) => unreachable!(),
     };
-    if let Err(error) = write_told(alloc, told, simulation.told.as_slice()) {
+    if let Err(error) = write_outputs(alloc, told, simulation.outputs.as_slice()) {
         return Err(CommandFault::of_file(STANDARD_OUTPUT, error));
     }
     write_entries(alloc, settings.log, log, simulation.log.as_slice())?;

@@ -220,7 +220,7 @@ abbrev pub IsReached : Shared → Request → Progress → List (List Claiming) 
 IsReached shared asked (PayRows p) held = IsAsked shared asked (request.Payment p) held
 IsReached shared asked (AddRow given) held = IsPaid shared asked given held
 
--- what the actions of its phase do: place 0 pays the home rows, and place 1 the customer's; then the row is added
+-- what the actions of its phase do: place 0 pays the home rows, and place 1 the customer's; then, at place 2, the row is added
 abbrev pub works_of : Progress → List AnyWork
 works_of (PayRows p) = any_work.Payment (PayHome p) ∷ any_work.Payment (PayCustomer p) ∷ []
 works_of (AddRow given) = any_work.Payment (AddPayment given.payment given.row) ∷ []

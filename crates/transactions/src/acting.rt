@@ -15,11 +15,11 @@ use groups::{Mode, Wish};
 use requests::Group;
 use slices::{Held, Slice};
 use std::alloc::Global;
-use tickets::{Claim, Claims, Naming};
+use tickets::{Claim, Claims, GroupNames};
 
 /// What came of an action.
 #[derive(Drop)]
-pub enum Ran<J: Naming> {
+pub enum Ran<J: GroupNames> {
     /// It did its work under these claims, and found this.
     Done(Claims<J>, Found),
     /// It did nothing, since this group is held: the age is that of who was granted the last claim on it.
@@ -31,7 +31,7 @@ pub enum Ran<J: Naming> {
 /// Claims what the work needs in the slice of its warehouse, all or nothing, and does it. It dies exactly on
 /// the first group, in the order of its wishes, that it can't be granted. An action that dies or finds no
 /// memory holds no claim, and has left the slice as it was.
-pub fn act<J: Naming>(alloc: Global, slice: &mut Slice<J>, age: u64, work: Work) -> Ran<J>
+pub fn act<J: GroupNames>(alloc: Global, slice: &mut Slice<J>, age: u64, work: Work) -> Ran<J>
     requires warehouses { J.warehouses ≡ slice.old.tables.scale.warehouses }
     requires can { CanDo (shared_of slice.old.tables) work }
     requires home { home_of work ≡ slice.old.home }
@@ -58,7 +58,7 @@ pub fn act<J: Naming>(alloc: Global, slice: &mut Slice<J>, age: u64, work: Work)
 }
 
 // Claims one group after the other as the work wishes, up to the first that is held.
-fn grant_all<J: Naming>(
+fn grant_all<J: GroupNames>(
     slice: &mut Slice<J>,
     age: u64,
     work: &Work,
@@ -84,7 +84,7 @@ fn grant_all<J: Naming>(
 }
 
 // The claim that is wished for, unless its group is held.
-fn grant<J: Naming>(slice: &mut Slice<J>, age: u64, wish: Wish) -> Result<Claim<J>, Held>
+fn grant<J: GroupNames>(slice: &mut Slice<J>, age: u64, wish: Wish) -> Result<Claim<J>, Held>
     requires known { IsGroupOf J.warehouses wish.group }
     requires home { warehouse_of wish.group ≡ slice.old.home }
     ensures granted { IfOk result (λ claim. IsGrantedFor wish claim) }
@@ -102,7 +102,7 @@ fn grant<J: Naming>(slice: &mut Slice<J>, age: u64, wish: Wish) -> Result<Claim<
 
 /// Gives the claims of an action back to the slice of their warehouse, once what it left is committed. It
 /// takes no memory.
-pub fn settle<J: Naming>(slice: &mut Slice<J>, claims: Claims<J>)
+pub fn settle<J: GroupNames>(slice: &mut Slice<J>, claims: Claims<J>)
     requires settled { All CanBeSettled claims }
     requires home { All (IsClaimAt slice.old.home) claims }
     ensures { SliceKeeps claims slice.old [] slice.new }
@@ -110,7 +110,7 @@ pub fn settle<J: Naming>(slice: &mut Slice<J>, claims: Claims<J>)
     give_back(slice, claims.into_vec());
 }
 
-fn give_back<J: Naming>(slice: &mut Slice<J>, mut claims: Vec<Claim<J>>)
+fn give_back<J: GroupNames>(slice: &mut Slice<J>, mut claims: Vec<Claim<J>>)
     requires settled { All CanBeSettled claims.items }
     requires home { All (IsClaimAt slice.old.home) claims.items }
     ensures kept { SliceKeeps claims.items slice.old [] slice.new }
@@ -123,7 +123,7 @@ fn give_back<J: Naming>(slice: &mut Slice<J>, mut claims: Vec<Claim<J>>)
 
 /// Takes back what an action did under its claims, and gives them back, in the slice of their warehouse. It
 /// takes no memory.
-pub fn undo<J: Naming>(slice: &mut Slice<J>, claims: Claims<J>)
+pub fn undo<J: GroupNames>(slice: &mut Slice<J>, claims: Claims<J>)
     requires undone { All CanBeUndone claims }
     requires home { All (IsClaimAt slice.old.home) claims }
     ensures { SliceKeeps claims slice.old [] slice.new }
@@ -134,7 +134,7 @@ pub fn undo<J: Naming>(slice: &mut Slice<J>, claims: Claims<J>)
     }
 }
 
-fn undo_claim<J: Naming>(slice: &mut Slice<J>, mut claim: Claim<J>)
+fn undo_claim<J: GroupNames>(slice: &mut Slice<J>, mut claim: Claim<J>)
     requires undone { CanBeUndone claim }
     requires home { IsClaimAt slice.old.home claim }
     ensures { SliceKeeps (claim ∷ []) slice.old [] slice.new }

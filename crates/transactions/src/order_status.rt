@@ -21,7 +21,7 @@ use requests::{Fault, Group, OrderStatus, OrderStatusReply, Reply, Shown, Status
 use schema::{CustomerKey, DistrictKey, NoMemory, Text};
 use slices::Slice;
 use std::alloc::Global;
-use tickets::{Claim, Naming};
+use tickets::{Claim, GroupNames};
 
 /// What an action of an Order-Status does.
 #[derive(Drop)]
@@ -121,7 +121,7 @@ impl Work {
 
     // Does the work, in the slice of its warehouse, under the claims that were granted for it. It changes
     // nothing.
-    pub(crate) fn run<J: Naming>(
+    pub(crate) fn run<J: GroupNames>(
         self,
         alloc: Global,
         slice: &mut Slice<J>,
@@ -148,7 +148,7 @@ impl Work {
 
 /// Shows the customer of an Order-Status, who is chosen by number or by last name. It takes no memory, and
 /// changes nothing.
-pub fn show_customer<J: Naming>(
+pub fn show_customer<J: GroupNames>(
     slice: &mut Slice<J>,
     customers: &mut Claim<J>,
     asked: &OrderStatus,
@@ -181,7 +181,7 @@ pub fn show_customer<J: Naming>(
 
 /// Shows the customer's last order with its lines; `None` exactly where there is none. It changes nothing,
 /// and its lines alone take memory.
-pub fn show_order<J: Naming>(
+pub fn show_order<J: GroupNames>(
     alloc: Global,
     slice: &mut Slice<J>,
     orders: &mut Claim<J>,

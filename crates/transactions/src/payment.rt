@@ -27,7 +27,7 @@ use requests::{Fault, Group, Payment, PaymentReply, Reply, Shown};
 use schema::{CustomerKey, District, DistrictKey, History, NoMemory, Text, Warehouse};
 use slices::Slice;
 use std::alloc::Global;
-use tickets::{Claim, Naming};
+use tickets::{Claim, GroupNames};
 
 /// What an action of a payment does.
 #[derive(Drop)]
@@ -79,7 +79,7 @@ pub enum CustomerPaid {
 pub enum Progress {
     /// Its home rows are paid at place 0, and its customer's row at place 1.
     PayRows(Payment),
-    /// Its row is added to the list of payments.
+    /// Its row is added to the list of payments, at place 2.
     AddRow(Paid),
 }
 
@@ -147,7 +147,7 @@ impl Work {
 
     // Does the work, in the slice of its warehouse, under the claims that were granted for it. Want of memory
     // changes nothing.
-    pub(crate) fn run<J: Naming>(
+    pub(crate) fn run<J: GroupNames>(
         self,
         slice: &mut Slice<J>,
         claims: &mut [Claim<J>],
@@ -179,7 +179,7 @@ impl Work {
 }
 
 /// Adds a payment's amount to its home warehouse and district. Want of memory changes nothing.
-pub fn pay_home<J: Naming>(
+pub fn pay_home<J: GroupNames>(
     slice: &mut Slice<J>,
     warehouse: &mut Claim<J>,
     district: &mut Claim<J>,
@@ -227,7 +227,7 @@ pub fn pay_home<J: Naming>(
 }
 
 // Puts both rows in place, or changes nothing.
-fn put_home<J: Naming>(
+fn put_home<J: GroupNames>(
     slice: &mut Slice<J>,
     warehouse: &mut Claim<J>,
     district: &mut Claim<J>,
@@ -259,7 +259,7 @@ fn put_home<J: Naming>(
 
 /// Takes a payment's amount from the balance of its customer, who is chosen by number or by last name.
 /// Want of memory changes nothing.
-pub fn pay_customer<J: Naming>(
+pub fn pay_customer<J: GroupNames>(
     slice: &mut Slice<J>,
     customers: &mut Claim<J>,
     payment: &Payment,
@@ -288,7 +288,7 @@ pub fn pay_customer<J: Naming>(
 
 /// Adds a payment's row to its home district's list of payments. The payer may be another warehouse's. Want of
 /// memory changes nothing.
-pub fn add_payment<J: Naming>(
+pub fn add_payment<J: GroupNames>(
     slice: &mut Slice<J>,
     history: &mut Claim<J>,
     payment: &Payment,

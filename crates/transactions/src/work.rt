@@ -12,7 +12,7 @@ use requests::Group;
 use schema::NoMemory;
 use slices::Slice;
 use std::alloc::Global;
-use tickets::{Claim, Naming};
+use tickets::{Claim, GroupNames};
 
 /// What an action does, with all that it needs for it.
 #[derive(Drop)]
@@ -83,7 +83,7 @@ pub(crate) fn shared(group: Group) -> Wish
 
 /// Does the work, in the slice of its warehouse, under the claims that were granted for it. Want of memory
 /// changes nothing.
-pub fn run<J: Naming>(
+pub fn run<J: GroupNames>(
     alloc: Global,
     slice: &mut Slice<J>,
     claims: &mut [Claim<J>],

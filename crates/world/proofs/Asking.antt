@@ -38,7 +38,7 @@ use Rattle.world.specs.declared.flight.Item.{Item}
 use Rattle.world.specs.declared.flight.Item.TheVariants as item
 use Rattle.world.specs.declared.world.Parts.{Parts}
 use Rattle.world.specs.Parted.{CanAllBeUndone, joined_in}
-use Rattle.world.specs.Flights.{Token, Acting, Part, nothing, join, parts, part_message, part_item, part_met, acting_from, unanswered_transaction}
+use Rattle.world.specs.Flights.{Token, Acting, InFlight, nothing, join, parts, part_message, part_item, part_met, acting_from, unanswered_transaction}
 use Rattle.world.specs.Sound.{IsSoundWith, IsSoundStart, IsSoundPhase, IsSoundMessage, IsSoundItem, IsBalanced, IsPassOf, UnderWay, WeighAlike, awaited, flight, is_here, reported_to}
 use Rattle.world.specs.Worlds.{FitsPart, Fits, Admits, refuses, tables_now}
 use Rattle.world.proofs.Joins.{IsSame, same-sym}
@@ -225,7 +225,7 @@ module _ {J : Type 0} where
         let message : Message J = Start a.flow a.works in
         let nothing_met : flight with_desk ≡ lots w =
         ap (λ (rs : List (Report J)). fly (in_inbox w) (in_outbox w) (parts part_met rs)) (none_reported (Report J) (length a.works.items)) in
-        subst (λ (p : Part). IsSame (join (part_message message) p) (flight next)) nothing_met (same-sym _ _ (message_put with_desk message))
+        subst (λ (p : InFlight). IsSame (join (part_message message) p) (flight next)) nothing_met (same-sym _ _ (message_put with_desk message))
 
     pub admits_sound : IsSoundWith shared nothing new
     admits_sound =

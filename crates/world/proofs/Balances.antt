@@ -8,47 +8,47 @@ use Rattle.world.specs.declared.desk.Desk.{Desk}
 use Rattle.world.specs.declared.flight.Message.{Message}
 use Rattle.world.specs.declared.flight.Item.{Item}
 use Rattle.world.specs.declared.world.Parts.{Parts}
-use Rattle.world.specs.Flights.{Part, part, join, parts, part_message, part_item, part_met}
+use Rattle.world.specs.Flights.{InFlight, part, join, parts, part_message, part_item, part_met}
 use Rattle.world.specs.Sound.{IsBalanced, is_here, flight, reported_to}
 use Rattle.world.proofs.Joins.{IsSame, same-refl, same-trans, same-is, same-join, same-swap, same-middle, join-assoc, join-nothing, parts-append}
 
 -- ---- three lots together: the inbox, the outbox and what meets
 
-abbrev pub fly : Part → Part → Part → Part
+abbrev pub fly : InFlight → InFlight → InFlight → InFlight
 fly inbox outbox met = join inbox (join outbox met)
 
-pub fly_first : (p i o h : Part) → fly (join p i) o h ≡ join p (fly i o h)
+pub fly_first : (p i o h : InFlight) → fly (join p i) o h ≡ join p (fly i o h)
 fly_first p i o h = join-assoc p i (join o h)
 
-pub fly_middle : (p i o h : Part) → IsSame (fly i (join p o) h) (join p (fly i o h))
+pub fly_middle : (p i o h : InFlight) → IsSame (fly i (join p o) h) (join p (fly i o h))
 fly_middle p i o h =
     subst (λ q. IsSame (join i q) (join p (fly i o h))) (sym (join-assoc p o h)) (same-middle i p (join o h))
 
-pub fly_last : (p i o h : Part) → IsSame (fly i o (join p h)) (join p (fly i o h))
+pub fly_last : (p i o h : InFlight) → IsSame (fly i o (join p h)) (join p (fly i o h))
 fly_last p i o h =
     same-trans (fly i o (join p h)) (join i (join p (join o h))) (join p (fly i o h))
     (same-join i i (join o (join p h)) (join p (join o h)) (same-refl i) (same-middle o p h))
     (same-middle i p (join o h))
 
 -- lots that are the same
-pub fly_same : (i j o q h k : Part) → IsSame i j → IsSame o q → IsSame h k → IsSame (fly i o h) (fly j q k)
+pub fly_same : (i j o q h k : InFlight) → IsSame i j → IsSame o q → IsSame h k → IsSame (fly i o h) (fly j q k)
 fly_same i j o q h k a b c = same-join i j (join o h) (join q k) a (same-join o q h k b c)
 
 -- more at the end
-pub parts_more : {X : Type 0} (f : X → Part) (xs ys : List X) → IsSame (parts f (xs ++ ys)) (join (parts f ys) (parts f xs))
+pub parts_more : {X : Type 0} (f : X → InFlight) (xs ys : List X) → IsSame (parts f (xs ++ ys)) (join (parts f ys) (parts f xs))
 parts_more f xs ys =
     subst (λ p. IsSame p (join (parts f ys) (parts f xs))) (sym (parts-append f xs ys)) (same-swap (parts f xs) (parts f ys))
 
 module _ {J : Type 0} where
   -- ---- the worlds
 
-  abbrev pub in_inbox : Parts J → Part
+  abbrev pub in_inbox : Parts J → InFlight
   in_inbox w = parts part_message w.inbox
 
-  abbrev pub in_outbox : Parts J → Part
+  abbrev pub in_outbox : Parts J → InFlight
   in_outbox w = parts part_item w.outbox
 
-  abbrev pub in_meeting : Parts J → Part
+  abbrev pub in_meeting : Parts J → InFlight
   in_meeting w = parts part_met (reported_to w.desk.active)
 
   pub message_taken : (w : Parts J) (message : Message J) (rest : List (Message J)) → w.inbox ≡ message ∷ rest
@@ -83,14 +83,14 @@ module _ {J : Type 0} where
 
   -- ---- what is balanced
 
-  pub balanced_same : (desk : Desk J) (a b : Part) → IsSame a b → IsBalanced desk a → IsBalanced desk b
+  pub balanced_same : (desk : Desk J) (a b : InFlight) → IsSame a b → IsBalanced desk a → IsBalanced desk b
   balanced_same desk a b same h = record {
     tokens = λ weight. sum_by-IsPermutation weight a.tokens b.tokens same.tokens ∙ h.tokens weight;
     alone = λ number session there. ap (λ (n : ℕ). n + cond (is_here session) 1 0) (sum_by-IsPermutation (λ u. cond (is_of number u) 1 0) a.pending b.pending same.pending) ∙ h.alone number session there;
     many = ap (λ (n : ℕ). n + count_by is_here desk.sessions.items) (length_permutation a.pending b.pending same.pending) ∙ h.many;
   }
 
-  pub balanced_like : (desk : Desk J) (a b : Part) → b.pending ≡ a.pending → b.tokens ≡ a.tokens → IsBalanced desk a → IsBalanced desk b
+  pub balanced_like : (desk : Desk J) (a b : InFlight) → b.pending ≡ a.pending → b.tokens ≡ a.tokens → IsBalanced desk a → IsBalanced desk b
   balanced_like desk a b pending tokens h =
       balanced_same desk (part b.claims a.pending a.tokens) b
       (record {

@@ -8,7 +8,7 @@ use Rattle.world.specs.declared.desk.Active.TheVariants as active
 use Rattle.world.specs.declared.desk.Desk.{Desk}
 use Rattle.world.specs.declared.world.Parts.{Parts}
 use Rattle.world.specs.Parted.{joined_in}
-use Rattle.world.specs.Flights.{Ending, Part, part, parts, part_met}
+use Rattle.world.specs.Flights.{Ending, InFlight, part, parts, part_met}
 use Rattle.world.specs.Sound.{IsSoundWith, IsSoundActive, IsBalanced, WeighAlike, awaited}
 use Rattle.world.specs.Following.{ending, with_active}
 use Rattle.world.specs.Worlds.{FitsPart}
@@ -20,7 +20,7 @@ use Rattle.world.proofs.Releases.{ending_awaits, ending_sound, nothing_met}
 use Rattle.world.proofs.Reporting.{beside, beside_now, ending_met}
 
 -- what is in hand of an action that has given back what it held
-abbrev pub part_ended : Part
+abbrev pub part_ended : InFlight
 part_ended = part [] [] (Ending ∷ [])
 
 -- of a number that is not zero, one less

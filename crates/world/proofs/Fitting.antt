@@ -28,13 +28,13 @@ use Rattle.history.specs.Fits.{Fits as HistoryFits}
 use Rattle.history.specs.Laws.{IsQuiet, IsEntryOf, IsAnswerTo, new_one, with_place}
 use Rattle.history.proofs.Fitting.{unanswered_in_any_order, quiet_event_fits, admission_fits, answer_fits, entry_fits}
 use Rattle.slices.specs.Sliced.{Joined, SlicesKeep, all_standing, everywhere}
-use Rattle.world.specs.Flights.{Part, part, join}
+use Rattle.world.specs.Flights.{InFlight, part, join}
 use Rattle.world.specs.Worlds.{FitsPart, tables_now}
 use Rattle.world.proofs.Joins.{IsSame}
 
 module _ (opening : Database) (history : List Step) (log : List Entry) where
   -- whatever the order
-  pub fits_same : (slices : Joined) (admitted : ℕ) (a b : Part) → IsSame a b → FitsPart opening history log slices admitted a → FitsPart opening history log slices admitted b
+  pub fits_same : (slices : Joined) (admitted : ℕ) (a b : InFlight) → IsSame a b → FitsPart opening history log slices admitted a → FitsPart opening history log slices admitted b
   fits_same slices admitted a b same h = record {
     told = unanswered_in_any_order opening history log (tables_now opening log) admitted a.pending b.pending same.pending h.told;
     committed = kept.AreCommitted-permutation everywhere (content (tables_now opening log)) (all_standing slices) a.claims b.claims same.claims h.committed;
@@ -43,7 +43,7 @@ module _ (opening : Database) (history : List Step) (log : List Entry) where
   }
 
   -- whatever the tokens are
-  pub fits_like : (slices : Joined) (admitted : ℕ) (a b : Part) → IsPermutation a.claims b.claims → IsPermutation a.pending b.pending
+  pub fits_like : (slices : Joined) (admitted : ℕ) (a b : InFlight) → IsPermutation a.claims b.claims → IsPermutation a.pending b.pending
       → FitsPart opening history log slices admitted a → FitsPart opening history log slices admitted b
   fits_like slices admitted a b claims pending h = record {
     told = unanswered_in_any_order opening history log (tables_now opening log) admitted a.pending b.pending pending h.told;
@@ -53,7 +53,7 @@ module _ (opening : Database) (history : List Step) (log : List Entry) where
   }
 
   -- work on the rows
-  pub fits_work : (old new : Joined) (admitted : ℕ) (a b rest : Part) → SlicesKeep a.claims old b.claims new → b.pending ≡ a.pending
+  pub fits_work : (old new : Joined) (admitted : ℕ) (a b rest : InFlight) → SlicesKeep a.claims old b.claims new → b.pending ≡ a.pending
       → FitsPart opening history log old admitted (join a rest) → FitsPart opening history log new admitted (join b rest)
   fits_work old new admitted a b rest keeps pending h = record {
     told = subst (λ us. HistoryFits opening history log (tables_now opening log) admitted (us ++ rest.pending)) (sym pending) h.told;
@@ -63,7 +63,7 @@ module _ (opening : Database) (history : List Step) (log : List Entry) where
   }
 
   -- an event that tells nothing of a transaction
-  pub fits_quiet : (slices : Joined) (admitted : ℕ) (a : Part) (event : Event) (answer : EventAnswer) → IsQuiet event answer
+  pub fits_quiet : (slices : Joined) (admitted : ℕ) (a : InFlight) (event : Event) (answer : EventAnswer) → IsQuiet event answer
       → FitsPart opening history log slices admitted a → FitsPart opening (history ++ step event answer ∷ []) log slices admitted a
   fits_quiet slices admitted a event answer quiet h = record {
     told = quiet_event_fits opening history log (tables_now opening log) admitted a.pending event answer quiet h.told;
@@ -73,7 +73,7 @@ module _ (opening : Database) (history : List Step) (log : List Entry) where
   }
 
   -- a transaction is admitted
-  pub fits_admission : (slices : Joined) (admitted : ℕ) (a : Part) (session number : ℕ) (request : Request) → count_by (is_of session) a.pending ≡ 0
+  pub fits_admission : (slices : Joined) (admitted : ℕ) (a : InFlight) (session number : ℕ) (request : Request) → count_by (is_of session) a.pending ≡ 0
       → FitsPart opening history log slices admitted a
       → FitsPart opening (history ++ step (Submit session number request) (Accepted admitted) ∷ []) log slices (admitted + 1) (part a.claims (new_one admitted session number request ∷ a.pending) a.tokens)
   fits_admission slices admitted a session number request none h = record {
@@ -84,7 +84,7 @@ module _ (opening : Database) (history : List Step) (log : List Entry) where
   }
 
   -- a session is answered
-  pub fits_answer : (slices : Joined) (admitted : ℕ) (claims : List Claiming) (u : Unanswered) (rest : Part) (executor : ℕ) (answer : Answer) → IsAnswerTo log u answer
+  pub fits_answer : (slices : Joined) (admitted : ℕ) (claims : List Claiming) (u : Unanswered) (rest : InFlight) (executor : ℕ) (answer : Answer) → IsAnswerTo log u answer
       → FitsPart opening history log slices admitted (part claims (u ∷ rest.pending) rest.tokens)
       → FitsPart opening (history ++ step (Send executor) (Answered u.session u.number answer) ∷ []) log slices admitted (part claims rest.pending rest.tokens)
   fits_answer slices admitted claims u rest executor answer is h = record {

@@ -15,7 +15,7 @@ use Rattle.world.specs.declared.flight.Item.TheVariants as item
 use Rattle.world.specs.declared.world.Parts.{Parts}
 use Rattle.world.specs.Parted.{joined_in}
 use Rattle.world.specs.declared.flight.Report.{Report}
-use Rattle.world.specs.Flights.{Acting, Part, nothing, join, part_message, part_item}
+use Rattle.world.specs.Flights.{Acting, InFlight, nothing, join, part_message, part_item}
 use Rattle.world.specs.Sound.{IsSoundWith, IsSoundMessage, IsSoundCommit, IsSoundItem, IsSoundPhase, IsSoundActive, awaited, flight}
 use Rattle.world.specs.Events.{Pushes, Commits, SendsItem, logging}
 use Rattle.world.specs.Worlds.{FitsPart, Fits, Advances}
@@ -30,13 +30,13 @@ use Rattle.world.proofs.Replying.{replies_sound, replies_fits}
 
 module _ {J : Type 0} where
   -- the next world is sound, and what fitted fits with the Send and its answer at its end
-  pub record SendsOn (shared : Shared) (hand : Part) (old : Parts J) (answer : EventAnswer) (new : Parts J) : Type 0 where
+  pub record SendsOn (shared : Shared) (hand : InFlight) (old : Parts J) (answer : EventAnswer) (new : Parts J) : Type 0 where
     pub sound : IsSoundWith shared nothing new
     pub fits : (opening : Database) (history : List Step) (executor : ℕ) → FitsPart opening history old.log (joined_in old) old.desk.admitted (join hand (flight old))
         → Fits opening (history ++ step (Send executor) answer ∷ []) new
 
   -- an event that tells nothing of a transaction
-  quietly : (shared : Shared) (hand : Part) (old next new : Parts J) (answer : EventAnswer) → GoesOn shared hand old next → answer ≡ Sent → new ≡ next → SendsOn shared hand old answer new
+  quietly : (shared : Shared) (hand : InFlight) (old next new : Parts J) (answer : EventAnswer) → GoesOn shared hand old next → answer ≡ Sent → new ≡ next → SendsOn shared hand old answer new
   quietly shared hand old next new answer goes said is = record {
     sound = subst (λ w. IsSoundWith shared nothing w) (sym is) goes.sound;
     fits = λ opening history executor f.

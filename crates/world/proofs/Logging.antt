@@ -33,7 +33,7 @@ use Rattle.world.specs.declared.flight.CommitItem.{CommitItem}
 use Rattle.world.specs.declared.sending.Release.{Release}
 use Rattle.world.specs.declared.world.Parts.{Parts}
 use Rattle.world.specs.Parted.{CanAllBeUndone, joined_in}
-use Rattle.world.specs.Flights.{Committing, Part, part, nothing, join, part_item, unanswered_transaction}
+use Rattle.world.specs.Flights.{Committing, InFlight, part, nothing, join, part_item, unanswered_transaction}
 use Rattle.world.specs.Sound.{IsSoundWith, IsSoundItem, IsSoundCommit, IsAnswerIn, UnderWay, awaited, flight, reported_to}
 use Rattle.world.specs.Following.{entry_of, is_settled, release, releasing}
 use Rattle.world.specs.Events.{logging, refusing, why_refused}
@@ -174,7 +174,7 @@ module _ {J : Type 0} where
         let r : Release J = release t pass (Done place shown) held in
         let u : Unanswered = with_place place (unanswered_transaction t) in
         let claims = claims_logged shown (all_claims t.held) in
-        let hand : Part = part claims (u ∷ []) [] in
+        let hand : InFlight = part claims (u ∷ []) [] in
         let settle = is_settled shown in
         let few : length held ≤ MOST_ACTIONS = subst (λ n. n ≤ MOST_ACTIONS) (sym (length-map t.held (claims_logged shown))) s.few in (
           releases_sound shared h.under_way logged_w hand settle r h.shared_is h.slices h.inbox

@@ -39,7 +39,7 @@ use Rattle.world.specs.declared.flight.Item.{Item}
 use Rattle.world.specs.declared.flight.Item.TheVariants as item
 use Rattle.world.specs.declared.world.Parts.{Parts}
 use Rattle.world.specs.Parted.{CanAllBeUndone, joined_in}
-use Rattle.world.specs.Flights.{Acting, Committing, Part, part, nothing, join, parts, acting_from, part_item, part_met, part_report, part_transaction, unanswered_transaction}
+use Rattle.world.specs.Flights.{Acting, Committing, InFlight, part, nothing, join, parts, acting_from, part_item, part_met, part_report, part_transaction, unanswered_transaction}
 use Rattle.world.specs.Following.{acts_of, committing, found_in, held_in, holding, refusal_of, refused, releasing, with_active, IfCarried}
 use Rattle.world.specs.Sound.{IsSoundWith, IsSoundMessage, IsSoundItem, IsSoundReport, IsSoundPhase, IsSoundFlow, IsSoundStart, IsSoundCommit, IsAskedBy, IsBalanced, UnderWay, WeighAlike, awaited, flight, reported_to}
 use Rattle.world.specs.Events.{MeetsAs, MeetsUnless, ReportsInto, goes_on}
@@ -68,7 +68,7 @@ module _ {J : Type 0} where
   -- ---- what is in hand, with all that has met
 
   -- what has met comes to the front
-  front : (hand : Part) (w : Parts J) (met : List (Report J)) → IsSame (beside hand w met) (join (join hand (parts part_met met)) (lots w))
+  front : (hand : InFlight) (w : Parts J) (met : List (Report J)) → IsSame (beside hand w met) (join (join hand (parts part_met met)) (lots w))
   front hand w met =
       let p = parts part_met met in
       subst (λ q. IsSame (beside hand w met) q) (sym (join-assoc hand p (lots w)))
@@ -138,7 +138,7 @@ module _ {J : Type 0} where
     keeps awaits =
         let new = with_active (Some (active.Acting first filled)) w in
         let b = beside_now (part_report r) w (reported slots) (map Acting (awaited_from first slots)) h.balance met_is awaits_are in
-        let hand : Part = part_met r in
+        let hand : InFlight = part_met r in
         let met = parts part_met (reported slots) in
         -- without its token, the report is among what has met
         let same : IsSame (fly (in_inbox w) (in_outbox w) (parts part_met (reported filled))) (join (join hand met) (lots w)) =
@@ -193,7 +193,7 @@ module _ {J : Type 0} where
       none_left = ap (λ (l : List (Option (Report J))). awaited_from first l) (sym all) ∙ none_awaited first reports
 
       -- nothing else is awaited
-      at_rest : (hand : Part) → hand.tokens ≡ Acting r.place ∷ [] → IsSame (beside (part_report r) w (reported slots)) (join hand (lots w)) → WeighAlike (lots w).tokens []
+      at_rest : (hand : InFlight) → hand.tokens ≡ Acting r.place ∷ [] → IsSame (beside (part_report r) w (reported slots)) (join hand (lots w)) → WeighAlike (lots w).tokens []
       at_rest hand one same weight =
           let b = beside_now (part_report r) w (reported slots) (map Acting (awaited_from first slots)) h.balance met_is awaits_are in
           let less : WeighAlike (Acting r.place ∷ []) (map Acting (awaited_from first slots)) = subst (λ ns. WeighAlike (Acting r.place ∷ map Acting ns) (map Acting (awaited_from first slots))) none_left (awaited_less first k slots r here waits) in
@@ -213,11 +213,11 @@ module _ {J : Type 0} where
         abbrev t : Transaction J
         t = holding flow.transaction (held_in reports)
 
-        abbrev hand : Part
+        abbrev hand : InFlight
         hand = part_transaction t (Acting r.place ∷ [])
 
         in_hand : IsSame (beside (part_report r) w (reported slots)) (join hand (lots w))
-        in_hand = subst (λ (q : Part). IsSame (beside (part_report r) w (reported slots)) (join (part q.claims q.pending (Acting r.place ∷ [])) (lots w))) together (all_together w slots k r reports waits all)
+        in_hand = subst (λ (q : InFlight). IsSame (beside (part_report r) w (reported slots)) (join (part q.claims q.pending (Acting r.place ∷ [])) (lots w))) together (all_together w slots k r reports waits all)
 
         rests : WeighAlike (lots w).tokens []
         rests = at_rest hand refl in_hand
@@ -325,19 +325,19 @@ module _ {J : Type 0} where
             record {
               sound = puts_sound shared v w hand (acts_of flow_now works) begun (none_reported (length works)) h.shared_is h.slices (inbox_for v) (outbox_for v)
                   (acts_fine shared w.log v flow_now works start) phase h.seats h.sessions
-                  (subst (λ (q : Part). IsPermutation (unanswered_transaction t ∷ []) q.pending) (sym acts) (IsPermutation-refl (unanswered_transaction t ∷ []))) served
+                  (subst (λ (q : InFlight). IsPermutation (unanswered_transaction t ∷ []) q.pending) (sym acts) (IsPermutation-refl (unanswered_transaction t ∷ []))) served
                   (λ weight.
                   omega (
                     arith,
                     sum_by-append weight (parts part_item (acts_of flow_now works)).tokens (lots w).tokens,
                     rests weight,
-                    ap (λ (q : Part). sum_by weight q.tokens) acts,
+                    ap (λ (q : InFlight). sum_by weight q.tokens) acts,
                     ap (λ ts. sum_by weight ts) awaits,
                   ));
               fits = λ opening history f.
                   puts_fits opening history w hand (acts_of flow_now works) begun (none_reported (length works))
-                  (subst (λ (q : Part). IsPermutation (all_claims t.held) q.claims) (sym acts) (IsPermutation-refl (all_claims t.held)))
-                  (subst (λ (q : Part). IsPermutation (unanswered_transaction t ∷ []) q.pending) (sym acts) (IsPermutation-refl (unanswered_transaction t ∷ [])))
+                  (subst (λ (q : InFlight). IsPermutation (all_claims t.held) q.claims) (sym acts) (IsPermutation-refl (all_claims t.held)))
+                  (subst (λ (q : InFlight). IsPermutation (unanswered_transaction t ∷ []) q.pending) (sym acts) (IsPermutation-refl (unanswered_transaction t ∷ [])))
                   (fits_in_hand opening history f);
             }
 

@@ -15,7 +15,7 @@ use Rattle.world.specs.declared.desk.SessionDesk.{SessionDesk}
 use Rattle.world.specs.declared.flight.Item.{Item}
 use Rattle.world.specs.declared.world.Parts.{Parts}
 use Rattle.world.specs.Parted.{joined_in}
-use Rattle.world.specs.Flights.{Part, part, nothing, join, parts, part_item, part_met}
+use Rattle.world.specs.Flights.{InFlight, part, nothing, join, parts, part_item, part_met}
 use Rattle.world.specs.Sound.{IsSoundWith, IsSoundMessage, IsSoundItem, IsSoundActive, IsSessionOf, IsBalanced, WeighAlike, UnderWay, flight, reported_to, awaited, is_here}
 use Rattle.world.specs.Following.{putting}
 use Rattle.world.specs.Worlds.{FitsPart, Fits}
@@ -52,7 +52,7 @@ module _ {J : Type 0} where
   -- ---- where nothing has met
 
   -- the inbox and the outbox
-  abbrev pub lots : Parts J → Part
+  abbrev pub lots : Parts J → InFlight
   lots w = fly (in_inbox w) (in_outbox w) nothing
 
   -- what is under way once items are put and this is active, where nothing has met
@@ -63,7 +63,7 @@ module _ {J : Type 0} where
       subst (λ rs. IsSame (fly (in_inbox w) (parts part_item (w.outbox ++ items)) (parts part_met rs)) (join (parts part_item items) (lots w))) (sym none)
       (items_put bare items)
 
-  pub puts_fits : (opening : Database) (history : List Step) (w : Parts J) (hand : Part) (items : List (Item J)) (active : Option (Active J)) → reported_to active ≡ []
+  pub puts_fits : (opening : Database) (history : List Step) (w : Parts J) (hand : InFlight) (items : List (Item J)) (active : Option (Active J)) → reported_to active ≡ []
       → IsPermutation hand.claims (parts part_item items).claims → IsPermutation hand.pending (parts part_item items).pending
       → FitsPart opening history w.log (joined_in w) w.desk.admitted (join hand (lots w)) → Fits opening history (putting items active w)
   puts_fits opening history w hand items active none claims pending f =
@@ -80,7 +80,7 @@ module _ {J : Type 0} where
         → count_by (is_of number) pending + cond (is_here session) 1 0 ≡ 1
     pub many : length pending + count_by is_here desk.sessions.items ≡ 64
 
-  pub puts_sound : (shared : Shared) (u : UnderWay) (w : Parts J) (hand : Part) (items : List (Item J)) (active : Option (Active J)) → reported_to active ≡ []
+  pub puts_sound : (shared : Shared) (u : UnderWay) (w : Parts J) (hand : InFlight) (items : List (Item J)) (active : Option (Active J)) → reported_to active ≡ []
       → w.catalog ≡ shared → AreSlicesOf w.catalog w.slices.items
       → All (IsSoundMessage shared u) w.inbox → All (IsSoundItem shared w.log u) w.outbox → All (IsSoundItem shared w.log u) items
       → IsSoundActive shared u active → length w.desk.sessions.items ≡ 64
@@ -93,7 +93,7 @@ module _ {J : Type 0} where
       let put = parts part_item items in
       let rest = lots w in
       let desk : Desk J = record w.desk { active = active } in
-      let first : Part = part put.claims hand.pending put.tokens in
+      let first : InFlight = part put.claims hand.pending put.tokens in
       let same : IsSame first put = record { claims = IsPermutation-refl put.claims; pending = pending; tokens = IsPermutation-refl put.tokens } in
       let balance : IsBalanced desk (join first rest) = record { tokens = tokens; alone = served.alone; many = served.many } in
       record {
@@ -112,6 +112,6 @@ module _ {J : Type 0} where
   -- ---- what goes on
 
   -- from what was in hand, the next world is sound, and a history that fits goes on fitting
-  pub record GoesOn (shared : Shared) (hand : Part) (old new : Parts J) : Type 0 where
+  pub record GoesOn (shared : Shared) (hand : InFlight) (old new : Parts J) : Type 0 where
     pub sound : IsSoundWith shared nothing new
     pub fits : (opening : Database) (history : List Step) → FitsPart opening history old.log (joined_in old) old.desk.admitted (join hand (flight old)) → Fits opening history new

@@ -17,7 +17,7 @@ use Rattle.world.specs.declared.desk.SessionDesk.{SessionDesk}
 use Rattle.world.specs.declared.sending.Release.{Release}
 use Rattle.world.specs.declared.world.Parts.{Parts}
 use Rattle.world.specs.Parted.{CanAllBeSettled, CanAllBeUndone, joined_in}
-use Rattle.world.specs.Flights.{Ending, Part, nothing, join, parts, part_item, part_held, place_answered}
+use Rattle.world.specs.Flights.{Ending, InFlight, nothing, join, parts, part_item, part_held, place_answered}
 use Rattle.world.specs.Sound.{IsSoundWith, IsSoundMessage, IsSoundItem, IsSoundActive, IsSessionOf, IsAnswerIn, UnderWay, WeighAlike, awaited, reported_to}
 use Rattle.world.specs.Following.{ending, items_released, push_of, releasing}
 use Rattle.world.specs.Worlds.{FitsPart, Fits}
@@ -92,18 +92,18 @@ module _ {J : Type 0} where
   -- ---- all items
 
   pub released_claims : (settle : Bool) (r : Release J) → (parts part_item (items_released settle r)).claims ≡ all_claims r.held
-  released_claims settle r = ap (λ (q : Part). q.claims) (pushes_part J settle r.held) ∙ held_claims r.held
+  released_claims settle r = ap (λ (q : InFlight). q.claims) (pushes_part J settle r.held) ∙ held_claims r.held
 
   pub released_pending : (settle : Bool) (r : Release J) → (parts part_item (items_released settle r)).pending ≡ unanswered_release r ∷ []
-  released_pending settle r = ap (λ us. unanswered_release r ∷ us) (ap (λ (q : Part). q.pending) (pushes_part J settle r.held) ∙ held_pending r.held)
+  released_pending settle r = ap (λ us. unanswered_release r ∷ us) (ap (λ (q : InFlight). q.pending) (pushes_part J settle r.held) ∙ held_pending r.held)
 
   -- the tokens of what is pushed are what is awaited then
   released_tokens : (settle : Bool) (r : Release J) → (parts part_item (items_released settle r)).tokens ≡ awaited {J = J} (ending (length r.held))
-  released_tokens settle r = ap (λ (q : Part). q.tokens) (pushes_part J settle r.held) ∙ held_tokens r.held ∙ sym (ending_awaits J (length r.held))
+  released_tokens settle r = ap (λ (q : InFlight). q.tokens) (pushes_part J settle r.held) ∙ held_tokens r.held ∙ sym (ending_awaits J (length r.held))
 
   -- ---- the release
 
-  pub releases_fits : (opening : Database) (history : List Step) (w : Parts J) (hand : Part) (settle : Bool) (r : Release J)
+  pub releases_fits : (opening : Database) (history : List Step) (w : Parts J) (hand : InFlight) (settle : Bool) (r : Release J)
       → hand.claims ≡ all_claims r.held → hand.pending ≡ unanswered_release r ∷ []
       → FitsPart opening history w.log (joined_in w) w.desk.admitted (join hand (lots w)) → Fits opening history (releasing settle r w)
   releases_fits opening history w hand settle r claims pending f =
@@ -112,7 +112,7 @@ module _ {J : Type 0} where
       (subst (λ us. IsPermutation hand.pending us) (pending ∙ sym (released_pending settle r)) (IsPermutation-refl hand.pending))
       f
 
-  pub releases_sound : (shared : Shared) (u : UnderWay) (w : Parts J) (hand : Part) (settle : Bool) (r : Release J)
+  pub releases_sound : (shared : Shared) (u : UnderWay) (w : Parts J) (hand : InFlight) (settle : Bool) (r : Release J)
       → w.catalog ≡ shared → AreSlicesOf w.catalog w.slices.items
       → All (IsSoundMessage shared u) w.inbox → All (IsSoundItem shared w.log u) w.outbox → length w.desk.sessions.items ≡ 64
       → ((number : ℕ) (session : SessionDesk J) → slice_get w.desk.sessions.items number ≡ Some session → IsSessionOf number session)

@@ -15,7 +15,7 @@ use Rattle.world.specs.declared.flight.Report.{Report}
 use Rattle.world.specs.declared.flight.Item.{Item}
 use Rattle.world.specs.declared.world.Parts.{Parts}
 use Rattle.world.specs.Parted.{joined_in}
-use Rattle.world.specs.Flights.{Token, Part, nothing, join, parts, part_message, part_item, part_met}
+use Rattle.world.specs.Flights.{Token, InFlight, nothing, join, parts, part_message, part_item, part_met}
 use Rattle.world.specs.Sound.{IsSoundWith, IsSoundMessage, IsSoundItem, IsBalanced, WeighAlike, awaited, flight, is_here, reported_to}
 use Rattle.world.specs.Worlds.{FitsPart, Fits}
 use Rattle.world.proofs.Joins.{IsSame, same-sym, join-nothing}
@@ -85,15 +85,15 @@ module _ {J : Type 0} where
   -- ---- what has met
 
   -- with what is in hand beside the inbox, the outbox and what has met
-  abbrev pub beside : Part → Parts J → List (Report J) → Part
+  abbrev pub beside : InFlight → Parts J → List (Report J) → InFlight
   beside hand w met = join hand (fly (in_inbox w) (in_outbox w) (parts part_met met))
 
   -- what is balanced beside what has met, and what is awaited
-  pub record Beside (hand : Part) (w : Parts J) (met : List (Report J)) (await : List Token) : Type 0 where
+  pub record Beside (hand : InFlight) (w : Parts J) (met : List (Report J)) (await : List Token) : Type 0 where
     pub served : AreServed w.desk (beside hand w met).pending
     pub tokens : WeighAlike (beside hand w met).tokens await
 
-  pub beside_now : (hand : Part) (w : Parts J) (met : List (Report J)) (await : List Token) → IsBalanced w.desk (join hand (flight w))
+  pub beside_now : (hand : InFlight) (w : Parts J) (met : List (Report J)) (await : List Token) → IsBalanced w.desk (join hand (flight w))
       → reported_to w.desk.active ≡ met → awaited w.desk.active ≡ await → Beside hand w met await
   beside_now hand w met await h is awaits =
       let b = subst (λ rs. IsBalanced w.desk (beside hand w rs)) is h in

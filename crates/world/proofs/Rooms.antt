@@ -14,7 +14,7 @@ use Rattle.world.specs.declared.flight.Message.TheVariants.{Start, Act, Settle, 
 use Rattle.world.specs.declared.flight.Item.{Item}
 use Rattle.world.specs.declared.flight.Item.TheVariants as item
 use Rattle.world.specs.declared.world.Parts.{Parts}
-use Rattle.world.specs.Flights.{Acting, Ending, Part, parts, part_item}
+use Rattle.world.specs.Flights.{Acting, Ending, InFlight, parts, part_item}
 use Rattle.world.specs.Sound.{IsSoundWith, IsSoundActive, UnderWay, awaited, flight}
 use Rattle.world.proofs.Balances.{in_inbox, in_outbox, in_meeting}
 use Rattle.world.proofs.Asking.{one_each}
@@ -57,7 +57,7 @@ module _ {J : Type 0} where
   few_awaited shared u (Some (active.Ending left)) h = omega (arith, so_many_end left, h.1)
 
   -- there is room for some more
-  pub has_room : (shared : Shared) (hand : Part) (w : Parts J) → IsSoundWith shared hand w → length w.outbox + (MOST_ACTIONS + 1) ≤ 4096
+  pub has_room : (shared : Shared) (hand : InFlight) (w : Parts J) → IsSoundWith shared hand w → length w.outbox + (MOST_ACTIONS + 1) ≤ 4096
   has_room shared hand w h =
       let met = in_meeting w in
       let tokens = h.balance.tokens one_each in

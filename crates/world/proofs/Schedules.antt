@@ -10,10 +10,10 @@ use Rattle.history.specs.declared.event.EventAnswer.{EventAnswer}
 use Rattle.history.specs.declared.event.EventAnswer.TheVariants.{Nothing}
 use Rattle.history.specs.declared.schedule.Scheduled.{Scheduled}
 use Rattle.history.specs.declared.schedule.Scheduled.TheVariants as scheduled
-use Rattle.history.specs.declared.schedule.Told.{Told}
-use Rattle.history.specs.declared.schedule.Told.TheVariants as told
+use Rattle.history.specs.declared.schedule.Output.{Output}
+use Rattle.history.specs.declared.schedule.Output.TheVariants as output
 use Rattle.history.specs.History.{Step, step}
-use Rattle.history.specs.Schedules.{Begins, EndAs, Follows, IsBusy, IsIdle, Plays, Round, steps_of_round, told_in_round, told_of_round}
+use Rattle.history.specs.Schedules.{Begins, EndAs, Follows, IsBusy, IsIdle, Plays, Round, steps_of_round, outputs_in_round, outputs_of_round}
 use Rattle.world.specs.declared.flight.Item.{Item}
 use Rattle.world.specs.declared.flight.Message.{Message}
 use Rattle.world.specs.declared.world.Parts.{Parts}
@@ -24,12 +24,12 @@ use Rattle.world.proofs.Runs.{comes_after, happens_once}
 -- ---- schedules
 
 -- one schedule, and then another
-plays_on : (schedule after : List Scheduled) (tellings more : List Told) (steps later : List Step) → Plays schedule tellings steps → Plays after more later
-    → Plays (schedule ++ after) (tellings ++ more) (steps ++ later)
-plays_on [] after tellings more steps later played next =
-    subst (λ (l : List Told). Plays after (l ++ more) (steps ++ later)) (sym played.0)
+plays_on : (schedule after : List Scheduled) (added more : List Output) (steps later : List Step) → Plays schedule added steps → Plays after more later
+    → Plays (schedule ++ after) (added ++ more) (steps ++ later)
+plays_on [] after added more steps later played next =
+    subst (λ (l : List Output). Plays after (l ++ more) (steps ++ later)) (sym played.0)
     (subst (λ (l : List Step). Plays after more (l ++ later)) (sym played.1) next)
-plays_on (first ∷ schedule) after tellings more steps later played next =
+plays_on (first ∷ schedule) after added more steps later played next =
     let told_first = played.0 in
     let told_rest = played.1.0 in
     let begun = played.1.1.0 in
@@ -43,7 +43,7 @@ plays_on (first ∷ schedule) after tellings more steps later played next =
           (
             rest ++ later,
             (
-              ap (λ (l : List Told). l ++ more) facts.0 ∙ append_assoc told_first told_rest more,
+              ap (λ (l : List Output). l ++ more) facts.0 ∙ append_assoc told_first told_rest more,
               (
                 ap (λ (l : List Step). l ++ later) facts.1.0 ∙ append_assoc begun rest later,
                 (facts.1.1.0, plays_on schedule after told_rest more rest later facts.1.1.1 next),
@@ -55,38 +55,38 @@ plays_on (first ∷ schedule) after tellings more steps later played next =
     )
 
 -- one item
-plays_one : (item : Scheduled) (tellings : List Told) (steps : List Step) → Follows item tellings steps → Plays (item ∷ []) tellings steps
-plays_one item tellings steps follows = (tellings, ([], (steps, ([], (sym (append-nil tellings), (sym (append-nil steps), (follows, (refl, refl))))))))
+plays_one : (item : Scheduled) (added : List Output) (steps : List Step) → Follows item added steps → Plays (item ∷ []) added steps
+plays_one item added steps follows = (added, ([], (steps, ([], (sym (append-nil added), (sym (append-nil steps), (follows, (refl, refl))))))))
 
 -- one item more
-pub plays_more : (schedule : List Scheduled) (item : Scheduled) (tellings more : List Told) (steps later : List Step) → Plays schedule tellings steps → Follows item more later
-    → Plays (schedule ++ item ∷ []) (tellings ++ more) (steps ++ later)
-plays_more schedule item tellings more steps later played follows =
-    plays_on schedule (item ∷ []) tellings more steps later played (plays_one item more later follows)
+pub plays_more : (schedule : List Scheduled) (item : Scheduled) (added more : List Output) (steps later : List Step) → Plays schedule added steps → Follows item more later
+    → Plays (schedule ++ item ∷ []) (added ++ more) (steps ++ later)
+plays_more schedule item added more steps later played follows =
+    plays_on schedule (item ∷ []) added more steps later played (plays_one item more later follows)
 
 -- ---- rounds
 
 flat_map_one_more : {X Y : Type 0} (f : X → List Y) (xs : List X) (x : X) → flat_map f (xs ++ x ∷ []) ≡ flat_map f xs ++ f x
 flat_map_one_more f xs x = flat_map-append f xs (x ∷ []) ∙ ap (λ l. flat_map f xs ++ l) (append-nil (f x))
 
--- what is told of one round more
-pub told_more : (rounds : List Round) (r : Round) (first before mid after : List Told) → before ≡ first ++ flat_map told_of_round rounds
-    → mid ≡ before ++ told_in_round r.took → after ≡ mid ++ told_in_round r.sent → after ≡ first ++ flat_map told_of_round (rounds ++ r ∷ [])
-told_more rounds r first before mid after so_far took sent =
-    sent ∙ ap (λ (l : List Told). l ++ told_in_round r.sent) (took ∙ ap (λ (l : List Told). l ++ told_in_round r.took) so_far)
-    ∙ append_assoc (first ++ flat_map told_of_round rounds) (told_in_round r.took) (told_in_round r.sent)
-    ∙ append_assoc first (flat_map told_of_round rounds) (told_of_round r) ∙ ap (λ (l : List Told). first ++ l) (sym (flat_map_one_more told_of_round rounds r))
+-- what is printed of one round more
+pub outputs_more : (rounds : List Round) (r : Round) (first before mid after : List Output) → before ≡ first ++ flat_map outputs_of_round rounds
+    → mid ≡ before ++ outputs_in_round r.took → after ≡ mid ++ outputs_in_round r.sent → after ≡ first ++ flat_map outputs_of_round (rounds ++ r ∷ [])
+outputs_more rounds r first before mid after so_far took sent =
+    sent ∙ ap (λ (l : List Output). l ++ outputs_in_round r.sent) (took ∙ ap (λ (l : List Output). l ++ outputs_in_round r.took) so_far)
+    ∙ append_assoc (first ++ flat_map outputs_of_round rounds) (outputs_in_round r.took) (outputs_in_round r.sent)
+    ∙ append_assoc first (flat_map outputs_of_round rounds) (outputs_of_round r) ∙ ap (λ (l : List Output). first ++ l) (sym (flat_map_one_more outputs_of_round rounds r))
 
-none_told : (r : Round) → IsIdle r → told_of_round r ≡ []
-none_told r idle = ap (λ (a : EventAnswer). told_in_round a ++ told_in_round r.sent) idle.0 ∙ ap told_in_round idle.1
+none_told : (r : Round) → IsIdle r → outputs_of_round r ≡ []
+none_told r idle = ap (λ (a : EventAnswer). outputs_in_round a ++ outputs_in_round r.sent) idle.0 ∙ ap outputs_in_round idle.1
 
--- what is told where they end quiet
-pub told_quiet : (rounds : List Round) (r : Round) (before after : List Told) → IsIdle r → after ≡ (before ++ flat_map told_of_round rounds) ++ told.Quiet ∷ []
-    → after ≡ before ++ (flat_map told_of_round (rounds ++ r ∷ []) ++ told.Quiet ∷ [])
-told_quiet rounds r before after idle is =
-    let same : flat_map told_of_round (rounds ++ r ∷ []) ≡ flat_map told_of_round rounds =
-    flat_map_one_more told_of_round rounds r ∙ ap (λ (l : List Told). flat_map told_of_round rounds ++ l) (none_told r idle) ∙ append-nil (flat_map told_of_round rounds) in
-    is ∙ append_assoc before (flat_map told_of_round rounds) (told.Quiet ∷ []) ∙ ap (λ (l : List Told). before ++ (l ++ told.Quiet ∷ [])) (sym same)
+-- what is printed where they end quiet
+pub outputs_quiet : (rounds : List Round) (r : Round) (before after : List Output) → IsIdle r → after ≡ (before ++ flat_map outputs_of_round rounds) ++ output.Quiet ∷ []
+    → after ≡ before ++ (flat_map outputs_of_round (rounds ++ r ∷ []) ++ output.Quiet ∷ [])
+outputs_quiet rounds r before after idle is =
+    let same : flat_map outputs_of_round (rounds ++ r ∷ []) ≡ flat_map outputs_of_round rounds =
+    flat_map_one_more outputs_of_round rounds r ∙ ap (λ (l : List Output). flat_map outputs_of_round rounds ++ l) (none_told r idle) ∙ append-nil (flat_map outputs_of_round rounds) in
+    is ∙ append_assoc before (flat_map outputs_of_round rounds) (output.Quiet ∷ []) ∙ ap (λ (l : List Output). before ++ (l ++ output.Quiet ∷ [])) (sym same)
 
 -- rounds in which something happened, and how many
 pub record AreRounds (rounds : List Round) (count : ℕ) : Type 0 where
@@ -100,7 +100,7 @@ round_more rounds count r are busy = record {
 }
 
 -- they end quiet with one in which nothing could happen
-pub end_quiet : (rounds : List Round) (count : ℕ) (last : Round) → AreRounds rounds count → count < 100000 → IsIdle last → EndAs (rounds ++ last ∷ []) told.Quiet
+pub end_quiet : (rounds : List Round) (count : ℕ) (last : Round) → AreRounds rounds count → count < 100000 → IsIdle last → EndAs (rounds ++ last ∷ []) output.Quiet
 end_quiet rounds count last are few idle =
     (rounds, (last, (refl, (are.busy, (idle, omega (arith, length-append rounds (last ∷ []), are.many, few))))))
 
@@ -112,19 +112,19 @@ still = record { took = Nothing; sent = Nothing }
 
 -- rounds in which something happened, and one in which nothing does
 ends_still : (rounds : List Round) (count : ℕ) → AreRounds rounds count → count < 100000
-    → Follows scheduled.Rounds (flat_map told_of_round (rounds ++ still ∷ []) ++ told.Quiet ∷ []) (flat_map steps_of_round (rounds ++ still ∷ []))
-ends_still rounds count are few = (rounds ++ still ∷ [], (told.Quiet, (refl, (refl, end_quiet rounds count still are few (refl, refl)))))
+    → Follows scheduled.Rounds (flat_map outputs_of_round (rounds ++ still ∷ []) ++ output.Quiet ∷ []) (flat_map steps_of_round (rounds ++ still ∷ []))
+ends_still rounds count are few = (rounds ++ still ∷ [], (output.Quiet, (refl, (refl, end_quiet rounds count still are few (refl, refl)))))
 
 -- an item at which nothing happens
-idle_item : (item : Scheduled) → (tellings : List Told) × ((steps : List Step) × Follows item tellings steps)
-idle_item (scheduled.Event event) = (told.Event Nothing ∷ [], (step event Nothing ∷ [], (Nothing, (refl, refl))))
+idle_item : (item : Scheduled) → (added : List Output) × ((steps : List Step) × Follows item added steps)
+idle_item (scheduled.Event event) = (output.Event Nothing ∷ [], (step event Nothing ∷ [], (Nothing, (refl, refl))))
 idle_item scheduled.Rounds = (
-  flat_map told_of_round (still ∷ []) ++ told.Quiet ∷ [],
+  flat_map outputs_of_round (still ∷ []) ++ output.Quiet ∷ [],
   (flat_map steps_of_round (still ∷ []), ends_still [] 0 (record { busy = All-nil IsBusy; many = refl }) (omega arith)),
 )
 
 -- a play in which nothing happens
-idle_play : (schedule : List Scheduled) → (tellings : List Told) × ((steps : List Step) × Plays schedule tellings steps)
+idle_play : (schedule : List Scheduled) → (added : List Output) × ((steps : List Step) × Plays schedule added steps)
 idle_play [] = ([], ([], (refl, refl)))
 idle_play (item ∷ schedule) =
     let first = idle_item item in
@@ -136,9 +136,9 @@ pub begins_none : (schedule : List Scheduled) → Begins schedule []
 begins_none schedule = let play = idle_play schedule in (play.1.0, (play.0, play.1.1))
 
 -- all events of an item
-pub begins_all : (item : Scheduled) (tellings : List Told) (steps : List Step) → Follows item tellings steps → Begins (item ∷ []) steps
-begins_all item tellings steps follows =
-    ([], (tellings, subst (λ (l : List Step). Plays (item ∷ []) tellings l) (sym (append-nil steps)) (plays_one item tellings steps follows)))
+pub begins_all : (item : Scheduled) (added : List Output) (steps : List Step) → Follows item added steps → Begins (item ∷ []) steps
+begins_all item added steps follows =
+    ([], (added, subst (λ (l : List Step). Plays (item ∷ []) added l) (sym (append-nil steps)) (plays_one item added steps follows)))
 
 -- rounds in which something happened
 pub begins_rounds : (rounds : List Round) (count : ℕ) → AreRounds rounds count → count ≤ 100000 → Begins (scheduled.Rounds ∷ []) (flat_map steps_of_round rounds)
@@ -147,31 +147,32 @@ begins_rounds rounds count are most = ⊎_elim go_on stop (cases_lt count 100000
     go_on : count < 100000 → Begins (scheduled.Rounds ∷ []) (flat_map steps_of_round rounds)
     go_on few =
         let all = rounds ++ still ∷ [] in
-        let tellings = flat_map told_of_round all ++ told.Quiet ∷ [] in (
+        let added = flat_map outputs_of_round all ++ output.Quiet ∷ [] in (
           steps_of_round still,
           (
-            tellings,
-            subst (λ (l : List Step). Plays (scheduled.Rounds ∷ []) tellings l) (flat_map_one_more steps_of_round rounds still)
-                (plays_one scheduled.Rounds tellings (flat_map steps_of_round all) (ends_still rounds count are few)),
+            added,
+            subst (λ (l : List Step). Plays (scheduled.Rounds ∷ []) added l) (flat_map_one_more steps_of_round rounds still)
+                (plays_one scheduled.Rounds added (flat_map steps_of_round all) (ends_still rounds count are few)),
           ),
         )
+
     stop : 100000 ≤ count → Begins (scheduled.Rounds ∷ []) (flat_map steps_of_round rounds)
     stop reached =
-        begins_all scheduled.Rounds (flat_map told_of_round rounds ++ told.Limit ∷ []) (flat_map steps_of_round rounds)
-        (rounds, (told.Limit, (refl, (refl, (are.busy, omega (arith, are.many, most, reached))))))
+        begins_all scheduled.Rounds (flat_map outputs_of_round rounds ++ output.Limit ∷ []) (flat_map steps_of_round rounds)
+        (rounds, (output.Limit, (refl, (refl, (are.busy, omega (arith, are.many, most, reached))))))
 
 -- all events of some items, and a beginning of the next
-pub begins_after : (schedule : List Scheduled) (item : Scheduled) (after : List Scheduled) (tellings : List Told) (steps some : List Step) → Plays schedule tellings steps
+pub begins_after : (schedule : List Scheduled) (item : Scheduled) (after : List Scheduled) (added : List Output) (steps some : List Step) → Plays schedule added steps
     → Begins (item ∷ []) some → Begins ((schedule ++ item ∷ []) ++ after) (steps ++ some)
-begins_after schedule item after tellings steps some played begins =
+begins_after schedule item after added steps some played begins =
     let later = begins.0 in
     let more = begins.1.0 in
     let rest = idle_play after in
-    let so_far = plays_on schedule (item ∷ []) tellings more steps (some ++ later) played begins.1.1 in
-    let all = plays_on (schedule ++ item ∷ []) after (tellings ++ more) rest.0 (steps ++ (some ++ later)) rest.1.0 so_far rest.1.1 in
+    let so_far = plays_on schedule (item ∷ []) added more steps (some ++ later) played begins.1.1 in
+    let all = plays_on (schedule ++ item ∷ []) after (added ++ more) rest.0 (steps ++ (some ++ later)) rest.1.0 so_far rest.1.1 in
     let same : (steps ++ (some ++ later)) ++ rest.1.0 ≡ (steps ++ some) ++ (later ++ rest.1.0) =
     ap (λ (l : List Step). l ++ rest.1.0) (sym (append_assoc steps some later)) ∙ append_assoc (steps ++ some) later rest.1.0 in
-    (later ++ rest.1.0, ((tellings ++ more) ++ rest.0, subst (λ (l : List Step). Plays ((schedule ++ item ∷ []) ++ after) ((tellings ++ more) ++ rest.0) l) same all))
+    (later ++ rest.1.0, ((added ++ more) ++ rest.0, subst (λ (l : List Step). Plays ((schedule ++ item ∷ []) ++ after) ((added ++ more) ++ rest.0) l) same all))
 
 -- ---- worlds
 

@@ -20,7 +20,7 @@ use Rattle.world.specs.declared.flight.Item.TheVariants as item
 use Rattle.world.specs.declared.flight.Message.{Message}
 use Rattle.world.specs.declared.flight.Message.TheVariants.{Start, Act, Settle, Undo}
 use Rattle.world.specs.declared.world.Parts.{Parts}
-use Rattle.world.specs.Flights.{Acting, Part, part, join, parts, part_carried, part_item, acting_from, unanswered_transaction}
+use Rattle.world.specs.Flights.{Acting, InFlight, part, join, parts, part_carried, part_item, acting_from, unanswered_transaction}
 use Rattle.world.specs.Following.{acts_from, acts_of}
 use Rattle.world.specs.Sound.{IsCarriedAt, IsSoundAct, IsSoundItem, IsSoundRan, IsSoundStart, IsPlaceOf, IsWorkAt, UnderWay}
 use Rattle.world.specs.Parted.{joined_in}
@@ -30,7 +30,7 @@ use Rattle.world.proofs.Keeping.{more, stays}
 -- actions that carry nothing have their tokens alone
 part_acts_from : (J : Type 0) (place age : ℕ) (works : List Work) → parts part_item (acts_from {J = J} place age None works) ≡ part [] [] (acting_from place works)
 part_acts_from J place age [] = refl
-part_acts_from J place age (work ∷ works) = ap (λ (p : Part). join (part [] [] (Acting place ∷ [])) p) (part_acts_from J (place + 1) age works)
+part_acts_from J place age (work ∷ works) = ap (λ (p : InFlight). join (part [] [] (Acting place ∷ [])) p) (part_acts_from J (place + 1) age works)
 
 -- where nothing is carried but with the first action
 carried_later : (J : Type 0) (u : UnderWay) (number : ℕ) → 1 ≤ number → IsCarriedAt {J = J} u number None
@@ -50,7 +50,7 @@ module _ {J : Type 0} where
   part_acts flow (work ∷ works) some =
       let t = flow.transaction in
       let first = part (all_claims t.held) (unanswered_transaction t ∷ []) (Acting (length t.held) ∷ []) in
-      ap (λ (p : Part). join first p) (part_acts_from J (length t.held + 1) t.age works)
+      ap (λ (p : InFlight). join first p) (part_acts_from J (length t.held + 1) t.age works)
       ∙ ap (λ (claims : List Claiming). part claims (unanswered_transaction t ∷ []) (acting_from (length t.held) (work ∷ works))) (append-nil (all_claims t.held))
 
   -- those from a number on are sound
@@ -88,9 +88,9 @@ module _ {J : Type 0} where
       let are = part_acts flow works.items some in
       record {
         put = refl;
-        kept = subst (λ (p : Part). SlicesKeep held slices p.claims slices) (sym are) (stays held slices);
-        pending = ap (λ (p : Part). p.pending) are;
-        tokens = ap (λ (p : Part). p.tokens) are;
+        kept = subst (λ (p : InFlight). SlicesKeep held slices p.claims slices) (sym are) (stays held slices);
+        pending = ap (λ (p : InFlight). p.pending) are;
+        tokens = ap (λ (p : InFlight). p.tokens) are;
         fine = λ u log sound. acts_fine (shared_of slices.tables) log u flow works.items sound;
       }
 

@@ -25,25 +25,25 @@ pub data Token : Type 0 where
   Ending : Token
 
 -- What a part of what is under way has with it.
-pub record Part : Type 0 where
+pub record InFlight : Type 0 where
   pub claims : List Claiming
   pub pending : List Unanswered
   pub tokens : List Token
 
 -- these claims, transactions and tokens
-abbrev pub part : List Claiming → List Unanswered → List Token → Part
+abbrev pub part : List Claiming → List Unanswered → List Token → InFlight
 part claims pending tokens = record { claims = claims; pending = pending; tokens = tokens }
 
 -- nothing is under way
-abbrev pub nothing : Part
+abbrev pub nothing : InFlight
 nothing = part [] [] []
 
 -- both together
-abbrev pub join : Part → Part → Part
+abbrev pub join : InFlight → InFlight → InFlight
 join a b = part (a.claims ++ b.claims) (a.pending ++ b.pending) (a.tokens ++ b.tokens)
 
 -- what all of these have
-abbrev pub parts : {X : Type 0} → (X → Part) → List X → Part
+abbrev pub parts : {X : Type 0} → (X → InFlight) → List X → InFlight
 parts f [] = nothing
 parts f (x ∷ xs) = join (f x) (parts f xs)
 
@@ -53,7 +53,7 @@ acting_from place [] = []
 acting_from place (work ∷ works) = Acting place ∷ acting_from (place + 1) works
 
 -- the claims of an action, which are to be given back
-abbrev pub part_held : List Claiming → Part
+abbrev pub part_held : List Claiming → InFlight
 part_held claims = part claims [] (Ending ∷ [])
 
 -- the place of the entry that an answer names
@@ -87,16 +87,16 @@ module _ {J : Type 0} where
   -- ---- parts
 
   -- a transaction with all that it holds
-  abbrev pub part_transaction : Transaction J → List Token → Part
+  abbrev pub part_transaction : Transaction J → List Token → InFlight
   part_transaction t tokens = part (all_claims t.held) (unanswered_transaction t ∷ []) tokens
 
   -- what is carried, if it is
-  abbrev pub part_carried : Option (Flow J) → Part
+  abbrev pub part_carried : Option (Flow J) → InFlight
   part_carried None = nothing
   part_carried (Some flow) = part_transaction flow.transaction []
 
   -- what a message has with it
-  abbrev pub part_message : Message J → Part
+  abbrev pub part_message : Message J → InFlight
   part_message (Start flow works) = part_transaction flow.transaction (acting_from (length flow.transaction.held) works.items)
   part_message (Act act) = part (part_carried act.flow).claims (part_carried act.flow).pending (Acting act.place ∷ [])
   part_message (Settle claims) = part_held claims
@@ -107,15 +107,15 @@ module _ {J : Type 0} where
   claims_reported r = (part_carried r.flow).claims ++ claims_of_ran r.ran
 
   -- a report on its way to where its phase meets, and there: no token is left of it then
-  abbrev pub part_report : Report J → Part
+  abbrev pub part_report : Report J → InFlight
   part_report r = part (claims_reported r) (part_carried r.flow).pending (Acting r.place ∷ [])
 
   -- what a report that has met has with it: its token has come back
-  abbrev pub part_met : Report J → Part
+  abbrev pub part_met : Report J → InFlight
   part_met r = part (claims_reported r) (part_carried r.flow).pending []
 
   -- what an item has with it
-  abbrev pub part_item : Item J → Part
+  abbrev pub part_item : Item J → InFlight
   part_item (item.Push message) = part_message message
   part_item (item.Report r) = part_report r
   part_item item.Ended = part [] [] (Ending ∷ [])

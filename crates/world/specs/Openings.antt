@@ -2,9 +2,9 @@
 use Rattle.std.specs.Prelude.{◌≡◌, ◌⊎◌, ◌<◌, ℕ, Bool, true, false, List, [], Some, None, Result, Ok, Err, is_some, slice_get, length}
 use Rattle.schema.specs.Database.{Database}
 use Rattle.consistency.specs.Broken.{BreaksFirst}
-use Rattle.tickets.specs.declared.naming.Naming.{Ghosts as GroupNames}
+use Rattle.tickets.specs.declared.group_names.GroupNames.{Ghosts as GroupNames}
 use Rattle.tickets.specs.Openings.{AreNamed}
-use Rattle.commit_log.specs.declared.naming.Naming.{Ghosts as LogNames}
+use Rattle.commit_log.specs.declared.log_names.LogNames.{Ghosts as LogNames}
 use Rattle.commit_log.specs.LogTables.{table_of}
 use Rattle.commit_log.specs.Passing.{Passing, Seating, new_pass, new_seat}
 use Rattle.history.specs.History.{Step}
@@ -82,7 +82,7 @@ pub record Simulates (J : Type 0) (opening : Database) (schedule : List Schedule
   pub last : Parts J
   pub steps : List Step
   pub new : IsNew opening first
-  pub plays : Plays schedule s.told.items steps
+  pub plays : Plays schedule s.outputs.items steps
   pub happen : HappenInTurn steps first last
   pub fits : Fits opening steps last
   pub log : s.log.items ≡ last.log

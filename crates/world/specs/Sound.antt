@@ -36,7 +36,7 @@ use Rattle.world.specs.declared.flight.ReplyItem.{ReplyItem}
 use Rattle.world.specs.declared.flight.Item.{Item}
 use Rattle.world.specs.declared.flight.Item.TheVariants as item
 use Rattle.world.specs.declared.world.Parts.{Parts}
-use Rattle.world.specs.Flights.{Token, Acting, Committing, Ending, Part, join, parts, part_message, part_item, part_met}
+use Rattle.world.specs.Flights.{Token, Acting, Committing, Ending, InFlight, join, parts, part_message, part_item, part_met}
 use Rattle.world.specs.Parted.{CanAllBeSettled, CanAllBeUndone}
 
 -- an answer that is done names an entry with its reply
@@ -195,12 +195,12 @@ module _ {J : Type 0} where
   -- ---- the world
 
   -- all that is under way: messages, items, and reports that have met
-  abbrev pub flight : Parts J → Part
+  abbrev pub flight : Parts J → InFlight
   flight w = join (parts part_message w.inbox) (join (parts part_item w.outbox) (parts part_met (reported_to w.desk.active)))
 
   -- Of the active transaction there is just what has to come back, whatever the tokens weigh; a session's pass is at the desk
   -- exactly while the session has no transaction without an answer; and there are 64 sessions.
-  pub record IsBalanced (desk : Desk J) (under_way : Part) : Type 0 where
+  pub record IsBalanced (desk : Desk J) (under_way : InFlight) : Type 0 where
     pub tokens : WeighAlike under_way.tokens (awaited desk.active)
     pub alone : (number : ℕ) (session : SessionDesk J) → slice_get desk.sessions.items number ≡ Some session
         → count_by (is_of number) under_way.pending + (if is_here session then 1 else 0) ≡ 1
@@ -208,7 +208,7 @@ module _ {J : Type 0} where
 
   -- What the world keeps, with this in hand: there is a slice for each warehouse of this scale, in order, which share these items; and each thing under
   -- way is sound, and of one transaction.
-  pub record IsSoundWith (shared : Shared) (hand : Part) (w : Parts J) : Type 0 where
+  pub record IsSoundWith (shared : Shared) (hand : InFlight) (w : Parts J) : Type 0 where
     pub shared_is : w.catalog ≡ shared
     pub slices : AreSlicesOf w.catalog w.slices.items
     pub under_way : UnderWay

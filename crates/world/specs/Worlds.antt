@@ -32,7 +32,7 @@ use Rattle.world.specs.declared.flight.Message.{Message}
 use Rattle.world.specs.declared.flight.Message.TheVariants.{Start}
 use Rattle.world.specs.declared.flight.Item.{Item}
 use Rattle.world.specs.declared.world.Parts.{Parts}
-use Rattle.world.specs.Flights.{Part}
+use Rattle.world.specs.Flights.{InFlight}
 use Rattle.world.specs.Parted.{joined_in}
 use Rattle.world.specs.Sound.{IsSessionOf, flight}
 use Rattle.world.specs.Events.{TakesMessage, SendsItem}
@@ -45,7 +45,7 @@ tables_now opening log = tables_after opening (requests_of log)
 
 -- A history fits an opening, a log and what is under way: so it does by the log alone, and the tables that the machine
 -- leaves are the committed ones while these claims are out.
-pub record FitsPart (opening : Database) (history : List Step) (log : List Entry) (slices : Joined) (admitted : ℕ) (under_way : Part) : Type 0 where
+pub record FitsPart (opening : Database) (history : List Step) (log : List Entry) (slices : Joined) (admitted : ℕ) (under_way : InFlight) : Type 0 where
   pub told : HistoryFits opening history log (tables_now opening log) admitted under_way.pending
   pub committed : AreCommitted everywhere (content (tables_now opening log)) (all_standing slices) under_way.claims
   pub scale : slices.tables.scale ≡ opening.scale

@@ -8,16 +8,16 @@ ghost use Rattle.world.specs.Worlds.{Admits, CanAsk, CanSubmit, SubmitsAt};
 use crate::beginning::Phase;
 use crate::desk::{Active, SessionDesk};
 use crate::flight::{Flow, Message, Transaction};
-use crate::held::Held;
+use crate::held::HeldClaims;
 use crate::world::{INBOX, Parts};
-use commit_log::Pass;
+use commit_log::{Names, Pass};
 use history::EventAnswer;
 use requests::{Answer, Refusal, Request, check};
 use schema::NoMemory;
 use std::alloc::Global;
 use transactions::Progress;
 
-impl<J: commit_log::Naming + tickets::Naming> Parts<J> {
+impl<J: Names> Parts<J> {
     // A session submits a request.
     pub(crate) fn submit(
         &mut self,
@@ -69,7 +69,7 @@ impl<J: commit_log::Naming + tickets::Naming> Parts<J> {
         let own = request.try_clone()?;
         let progress = Progress::begin(request.try_clone()?);
         let Phase { works, meeting } = Phase::begin(alloc, &progress)?;
-        let held = Held::open(alloc)?;
+        let held = HeldClaims::open(alloc)?;
         let age = self.desk.admitted;
         let pass = ask(&mut self.desk.sessions[session as usize], number, request);
         let transaction = Transaction {
@@ -101,11 +101,7 @@ fn refused(session: u32, number: u32, refusal: Refusal) -> EventAnswer
 }
 
 // The session asks with its pass, which goes with the request from then on.
-fn ask<J: commit_log::Naming + tickets::Naming>(
-    desk: &mut SessionDesk<J>,
-    number: u32,
-    request: &Request,
-) -> Pass<J>
+fn ask<J: Names>(desk: &mut SessionDesk<J>, number: u32, request: &Request) -> Pass<J>
     requires here { IsTrue (is_some desk.old.pass) }
     requires session { IfSome desk.old.pass (λ pass. pass.session ≡ desk.old.seat.session) }
     ensures pass { IfSome desk.old.pass (λ pass. result ≡ with_asks pass (asking number request.now pass.seen pass.mine)) }

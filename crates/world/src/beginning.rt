@@ -5,6 +5,7 @@ ghost use Rattle.world.specs.Following.{acts_of};
 
 use crate::flight::{Act, Flow, Item, Message, Report};
 use crate::world::Parts;
+use commit_log::Names;
 use rendezvous::Meeting;
 use schema::NoMemory;
 use std::alloc::Global;
@@ -12,12 +13,12 @@ use transactions::{MOST_ACTIONS, Progress, Work, phases_have_actions};
 
 /// The actions of a phase that begins: what they do, by place, and where they meet.
 #[derive(Drop)]
-pub(crate) struct Phase<J: commit_log::Naming + tickets::Naming> {
+pub(crate) struct Phase<J: Names> {
     pub(crate) works: Vec<Work>,
     pub(crate) meeting: Meeting<Report<J>>,
 }
 
-impl<J: commit_log::Naming + tickets::Naming> Phase<J> {
+impl<J: Names> Phase<J> {
     /// The phase of a transaction that has come so far. Want of memory leaves nothing behind.
     pub(crate) fn begin(alloc: Global, progress: &Progress) -> Result<Phase<J>, NoMemory>
         ensures works { IfOk result (λ phase. phase.works.items ≡ works_of progress.now) }
@@ -30,7 +31,7 @@ impl<J: commit_log::Naming + tickets::Naming> Phase<J> {
     }
 }
 
-impl<J: commit_log::Naming + tickets::Naming> Parts<J> {
+impl<J: Names> Parts<J> {
     // Puts the actions of a phase at the end of the outbox, by place, after those of the phases before. The
     // first carries the transaction.
     pub(crate) fn put_acts(&mut self, flow: Flow<J>, works: Vec<Work>)

@@ -10,15 +10,15 @@ ghost use Rattle.world.specs.Events.{CanCommit, Commits};
 ghost use Rattle.world.specs.Following as following;
 
 use crate::flight::{CommitItem, Transaction};
-use crate::held::Held;
+use crate::held::HeldClaims;
 use crate::sending::Release;
 use crate::world::Parts;
-use commit_log::{AppendFault, Entry, Log, Pass};
+use commit_log::{AppendFault, Entry, Log, Names, Pass};
 use history::EventAnswer;
 use requests::{Answer, Refusal, Reply};
 use transactions::MOST_ACTIONS;
 
-impl<J: commit_log::Naming + tickets::Naming> Parts<J> {
+impl<J: Names> Parts<J> {
     // The transaction is logged, or refused where there is no memory, or the log is full.
     pub(crate) fn commit(&mut self, commit: CommitItem<J>) -> EventAnswer
         requires room { length self.old.outbox + (MOST_ACTIONS + 1) ≤ 4096 }
@@ -84,9 +84,9 @@ fn is_settled(reply: &Reply) -> bool
 }
 
 // The log has the entry more, or refuses it.
-fn append<J: commit_log::Naming + tickets::Naming>(
+fn append<J: Names>(
     log: &mut Log<J>,
-    held: &mut Held<J>,
+    held: &mut HeldClaims<J>,
     pass: Pass<J>,
     entry: Entry,
 ) -> Result<(u32, Pass<J>), (AppendFault, Pass<J>)>

@@ -1,11 +1,11 @@
 //! The admission desk: who has a transaction under way.
 use crate::Report;
-use commit_log::{Pass, SessionSeat};
+use commit_log::{Names, Pass, SessionSeat};
 use rendezvous::Meeting;
 
 /// A session, as the desk knows it.
 #[derive(Drop)]
-pub struct SessionDesk<J: commit_log::Naming + tickets::Naming> {
+pub struct SessionDesk<J: Names> {
     pub seat: SessionSeat<J>,
     /// Away while the session's request has no answer.
     pub pass: Option<Pass<J>>,
@@ -13,7 +13,7 @@ pub struct SessionDesk<J: commit_log::Naming + tickets::Naming> {
 
 /// How far the transaction has come that is active.
 #[derive(Drop)]
-pub enum Active<J: commit_log::Naming + tickets::Naming> {
+pub enum Active<J: Names> {
     /// The actions of a phase are under way, and meet here: each by its place, less that of the first.
     Acting {
         first: usize,
@@ -27,7 +27,7 @@ pub enum Active<J: commit_log::Naming + tickets::Naming> {
 
 /// The desk: the sessions, how many transactions were admitted, and the one that is active.
 #[derive(Drop)]
-pub struct Desk<J: commit_log::Naming + tickets::Naming> {
+pub struct Desk<J: Names> {
     /// The number of the next transaction's age.
     pub admitted: u64,
     /// By their numbers, 0 to 63.

@@ -1,13 +1,13 @@
 //! What is under way: messages to the executor, and items of its outbox.
-use crate::held::Held;
-use commit_log::Pass;
+use crate::held::HeldClaims;
+use commit_log::{Names, Pass};
 use requests::{Answer, Reply, Request};
 use tickets::Claims;
 use transactions::{Progress, Ran, Work};
 
 /// A transaction on its way, with its session's pass.
 #[derive(Drop)]
-pub struct Transaction<J: commit_log::Naming + tickets::Naming> {
+pub struct Transaction<J: Names> {
     /// How many transactions were admitted before it.
     pub age: u64,
     /// The number of the request in its session.
@@ -15,19 +15,19 @@ pub struct Transaction<J: commit_log::Naming + tickets::Naming> {
     pub request: Request,
     pub pass: Pass<J>,
     /// What its actions hold that have done their work, by place.
-    pub held: Held<J>,
+    pub held: HeldClaims<J>,
 }
 
 /// A transaction, and how far it has come. It goes with the action of its phase's least place.
 #[derive(Drop)]
-pub struct Flow<J: commit_log::Naming + tickets::Naming> {
+pub struct Flow<J: Names> {
     pub transaction: Transaction<J>,
     pub progress: Progress,
 }
 
 /// An action of a phase.
 #[derive(Drop)]
-pub struct Act<J: commit_log::Naming + tickets::Naming> {
+pub struct Act<J: Names> {
     /// Its place among all actions of its transaction, those of earlier phases before it, from 0.
     pub place: usize,
     /// That of its transaction.
@@ -39,7 +39,7 @@ pub struct Act<J: commit_log::Naming + tickets::Naming> {
 
 /// A message in the executor's inbox.
 #[derive(Drop)]
-pub enum Message<J: commit_log::Naming + tickets::Naming> {
+pub enum Message<J: Names> {
     /// The first phase of a transaction, with what its actions do, by place.
     Start(Flow<J>, Vec<Work>),
     Act(Act<J>),
@@ -51,7 +51,7 @@ pub enum Message<J: commit_log::Naming + tickets::Naming> {
 
 /// What an action reports where its phase meets.
 #[derive(Drop)]
-pub struct Report<J: commit_log::Naming + tickets::Naming> {
+pub struct Report<J: Names> {
     /// That of the action.
     pub place: usize,
     pub flow: Option<Flow<J>>,
@@ -60,14 +60,14 @@ pub struct Report<J: commit_log::Naming + tickets::Naming> {
 
 /// A transaction that was carried out, and is to be logged.
 #[derive(Drop)]
-pub struct CommitItem<J: commit_log::Naming + tickets::Naming> {
+pub struct CommitItem<J: Names> {
     pub transaction: Transaction<J>,
     pub reply: Reply,
 }
 
 /// An answer on its way to its session, with the session's pass.
 #[derive(Drop)]
-pub struct ReplyItem<J: commit_log::Naming + tickets::Naming> {
+pub struct ReplyItem<J: Names> {
     pub age: u64,
     pub number: u32,
     pub pass: Pass<J>,
@@ -76,7 +76,7 @@ pub struct ReplyItem<J: commit_log::Naming + tickets::Naming> {
 
 /// An item of the executor's outbox.
 #[derive(Drop)]
-pub enum Item<J: commit_log::Naming + tickets::Naming> {
+pub enum Item<J: Names> {
     /// To the executor's inbox.
     Push(Message<J>),
     /// To where the phase meets.

@@ -8,15 +8,16 @@ ghost use Rattle.world.specs.Events.{CanMeet, GathersInto, MeetsAs};
 use crate::beginning::Phase;
 use crate::desk::Active;
 use crate::flight::{CommitItem, Flow, Item, Report, Transaction};
-use crate::held::Held;
+use crate::held::HeldClaims;
 use crate::sending::Release;
 use crate::world::Parts;
+use commit_log::Names;
 use rendezvous::Results;
 use requests::{Refusal, Reply};
 use std::alloc::Global;
 use transactions::{Found, Gathered, MOST_ACTIONS, Progress, Ran};
 
-impl<J: commit_log::Naming + tickets::Naming> Parts<J> {
+impl<J: Names> Parts<J> {
     // All actions of a phase have reported. The first death by place is answered, and else want of memory;
     // where there is none, what they found is gathered.
     pub(crate) fn follow(&mut self, alloc: Global, results: Results<Report<J>>)
@@ -87,7 +88,7 @@ impl<J: commit_log::Naming + tickets::Naming> Parts<J> {
 
 // The transaction holds what its actions hold, and what they found stands in order, unless one has died or
 // found no memory.
-fn sort_out<J: commit_log::Naming + tickets::Naming>(
+fn sort_out<J: Names>(
     mut results: Results<Report<J>>,
     mut found: Vec<Found>,
     refusal: Option<Refusal>,
@@ -115,9 +116,9 @@ fn sort_out<J: commit_log::Naming + tickets::Naming>(
 }
 
 // What came of one action: its claims are held, and what it found stands behind what others found.
-fn sort_one<J: commit_log::Naming + tickets::Naming>(
+fn sort_one<J: Names>(
     ran: Ran<J>,
-    held: &mut Held<J>,
+    held: &mut HeldClaims<J>,
     found: &mut Vec<Found>,
     refusal: Option<Refusal>,
 ) -> Option<Refusal>

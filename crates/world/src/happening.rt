@@ -7,10 +7,11 @@ ghost use Rattle.world.specs.Sound.{IsSoundWith};
 ghost use Rattle.world.specs.Worlds.{Advances, Happens};
 
 use crate::world::Parts;
+use commit_log::Names;
 use history::{Event, EventAnswer};
 use std::alloc::Global;
 
-impl<J: commit_log::Naming + tickets::Naming> Parts<J> {
+impl<J: Names> Parts<J> {
     /// What an event brings.
     pub(crate) fn happen(&mut self, alloc: Global, event: &Event) -> EventAnswer
         requires warehouses { J.warehouses ≡ J.opening.scale.warehouses }

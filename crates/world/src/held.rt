@@ -4,17 +4,17 @@ ghost use Rattle.std.specs.Prelude.{◌≡◌, ◌<◌, [], ◌∷◌, ◌++◌,
 use schema::NoMemory;
 use std::alloc::Global;
 use std::marker::Model;
-use tickets::{Claims, Naming};
+use tickets::{Claims, GroupNames};
 use transactions::MOST_ACTIONS;
 
 /// The claims of actions that have done their work, by place, with room for those of all that a transaction
 /// has. Only its opening takes memory.
 #[derive(Drop)]
-pub struct Held<J: Naming> {
+pub struct HeldClaims<J: GroupNames> {
     pub(crate) places: Vec<Claims<J>>,
 }
 
-impl<J: Naming> Model for Held<J> {
+impl<J: GroupNames> Model for HeldClaims<J> {
     ghost use Rattle.std.specs.Coded.{codes};
     ghost use Rattle.std.specs.Prelude.{List, ◌≤◌, vec_capacity};
     ghost use Rattle.groups.specs.contracts.content.Content as content;
@@ -30,13 +30,13 @@ impl<J: Naming> Model for Held<J> {
     ghost invariant = { λ h. MOST_ACTIONS ≤ vec_capacity h.places };
 }
 
-impl<J: Naming> Held<J> {
+impl<J: GroupNames> HeldClaims<J> {
     /// Nothing is held yet.
-    pub fn open(alloc: Global) -> Result<Held<J>, NoMemory>
+    pub fn open(alloc: Global) -> Result<HeldClaims<J>, NoMemory>
         ensures { IfOk result (λ held. held ≡ []) }
     {
         let places = Vec::with_capacity(alloc, MOST_ACTIONS)?;
-        Ok(Held { places })
+        Ok(HeldClaims { places })
     }
 
     /// How many actions hold claims.

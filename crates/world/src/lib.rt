@@ -26,7 +26,7 @@ mod world;
 
 pub use desk::{Active, Desk, SessionDesk};
 pub use flight::{Act, CommitItem, Flow, Item, Message, ReplyItem, Report, Transaction};
-pub use held::Held;
+pub use held::HeldClaims;
 pub use opening::{OpenFault, Opening};
 pub use queue::Queue;
 pub use sending::Release;

@@ -8,7 +8,7 @@ ghost use Rattle.world.specs.Worlds.{Fits};
 use crate::desk::{Desk, SessionDesk};
 use crate::queue::Queue;
 use crate::world::{Parts, World};
-use commit_log::{Log, LogBook, LogSeats, Pass, SessionSeat};
+use commit_log::{Log, LogBook, Names, Pass, SessionSeat, UnnamedLog};
 use consistency::first_broken;
 use schema::{NoMemory, Tables};
 use slices::{cut, open_groups};
@@ -20,7 +20,7 @@ use tickets::{GroupSeats, named_all};
 pub struct Opening {
     /// The seats of all groups, by their places.
     pub groups: Vec<GroupSeats>,
-    pub log: LogSeats,
+    pub log: UnnamedLog,
 }
 
 impl Opening {
@@ -29,7 +29,7 @@ impl Opening {
         ensures { IfOk result (λ opening. AreOpenedFor tables.now opening.groups.items) }
     {
         let groups = open_groups(alloc, tables)?;
-        let log = LogSeats::open(alloc)?;
+        let log = UnnamedLog::open(alloc)?;
         Ok(Opening { groups, log })
     }
 }
@@ -70,7 +70,7 @@ impl From<AllocError> for OpenFault {
     }
 }
 
-impl<J: commit_log::Naming + tickets::Naming> World<J> {
+impl<J: Names> World<J> {
     /// A world of one executor over these tables, with an empty log, in which nothing is under way. The
     /// number of executors is looked at before the conditions. Nothing is left after an error.
     pub fn open(
@@ -79,7 +79,7 @@ impl<J: commit_log::Naming + tickets::Naming> World<J> {
         executors: u32,
         opening: Opening,
     ) -> Result<World<J>, OpenFault>
-        requires named { IsNamedFor J.Naming-1 J.Naming-2 tables opening }
+        requires named { IsNamedFor J.LogNames J.GroupNames tables opening }
         ensures fits { IfOk result (λ world. Fits tables [] world) }
         ensures new { IfOk result (λ world. IsNew tables world) }
         ensures consistent { OnOk result (Consistent tables) }
@@ -99,7 +99,7 @@ impl<J: commit_log::Naming + tickets::Naming> World<J> {
     // A world over tables that are consistent.
     fn over(alloc: Global, tables: Tables, opening: Opening) -> Result<World<J>, NoMemory>
         requires consistent { Consistent tables }
-        requires named { IsNamedFor J.Naming-1 J.Naming-2 tables opening }
+        requires named { IsNamedFor J.LogNames J.GroupNames tables opening }
         ensures fits { IfOk result (λ world. Fits tables [] world) }
         ensures new { IfOk result (λ world. IsNew tables world) }
     {
@@ -127,7 +127,7 @@ impl<J: commit_log::Naming + tickets::Naming> World<J> {
 }
 
 // The sessions of these passes and seats, whose passes are at the desk.
-fn open_sessions<J: commit_log::Naming + tickets::Naming>(
+fn open_sessions<J: Names>(
     alloc: Global,
     lanes: Vec<(Pass<J>, SessionSeat<J>)>,
 ) -> Result<Vec<SessionDesk<J>>, NoMemory>

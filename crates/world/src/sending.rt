@@ -6,9 +6,9 @@ ghost use Rattle.world.specs.Following.{releasing};
 
 use crate::desk::Active;
 use crate::flight::{Item, Message, ReplyItem, Report, Transaction};
-use crate::held::Held;
+use crate::held::HeldClaims;
 use crate::world::{INBOX, Parts};
-use commit_log::Pass;
+use commit_log::{Names, Pass};
 use history::EventAnswer;
 use rendezvous::{Meeting, Reported};
 use requests::{Answer, Refusal};
@@ -17,15 +17,15 @@ use transactions::MOST_ACTIONS;
 
 /// A transaction that is over: its answer, and what its actions hold.
 #[derive(Drop)]
-pub struct Release<J: commit_log::Naming + tickets::Naming> {
+pub struct Release<J: Names> {
     pub age: u64,
     pub number: u32,
     pub pass: Pass<J>,
     pub answer: Answer,
-    pub held: Held<J>,
+    pub held: HeldClaims<J>,
 }
 
-impl<J: commit_log::Naming + tickets::Naming> Release<J> {
+impl<J: Names> Release<J> {
     // A transaction that is refused.
     pub(crate) fn refused(transaction: Transaction<J>, why: Refusal) -> Release<J>
         ensures { result ≡ spec.refused transaction why }
@@ -47,7 +47,7 @@ impl<J: commit_log::Naming + tickets::Naming> Release<J> {
     }
 }
 
-impl<J: commit_log::Naming + tickets::Naming> Parts<J> {
+impl<J: Names> Parts<J> {
     // Sends an item.
     pub(crate) fn send_item(&mut self, alloc: Global, item: Item<J>) -> EventAnswer
         requires room { length self.old.outbox + (MOST_ACTIONS + 1) ≤ 4096 }
@@ -172,9 +172,7 @@ impl<J: commit_log::Naming + tickets::Naming> Parts<J> {
 }
 
 // The place of the first action of the phase that is under way, and where they meet.
-fn meeting_of<J: commit_log::Naming + tickets::Naming>(
-    active: Active<J>,
-) -> (usize, Meeting<Report<J>>)
+fn meeting_of<J: Names>(active: Active<J>) -> (usize, Meeting<Report<J>>)
     requires { spec.IsActing active }
     ensures { active ≡ Active.Acting result.0 result.1 }
 {

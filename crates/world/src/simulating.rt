@@ -8,8 +8,8 @@ ghost use Rattle.world.specs.Worlds.{Fits};
 
 use crate::opening::{OpenFault, Opening};
 use crate::world::{GatherFault, World};
-use commit_log::Entry;
-use history::{Scheduled, Told};
+use commit_log::{Entry, Names};
+use history::{Output, Scheduled};
 use schema::{NoMemory, Tables};
 use std::alloc::Global;
 use std::marker::Brand;
@@ -17,8 +17,8 @@ use std::marker::Brand;
 /// What came of a schedule.
 #[derive(Drop)]
 pub struct Simulation {
-    /// What is told of each item, in order.
-    pub told: Vec<Told>,
+    /// What is printed of each item, in order.
+    pub outputs: Vec<Output>,
     pub log: Vec<Entry>,
     /// The tables as the transactions of the log left them; `NotIdle` where a transaction was active at the
     /// end.
@@ -29,9 +29,9 @@ pub struct Simulation {
 ///
 /// However its events follow one another, the replies of the log and the tables at the end are those of a
 /// machine that carries out the log's requests one at a time, in log order. Each event is answered as
-/// `World::step` tells, from a new world on; where the last thing told is that rounds ended quiet, the
+/// `World::step` tells, from a new world on; where the last output is that rounds ended quiet, the
 /// tables are given, unless there is no memory for them. An error says that nothing was played, or that
-/// there was no memory for what is told.
+/// there was no memory for what is printed.
 pub fn simulate(
     alloc: Global,
     tables: Tables,
@@ -39,7 +39,7 @@ pub fn simulate(
     schedule: &[Scheduled],
 ) -> Result<Simulation, OpenFault>
     ensures simulates { IfOk result (Simulates Brand tables schedule.now) }
-    ensures quiet { IfOk result (λ s. EndsQuiet s.told.items → s.tables ≢ Err GatherFault.NotIdle) }
+    ensures quiet { IfOk result (λ s. EndsQuiet s.outputs.items → s.tables ≢ Err GatherFault.NotIdle) }
     ensures bad_executors { IsErrAnd result (λ fault. fault ≡ OpenFault.BadExecutors) ↔ (executors ≢ 1) }
     ensures fault { IfErr result (λ fault. IsFaultOf tables fault) }
 {
@@ -51,16 +51,16 @@ pub fn simulate(
 }
 
 // Plays a schedule in a world whose agreements have the name `J`.
-fn simulate_from<J: commit_log::Naming + tickets::Naming>(
+fn simulate_from<J: Names>(
     alloc: Global,
     tables: Tables,
     executors: u32,
     opening: Opening,
     schedule: &[Scheduled],
 ) -> Result<Simulation, OpenFault>
-    requires named { IsNamedFor J.Naming-1 J.Naming-2 tables opening }
+    requires named { IsNamedFor J.LogNames J.GroupNames tables opening }
     ensures simulates { IfOk result (Simulates J tables schedule.now) }
-    ensures quiet { IfOk result (λ s. EndsQuiet s.told.items → s.tables ≢ Err GatherFault.NotIdle) }
+    ensures quiet { IfOk result (λ s. EndsQuiet s.outputs.items → s.tables ≢ Err GatherFault.NotIdle) }
     ensures bad_executors { IsErrAnd result (λ fault. fault ≡ OpenFault.BadExecutors) ↔ (executors ≢ 1) }
     ensures fault { IfErr result (λ fault. IsFaultOf tables fault) }
 {
@@ -70,15 +70,19 @@ fn simulate_from<J: commit_log::Naming + tickets::Naming>(
 }
 
 // Plays a schedule in a world in which nothing has happened.
-fn simulate_in<J: commit_log::Naming + tickets::Naming>(
+fn simulate_in<J: Names>(
     alloc: Global,
     mut world: World<J>,
     schedule: &[Scheduled],
 ) -> Result<Simulation, NoMemory>
     ensures simulates { IfOk result (λ s. (opening : Database) → IsNew opening world → Fits opening [] world → Simulates J opening schedule.now s) }
-    ensures quiet { IfOk result (λ s. EndsQuiet s.told.items → s.tables ≢ Err GatherFault.NotIdle) }
+    ensures quiet { IfOk result (λ s. EndsQuiet s.outputs.items → s.tables ≢ Err GatherFault.NotIdle) }
 {
-    let told = world.play(alloc, schedule)?;
+    let outputs = world.play(alloc, schedule)?;
     let (log, tables) = world.close();
-    Ok(Simulation { told, log, tables })
+    Ok(Simulation {
+        outputs,
+        log,
+        tables,
+    })
 }

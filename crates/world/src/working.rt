@@ -5,10 +5,11 @@ ghost use Rattle.world.specs.Events.{CanWork, TakesMessage};
 
 use crate::flight::{Act, Item, Message, Report};
 use crate::world::Parts;
+use commit_log::Names;
 use std::alloc::Global;
 use transactions::MOST_ACTIONS;
 
-impl<J: commit_log::Naming + tickets::Naming> Parts<J> {
+impl<J: Names> Parts<J> {
     // Works on a message, at the slice of its warehouse.
     pub(crate) fn work(&mut self, alloc: Global, message: Message<J>)
         requires warehouses { J.warehouses ≡ self.old.catalog.scale.warehouses }

@@ -9,7 +9,7 @@ ghost use Rattle.world.specs.Worlds.{Advances, CannotHappen, Fits, HappenInTurn,
 use crate::desk::Desk;
 use crate::flight::{Item, Message};
 use crate::queue::Queue;
-use commit_log::{Entry, Log};
+use commit_log::{Entry, Log, Names};
 use history::{Event, EventAnswer};
 use partitions::Catalog;
 use schema::{NoMemory, Tables};
@@ -22,7 +22,7 @@ pub const INBOX: usize = 1024;
 
 /// What a world consists of.
 #[derive(Drop)]
-pub struct Parts<J: commit_log::Naming + tickets::Naming> {
+pub struct Parts<J: Names> {
     /// What the slices share.
     pub catalog: Catalog,
     /// One for each warehouse, in order.
@@ -38,11 +38,11 @@ pub struct Parts<J: commit_log::Naming + tickets::Naming> {
 /// Contracts see what it consists of. A world is always sound: whoever has one has nothing to show for a
 /// call.
 #[derive(Drop)]
-pub struct World<J: commit_log::Naming + tickets::Naming> {
+pub struct World<J: Names> {
     pub(crate) parts: Parts<J>,
 }
 
-impl<J: commit_log::Naming + tickets::Naming> Model for World<J> {
+impl<J: Names> Model for World<J> {
     ghost use Rattle.std.specs.Prelude.{◌≡◌};
     ghost use Rattle.world.specs.declared.world.Parts.{Parts};
     ghost use Rattle.world.specs.Flights.{nothing};
@@ -63,7 +63,7 @@ impl<J: commit_log::Naming + tickets::Naming> Model for World<J> {
     ghost invariant = { λ w. IsSoundWith (shared_of J.opening) nothing w.parts × (J.warehouses ≡ J.opening.scale.warehouses) };
 }
 
-impl<J: commit_log::Naming + tickets::Naming> Parts<J> {
+impl<J: Names> Parts<J> {
     // The log's entries, and the slices with what they share.
     fn into_log_and_slices(self) -> (Vec<Entry>, Catalog, Vec<Slice<J>>)
         ensures log { result.0.items ≡ self.log }
@@ -89,7 +89,7 @@ pub enum GatherFault {
     NoMemory,
 }
 
-impl<J: commit_log::Naming + tickets::Naming> World<J> {
+impl<J: Names> World<J> {
     /// One event happens. It has no error: want of memory is an answer.
     ///
     /// A history that fitted before fits with the event and its answer at its end: the log's replies are

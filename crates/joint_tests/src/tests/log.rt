@@ -2,7 +2,7 @@ ghost use Rattle.std.specs.Prelude.{◌≡◌, ◌≤◌, ◌<◌, ℕ, IfSome};
 ghost use Rattle.commit_log.specs.LogTables.{table_of};
 
 use super::*;
-use commit_log::{LogSeats, Naming, Pass, SessionSeat, StepLog, meet};
+use commit_log::{LogNames, Pass, SessionSeat, StepLog, UnnamedLog, meet};
 use std::alloc::Global;
 use std::marker::Brand;
 use std::sync::{Mutex, Wait};
@@ -10,10 +10,10 @@ use std::thread::{Threads, join};
 
 // Two payments of a dollar by sessions 63 and 62, the second of a customer that isn't there: their
 // places, and the sum of the warehouse.
-fn two_payments<J: Naming>(
+fn two_payments<J: LogNames>(
     rt: &impl Abort,
     alloc: Global,
-    seats: LogSeats,
+    seats: UnnamedLog,
     tables: Tables,
 ) -> Result<(u32, u32, i64), Fail>
     requires opening { J.opening ≡ tables }
@@ -34,7 +34,7 @@ fn two_payments<J: Naming>(
 }
 
 // The session asks and logs its first request; then its seat and the log agree with its pass.
-fn append<J: Naming>(
+fn append<J: LogNames>(
     rt: &impl Abort,
     log: &mut StepLog<J>,
     mut pass: Pass<J>,
@@ -57,7 +57,7 @@ fn append<J: Naming>(
     }
 }
 
-fn ytd<J: Naming>(rt: &impl Abort, log: &StepLog<J>) -> i64 {
+fn ytd<J: LogNames>(rt: &impl Abort, log: &StepLog<J>) -> i64 {
     assert_eq!(rt; log.entries().len(), 2);
     let last = log.entries().last().expect(rt, "an entry");
     assert_eq!(rt; last.session, 62);
@@ -67,7 +67,7 @@ fn ytd<J: Naming>(rt: &impl Abort, log: &StepLog<J>) -> i64 {
 
 #[test]
 fn payments_are_logged_in_turn(rt: HostRuntime) -> Result<(), Fail> {
-    let seats = LogSeats::open(rt.alloc())?;
+    let seats = UnnamedLog::open(rt.alloc())?;
     let tables = two_warehouses(rt.alloc())?;
     let told = two_payments::<Brand>(&rt, rt.alloc(), seats, tables)?;
     assert_eq!(rt; told, (0, 1, 50_100));
@@ -76,10 +76,10 @@ fn payments_are_logged_in_turn(rt: HostRuntime) -> Result<(), Fail> {
 
 // Two sessions make the payment so many times each, in threads of their own; then they meet. How many
 // entries the log has, how many each has seen, and the sum of the warehouse.
-fn paid_in_threads<J: Naming + Send + Sync, R: Threads + Wait + Sync>(
+fn paid_in_threads<J: LogNames + Send + Sync, R: Threads + Wait + Sync>(
     rt: &R,
     alloc: Global,
-    seats: LogSeats,
+    seats: UnnamedLog,
     tables: Tables,
     request: &Request,
     count: u32,
@@ -114,7 +114,7 @@ fn paid_in_threads<J: Naming + Send + Sync, R: Threads + Wait + Sync>(
 }
 
 // The session makes the payment so many times. It gives its pass back.
-fn pay_often<J: Naming>(
+fn pay_often<J: LogNames>(
     rt: &impl Wait,
     log: &Mutex<StepLog<J>>,
     mut pass: Pass<J>,
@@ -136,7 +136,7 @@ fn pay_often<J: Naming>(
 }
 
 // The log is held for one payment.
-fn pay<J: Naming>(
+fn pay<J: LogNames>(
     rt: &impl Wait,
     log: &Mutex<StepLog<J>>,
     pass: Pass<J>,
@@ -159,7 +159,7 @@ fn pay<J: Naming>(
 
 #[test]
 fn two_threads_pay(rt: HostRuntime) -> Result<(), Fail> {
-    let seats = LogSeats::open(rt.alloc())?;
+    let seats = UnnamedLog::open(rt.alloc())?;
     let tables = two_warehouses(rt.alloc())?;
     let request = payment(1, 100);
     let told = paid_in_threads::<Brand, HostRuntime>(&rt, rt.alloc(), seats, tables, &request, 20);

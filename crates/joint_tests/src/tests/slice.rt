@@ -8,10 +8,10 @@ use requests::Group;
 use slices::{Slice, cut, open_groups, opened_groups_have_boxes};
 use std::alloc::Global;
 use std::marker::Brand;
-use tickets::{GroupSeats, Naming, named_all};
+use tickets::{GroupNames, GroupSeats, named_all};
 
 // The slices of these tables, from what was opened for their groups.
-fn opened<J: Naming>(
+fn opened<J: GroupNames>(
     alloc: Global,
     tables: Tables,
     openings: Vec<GroupSeats>,
@@ -29,7 +29,7 @@ fn opened<J: Naming>(
 
 // The row of the first warehouse is put back as it was: its sum before, under the claim, and after the undo; and the
 // age of who holds it meanwhile.
-fn put_and_undone<J: Naming>(
+fn put_and_undone<J: GroupNames>(
     alloc: Global,
     tables: Tables,
     openings: Vec<GroupSeats>,

@@ -28,7 +28,7 @@ impl Change<Content> for NoList {
 }
 
 // The table of a warehouse, whose groups have no row, and the log's seats.
-fn opened<J: Naming>(
+fn opened<J: GroupNames>(
     alloc: Global,
     openings: Vec<GroupSeats>,
 ) -> Result<(LockTable<J>, LogSeats<J>), NoMemory>
@@ -43,7 +43,7 @@ fn opened<J: Naming>(
 }
 
 // A shared claim tells what stands in its group, whatever was done there before.
-fn look<J: Naming>(table: &mut LockTable<J>, claim: &mut Claim<J>)
+fn look<J: GroupNames>(table: &mut LockTable<J>, claim: &mut Claim<J>)
     requires here { warehouse_of claim.old.group ≡ table.old.w_id }
     requires shared { claim.old.mode ≡ Shared }
     ensures told { claim.old.told ≡ left_in table.old.stands claim.old.group }
@@ -54,7 +54,7 @@ fn look<J: Naming>(table: &mut LockTable<J>, claim: &mut Claim<J>)
 }
 
 // Who reads waits for one who writes. Once what that one left is committed and back, a shared claim tells it.
-fn read_after_write<J: Naming>(
+fn read_after_write<J: GroupNames>(
     alloc: Global,
     openings: Vec<GroupSeats>,
 ) -> Result<Vec<Claim<J>>, NoMemory>
@@ -86,7 +86,7 @@ fn read_after_write<J: Naming>(
     Ok(read)
 }
 
-fn written<J: Naming>(alloc: Global, openings: Vec<GroupSeats>) -> Result<usize, NoMemory>
+fn written<J: GroupNames>(alloc: Global, openings: Vec<GroupSeats>) -> Result<usize, NoMemory>
     requires known { J.warehouses ≡ 1 }
     requires all { vec_len openings ≡ 105 }
     requires names { AreNamed 1 J.committed J.work openings.items }
@@ -103,7 +103,7 @@ fn a_reader_is_told_what_was_left_once_it_is_back(rt: HostRuntime) -> Result<(),
 }
 
 // What one who writes did is taken back, and nothing is committed. A shared claim tells what stood there before.
-fn read_after_undo<J: Naming>(
+fn read_after_undo<J: GroupNames>(
     alloc: Global,
     table: &mut LockTable<J>,
 ) -> Result<Vec<Claim<J>>, NoMemory>
@@ -127,7 +127,7 @@ fn read_after_undo<J: Naming>(
     Ok(read)
 }
 
-fn undone<J: Naming>(alloc: Global, openings: Vec<GroupSeats>) -> Result<usize, NoMemory>
+fn undone<J: GroupNames>(alloc: Global, openings: Vec<GroupSeats>) -> Result<usize, NoMemory>
     requires known { J.warehouses ≡ 1 }
     requires all { vec_len openings ≡ 105 }
     requires names { AreNamed 1 J.committed J.work openings.items }

@@ -1,5 +1,5 @@
 use super::*;
-use history::{EventAnswer, Told};
+use history::{EventAnswer, Output};
 use requests::{LastName, Lines, OrderStatus, OrderStatusReply, StatusLine, StatusOrder};
 use schema::{CarrierId, LineAmount, LineQuantity};
 
@@ -151,7 +151,7 @@ fn answers_of_order_status_are_written(rt: HostRuntime) -> Result<(), Fail> {
     let wanted = "3,0,done,7,O,4,C,OE,\"BAR,BAR\",-1000,,,\n\
                   3,1,done,8,O,4,C,OE,\"BAR,BAR\",-1000,1,1970-01-01T00:00:00,10,9,2,10,999999,2024-01-01T00:01:00\n";
     assert_eq!(rt; text.as_slice(), wanted.as_bytes());
-    let told = [Told::Event(EventAnswer::Answered {
+    let told = [Output::Event(EventAnswer::Answered {
         session: 3,
         number: 0,
         answer: Answer::Done {
@@ -159,7 +159,7 @@ fn answers_of_order_status_are_written(rt: HostRuntime) -> Result<(), Fail> {
             reply: status(None)?,
         },
     })];
-    let text = write_told(rt.alloc(), Vec::new(rt.alloc()), &told)?;
+    let text = write_outputs(rt.alloc(), Vec::new(rt.alloc()), &told)?;
     assert_eq!(rt;
         text.as_slice(),
         b"answered,3,0,done,7,O,4,C,OE,\"BAR,BAR\",-1000,,,\n".as_slice()

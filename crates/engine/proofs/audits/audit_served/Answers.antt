@@ -7,7 +7,7 @@ use Rattle.engine.proofs.audits.audit_served.Goals as goal
 -- one session more, which was served its script
 pub loop-script-preserved : goal.loop-script-preserved
 loop-script-preserved g c =
-    let scale = g.J.Naming.opening.scale in
+    let scale = g.J.LogNames.opening.scale in
     let place = c.loop-script._script-index in
     let known = c.loop-script.invariant in
     let next = c.in-Some.ensures.cases in

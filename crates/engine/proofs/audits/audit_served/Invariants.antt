@@ -9,4 +9,4 @@ abbrev pub invariant-loop-script : goal.invariant-loop-script
 invariant-loop-script g l =
     (length l.answers.items ≡ l._script-index) × (into_iter_len l.served + l._script-index ≡ vec_len l.fn.served)
     × IsRestFrom l._script-index l.fn.served.items (into_iter_items l.served)
-    × ServedEach g.J.Naming.opening.scale l.fn.scripts l.fn.log.entries l.answers.items × (l.log ≡ l.fn.log)
+    × ServedEach g.J.LogNames.opening.scale l.fn.scripts l.fn.log.entries l.answers.items × (l.log ≡ l.fn.log)

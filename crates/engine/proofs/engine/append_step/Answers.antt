@@ -8,6 +8,6 @@ use Rattle.engine.proofs.engine.append_step.Goals as goal
 pub append_step-requires-clause-accepted : goal.append_step-requires-clause-accepted
 append_step-requires-clause-accepted g c =
     let log = c.args.log.now in
-    let scale_is : log.tables.scale ≡ g.J.Naming.opening.scale =
-    legal-scale g.J.Naming.opening log.entries log.tables c.entries-entries.ensures.legal in
+    let scale_is : log.tables.scale ≡ g.J.LogNames.opening.scale =
+    legal-scale g.J.LogNames.opening log.entries log.tables c.entries-entries.ensures.legal in
     subst (λ (s : Scale). IsAccepted s c.args.request.now) (sym scale_is) c.requires.accepted

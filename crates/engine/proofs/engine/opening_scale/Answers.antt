@@ -8,4 +8,4 @@ returns g c =
     let log = c.args.log.now in
     c.scale.ensures.value
     ∙ ap (λ (t : Database). t.scale) c.tables.ensures
-    ∙ legal-scale g.J.Naming.opening log.entries log.tables c.entries-entries.ensures.legal
+    ∙ legal-scale g.J.LogNames.opening log.entries log.tables c.entries-entries.ensures.legal

@@ -10,6 +10,6 @@ returns-clause-outcome g c =
     let parts = c.into_parts-log.ensures in
     let idle = c.audit_idle.ensures in
     let served = c.in_ok-answers.ensures in
-    concluded g.J.Naming.opening c.args.opening c.args.scripts.now c.in_ok-answers.answers.items c.into_log-log.result c.audit_served.new.log c.audit_idle.new.log
+    concluded g.J.LogNames.opening c.args.opening c.args.scripts.now c.in_ok-answers.answers.items c.into_log-log.result c.audit_served.new.log c.audit_idle.new.log
     c.into_parts-log.result.0.items c.into_parts-log.result.1
     c.requires.opening served.same idle.same parts.entries parts.tables parts.legal parts.sessions served.count served.each idle.none

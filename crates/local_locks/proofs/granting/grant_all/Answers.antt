@@ -10,7 +10,7 @@ use Rattle.local_locks.proofs.granting.grant_all.Goals as goal
 
 pub grant_want-requires-clause-open : goal.grant_want-requires-clause-open
 grant_want-requires-clause-open g c =
-    next_open g.J.Naming.warehouses c.args.by c.args.wants.now c.loop-want.want-index no_want c.args.locks.now c.loop-want.locks c.loop-want-test.true c.requires.places
+    next_open g.J.GroupNames.warehouses c.args.by c.args.wants.now c.loop-want.want-index no_want c.args.locks.now c.loop-want.locks c.loop-want-test.true c.requires.places
     (c.requires.there c.loop-want.want-index no_want c.loop-want-test.true) c.requires.open c.requires.once c.loop-want.invariant.granted
 
 pub grant_want-requires-clause-room : goal.grant_want-requires-clause-room
@@ -24,11 +24,11 @@ loop-want-preserved g c =
     let done = flat_map spots_of (take i wants) in
     let next = spots_of (get_or wants i no_want) in
     let walked = joined_walked spots_of wants i no_want c.loop-want-test.true in
-    let P : List Spot → Type 0 = λ granted. AreGranted g.J.Naming.warehouses c.args.by granted c.args.locks.now c.grant_want.new.locks in
+    let P : List Spot → Type 0 = λ granted. AreGranted g.J.GroupNames.warehouses c.args.by granted c.args.locks.now c.grant_want.new.locks in
     record {
       claims = claims_more (map stand_in c.args.locks.now) (map stand_in c.loop-want.locks) c.args.claims.now.items c.loop-want.claims.items c.grant_want.new.claims.items
           done next (flat_map spots_of (take (i + 1) wants)) c.loop-want.invariant.granted.stands c.loop-want.invariant.claims c.grant_want.ensures.claims walked;
       count = omega (arith, c.grant_want.ensures.count, c.loop-want.invariant.count, ap length walked, length-append done next);
       room = c.grant_want.ensures.room ∙ c.loop-want.invariant.room;
-      granted = subst P (sym walked) (granted_more g.J.Naming.warehouses c.args.by done next c.args.locks.now c.loop-want.locks c.grant_want.new.locks c.loop-want.invariant.granted c.grant_want.ensures.granted);
+      granted = subst P (sym walked) (granted_more g.J.GroupNames.warehouses c.args.by done next c.args.locks.now c.loop-want.locks c.grant_want.new.locks c.loop-want.invariant.granted c.grant_want.ensures.granted);
     }

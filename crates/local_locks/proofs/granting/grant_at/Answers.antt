@@ -9,5 +9,5 @@ returns-clause-granted g c =
     let locks = c.args.locks.now in
     let lock = get_or locks c.args.number c.index-locks-number.result in
     let is : lock ≡ get_or locks c.args.number lock = get_or_default locks c.args.number c.index-locks-number.result lock c.requires.inside in
-    granted_one g.J.Naming.warehouses c.args.by locks c.args.number c.args.mode lock c.grant.new.self c.requires.inside is c.grant.ensures.agree.0 c.grant.ensures.agree.1
+    granted_one g.J.GroupNames.warehouses c.args.by locks c.args.number c.args.mode lock c.grant.new.self c.requires.inside is c.grant.ensures.agree.0 c.grant.ensures.agree.1
     (sym (at_place locks c.args.mode c.args.number lock c.requires.inside is) ∙ c.requires.open) c.grant.ensures.lock

@@ -13,12 +13,12 @@ pub loop-number-init : goal.loop-number-init
 loop-number-init g c =
     let first = c.places_of-first.result.0 in
     let none = spots_none first (first - first) c.args.want.mode (omega arith) in
-    let P : List Spot → Type 0 = λ granted. AreGranted g.J.Naming.warehouses c.args.by granted c.args.locks.now c.args.locks.now in
+    let P : List Spot → Type 0 = λ granted. AreGranted g.J.GroupNames.warehouses c.args.by granted c.args.locks.now c.args.locks.now in
     record {
       claims = claims_none (map stand_in c.args.locks.now) (spots first (first - first) c.args.want.mode) c.args.claims.now.items none;
       count = omega arith;
       room = refl;
-      granted = subst P (sym none) (granted_none g.J.Naming.warehouses c.args.by c.args.locks.now);
+      granted = subst P (sym none) (granted_none g.J.GroupNames.warehouses c.args.by c.args.locks.now);
     }
 
 pub grant_at-requires-clause-open : goal.grant_at-requires-clause-open
@@ -28,10 +28,10 @@ grant_at-requires-clause-open g c =
     let want = c.args.want in
     let from : first ≤ number = omega arith in
     let before : first + (number - first) ≤ number = omega arith in
-    let inside = extent_inside g.J.Naming.warehouses want.extent c.requires.there in
+    let inside = extent_inside g.J.GroupNames.warehouses want.extent c.requires.there in
     let small : number < length c.args.locks.now = omega (arith, inside) in
     let here = inside_spots (first_place want.extent) (count_in want.extent) number want.mode (omega arith) (omega arith) in
-    still_open g.J.Naming.warehouses c.args.by (spots first (number - first) want.mode) c.args.locks.now c.loop-number.locks (spot number want.mode) c.loop-number.invariant.granted small
+    still_open g.J.GroupNames.warehouses c.args.by (spots first (number - first) want.mode) c.args.locks.now c.loop-number.locks (spot number want.mode) c.loop-number.invariant.granted small
     (spots_before first (number - first) number want.mode before)
     (All-contains (IsOpen c.args.locks.now) (spots_of want) (spot number want.mode) c.requires.open here)
 
@@ -46,7 +46,7 @@ loop-number-preserved g c =
     let mode = c.args.want.mode in
     let from : first ≤ number = omega arith in
     let walked = spots-walked first number mode from in
-    let P : List Spot → Type 0 = λ granted. AreGranted g.J.Naming.warehouses c.args.by granted c.args.locks.now c.grant_at.new.locks in
+    let P : List Spot → Type 0 = λ granted. AreGranted g.J.GroupNames.warehouses c.args.by granted c.args.locks.now c.grant_at.new.locks in
     record {
       claims = claims_more (map stand_in c.args.locks.now) (map stand_in c.loop-number.locks) c.args.claims.now.items c.loop-number.claims.items c.push_reserved.new.self.items
           (spots first (number - first) mode) (spot number mode ∷ []) (spots first (number + 1 - first) mode)
@@ -54,7 +54,7 @@ loop-number-preserved g c =
           (c.push_reserved.ensures.items ∙ ap (λ (claim : Claiming). c.loop-number.claims.items ++ claim ∷ []) c.grant_at.ensures.claim) walked;
       count = omega (arith, c.push_reserved.ensures.len, c.loop-number.invariant.count);
       room = c.push_reserved.ensures.capacity ∙ c.loop-number.invariant.room;
-      granted = subst P (sym walked) (granted_more g.J.Naming.warehouses c.args.by (spots first (number - first) mode) (spot number mode ∷ []) c.args.locks.now c.loop-number.locks c.grant_at.new.locks c.loop-number.invariant.granted c.grant_at.ensures.granted);
+      granted = subst P (sym walked) (granted_more g.J.GroupNames.warehouses c.args.by (spots first (number - first) mode) (spot number mode ∷ []) c.args.locks.now c.loop-number.locks c.grant_at.new.locks c.loop-number.invariant.granted c.grant_at.ensures.granted);
     }
 
 same_spots : (first number start count : ℕ) (mode : Mode) → first ≡ start → number - first ≡ count → spots first (number - first) mode ≡ spots start count mode
@@ -76,5 +76,5 @@ returns-clause-granted g c =
     let first = c.places_of-first.result.0 in
     let want = c.args.want in
     let same = same_spots first c.loop-number.number (first_place want.extent) (count_in want.extent) want.mode c.places_of-first.ensures.first (omega arith) in
-    let P : List Spot → Type 0 = λ granted. AreGranted g.J.Naming.warehouses c.args.by granted c.args.locks.now c.loop-number.locks in
+    let P : List Spot → Type 0 = λ granted. AreGranted g.J.GroupNames.warehouses c.args.by granted c.args.locks.now c.loop-number.locks in
     subst P same c.loop-number.invariant.granted

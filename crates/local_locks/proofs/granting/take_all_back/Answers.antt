@@ -37,7 +37,7 @@ take_back-requires-clause-group g c =
     let P : List Claiming → Type 0 = λ cs. AreCounted (flat_map holdings_of locks) c.args.by cs in
     let held = counted_first (flat_map holdings_of locks) c.args.by c.in-Some.claim c.next.new.self.rest.items (subst P listed c.loop-claim.invariant.counted) in
     let at : number ≡ place_in_warehouse c.in-Some.claim.group = c.place_of_claim-number.ensures.place in
-    let home = comes_home g.J.Naming.warehouses c.requires.locks.0 locks c.args.by c.in-Some.claim number c.index-locks-number.result are held at c.index-locks-number.is in
+    let home = comes_home g.J.GroupNames.warehouses c.requires.locks.0 locks c.args.by c.in-Some.claim number c.index-locks-number.result are held at c.index-locks-number.is in
     home.group ∙ ap (λ (l : Locked). l.ticket_box.group) c.index-locks-number.is
 
 pub take_back-requires-clause-held : goal.take_back-requires-clause-held
@@ -49,7 +49,7 @@ take_back-requires-clause-held g c =
     let P : List Claiming → Type 0 = λ cs. AreCounted (flat_map holdings_of locks) c.args.by cs in
     let held = counted_first (flat_map holdings_of locks) c.args.by c.in-Some.claim c.next.new.self.rest.items (subst P listed c.loop-claim.invariant.counted) in
     let at : number ≡ place_in_warehouse c.in-Some.claim.group = c.place_of_claim-number.ensures.place in
-    let home = comes_home g.J.Naming.warehouses c.requires.locks.0 locks c.args.by c.in-Some.claim number c.index-locks-number.result are held at c.index-locks-number.is in
+    let home = comes_home g.J.GroupNames.warehouses c.requires.locks.0 locks c.args.by c.in-Some.claim number c.index-locks-number.result are held at c.index-locks-number.is in
     subst (λ (l : Locked). Contains l.holders c.args.by) c.index-locks-number.is home.held
 
 pub loop-claim-preserved : goal.loop-claim-preserved
@@ -67,16 +67,16 @@ loop-claim-preserved g c =
     let counted = subst P listed c.loop-claim.invariant.counted in
     let held = counted_first (flat_map holdings_of locks) c.args.by claim rest counted in
     let at : number ≡ place_in_warehouse claim.group = c.place_of_claim-number.ensures.place in
-    let home = comes_home g.J.Naming.warehouses c.requires.locks.0 locks c.args.by claim number c.index-locks-number.result are held at c.index-locks-number.is in
+    let home = comes_home g.J.GroupNames.warehouses c.requires.locks.0 locks c.args.by claim number c.index-locks-number.result are held at c.index-locks-number.is in
     let old = get_or locks number c.index-locks-number.result in
     let is : old ≡ get_or locks number old = get_or_default locks number c.index-locks-number.result old home.small in
     let group = home.group ∙ ap (λ (l : Locked). l.ticket_box.group) c.index-locks-number.is in
     let moved = back_held locks number old new c.args.by claim home.small is c.take_back.ensures.agree.0 c.take_back.ensures.ticket_box c.take_back.ensures.holders group c.take_back.ensures.mode in
-    let stands = back_stands g.J.Naming.warehouses c.requires.locks.0 locks number old new claim are home.small is c.take_back.ensures.ticket_box group in
+    let stands = back_stands g.J.GroupNames.warehouses c.requires.locks.0 locks number old new claim are home.small is c.take_back.ensures.ticket_box group in
     record {
       can_next = tt;
       finite = tt;
-      locks = λ w_id first. back_locks g.J.Naming.warehouses locks number old new home.small is c.take_back.ensures.ticket_box c.take_back.ensures.agree.1 w_id (c.loop-claim.invariant.locks w_id first);
+      locks = λ w_id first. back_locks g.J.GroupNames.warehouses locks number old new home.small is c.take_back.ensures.ticket_box c.take_back.ensures.agree.1 w_id (c.loop-claim.invariant.locks w_id first);
       counted = counted_next (flat_map holdings_of locks) (flat_map holdings_of (set locks number new)) c.args.by claim rest counted moved;
       back = one_back (flat_map holdings_of c.args.locks.now) (flat_map holdings_of locks) (flat_map holdings_of (set locks number new)) c.args.by claim c.args.claims.items rest (subst Q listed c.loop-claim.invariant.back) moved;
       stands = ap (λ (ss : List Stand). all_kept_after rest ss) stands ∙ sym (ap (λ (cs : List Claiming). all_kept_after cs (map stand_in locks)) listed) ∙ c.loop-claim.invariant.stands;

@@ -11,7 +11,7 @@ abbrev pub invariant-loop-claim : goal.invariant-loop-claim
 invariant-loop-claim g l = record {
   can_next : (goal.iterator-loop-claim g).can_next l.claim-iterator;
   finite : (goal.iterator-loop-claim g).is_finite l.claim-iterator;
-  locks : KeepsLocks g.J.Naming.warehouses l.fn.locks l.locks;
+  locks : KeepsLocks g.J.GroupNames.warehouses l.fn.locks l.locks;
   counted : AreCounted (flat_map holdings_of l.locks) l.by l.claim-iterator.rest.items;
   back : AreBack (flat_map holdings_of l.fn.locks) l.by l.fn.claims.items l.claim-iterator.rest.items (flat_map holdings_of l.locks);
   stands : all_kept_after l.claim-iterator.rest.items (map stand_in l.locks) ≡ all_kept_after l.fn.claims.items (map stand_in l.fn.locks);

@@ -8,13 +8,13 @@ pub named-ticket_box-requires-clause-committed : goal.named-ticket_box-requires-
 named-ticket_box-requires-clause-committed g c =
     let rest : c.loop-opening.opening-iterator.rest.items ≡ c.in-Some.opening ∷ c.next.new.self.rest.items = search rules in
     let next = next_opening c.args.openings.items c.next.new.self.rest.items (length c.loop-opening.seats.items) c.in-Some.opening (sym c.loop-opening.invariant.rest ∙ rest) in
-    (named_at c.args.warehouses g.J.Naming.committed g.J.Naming.work c.args.openings.items c.group_at-group.result (length c.loop-opening.seats.items) c.in-Some.opening c.requires.names c.group_at-group.ensures.known (omega (arith, c.group_at-group.ensures.place)) next.1).0
+    (named_at c.args.warehouses g.J.GroupNames.committed g.J.GroupNames.work c.args.openings.items c.group_at-group.result (length c.loop-opening.seats.items) c.in-Some.opening c.requires.names c.group_at-group.ensures.known (omega (arith, c.group_at-group.ensures.place)) next.1).0
 
 pub named-ticket_box-requires-clause-work : goal.named-ticket_box-requires-clause-work
 named-ticket_box-requires-clause-work g c =
     let rest : c.loop-opening.opening-iterator.rest.items ≡ c.in-Some.opening ∷ c.next.new.self.rest.items = search rules in
     let next = next_opening c.args.openings.items c.next.new.self.rest.items (length c.loop-opening.seats.items) c.in-Some.opening (sym c.loop-opening.invariant.rest ∙ rest) in
-    (named_at c.args.warehouses g.J.Naming.committed g.J.Naming.work c.args.openings.items c.group_at-group.result (length c.loop-opening.seats.items) c.in-Some.opening c.requires.names c.group_at-group.ensures.known (omega (arith, c.group_at-group.ensures.place)) next.1).1
+    (named_at c.args.warehouses g.J.GroupNames.committed g.J.GroupNames.work c.args.openings.items c.group_at-group.result (length c.loop-opening.seats.items) c.in-Some.opening c.requires.names c.group_at-group.ensures.known (omega (arith, c.group_at-group.ensures.place)) next.1).1
 
 pub loop-opening-preserved : goal.loop-opening-preserved
 loop-opening-preserved g c =

@@ -25,7 +25,7 @@ grant-requires g c =
     let wishes = wishes_of c.args.work.now in
     let is : slice_get wishes c.len.result ≡ Some c.in-Some.wish = sym c.in-Some.ensures in
     record {
-      known = wished.wished_at (IsGroupOf g.J.Naming.warehouses) wishes c.len.result c.in-Some.wish c.requires.known is;
+      known = wished.wished_at (IsGroupOf g.J.GroupNames.warehouses) wishes c.len.result c.in-Some.wish c.requires.known is;
       home = wished.wished_here c.args.slice.now.home wishes c.len.result c.in-Some.wish c.requires.home is ∙ sym c.loop-wish.invariant.kept.home;
     }
 
@@ -42,7 +42,7 @@ loop-wish-preserved g c =
     let is : slice_get wishes (vec_len before) ≡ Some c.in-Some.wish = ap (slice_get wishes) (sym c.len.ensures) ∙ sym c.in-Some.ensures in
     let within = slice_get_within wishes (vec_len before) c.in-Some.wish is in
     let made = c.push_reserved.ensures.items in
-    let known = wished.wished_at (IsGroupOf g.J.Naming.warehouses) wishes (vec_len before) c.in-Some.wish c.requires.known is in
+    let known = wished.wished_at (IsGroupOf g.J.GroupNames.warehouses) wishes (vec_len before) c.in-Some.wish c.requires.known is in
     let here = wished.wished_here c.args.slice.now.home wishes (vec_len before) c.in-Some.wish c.requires.home is in
     let tickets = c.loop-wish.invariant.others c.in-Some.wish.group here (wished.apart_at c.args.work.now _ c.in-Some.wish is) in
     record {
@@ -51,7 +51,7 @@ loop-wish-preserved g c =
       kept = subst (λ (claims : List Claiming). SliceKeeps [] c.args.slice.now claims c.grant.new.slice) (sym made)
           (kept.one_more before.items claim [] c.args.slice.now c.loop-wish.slice c.grant.new.slice c.loop-wish.invariant.kept c.in_ok-claim.ensures.kept);
       back = returned.all_granted_back before.items _ claim c.args.slice.now c.loop-wish.slice c.grant.new.slice made c.loop-wish.invariant.back
-          (returned.granted_back g.J.Naming.warehouses c.in-Some.wish claim c.loop-wish.slice c.grant.new.slice known c.in_ok-claim.ensures.granted c.in_ok-claim.ensures.free c.in_ok-claim.ensures.out);
+          (returned.granted_back g.J.GroupNames.warehouses c.in-Some.wish claim c.loop-wish.slice c.grant.new.slice known c.in_ok-claim.ensures.granted c.in_ok-claim.ensures.free c.in_ok-claim.ensures.out);
       free = wished.none_held_more (standing c.args.slice.now).free wishes (vec_len before) _ c.in-Some.wish is c.push_reserved.ensures.len c.loop-wish.invariant.free
           (subst (λ n. leb (tickets_held c.in-Some.wish.mode) n ≡ true) tickets c.in_ok-claim.ensures.free);
       granted = wished.granted_more wishes (vec_len before) _ c.in-Some.wish before.items _ claim is c.push_reserved.ensures.len made c.loop-wish.invariant.granted c.in_ok-claim.ensures.granted;

@@ -7,7 +7,7 @@ use Rattle.world.proofs.simulating.simulate_in.Goals as goal
 
 pub returns-clause-simulates : goal.returns-clause-simulates
 returns-clause-simulates g c = λ opening new fits.
-    let played = c.in_ok-told.ensures.plays in
+    let played = c.in_ok-outputs.ensures.plays in
     let last = c.play.new.self in
     let after = played.1.1.1 opening [] fits in
     let log = c.close-log.ensures.log in

@@ -8,7 +8,7 @@ pub invariant_of-self-2 : goal.invariant_of-self-2
 invariant_of-self-2 g c =
     let room = c.in-Ok.ensures in
     let told = c.commit.ensures in
-    kept_logged g.J.Naming-1.opening c.self.inside.book.entries c.make_room.new.self.entries c.log.new.self.entries c.self.inside.seats c.commit.new.seats
+    kept_logged g.J.LogNames.opening c.self.inside.book.entries c.make_room.new.self.entries c.log.new.self.entries c.self.inside.seats c.commit.new.seats
     (all_claims c.args.held.now) c.args.entry c.make_room.new.pass.session
     c.self.invariant told.told c.requires.accepted c.requires.carried_out room.entries
     (ap (λ (p : Passing). p.session) room.pass ∙ sym c.requires.session)

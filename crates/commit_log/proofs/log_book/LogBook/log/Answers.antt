@@ -24,12 +24,12 @@ invariant_of-self g c =
     let entry : Entry = entry_of session c.args.number c.args.request c.args.reply in
     let told = told _ _ _ _ _ book session c.index_mut.result.now c.pass.invariant.some_session c.index_mut.ensures.value in
     let place : c.entries-place.result ≡ length entries = c.entries-place.ensures ∙ ap (λ w. w.entries) book.told_length in
-    let longer : c.reach_one_more.new.length ≡ reaching g.J.Naming.length (length entries + 1) =
+    let longer : c.reach_one_more.new.length ≡ reaching g.J.LogNames.length (length entries + 1) =
     c.reach_one_more.ensures.length ∙ ap (λ w. reaching w.table (w.entries + 1)) book.told_length in
-    let seat : c.tell.new.log ≡ seat_at (g.J.Naming.mine session) (mine_of (items_of session entries ++ item (length entries) c.args.number c.args.request c.args.reply ∷ [])) =
+    let seat : c.tell.new.log ≡ seat_at (g.J.LogNames.mine session) (mine_of (items_of session entries ++ item (length entries) c.args.number c.args.request c.args.reply ∷ [])) =
     c.tell.ensures.log
     ∙ ap (λ t. seat_at t.agreement.table (mine_of (t.value.items ++ item c.entries-place.result c.args.number c.args.request c.args.reply ∷ []))) told
-    ∙ ap (λ n. seat_at (g.J.Naming.mine session) (mine_of (items_of session entries ++ item n c.args.number c.args.request c.args.reply ∷ []))) place in
+    ∙ ap (λ n. seat_at (g.J.LogNames.mine session) (mine_of (items_of session entries ++ item n c.args.number c.args.request c.args.reply ∷ []))) place in
     let below : length entries < 16777216 = subst (λ b. length b.entries < 16777216) (sym c.self.view_is) c.requires.below in
-    subst (λ (es : List Entry). IsBookOf g.J.Naming.length g.J.Naming.mine es c.reach_one_more.new.length (set c.self.inside.mine.items session c.tell.new.log)) (sym c.push_reserved.ensures.items)
+    subst (λ (es : List Entry). IsBookOf g.J.LogNames.length g.J.LogNames.mine es c.reach_one_more.new.length (set c.self.inside.mine.items session c.tell.new.log)) (sym c.push_reserved.ensures.items)
     (book_more _ _ _ _ _ book entry c.tell.new.log c.reach_one_more.new.length c.pass.invariant.some_session below longer seat)

@@ -13,12 +13,12 @@ loop-lane-init g c =
     let many = c.seats.invariant.many in
     let long = seats.lanes.ok.0 in
     let empty = c.new-sessions.ensures.len in
-    let named = lanes_named seats.length seats.mine.items seats.lanes.items c.seats.invariant g.J.Naming.length g.J.Naming.mine g.J.Naming.asks
+    let named = lanes_named seats.length seats.mine.items seats.lanes.items c.seats.invariant g.J.LogNames.length g.J.LogNames.mine g.J.LogNames.asks
     (c.requires.length ∙ sym (ap (λ s. s.length) is))
     (λ k h. c.requires.mine k h ∙ sym (ap (λ s. table_of s.mine k) is))
     (λ k h. c.requires.asks k h ∙ sym (ap (λ s. table_of s.asks k) is)) in
     record {
-      left = subst (λ n. LanesFrom g.J.Naming.length g.J.Naming.mine g.J.Naming.asks n seats.lanes.items) (sym empty) named;
+      left = subst (λ n. LanesFrom g.J.LogNames.length g.J.LogNames.mine g.J.LogNames.asks n seats.lanes.items) (sym empty) named;
       done = λ k h. absurd (omega arith);
       count = omega arith;
     }
@@ -28,7 +28,7 @@ loop-lane-preserved g c =
     let loop = c.loop-lane in
     let lane = c.in-Some.lane in
     let rest = c.pop_front.new.self in
-    let named = subst (LanesFrom g.J.Naming.length g.J.Naming.mine g.J.Naming.asks (vec_len loop.sessions)) c.in-Some.ensures.items loop.invariant.left in
+    let named = subst (LanesFrom g.J.LogNames.length g.J.LogNames.mine g.J.LogNames.asks (vec_len loop.sessions)) c.in-Some.ensures.items loop.invariant.left in
     let session = c.len-session.result in
     let is = c.len-session.ensures in
     let pushed = c.in_ok-push.ensures in
@@ -36,7 +36,7 @@ loop-lane-preserved g c =
     let popped = c.in-Some.ensures.cases in
     let count = loop.invariant.count in
     record {
-      left = subst (λ n. LanesFrom g.J.Naming.length g.J.Naming.mine g.J.Naming.asks n rest.items) (sym pushed.len) named.1;
+      left = subst (λ n. LanesFrom g.J.LogNames.length g.J.LogNames.mine g.J.LogNames.asks n rest.items) (sym pushed.len) named.1;
       done = subst AreNew (sym pushed.items) (one_session_more loop.sessions.items session _ loop.invariant.done (omega arith)
           (made_is_new _ _ _ session lane named.0));
       count = omega (arith, pushed.len);
@@ -47,8 +47,8 @@ invariant_of-book g c =
     let seats = c.seats.inside in
     let is = c.seats.view_is in
     let same = c.requires.length ∙ sym (ap (λ s. s.length) is) in
-    let named = lanes_named seats.length seats.mine.items seats.lanes.items c.seats.invariant g.J.Naming.length g.J.Naming.mine g.J.Naming.asks same
+    let named = lanes_named seats.length seats.mine.items seats.lanes.items c.seats.invariant g.J.LogNames.length g.J.LogNames.mine g.J.LogNames.asks same
     (λ k h. c.requires.mine k h ∙ sym (ap (λ s. table_of s.mine k) is))
     (λ k h. c.requires.asks k h ∙ sym (ap (λ s. table_of s.asks k) is)) in
-    subst (λ (es : List Entry). IsBookOf g.J.Naming.length g.J.Naming.mine es seats.length seats.mine.items) (sym c.new.ensures.items)
-    (book_new seats.length seats.mine.items seats.lanes.items c.seats.invariant g.J.Naming.length g.J.Naming.mine g.J.Naming.asks same named)
+    subst (λ (es : List Entry). IsBookOf g.J.LogNames.length g.J.LogNames.mine es seats.length seats.mine.items) (sym c.new.ensures.items)
+    (book_new seats.length seats.mine.items seats.lanes.items c.seats.invariant g.J.LogNames.length g.J.LogNames.mine g.J.LogNames.asks same named)

@@ -5,7 +5,7 @@ use Rattle.commit_log.proofs.log_book.LogBook.open.Given as goal
 
 abbrev pub invariant-loop-lane : goal.invariant-loop-lane
 invariant-loop-lane g l = record {
-  left : LanesFrom g.J.Naming.length g.J.Naming.mine g.J.Naming.asks (vec_len l.sessions) l.lanes.items;
+  left : LanesFrom g.J.LogNames.length g.J.LogNames.mine g.J.LogNames.asks (vec_len l.sessions) l.lanes.items;
   done : AreNew l.sessions.items;
   count : vec_len l.sessions + deque_len l.lanes ≡ 64;
 }

@@ -16,8 +16,8 @@ pub invariant_of-self-in_default-try_clone : goal.invariant_of-self-in_default-t
 invariant_of-self-in_default-try_clone g c =
     let same : c.step.new.self ≡ c.self.inside.plain =
     c.in-Ok-step.ensures.tables ∙ shown_lines_keep c.self.inside.plain c.args.request.now (subst ShowsLines c.in-Ok-step.ensures.reply c.in_default-try_clone.ensures.lines) in
-    subst (λ (t : Database). IsLegal g.J.Naming.opening c.make_room.new.self.entries t) (sym same)
-    (subst (λ (entries : List Entry). IsLegal g.J.Naming.opening entries c.self.inside.plain) (sym c.in-Ok.ensures.entries) c.self.invariant)
+    subst (λ (t : Database). IsLegal g.J.LogNames.opening c.make_room.new.self.entries t) (sym same)
+    (subst (λ (entries : List Entry). IsLegal g.J.LogNames.opening entries c.self.inside.plain) (sym c.in-Ok.ensures.entries) c.self.invariant)
 
 pub returns-in_default-try_clone-clause-legal : goal.returns-in_default-try_clone-clause-legal
 returns-in_default-try_clone-clause-legal g c = invariant_of-self-in_default-try_clone g c

@@ -24,36 +24,36 @@ returns-in_err-index-clause-none g c =
     let R : Locking → Type 0 = λ t. All (StillWaits t.holdings) t.waiters in
     let S : Option _ → Type 0 = λ r. IfNone r (All (StillWaits c.args.self.now.holdings) c.args.self.now.waiters) in
     let stay = subst Q c.deref.ensures.value (subst P c.deref-2.ensures.value c.in_err-index.ensures.none) in
-    subst S (sym c.from_residual.ensures) (subst R c.self.view_is (taken.all_still_wait g.J.Naming.warehouses c.self.inside.w_id c.self.inside.locks.items c.self.inside.waiters.items c.self.invariant.0 c.self.invariant.1 stay))
+    subst S (sym c.from_residual.ensures) (subst R c.self.view_is (taken.all_still_wait g.J.GroupNames.warehouses c.self.inside.w_id c.self.inside.locks.items c.self.inside.waiters.items c.self.invariant.0 c.self.invariant.1 stay))
 
 pub grant_all-requires-clause-open : goal.grant_all-requires-clause-open
 grant_all-requires-clause-open g c =
     let next = c.in_ok-index.field-0 in
     let locks = c.self.inside.locks.items in
-    let t = taken.taken_from g.J.Naming.warehouses c.self.inside.w_id locks c.deref.result.now c.self.inside.waiters.items c.deref-2.result.now c.remove.new.self.items c.remove.result next c.deref.ensures.value c.deref-2.ensures.value c.self.invariant.0 c.self.invariant.1 c.in_ok-index.ensures.next c.remove.ensures.value c.remove.ensures.items in
+    let t = taken.taken_from g.J.GroupNames.warehouses c.self.inside.w_id locks c.deref.result.now c.self.inside.waiters.items c.deref-2.result.now c.remove.new.self.items c.remove.result next c.deref.ensures.value c.deref-2.ensures.value c.self.invariant.0 c.self.invariant.1 c.in_ok-index.ensures.next c.remove.ensures.value c.remove.ensures.items in
     let wants : c.remove.result.wants ≡ c.deref-in-Free.result.now = sym (ap (λ (q : Parked). q.wants) c.wants.view_is) ∙ sym c.deref-in-Free.ensures.value in
     let P : List Want → Type 0 = λ ws. IsRuling next.by.age c.deref_mut.result.now (flat_map spots_of ws) Free in
     let Q : List Locked → Type 0 = λ ls. IsRuling next.by.age ls (flat_map spots_of c.remove.result.wants) Free in
     asks.all_open next.by.age c.deref_mut.result.now (flat_map spots_of c.deref-in-Free.result.now)
-    (subst P wants (subst Q (sym c.deref_mut.ensures.value) (taken.said_taken g.J.Naming.warehouses c.self.inside.w_id locks c.self.inside.waiters.items c.remove.new.self.items c.remove.result next Free t c.in-Free.is)))
+    (subst P wants (subst Q (sym c.deref_mut.ensures.value) (taken.said_taken g.J.GroupNames.warehouses c.self.inside.w_id locks c.self.inside.waiters.items c.remove.new.self.items c.remove.result next Free t c.in-Free.is)))
 
 pub grant_all-requires-clause-once : goal.grant_all-requires-clause-once
 grant_all-requires-clause-once g c =
     let next = c.in_ok-index.field-0 in
     let locks = c.self.inside.locks.items in
-    let t = taken.taken_from g.J.Naming.warehouses c.self.inside.w_id locks c.deref.result.now c.self.inside.waiters.items c.deref-2.result.now c.remove.new.self.items c.remove.result next c.deref.ensures.value c.deref-2.ensures.value c.self.invariant.0 c.self.invariant.1 c.in_ok-index.ensures.next c.remove.ensures.value c.remove.ensures.items in
+    let t = taken.taken_from g.J.GroupNames.warehouses c.self.inside.w_id locks c.deref.result.now c.self.inside.waiters.items c.deref-2.result.now c.remove.new.self.items c.remove.result next c.deref.ensures.value c.deref-2.ensures.value c.self.invariant.0 c.self.invariant.1 c.in_ok-index.ensures.next c.remove.ensures.value c.remove.ensures.items in
     let wants : c.remove.result.wants ≡ c.deref-in-Free.result.now = sym (ap (λ (q : Parked). q.wants) c.wants.view_is) ∙ sym c.deref-in-Free.ensures.value in
-    let is = taken.parked_taken g.J.Naming.warehouses c.self.inside.w_id locks c.self.inside.waiters.items c.remove.new.self.items c.remove.result next t in
+    let is = taken.parked_taken g.J.GroupNames.warehouses c.self.inside.w_id locks c.self.inside.waiters.items c.remove.new.self.items c.remove.result next t in
     let P : List Want → Type 0 = λ ws. AllPairs AreElsewhere (flat_map spots_of ws) in
-    subst P wants (places_apart g.J.Naming.warehouses c.self.inside.w_id locks c.remove.result.wants c.self.invariant.0 is.can.own is.can.once)
+    subst P wants (places_apart g.J.GroupNames.warehouses c.self.inside.w_id locks c.remove.result.wants c.self.invariant.0 is.can.own is.can.once)
 
 pub grant_all-requires-clause-room : goal.grant_all-requires-clause-room
 grant_all-requires-clause-room g c =
     let next = c.in_ok-index.field-0 in
     let locks = c.self.inside.locks.items in
-    let t = taken.taken_from g.J.Naming.warehouses c.self.inside.w_id locks c.deref.result.now c.self.inside.waiters.items c.deref-2.result.now c.remove.new.self.items c.remove.result next c.deref.ensures.value c.deref-2.ensures.value c.self.invariant.0 c.self.invariant.1 c.in_ok-index.ensures.next c.remove.ensures.value c.remove.ensures.items in
+    let t = taken.taken_from g.J.GroupNames.warehouses c.self.inside.w_id locks c.deref.result.now c.self.inside.waiters.items c.deref-2.result.now c.remove.new.self.items c.remove.result next c.deref.ensures.value c.deref-2.ensures.value c.self.invariant.0 c.self.invariant.1 c.in_ok-index.ensures.next c.remove.ensures.value c.remove.ensures.items in
     let wants : c.remove.result.wants ≡ c.deref-in-Free.result.now = sym (ap (λ (q : Parked). q.wants) c.wants.view_is) ∙ sym c.deref-in-Free.ensures.value in
-    let room = taken.room_taken g.J.Naming.warehouses c.self.inside.w_id locks c.self.inside.waiters.items c.remove.new.self.items c.remove.result next t in
+    let room = taken.room_taken g.J.GroupNames.warehouses c.self.inside.w_id locks c.self.inside.waiters.items c.remove.new.self.items c.remove.result next t in
     let long : length (flat_map spots_of c.remove.result.wants) ≡ length (flat_map spots_of c.deref-in-Free.result.now) = ap (λ (ws : List Want). length (flat_map spots_of ws)) wants in
     let capacity = ap (λ (q : Parked). q.room) c.wants.view_is in
     let none = ap length c.wants.invariant in
@@ -64,12 +64,12 @@ pub invariant_of-self : goal.invariant_of-self
 invariant_of-self g c =
     let next = c.in_ok-index.field-0 in
     let locks = c.self.inside.locks in
-    let t = taken.taken_from g.J.Naming.warehouses c.self.inside.w_id locks.items c.deref.result.now c.self.inside.waiters.items c.deref-2.result.now c.remove.new.self.items c.remove.result next c.deref.ensures.value c.deref-2.ensures.value c.self.invariant.0 c.self.invariant.1 c.in_ok-index.ensures.next c.remove.ensures.value c.remove.ensures.items in
+    let t = taken.taken_from g.J.GroupNames.warehouses c.self.inside.w_id locks.items c.deref.result.now c.self.inside.waiters.items c.deref-2.result.now c.remove.new.self.items c.remove.result next c.deref.ensures.value c.deref-2.ensures.value c.self.invariant.0 c.self.invariant.1 c.in_ok-index.ensures.next c.remove.ensures.value c.remove.ensures.items in
     let wanted = flat_map spots_of c.deref-in-Free.result.now in
-    let long : length c.grant_all.new.locks ≡ length locks.items = same_length g.J.Naming.warehouses next.by wanted c.deref_mut.result.now c.grant_all.new.locks c.grant_all.ensures.granted ∙ ap length c.deref_mut.ensures.value in (
-      asks.still_locks g.J.Naming.warehouses c.self.inside.w_id next.by wanted locks.items c.deref_mut.result.now c.grant_all.new.locks (take locks.len (c.grant_all.new.locks ++ drop (length c.grant_all.new.locks) locks.items))
+    let long : length c.grant_all.new.locks ≡ length locks.items = same_length g.J.GroupNames.warehouses next.by wanted c.deref_mut.result.now c.grant_all.new.locks c.grant_all.ensures.granted ∙ ap length c.deref_mut.ensures.value in (
+      asks.still_locks g.J.GroupNames.warehouses c.self.inside.w_id next.by wanted locks.items c.deref_mut.result.now c.grant_all.new.locks (take locks.len (c.grant_all.new.locks ++ drop (length c.grant_all.new.locks) locks.items))
           c.deref_mut.ensures.value (asks.refilled locks.len locks.items c.grant_all.new.locks locks.ok.0 long) c.self.invariant.0 c.grant_all.ensures.granted,
-      taken.rest_parked g.J.Naming.warehouses c.self.inside.w_id locks.items c.self.inside.waiters.items c.remove.new.self.items c.remove.result next t,
+      taken.rest_parked g.J.GroupNames.warehouses c.self.inside.w_id locks.items c.self.inside.waiters.items c.remove.new.self.items c.remove.result next t,
     )
 
 pub returns-in-Free-clause-turn : goal.returns-in-Free-clause-turn
@@ -79,27 +79,27 @@ returns-in-Free-clause-turn g c =
     let p = c.remove.result in
     let rest = c.remove.new.self.items in
     let waiters = c.self.inside.waiters.items in
-    let t = taken.taken_from g.J.Naming.warehouses c.self.inside.w_id locks.items c.deref.result.now waiters c.deref-2.result.now rest p next c.deref.ensures.value c.deref-2.ensures.value c.self.invariant.0 c.self.invariant.1 c.in_ok-index.ensures.next c.remove.ensures.value c.remove.ensures.items in
+    let t = taken.taken_from g.J.GroupNames.warehouses c.self.inside.w_id locks.items c.deref.result.now waiters c.deref-2.result.now rest p next c.deref.ensures.value c.deref-2.ensures.value c.self.invariant.0 c.self.invariant.1 c.in_ok-index.ensures.next c.remove.ensures.value c.remove.ensures.items in
     let wants : c.deref-in-Free.result.now ≡ p.wants = c.deref-in-Free.ensures.value ∙ ap (λ (q : Parked). q.wants) c.wants.view_is in
     let wanted = flat_map spots_of c.deref-in-Free.result.now in
     let back = take locks.len (c.grant_all.new.locks ++ drop (length c.grant_all.new.locks) locks.items) in
-    let long : length c.grant_all.new.locks ≡ length locks.items = same_length g.J.Naming.warehouses next.by wanted c.deref_mut.result.now c.grant_all.new.locks c.grant_all.ensures.granted ∙ ap length c.deref_mut.ensures.value in
-    let is = taken.parked_taken g.J.Naming.warehouses c.self.inside.w_id locks.items waiters rest p next t in
+    let long : length c.grant_all.new.locks ≡ length locks.items = same_length g.J.GroupNames.warehouses next.by wanted c.deref_mut.result.now c.grant_all.new.locks c.grant_all.ensures.granted ∙ ap length c.deref_mut.ensures.value in
+    let is = taken.parked_taken g.J.GroupNames.warehouses c.self.inside.w_id locks.items waiters rest p next t in
     let P : List Want → Type 0 = λ ws. c.grant_all.new.claims.items ≡ c.wants.inside.room.items ++ map (claim_at (map stand_in c.deref_mut.result.now)) (flat_map spots_of ws) in
-    let Q : List Want → Type 0 = λ ws. AreGranted g.J.Naming.warehouses next.by (flat_map spots_of ws) c.deref_mut.result.now c.grant_all.new.locks in (
+    let Q : List Want → Type 0 = λ ws. AreGranted g.J.GroupNames.warehouses next.by (flat_map spots_of ws) c.deref_mut.result.now c.grant_all.new.locks in (
       p.wants,
-      taken.turn_taken g.J.Naming.warehouses c.self.inside.w_id c.args.self.now locks.items back waiters rest p next c.self.view_is t,
-      asks.answered_free g.J.Naming.warehouses c.self.inside.w_id next.by p.wants c.args.self.now locks.items c.deref_mut.result.now c.grant_all.new.locks back waiters rest c.wants.inside.room.items c.grant_all.new.claims.items c.self.view_is
+      taken.turn_taken g.J.GroupNames.warehouses c.self.inside.w_id c.args.self.now locks.items back waiters rest p next c.self.view_is t,
+      asks.answered_free g.J.GroupNames.warehouses c.self.inside.w_id next.by p.wants c.args.self.now locks.items c.deref_mut.result.now c.grant_all.new.locks back waiters rest c.wants.inside.room.items c.grant_all.new.claims.items c.self.view_is
           c.deref_mut.ensures.value (asks.refilled locks.len locks.items c.grant_all.new.locks locks.ok.0 long) c.wants.invariant c.self.invariant.0 is.can.own
-          (taken.said_taken g.J.Naming.warehouses c.self.inside.w_id locks.items waiters rest p next Free t c.in-Free.is) (subst P wants c.grant_all.ensures.claims) (subst Q wants c.grant_all.ensures.granted),
+          (taken.said_taken g.J.GroupNames.warehouses c.self.inside.w_id locks.items waiters rest p next Free t c.in-Free.is) (subst P wants c.grant_all.ensures.claims) (subst Q wants c.grant_all.ensures.granted),
     )
 
 pub index-requires : goal.index-requires
 index-requires g c =
     let next = c.in_ok-index.field-0 in
     let locks = c.self.inside.locks in
-    let t = taken.taken_from g.J.Naming.warehouses c.self.inside.w_id locks.items c.deref.result.now c.self.inside.waiters.items c.deref-2.result.now c.remove.new.self.items c.remove.result next c.deref.ensures.value c.deref-2.ensures.value c.self.invariant.0 c.self.invariant.1 c.in_ok-index.ensures.next c.remove.ensures.value c.remove.ensures.items in
-    let death = taken.death_taken g.J.Naming.warehouses c.self.inside.w_id c.args.self.now locks.items c.self.inside.waiters.items c.remove.new.self.items c.remove.result next c.in-Dies.number c.in-Dies.holder asks.no_lock c.self.view_is t c.in-Dies.is in
+    let t = taken.taken_from g.J.GroupNames.warehouses c.self.inside.w_id locks.items c.deref.result.now c.self.inside.waiters.items c.deref-2.result.now c.remove.new.self.items c.remove.result next c.deref.ensures.value c.deref-2.ensures.value c.self.invariant.0 c.self.invariant.1 c.in_ok-index.ensures.next c.remove.ensures.value c.remove.ensures.items in
+    let death = taken.death_taken g.J.GroupNames.warehouses c.self.inside.w_id c.args.self.now locks.items c.self.inside.waiters.items c.remove.new.self.items c.remove.result next c.in-Dies.number c.in-Dies.holder asks.no_lock c.self.view_is t c.in-Dies.is in
     let count = locks.ok.0 in
     omega (arith, death.0, count)
 
@@ -107,8 +107,8 @@ pub invariant_of-self-in-Dies : goal.invariant_of-self-in-Dies
 invariant_of-self-in-Dies g c =
     let next = c.in_ok-index.field-0 in
     let locks = c.self.inside.locks.items in
-    let t = taken.taken_from g.J.Naming.warehouses c.self.inside.w_id locks c.deref.result.now c.self.inside.waiters.items c.deref-2.result.now c.remove.new.self.items c.remove.result next c.deref.ensures.value c.deref-2.ensures.value c.self.invariant.0 c.self.invariant.1 c.in_ok-index.ensures.next c.remove.ensures.value c.remove.ensures.items in
-    (c.self.invariant.0, taken.rest_parked g.J.Naming.warehouses c.self.inside.w_id locks c.self.inside.waiters.items c.remove.new.self.items c.remove.result next t)
+    let t = taken.taken_from g.J.GroupNames.warehouses c.self.inside.w_id locks c.deref.result.now c.self.inside.waiters.items c.deref-2.result.now c.remove.new.self.items c.remove.result next c.deref.ensures.value c.deref-2.ensures.value c.self.invariant.0 c.self.invariant.1 c.in_ok-index.ensures.next c.remove.ensures.value c.remove.ensures.items in
+    (c.self.invariant.0, taken.rest_parked g.J.GroupNames.warehouses c.self.inside.w_id locks c.self.inside.waiters.items c.remove.new.self.items c.remove.result next t)
 
 pub returns-in-Dies-clause-turn : goal.returns-in-Dies-clause-turn
 returns-in-Dies-clause-turn g c =
@@ -117,12 +117,12 @@ returns-in-Dies-clause-turn g c =
     let p = c.remove.result in
     let rest = c.remove.new.self.items in
     let waiters = c.self.inside.waiters.items in
-    let t = taken.taken_from g.J.Naming.warehouses c.self.inside.w_id locks c.deref.result.now waiters c.deref-2.result.now rest p next c.deref.ensures.value c.deref-2.ensures.value c.self.invariant.0 c.self.invariant.1 c.in_ok-index.ensures.next c.remove.ensures.value c.remove.ensures.items in
-    let death = taken.death_taken g.J.Naming.warehouses c.self.inside.w_id c.args.self.now locks waiters rest p next c.in-Dies.number c.in-Dies.holder c.index.result.now c.self.view_is t c.in-Dies.is in
+    let t = taken.taken_from g.J.GroupNames.warehouses c.self.inside.w_id locks c.deref.result.now waiters c.deref-2.result.now rest p next c.deref.ensures.value c.deref-2.ensures.value c.self.invariant.0 c.self.invariant.1 c.in_ok-index.ensures.next c.remove.ensures.value c.remove.ensures.items in
+    let death = taken.death_taken g.J.GroupNames.warehouses c.self.inside.w_id c.args.self.now locks waiters rest p next c.in-Dies.number c.in-Dies.holder c.index.result.now c.self.view_is t c.in-Dies.is in
     let same : (get_or locks c.in-Dies.number c.index.result.now).ticket_box.group ≡ c.group.result = ap (λ (l : Locked). l.ticket_box.group) (sym c.index.ensures) ∙ sym c.group.ensures in
     let P : Group → Type 0 = λ group. MustDie c.args.self.now.holdings next.by.age p.wants group c.in-Dies.holder in (
       p.wants,
-      taken.turn_taken g.J.Naming.warehouses c.self.inside.w_id c.args.self.now locks locks waiters rest p next c.self.view_is t,
+      taken.turn_taken g.J.GroupNames.warehouses c.self.inside.w_id c.args.self.now locks locks waiters rest p next c.self.view_is t,
       subst P same death.1,
       ap (λ (u : Locking). record u { waiters = map waiting_of rest }) c.self.view_is,
     )

@@ -26,9 +26,9 @@ invariant_of-result g c =
     let rest = c.loop-ticket_box.ticket_box-iterator.rest in
     let none : rest.items ≡ [] = none_left rest.items (let long = rest.ok in omega (arith, c.in-None.ensures.steps.0, long)) in
     let all = all_opened c.args.boxes.items rest.items c.loop-ticket_box.locks.items c.loop-ticket_box.invariant.boxes none in
-    let P : List Locked → Type 0 = λ ls. AreLocksOf g.J.Naming.warehouses c.args.w_id ls in
-    let Q : List Parked → Type 0 = λ ws. All (IsParked g.J.Naming.warehouses c.args.w_id) ws in
-    (subst P (sym all) (opened_locks g.J.Naming.warehouses c.args.w_id c.args.boxes.items c.requires), subst Q (sym c.new-2.ensures.items) (All-nil (IsParked g.J.Naming.warehouses c.args.w_id)))
+    let P : List Locked → Type 0 = λ ls. AreLocksOf g.J.GroupNames.warehouses c.args.w_id ls in
+    let Q : List Parked → Type 0 = λ ws. All (IsParked g.J.GroupNames.warehouses c.args.w_id) ws in
+    (subst P (sym all) (opened_locks g.J.GroupNames.warehouses c.args.w_id c.args.boxes.items c.requires), subst Q (sym c.new-2.ensures.items) (All-nil (IsParked g.J.GroupNames.warehouses c.args.w_id)))
 
 pub returns : goal.returns
 returns g c =

@@ -87,11 +87,11 @@ returns g c =
     let told : c.in-Granted-2.read.items ≡ y ∷ [] = one_granted reader (c.one-want-2.result ∷ []) payments Shared c.give_back.new.self c.ask-2.new.self c.in-Granted-2.read.items is said.0 in
     let one : c.index_mut-3.result.now ≡ y = only_one c.in-Granted-2.read.items y c.index_mut-3.result.now told c.index_mut-3.ensures.value in
     let home : c.leave.new.self.w_id ≡ 1 = ap (λ (t : Locking). t.w_id) c.leave.ensures.table ∙ first.0.w_id ∙ c.requires.here in
-    let known : IsGroupOf g.J.Naming.warehouses payments = subst (λ w. IsGroupOf w payments) (sym c.requires.known) here in
+    let known : IsGroupOf g.J.GroupNames.warehouses payments = subst (λ w. IsGroupOf w payments) (sym c.requires.known) here in
     let stands = said.0.stands ∙ c.give_back.ensures.stands ∙ ap (λ (t : Locking). all_kept_after (set (set c.in-Granted.claims.items 0 c.leave.new.claim) 0 c.undo.new.claim) t.stands) undone in
     let tells : c.look.new.claim.told ≡ before =
     ap (λ (k : Claiming). k.told) c.look.ensures.same.1 ∙ c.look.ensures.told
     ∙ ap (λ (k : Claiming). left_in c.ask-2.new.self.stands k.group) one
     ∙ ap (λ (ss : List Stand). left_in ss payments) stands
-    ∙ left_back g.J.Naming.warehouses c.leave.new.self.w_id c.leave.new.self.stands payments before (set (set c.in-Granted.claims.items 0 c.leave.new.claim) 0 c.undo.new.claim) c.agree.ensures.stands known (sym home) in
+    ∙ left_back g.J.GroupNames.warehouses c.leave.new.self.w_id c.leave.new.self.stands payments before (set (set c.in-Granted.claims.items 0 c.leave.new.claim) 0 c.undo.new.claim) c.agree.ensures.stands known (sym home) in
     subst (All (Tells before)) (sym (only_set c.in-Granted-2.read.items y c.look.new.claim told)) (All-cons (Tells before) c.look.new.claim [] tells (All-nil (Tells before)))

@@ -128,12 +128,12 @@ returns g c =
     let wrote : c.index_mut.result.now ≡ x = only_one c.in-Granted.claims.items x c.index_mut.result.now granted c.index_mut.ensures.value in
     let left : c.leave.new.self ≡ leaving_in c.ask.new.self payments gone = c.leave.ensures.table ∙ ap (λ (k : Claiming). leaving_in c.ask.new.self k.group gone) wrote in
     let home : c.ask.new.self.w_id ≡ 1 = first.0.w_id ∙ c.in_ok-table.ensures.here in
-    let known : IsGroupOf g.J.Naming.warehouses payments = subst (λ w. IsGroupOf w payments) (sym c.requires.known) here in
+    let known : IsGroupOf g.J.GroupNames.warehouses payments = subst (λ w. IsGroupOf w payments) (sym c.requires.known) here in
     let stood = ap (λ (t : Locking). t.stands) (c.in-None.ensures.same ∙ waits.1) ∙ ap (λ (t : Locking). t.stands) left in
     let stands = grants.stands ∙ c.give_back.ensures.stands ∙ ap (λ (ss : List Stand). all_kept_after (take c.in-Granted.claims.len (c.settle_all.new.claims ++ drop (length c.settle_all.new.claims) (set c.in-Granted.claims.items 0 c.leave.new.claim))) ss) stood in
     let tells : c.look.new.claim.told ≡ gone =
     ap (λ (k : Claiming). k.told) c.look.ensures.same.1 ∙ c.look.ensures.told
     ∙ ap (λ (k : Claiming). left_in c.next_grant-2.new.self.stands k.group) one
     ∙ ap (λ (ss : List Stand). left_in ss payments) stands
-    ∙ left_back g.J.Naming.warehouses c.ask.new.self.w_id c.ask.new.self.stands payments gone (take c.in-Granted.claims.len (c.settle_all.new.claims ++ drop (length c.settle_all.new.claims) (set c.in-Granted.claims.items 0 c.leave.new.claim))) c.agree.ensures.stands known (sym home) in
+    ∙ left_back g.J.GroupNames.warehouses c.ask.new.self.w_id c.ask.new.self.stands payments gone (take c.in-Granted.claims.len (c.settle_all.new.claims ++ drop (length c.settle_all.new.claims) (set c.in-Granted.claims.items 0 c.leave.new.claim))) c.agree.ensures.stands known (sym home) in
     subst (All (Tells gone)) (sym (only_set c.in-Some-Granted.read.items y c.look.new.claim told)) (All-cons (Tells gone) c.look.new.claim [] tells (All-nil (Tells gone)))

@@ -21,7 +21,7 @@ invariant_of-result g c =
     let grounds = c.loop-ticket_box.grounds.items in
     let none : c.loop-ticket_box.ticket_box-iterator.rest.items ≡ [] = none_left c.loop-ticket_box.ticket_box-iterator.rest.items (let long = c.loop-ticket_box.ticket_box-iterator.rest.ok in omega (arith, c.in-None.ensures.steps.0, long)) in
     let all = sym (append-nil (map box_of grounds)) ∙ sym (ap (λ l. map box_of grounds ++ l) none) ∙ c.loop-ticket_box.invariant.boxes in
-    subst (λ (p : Part). IsSlice g.J.Naming.warehouses p grounds) (sym c.in_ok-rows.ensures)
+    subst (λ (p : Part). IsSlice g.J.GroupNames.warehouses p grounds) (sym c.in_ok-rows.ensures)
     (record { many = sym c.requires.warehouses; grounded = opened_grounds c.args.partition c.args.boxes.items grounds c.requires.boxes all c.loop-ticket_box.invariant.idle })
 
 pub returns : goal.returns

@@ -19,16 +19,16 @@ always_err (Err e) p = p
 
 -- only room was made
 roomy : (g : given.Over) (c : After-make_room g)
-    → IsSlice g.J.Naming.warehouses c.self.inside.rows (set c.self.inside.grounds.items c.place_of_claim.result c.make_room.new.self)
+    → IsSlice g.J.GroupNames.warehouses c.self.inside.rows (set c.self.inside.grounds.items c.place_of_claim.result c.make_room.new.self)
     × (sliced c.self.inside.rows (set c.self.inside.grounds.items c.place_of_claim.result c.make_room.new.self) ≡ c.args.self.now)
 roomy g c =
-    let room = room_keeps g.J.Naming.warehouses c.self.inside.rows c.self.inside.grounds.items c.args.claim.now.group c.place_of_claim.result c.index_mut-ground.result.now c.make_room.new.self
+    let room = room_keeps g.J.GroupNames.warehouses c.self.inside.rows c.self.inside.grounds.items c.args.claim.now.group c.place_of_claim.result c.index_mut-ground.result.now c.make_room.new.self
     c.self.invariant c.place_of_claim.ensures.known c.place_of_claim.ensures.place c.index_mut-ground.ensures.value c.make_room.ensures.ticket_box c.make_room.ensures.undo in
     (room.0, room.1 ∙ c.self.view_is)
 
 -- the step was done, and what takes it back is kept
 written : (g : given.Over) (c : goal.After-self-2-1 g)
-    → IsWritten g.J.Naming.warehouses c.self.inside.rows c.run.new.rows c.self.inside.grounds.items (set c.self.inside.grounds.items c.place_of_claim.result c.leave.new.self) c.args.claim.now c.leave.new.claim (g.S.Step.changed c.args.step c.args.claim.now.left)
+    → IsWritten g.J.GroupNames.warehouses c.self.inside.rows c.run.new.rows c.self.inside.grounds.items (set c.self.inside.grounds.items c.place_of_claim.result c.leave.new.self) c.args.claim.now c.leave.new.claim (g.S.Step.changed c.args.step c.args.claim.now.left)
 written g c =
     let p : Part = c.self.inside.rows in
     let possible = subst (λ (s : Sliced). g.S.Step.is_possible c.args.step (part_in s)) (sym c.self.view_is) c.requires.possible in
@@ -37,7 +37,7 @@ written g c =
     let step = subst (λ (group : Group). IsStep group change c.in_ok-kept.kept p c.run.new.rows) (sym c.requires.group) c.in_ok-kept.ensures.step in
     let e = c.leave.ensures in
     let has = ap (λ (r : Part). content r.tables c.group.result) c.partition-2.ensures.rows in
-    put_keeps g.J.Naming.warehouses p c.run.new.rows c.self.inside.grounds.items c.place_of_claim.result c.index_mut-ground.result.now c.make_room.new.self c.leave.new.self c.args.claim.now c.leave.new.claim c.group.result c.in_ok-kept.kept change
+    put_keeps g.J.GroupNames.warehouses p c.run.new.rows c.self.inside.grounds.items c.place_of_claim.result c.index_mut-ground.result.now c.make_room.new.self c.leave.new.self c.args.claim.now c.leave.new.claim c.group.result c.in_ok-kept.kept change
     c.self.invariant c.place_of_claim.ensures.known near c.place_of_claim.ensures.place c.index_mut-ground.ensures.value c.make_room.ensures.ticket_box c.make_room.ensures.undo step c.group.ensures c.requires.exclusive
     e.left e.out (e.claim ∙ ap (leaving c.args.claim.now) has) (e.ticket_box ∙ ap (with_left c.make_room.new.self.ticket_box) has) e.undo
 
@@ -49,7 +49,7 @@ returns-in_err-make_room-clause-err g c = always_err c.from_residual.result ((ro
 
 pub invariant_of-self-in_err-kept : goal.invariant_of-self-in_err-kept
 invariant_of-self-in_err-kept g c =
-    subst (λ (p : Part). IsSlice g.J.Naming.warehouses p (set c.self.inside.grounds.items c.place_of_claim.result c.make_room.new.self)) (sym c.in_err-kept.ensures.err)
+    subst (λ (p : Part). IsSlice g.J.GroupNames.warehouses p (set c.self.inside.grounds.items c.place_of_claim.result c.make_room.new.self)) (sym c.in_err-kept.ensures.err)
     (roomy g (goal.at.invariant_of-self-in_err-kept g c).After-make_room).0
 
 pub returns-in_err-kept-clause-err : goal.returns-in_err-kept-clause-err

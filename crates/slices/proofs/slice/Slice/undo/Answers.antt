@@ -9,11 +9,11 @@ use Rattle.slices.proofs.slice.Slice.undo.Goals.{After-undo}
 
 -- all that was done is taken back
 undone : (g : given.Over) (c : After-undo g)
-    → IsWritten g.J.Naming.warehouses c.self.inside.rows c.undo.new.rows c.self.inside.grounds.items (set c.self.inside.grounds.items c.place_of_claim.result c.undo.new.self) c.args.claim.now c.undo.new.claim c.args.claim.now.back
+    → IsWritten g.J.GroupNames.warehouses c.self.inside.rows c.undo.new.rows c.self.inside.grounds.items (set c.self.inside.grounds.items c.place_of_claim.result c.undo.new.self) c.args.claim.now c.undo.new.claim c.args.claim.now.back
 undone g c =
     let near = c.requires.home ∙ sym (ap (λ (s : Sliced). s.home) c.self.view_is) in
     let e = c.undo.ensures in
-    undo_keeps g.J.Naming.warehouses c.self.inside.rows c.undo.new.rows c.self.inside.grounds.items c.place_of_claim.result c.index_mut-ground.result.now c.undo.new.self c.args.claim.now c.undo.new.claim c.self.invariant c.place_of_claim.ensures.known near c.place_of_claim.ensures.place
+    undo_keeps g.J.GroupNames.warehouses c.self.inside.rows c.undo.new.rows c.self.inside.grounds.items c.place_of_claim.result c.index_mut-ground.result.now c.undo.new.self c.args.claim.now c.undo.new.claim c.self.invariant c.place_of_claim.ensures.known near c.place_of_claim.ensures.place
     c.index_mut-ground.ensures.value e.rows c.requires.exclusive e.back e.claim e.ticket_box e.undo
 
 pub invariant_of-self : goal.invariant_of-self

@@ -12,15 +12,15 @@ pub give-requires-clause-beside : goal.give-requires-clause-beside
 give-requires-clause-beside g c =
     let shared : c.self.inside.mode ≡ Shared = search rules in
     let here = is_sharing _ _ _ _ _ _ _ c.self.invariant.0 shared in
-    let spent = spent_pop (g.J.Naming.committed c.self.inside.group) (g.J.Naming.work c.self.inside.group) _ c.pop.new.self.items (c.in-Some.tickets, c.in-Some.work) c.self.invariant.1.1 c.in-Some.ensures.items in
+    let spent = spent_pop (g.J.GroupNames.committed c.self.inside.group) (g.J.GroupNames.work c.self.inside.group) _ c.pop.new.self.items (c.in-Some.tickets, c.in-Some.work) c.self.invariant.1.1 c.in-Some.ensures.items in
     spent.1.0.0 ∙ sym (ap (λ t. t.agreement) here.0)
 
 pub give-requires-2-clause-beside : goal.give-requires-2-clause-beside
 give-requires-2-clause-beside g c =
     let shared : c.self.inside.mode ≡ Shared = search rules in
     let here = is_sharing _ _ _ _ _ _ _ c.self.invariant.0 shared in
-    let spent = spent_pop (g.J.Naming.committed c.self.inside.group) (g.J.Naming.work c.self.inside.group) _ c.pop.new.self.items (c.in-Some.tickets, c.in-Some.work) c.self.invariant.1.1 c.in-Some.ensures.items in
-    let changed : c.change.new.self ≡ work_seat (g.J.Naming.work c.self.inside.group) (untouched Exclusive c.self.inside.tickets.value.content) (9 - c.self.inside.shared) =
+    let spent = spent_pop (g.J.GroupNames.committed c.self.inside.group) (g.J.GroupNames.work c.self.inside.group) _ c.pop.new.self.items (c.in-Some.tickets, c.in-Some.work) c.self.invariant.1.1 c.in-Some.ensures.items in
+    let changed : c.change.new.self ≡ work_seat (g.J.GroupNames.work c.self.inside.group) (untouched Exclusive c.self.inside.tickets.value.content) (9 - c.self.inside.shared) =
     c.change.ensures ∙ ap (λ t. with_value t (untouched Exclusive t.value.left)) here.1 in
     spent.1.1.0 ∙ sym (ap (λ t. t.agreement) changed)
 
@@ -28,8 +28,8 @@ pub invariant_of-result : goal.invariant_of-result
 invariant_of-result g c =
     let shared : c.self.inside.mode ≡ Shared = search rules in
     let here = is_sharing _ _ _ _ _ _ _ c.self.invariant.0 shared in
-    let spent = spent_pop (g.J.Naming.committed c.self.inside.group) (g.J.Naming.work c.self.inside.group) _ c.pop.new.self.items (c.in-Some.tickets, c.in-Some.work) c.self.invariant.1.1 c.in-Some.ensures.items in
-    let changed : c.change.new.self ≡ work_seat (g.J.Naming.work c.self.inside.group) (untouched Exclusive c.self.inside.tickets.value.content) (9 - c.self.inside.shared) =
+    let spent = spent_pop (g.J.GroupNames.committed c.self.inside.group) (g.J.GroupNames.work c.self.inside.group) _ c.pop.new.self.items (c.in-Some.tickets, c.in-Some.work) c.self.invariant.1.1 c.in-Some.ensures.items in
+    let changed : c.change.new.self ≡ work_seat (g.J.GroupNames.work c.self.inside.group) (untouched Exclusive c.self.inside.tickets.value.content) (9 - c.self.inside.shared) =
     c.change.ensures ∙ ap (λ t. with_value t (untouched Exclusive t.value.left)) here.1 in (
       holds_claim _ _ c.self.inside.tickets.value.content Exclusive c.give.new.other c.give-2.new.other
           (given _ _ _ 9 _ c.in-Some.tickets c.give.new.other here.0 spent.1.0.1 c.give.ensures.theirs)
@@ -41,8 +41,8 @@ pub invariant_of-self : goal.invariant_of-self
 invariant_of-self g c =
     let shared : c.self.inside.mode ≡ Shared = search rules in
     let here = is_sharing _ _ _ _ _ _ _ c.self.invariant.0 shared in
-    let spent = spent_pop (g.J.Naming.committed c.self.inside.group) (g.J.Naming.work c.self.inside.group) _ c.pop.new.self.items (c.in-Some.tickets, c.in-Some.work) c.self.invariant.1.1 c.in-Some.ensures.items in
-    let changed : c.change.new.self ≡ work_seat (g.J.Naming.work c.self.inside.group) (untouched Exclusive c.self.inside.tickets.value.content) (9 - c.self.inside.shared) =
+    let spent = spent_pop (g.J.GroupNames.committed c.self.inside.group) (g.J.GroupNames.work c.self.inside.group) _ c.pop.new.self.items (c.in-Some.tickets, c.in-Some.work) c.self.invariant.1.1 c.in-Some.ensures.items in
+    let changed : c.change.new.self ≡ work_seat (g.J.GroupNames.work c.self.inside.group) (untouched Exclusive c.self.inside.tickets.value.content) (9 - c.self.inside.shared) =
     c.change.ensures ∙ ap (λ t. with_value t (untouched Exclusive t.value.left)) here.1 in
     let none : c.self.inside.shared ≡ 0 = search rules in
     let tickets = ap (λ t. t.share) here.0 in
@@ -54,7 +54,7 @@ invariant_of-self g c =
           omega (arith, ap (λ t. t.share) c.give.ensures.mine, tickets),
         ),
         (
-          kept ∙ ap (λ w. work_seat (g.J.Naming.work c.self.inside.group) w 1) (sym (ap (λ t. t.value) kept)),
+          kept ∙ ap (λ w. work_seat (g.J.GroupNames.work c.self.inside.group) w 1) (sym (ap (λ t. t.value) kept)),
           ap (λ t. t.value.mode) kept,
         ),
         (none, omega (arith, here.2, none, c.in-Some.ensures.len)),

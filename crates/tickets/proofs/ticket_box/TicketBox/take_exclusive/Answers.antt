@@ -10,10 +10,10 @@ use Rattle.tickets.proofs.ticket_box.TicketBox.take_exclusive.Goals as goal
 
 pub invariant_of-self : goal.invariant_of-self
 invariant_of-self g c =
-    let committed = g.J.Naming.committed c.self.inside.group in
-    let done = g.J.Naming.work c.self.inside.group in
+    let committed = g.J.GroupNames.committed c.self.inside.group in
+    let done = g.J.GroupNames.work c.self.inside.group in
     let group = sym (ap (λ b. b.group) c.self.view_is) in
-    let holds = subst (λ group. HoldsClaim (g.J.Naming.committed group) (g.J.Naming.work group) Exclusive c.args.tickets c.args.work) group c.requires.holds in
+    let holds = subst (λ group. HoldsClaim (g.J.GroupNames.committed group) (g.J.GroupNames.work group) Exclusive c.args.tickets c.args.work) group c.requires.holds in
     let told = mode_told _ _ _ _ _ _ _ c.self.invariant.0 in
     let same = ap (λ w. w.mode) (sym c.gather.ensures.equal) in
     let exclusive : c.self.inside.mode ≡ Exclusive = sym told ∙ same ∙ holds.2 in

@@ -21,18 +21,18 @@ returns-in-None-clause-advances g c =
 pub send_item-requires-clause-room : goal.send_item-requires-clause-room
 send_item-requires-clause-room g c =
     let old = c.args.self.now in
-    has_room (shared_of g.J.Naming-1.opening) _ (record old { outbox = c.take.new.self }) (item_in_hand (shared_of g.J.Naming-1.opening) old c.in-Some.item c.take.new.self c.in-Some.ensures.first c.requires.sound).0
+    has_room (shared_of g.J.LogNames.opening) _ (record old { outbox = c.take.new.self }) (item_in_hand (shared_of g.J.LogNames.opening) old c.in-Some.item c.take.new.self c.in-Some.ensures.first c.requires.sound).0
 
 pub send_item-requires-clause-can : goal.send_item-requires-clause-can
 send_item-requires-clause-can g c =
     let old = c.args.self.now in
-    let hand = item_in_hand (shared_of g.J.Naming-1.opening) old c.in-Some.item c.take.new.self c.in-Some.ensures.first c.requires.sound in
-    can_send g.J.Naming-1.opening (record old { outbox = c.take.new.self }) c.in-Some.item hand.0 hand.1
+    let hand = item_in_hand (shared_of g.J.LogNames.opening) old c.in-Some.item c.take.new.self c.in-Some.ensures.first c.requires.sound in
+    can_send g.J.LogNames.opening (record old { outbox = c.take.new.self }) c.in-Some.item hand.0 hand.1
 
 pub returns-in-Some-clause-sound : goal.returns-in-Some-clause-sound
 returns-in-Some-clause-sound g c =
-    (first_sent (shared_of g.J.Naming-1.opening) c.args.self.now c.send_item.new.self c.in-Some.item c.take.new.self c.send_item.result c.in-Some.ensures.first c.requires.sound c.send_item.ensures.sends c.args.executor).0
+    (first_sent (shared_of g.J.LogNames.opening) c.args.self.now c.send_item.new.self c.in-Some.item c.take.new.self c.send_item.result c.in-Some.ensures.first c.requires.sound c.send_item.ensures.sends c.args.executor).0
 
 pub returns-in-Some-clause-advances : goal.returns-in-Some-clause-advances
 returns-in-Some-clause-advances g c =
-    (first_sent (shared_of g.J.Naming-1.opening) c.args.self.now c.send_item.new.self c.in-Some.item c.take.new.self c.send_item.result c.in-Some.ensures.first c.requires.sound c.send_item.ensures.sends c.args.executor).1
+    (first_sent (shared_of g.J.LogNames.opening) c.args.self.now c.send_item.new.self c.in-Some.item c.take.new.self c.send_item.result c.in-Some.ensures.first c.requires.sound c.send_item.ensures.sends c.args.executor).1

@@ -21,17 +21,17 @@ returns-in_default-clause-advances g c =
 pub work-requires-clause-room : goal.work-requires-clause-room
 work-requires-clause-room g c =
     let old = c.args.self.now in
-    omega (arith, has_room (shared_of g.J.Naming-1.opening) _ (record old { inbox = c.take.new.self }) (message_in_hand (shared_of g.J.Naming-1.opening) old c.in-Some.message c.take.new.self c.in-Some.ensures.first c.requires.sound).0)
+    omega (arith, has_room (shared_of g.J.LogNames.opening) _ (record old { inbox = c.take.new.self }) (message_in_hand (shared_of g.J.LogNames.opening) old c.in-Some.message c.take.new.self c.in-Some.ensures.first c.requires.sound).0)
 
 pub work-requires-clause-can : goal.work-requires-clause-can
 work-requires-clause-can g c =
-    let shared = shared_of g.J.Naming-1.opening in
+    let shared = shared_of g.J.LogNames.opening in
     let hand = message_in_hand shared c.args.self.now c.in-Some.message c.take.new.self c.in-Some.ensures.first c.requires.sound in
     subst (λ s. CanWork s c.in-Some.message) (sym c.requires.sound.shared_is) (can_work shared hand.0.under_way c.in-Some.message hand.1)
 
 pub returns-clause-sound : goal.returns-clause-sound
 returns-clause-sound g c =
-    takes_sound (shared_of g.J.Naming-1.opening) c.args.self.now c.in-Some.message c.take.new.self c.work.new.self c.in-Some.ensures.first c.work.ensures c.requires.sound
+    takes_sound (shared_of g.J.LogNames.opening) c.args.self.now c.in-Some.message c.take.new.self c.work.new.self c.in-Some.ensures.first c.work.ensures c.requires.sound
 
 pub returns-clause-advances : goal.returns-clause-advances
 returns-clause-advances g c =

@@ -12,13 +12,13 @@ use Rattle.world.proofs.Runs.{of_none}
 use Rattle.world.proofs.world.World.close.Goals as goal
 
 pub returns-then-not-is_idle-clause-at_rest : goal.returns-then-not-is_idle-clause-at_rest
-returns-then-not-is_idle-clause-at_rest g c = rests_idle (shared_of g.J.Naming-1.opening) c.self.inside.parts c.args.self c.self.view_is c.self.invariant.0
+returns-then-not-is_idle-clause-at_rest g c = rests_idle (shared_of g.J.LogNames.opening) c.self.inside.parts c.args.self c.self.view_is c.self.invariant.0
 
 pub returns-in-Ok-clause-at_rest : goal.returns-in-Ok-clause-at_rest
-returns-in-Ok-clause-at_rest g c = rests_idle (shared_of g.J.Naming-1.opening) c.self.inside.parts c.args.self c.self.view_is c.self.invariant.0
+returns-in-Ok-clause-at_rest g c = rests_idle (shared_of g.J.LogNames.opening) c.self.inside.parts c.args.self c.self.view_is c.self.invariant.0
 
 pub returns-in-Err-clause-at_rest : goal.returns-in-Err-clause-at_rest
-returns-in-Err-clause-at_rest g c = rests_idle (shared_of g.J.Naming-1.opening) c.self.inside.parts c.args.self c.self.view_is c.self.invariant.0
+returns-in-Err-clause-at_rest g c = rests_idle (shared_of g.J.LogNames.opening) c.self.inside.parts c.args.self c.self.view_is c.self.invariant.0
 
 pub returns-in-Ok-clause-tables : goal.returns-in-Ok-clause-tables
 returns-in-Ok-clause-tables g c opening history f =
@@ -27,7 +27,7 @@ returns-in-Ok-clause-tables g c opening history f =
     let none : is_some w.desk.active ≡ false = c.is_none-is_idle.ensures ∙ ap not c.if-not-is_idle.false in
     let moved : (joined left.result.1 left.result.2.items).tables ≡ (joined_in w).tables =
     ap (λ (s : Shared). (joined s left.result.2.items).tables) left.ensures.catalog ∙ ap (λ (l : List Sliced). (joined w.catalog l).tables) left.ensures.slices in
-    let is = idle_tables (shared_of g.J.Naming-1.opening) w c.self.invariant.0 (of_none w.desk.active none) opening history (subst (λ (v : Parts g.row.J.Denot). Fits opening history v) (sym c.self.view_is) f) in
+    let is = idle_tables (shared_of g.J.LogNames.opening) w c.self.invariant.0 (of_none w.desk.active none) opening history (subst (λ (v : Parts g.row.J.Denot). Fits opening history v) (sym c.self.view_is) f) in
     subst (λ (v : Parts g.row.J.Denot). IsGathered (is_some v.desk.active) (tables_now opening v.log) (Ok c.in-Ok.tables)) c.self.view_is
     (subst (λ b. IsGathered b (tables_now opening w.log) (Ok c.in-Ok.tables)) (sym none) (inl (ap Ok (c.in-Ok.ensures ∙ moved ∙ is))))
 

@@ -12,8 +12,8 @@ returns-in-Ok-clause-tables g c opening history f =
     let w = c.self.inside.parts in
     let none = of_none w.desk.active (sym c.is_some.ensures ∙ c.if-is_some.false) in
     c.in-Ok.ensures ∙ ap (λ (l : List Sliced). (joined w.catalog l).tables) c.deref.ensures.value
-    ∙ idle_tables (shared_of g.J.Naming-1.opening) w c.self.invariant.0 none opening history (subst (λ (v : Parts g.row.J.Denot). Fits opening history v) (sym c.self.view_is) f)
+    ∙ idle_tables (shared_of g.J.LogNames.opening) w c.self.invariant.0 none opening history (subst (λ (v : Parts g.row.J.Denot). Fits opening history v) (sym c.self.view_is) f)
     ∙ ap (λ (v : Parts g.row.J.Denot). tables_now opening v.log) c.self.view_is
 
 pub returns-then-is_some-clause-at_rest : goal.returns-then-is_some-clause-at_rest
-returns-then-is_some-clause-at_rest g c = rests_idle (shared_of g.J.Naming-1.opening) c.self.inside.parts c.args.self.now c.self.view_is c.self.invariant.0
+returns-then-is_some-clause-at_rest g c = rests_idle (shared_of g.J.LogNames.opening) c.self.inside.parts c.args.self.now c.self.view_is c.self.invariant.0

@@ -28,7 +28,7 @@ invariant_of-result g c =
     let cut = c.in_ok-catalog in
     let scale = ap (λ (t : Database). t.scale) c.requires.named.tables_are in
     let slices = cut_slices c.args.tables cut.catalog cut.slices.items c.scale.ensures.within cut.ensures.catalog cut.ensures.slices in (
-      opened_sound (shared_of g.J.Naming-1.opening) c.in_ok-book.lanes.items _ (record { many = omega (arith, c.in_ok-book.lanes.ok.0, c.in_ok-book.ensures.count); each = c.in_ok-book.ensures.sessions })
+      opened_sound (shared_of g.J.LogNames.opening) c.in_ok-book.lanes.items _ (record { many = omega (arith, c.in_ok-book.lanes.ok.0, c.in_ok-book.ensures.count); each = c.in_ok-book.ensures.sessions })
           (cut.ensures.catalog ∙ ap shared_of (sym c.requires.named.tables_are)) slices.0 c.in_ok-inbox.ensures c.in_ok-outbox.ensures refl c.in_ok-sessions.ensures,
       c.requires.named.warehouses ∙ sym (ap (λ s. s.warehouses) scale),
     )

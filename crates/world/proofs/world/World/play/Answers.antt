@@ -1,14 +1,14 @@
 use Rattle.std.proofs.Common.{◌≡◌, ◌∙◌, ◌+◌, ◌++◌, ◌∷◌, [], List, take, drop, ap, refl, sym, subst}
 use Rattle.std.proofs.lemmas.List.{take-append-drop, take_more}
 use Rattle.history.specs.declared.schedule.Scheduled.{Scheduled}
-use Rattle.history.specs.declared.schedule.Told.{Told}
+use Rattle.history.specs.declared.schedule.Output.{Output}
 use Rattle.history.specs.Schedules.{Begins, Plays}
 use Rattle.world.proofs.Runs.{comes_after, no_events}
 use Rattle.world.proofs.Schedules.{begins_after, begins_none, on_err, plays_more}
 use Rattle.world.proofs.world.World.play.Goals as goal
 
-pub returns-in_err-told-clause-err : goal.returns-in_err-told-clause-err
-returns-in_err-told-clause-err g c =
+pub returns-in_err-outputs-clause-err : goal.returns-in_err-outputs-clause-err
+returns-in_err-outputs-clause-err g c =
     on_err c.from_residual.result ([], (begins_none c.args.schedule.now, (refl, no_events c.args.self.now)))
 
 pub returns-in_err-play_item-clause-err : goal.returns-in_err-play_item-clause-err
@@ -26,7 +26,7 @@ returns-in_err-play_item-clause-err g c =
       so_far.0 ++ more.0,
       (
         subst (λ (some : List Scheduled). Begins some (so_far.0 ++ more.0)) whole
-            (begins_after (take i schedule) item (drop (i + 1) schedule) c.loop-item.told.items so_far.0 more.0 so_far.1.0 more.1.0),
+            (begins_after (take i schedule) item (drop (i + 1) schedule) c.loop-item.outputs.items so_far.0 more.0 so_far.1.0 more.1.0),
         comes_after so_far.0 more.0 c.args.self.now c.loop-item.self c.play_item.new.self so_far.1.1 more.1.1,
       ),
     )
@@ -40,15 +40,15 @@ loop-item-preserved g c =
     take_more schedule i item c.loop-item-test.true ∙ ap (λ (s : Scheduled). take i schedule ++ s ∷ []) (sym c.item-item.is) in
     let so_far = c.loop-item.invariant.0 in
     let more = c.in_ok-play_item.ensures.follows in
-    let tellings = more.0 in
+    let added = more.0 in
     let steps = more.1.0 in
-    let played : Plays (take i schedule ++ item ∷ []) (c.loop-item.told.items ++ tellings) (so_far.0 ++ steps) =
-    plays_more (take i schedule) item c.loop-item.told.items tellings so_far.0 steps so_far.1.0 more.1.1.1.0 in (
+    let played : Plays (take i schedule ++ item ∷ []) (c.loop-item.outputs.items ++ added) (so_far.0 ++ steps) =
+    plays_more (take i schedule) item c.loop-item.outputs.items added so_far.0 steps so_far.1.0 more.1.1.1.0 in (
       (
         so_far.0 ++ steps,
         (
-          subst (λ (told : List Told). Plays (take (i + 1) schedule) told (so_far.0 ++ steps)) (sym more.1.1.0)
-              (subst (λ (some : List Scheduled). Plays some (c.loop-item.told.items ++ tellings) (so_far.0 ++ steps)) (sym one_more) played),
+          subst (λ (told : List Output). Plays (take (i + 1) schedule) told (so_far.0 ++ steps)) (sym more.1.1.0)
+              (subst (λ (some : List Scheduled). Plays some (c.loop-item.outputs.items ++ added) (so_far.0 ++ steps)) (sym one_more) played),
           comes_after so_far.0 steps c.args.self.now c.loop-item.self c.play_item.new.self so_far.1.1 more.1.1.1.1,
         ),
       ),

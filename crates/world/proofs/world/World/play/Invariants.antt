@@ -1,4 +1,4 @@
--- What was told of the items so far is played, and its events came about.
+-- What was printed of the items so far is played, and its events came about.
 use Rattle.std.proofs.Common.{List, take}
 use Rattle.history.specs.History.{Step}
 use Rattle.history.specs.Schedules.{EndsQuiet, Plays}
@@ -7,5 +7,5 @@ use Rattle.world.proofs.world.World.play.Given as goal
 
 abbrev pub invariant-loop-item : goal.invariant-loop-item
 invariant-loop-item g l =
-    ((steps : List Step) × (Plays (take l.item-index l.schedule) l.told.items steps × ComeAbout steps l.fn.self l.self))
-    × (EndsQuiet l.told.items → IsAtRest l.self)
+    ((steps : List Step) × (Plays (take l.item-index l.schedule) l.outputs.items steps × ComeAbout steps l.fn.self l.self))
+    × (EndsQuiet l.outputs.items → IsAtRest l.self)

@@ -2,7 +2,7 @@ use Rattle.std.proofs.Common.{List, OnErr, [], ◌∷◌, refl, sym, subst}
 use Rattle.history.specs.History.{Step, step}
 use Rattle.history.specs.Schedules.{Begins, Follows}
 use Rattle.history.specs.declared.schedule.Scheduled.TheVariants as scheduled
-use Rattle.history.specs.declared.schedule.Told.TheVariants as told
+use Rattle.history.specs.declared.schedule.Output.TheVariants as output
 use Rattle.world.specs.Worlds.{ComeAbout}
 use Rattle.world.proofs.Schedules.{begins_all, event_comes, on_err}
 use Rattle.world.proofs.world.World.play_item.Goals as goal
@@ -15,7 +15,7 @@ returns-in_err-push-in-Event-clause-err g c =
     on_err c.from_residual.result (
       steps,
       (
-        subst (λ item. Begins (item ∷ []) steps) (sym c.in-Event.is) (begins_all (scheduled.Event event) (told.Event answer ∷ []) steps (answer, (refl, refl))),
+        subst (λ item. Begins (item ∷ []) steps) (sym c.in-Event.is) (begins_all (scheduled.Event event) (output.Event answer ∷ []) steps (answer, (refl, refl))),
         event_comes event answer c.args.self.now c.step-answer.new.self c.step-answer.ensures.happens c.step-answer.ensures.advances,
       ),
     )
@@ -24,15 +24,15 @@ pub returns-in_ok-push-in-Event-clause-follows : goal.returns-in_ok-push-in-Even
 returns-in_ok-push-in-Event-clause-follows g c =
     let event = c.in-Event.event in
     let answer = c.step-answer.result in
-    let tellings = told.Event answer ∷ [] in
+    let added = output.Event answer ∷ [] in
     let steps = step event answer ∷ [] in (
-      tellings,
+      added,
       (
         steps,
         (
           c.in_ok-push-in-Event.ensures.items,
           (
-            subst (λ item. Follows item tellings steps) (sym c.in-Event.is) (answer, (refl, refl)),
+            subst (λ item. Follows item added steps) (sym c.in-Event.is) (answer, (refl, refl)),
             event_comes event answer c.args.self.now c.step-answer.new.self c.step-answer.ensures.happens c.step-answer.ensures.advances,
           ),
         ),

@@ -1,7 +1,7 @@
--- In each round so far something happened; what was told of them, and what came about.
+-- In each round so far something happened; what was printed of them, and what came about.
 use Rattle.std.proofs.Common.{◌≡◌, ◌++◌, List}
 use Rattle.std.specs.List.{flat_map}
-use Rattle.history.specs.Schedules.{Round, steps_of_round, told_of_round}
+use Rattle.history.specs.Schedules.{Round, steps_of_round, outputs_of_round}
 use Rattle.world.specs.Worlds.{ComeAbout}
 use Rattle.world.proofs.Schedules.{AreRounds}
 use Rattle.world.proofs.world.World.run_rounds.Given as goal
@@ -9,4 +9,4 @@ use Rattle.world.proofs.world.World.run_rounds.Given as goal
 abbrev pub invariant-loop : goal.invariant-loop
 invariant-loop g l =
     (rounds : List Round) × (AreRounds rounds l.counter
-    × ((l.told.items ≡ l.fn.told.items ++ flat_map told_of_round rounds) × ComeAbout (flat_map steps_of_round rounds) l.fn.self l.self))
+    × ((l.outputs.items ≡ l.fn.outputs.items ++ flat_map outputs_of_round rounds) × ComeAbout (flat_map steps_of_round rounds) l.fn.self l.self))

@@ -19,4 +19,4 @@ returns-clause-nothing g c =
 pub returns-clause-busy : goal.returns-clause-busy
 returns-clause-busy g c =
     subst (λ (old : Parts g.row.J.Denot). IsBusyExactly c.args.event.now old c.happen.result) c.self.view_is
-    (busy_exactly (shared_of g.J.Naming-1.opening) c.args.event.now c.self.inside.parts c.happen.new.self c.happen.result c.self.invariant.0 c.happen.ensures.happens)
+    (busy_exactly (shared_of g.J.LogNames.opening) c.args.event.now c.self.inside.parts c.happen.new.self c.happen.result c.self.invariant.0 c.happen.ensures.happens)

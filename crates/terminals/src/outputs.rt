@@ -1,38 +1,42 @@
 ghost use Rattle.std.specs.Prelude.{◌≡◌, ℕ, List, ◌++◌, IfOk, OnOk};
 ghost use Rattle.std.specs.Io.KnownBytes.{Appends};
 ghost use Rattle.files.specs.Written.{csv_text};
-ghost use Rattle.terminals.specs.Tellings.{IsEventAnswer, IsTold, AreTold};
+ghost use Rattle.terminals.specs.Outputs.{IsEventAnswer, IsOutput, AreOutputs};
 
 use crate::answers;
 use files::{FileError, NewRecord, RecordWriter};
-use history::{EventAnswer, Told};
+use history::{EventAnswer, Output};
 use schema::NoMemory;
 use std::alloc::Global;
 use std::io::Write;
 
 /// Writes a record for each thing that is told of a schedule, and gives the sink back. Use a `&mut` to a
 /// sink that is needed after a fault too.
-pub fn write_told<W: Write + Drop>(alloc: Global, sink: W, told: &[Told]) -> Result<W, FileError>
-    ensures { IfOk result (λ full. (rows : List (List (List ℕ))) × AreTold told.now rows × Appends (W.contents sink) (W.contents full) (csv_text rows)) }
+pub fn write_outputs<W: Write + Drop>(
+    alloc: Global,
+    sink: W,
+    told: &[Output],
+) -> Result<W, FileError>
+    ensures { IfOk result (λ full. (rows : List (List (List ℕ))) × AreOutputs told.now rows × Appends (W.contents sink) (W.contents full) (csv_text rows)) }
 {
     let mut writer = RecordWriter::new(sink);
     let mut row = NewRecord::new(alloc);
     for one in told {
         row.clear();
-        put_told(&mut row, one)?;
+        put_output(&mut row, one)?;
         writer.write(&row)?;
     }
     writer.finish()
 }
 
 // Adds the fields of what is told.
-fn put_told(row: &mut NewRecord, told: &Told) -> Result<(), NoMemory>
-    ensures { OnOk result ((fields : List (List ℕ)) × IsTold told.now fields × (row.new ≡ row.old ++ fields)) }
+fn put_output(row: &mut NewRecord, told: &Output) -> Result<(), NoMemory>
+    ensures { OnOk result ((fields : List (List ℕ)) × IsOutput told.now fields × (row.new ≡ row.old ++ fields)) }
 {
     match told {
-        Told::Event(answer) => put_event_answer(row, answer),
-        Told::Quiet => row.push("quiet"),
-        Told::Limit => row.push("limit"),
+        Output::Event(answer) => put_event_answer(row, answer),
+        Output::Quiet => row.push("quiet"),
+        Output::Limit => row.push("limit"),
     }
 }
 

@@ -2,7 +2,7 @@ use std::marker::Brand;
 
 /// Names what a log, its passes and its sessions have in common. It is no data of the program: the call
 /// that opens a log picks it, and whatever belongs to that log has it as a type parameter.
-pub trait Naming {
+pub trait LogNames {
     ghost use Rattle.std.specs.Prelude.{ℕ};
     ghost use Rattle.atomic_table.specs.Seated.{TableId};
     ghost use Rattle.schema.specs.Database.{Database};
@@ -17,7 +17,7 @@ pub trait Naming {
     ghost asks: { ℕ → TableId };
 }
 
-impl Naming for Brand {
+impl LogNames for Brand {
     ghost use Rattle.commit_log.specs.NoTables.{no_tables, no_table};
 
     ghost opening = { no_tables };

@@ -1,8 +1,8 @@
 use super::*;
-use history::{EventAnswer, Told};
+use history::{EventAnswer, Output};
 
-fn answered(session: u32, number: u32, answer: Answer) -> Told {
-    Told::Event(EventAnswer::Answered {
+fn answered(session: u32, number: u32, answer: Answer) -> Output {
+    Output::Event(EventAnswer::Answered {
         session,
         number,
         answer,
@@ -13,14 +13,14 @@ fn answered(session: u32, number: u32, answer: Answer) -> Told {
 fn each_telling_is_written(rt: HostRuntime) -> Result<(), Fail> {
     let reply = shown()?;
     let told = [
-        Told::Event(EventAnswer::Accepted { age: 0 }),
-        Told::Event(EventAnswer::Accepted {
+        Output::Event(EventAnswer::Accepted { age: 0 }),
+        Output::Event(EventAnswer::Accepted {
             age: 18_446_744_073_709_551_615,
         }),
-        Told::Event(EventAnswer::Took),
-        Told::Event(EventAnswer::Sent),
-        Told::Event(EventAnswer::Full),
-        Told::Event(EventAnswer::Logged { place: 16_777_215 }),
+        Output::Event(EventAnswer::Took),
+        Output::Event(EventAnswer::Sent),
+        Output::Event(EventAnswer::Full),
+        Output::Event(EventAnswer::Logged { place: 16_777_215 }),
         answered(
             63,
             4_294_967_295,
@@ -46,11 +46,11 @@ fn each_telling_is_written(rt: HostRuntime) -> Result<(), Fail> {
             }),
         ),
         answered(4, 0, Answer::Refused(Refusal::LogFull)),
-        Told::Event(EventAnswer::Nothing),
-        Told::Quiet,
-        Told::Limit,
+        Output::Event(EventAnswer::Nothing),
+        Output::Quiet,
+        Output::Limit,
     ];
-    let text = write_told(rt.alloc(), Vec::new(rt.alloc()), &told)?;
+    let text = write_outputs(rt.alloc(), Vec::new(rt.alloc()), &told)?;
     let wanted = "accepted,0\n\
                   accepted,18446744073709551615\n\
                   took\n\
@@ -65,26 +65,29 @@ fn each_telling_is_written(rt: HostRuntime) -> Result<(), Fail> {
                   quiet\n\
                   limit\n";
     assert_eq!(rt; text.as_slice(), wanted.as_bytes());
-    let nothing = write_told(rt.alloc(), Vec::new(rt.alloc()), &[])?;
+    let nothing = write_outputs(rt.alloc(), Vec::new(rt.alloc()), &[])?;
     assert!(rt; nothing.is_empty());
     Ok(())
 }
 
 // The bytes are gathered and handed over at the end, so the fault is at the last record.
 #[test]
-fn a_failing_sink_is_a_fault_of_tellings(rt: HostRuntime) {
-    let told = [Told::Event(EventAnswer::Took), Told::Quiet];
+fn a_failing_sink_is_a_fault_of_outputs(rt: HostRuntime) {
+    let told = [Output::Event(EventAnswer::Took), Output::Quiet];
     for room in [0, 1, 10] {
         let fault = FileError::File(FileFault {
             kind: FaultKind::Io,
             record: 2,
         });
         let mut sink = Full { room };
-        assert_eq!(rt; write_told(rt.alloc(), &mut sink, &told).err(), Some(fault));
+        assert_eq!(rt;
+            write_outputs(rt.alloc(), &mut sink, &told).err(),
+            Some(fault)
+        );
         assert_eq!(rt; sink.room, 0);
     }
     let mut sink = Full { room: 11 };
-    assert!(rt; write_told(rt.alloc(), &mut sink, &told).is_ok());
+    assert!(rt; write_outputs(rt.alloc(), &mut sink, &told).is_ok());
 }
 
 // More records than are gathered at once.
@@ -92,10 +95,10 @@ fn a_failing_sink_is_a_fault_of_tellings(rt: HostRuntime) {
 fn a_sink_that_fails_in_the_middle_is_a_fault(rt: HostRuntime) -> Result<(), Fail> {
     let mut told = Vec::new(rt.alloc());
     for _ in 0..5_000 {
-        told.push(Told::Event(EventAnswer::Nothing))?;
+        told.push(Output::Event(EventAnswer::Nothing))?;
     }
     let mut sink = Full { room: 100 };
-    match write_told(rt.alloc(), &mut sink, &told).err() {
+    match write_outputs(rt.alloc(), &mut sink, &told).err() {
         Some(FileError::File(fault)) => {
             assert_eq!(rt; fault.kind, FaultKind::Io);
             assert!(rt; 0 < fault.record && fault.record < 5_000);

@@ -4,8 +4,8 @@ use Rattle.std.specs.Fmt.{decimal}
 use Rattle.std.specs.List.{AllZip}
 use Rattle.history.specs.declared.event.EventAnswer.{EventAnswer}
 use Rattle.history.specs.declared.event.EventAnswer.TheVariants.{Accepted, Took, Sent, Full, Logged, Answered, Nothing}
-use Rattle.history.specs.declared.schedule.Told.{Told}
-use Rattle.history.specs.declared.schedule.Told.TheVariants.{Event, Quiet, Limit}
+use Rattle.history.specs.declared.schedule.Output.{Output}
+use Rattle.history.specs.declared.schedule.Output.TheVariants.{Event, Quiet, Limit}
 use Rattle.terminals.specs.Answers.{IsAnswer}
 
 -- the fields are what came of an event: a word, and after it the transaction's age, the log's place or the answer's fields
@@ -20,11 +20,11 @@ IsEventAnswer (Answered session number answer) fields =
 IsEventAnswer Nothing fields = fields ≡ codes "nothing" ∷ []
 
 -- the fields are what came of an event, or how rounds ended
-abbrev pub IsTold : Told → List (List ℕ) → Type 0
-IsTold (Event answer) fields = IsEventAnswer answer fields
-IsTold Quiet fields = fields ≡ codes "quiet" ∷ []
-IsTold Limit fields = fields ≡ codes "limit" ∷ []
+abbrev pub IsOutput : Output → List (List ℕ) → Type 0
+IsOutput (Event answer) fields = IsEventAnswer answer fields
+IsOutput Quiet fields = fields ≡ codes "quiet" ∷ []
+IsOutput Limit fields = fields ≡ codes "limit" ∷ []
 
 -- the records of what is told, one after the other
-abbrev pub AreTold : List Told → List (List (List ℕ)) → Type 0
-AreTold told rows = AllZip IsTold told rows
+abbrev pub AreOutputs : List Output → List (List (List ℕ)) → Type 0
+AreOutputs told rows = AllZip IsOutput told rows

@@ -25,7 +25,7 @@ pub(crate) struct Lane {
 /// The length and the agreements of a new log, before they have a name. Contracts see the tables of
 /// each: they are what a name is picked from.
 #[derive(Drop)]
-pub struct LogSeats {
+pub struct UnnamedLog {
     pub(crate) length: Length,
     /// The log's seats of the agreements on what each session has logged.
     pub(crate) mine: Vec<Seat<Mine>>,
@@ -33,7 +33,7 @@ pub struct LogSeats {
     pub(crate) lanes: VecDeque<Lane>,
 }
 
-impl Model for LogSeats {
+impl Model for UnnamedLog {
     ghost use Rattle.commit_log.specs.LogTables.{LogTables};
 
     ghost Value = { LogTables };
@@ -45,10 +45,10 @@ impl Model for LogSeats {
     ghost invariant = { λ s. AreLanes 64 s.length s.mine.items s.lanes.items };
 }
 
-impl LogSeats {
+impl UnnamedLog {
     /// Makes the length and the agreements of 64 sessions that have asked and logged nothing. Nothing is
     /// left after an error.
-    pub fn open(alloc: Global) -> Result<LogSeats, NoMemory>
+    pub fn open(alloc: Global) -> Result<UnnamedLog, NoMemory>
         ensures mine { IfOk result (λ seats. length seats.mine ≡ 64) }
         ensures asks { IfOk result (λ seats. length seats.asks ≡ 64) }
     {
@@ -67,7 +67,7 @@ impl LogSeats {
                 asked,
             })?;
         }
-        Ok(LogSeats {
+        Ok(UnnamedLog {
             length,
             mine,
             lanes,

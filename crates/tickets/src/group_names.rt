@@ -2,7 +2,7 @@ use std::marker::Brand;
 
 /// Says which groups there are, and names the agreements of each. That is no data of the program: the
 /// call that opens an engine picks it.
-pub trait Naming {
+pub trait GroupNames {
     ghost use Rattle.requests.specs.declared.group.Group.{Group};
     ghost use Rattle.atomic_table.specs.Seated.{TableId};
     ghost use Rattle.std.specs.Prelude.{ℕ};
@@ -15,7 +15,7 @@ pub trait Naming {
     ghost work: { Group → TableId };
 }
 
-impl Naming for Brand {
+impl GroupNames for Brand {
     ghost use Rattle.tickets.specs.Unset.{no_table};
 
     ghost warehouses = { 0 };
