@@ -10,3 +10,10 @@ pub mod PaymentGroups
 pub mod SameChosen
 pub mod StatusGroups
 pub mod KeptIndexes
+pub mod RowsAdded
+pub mod LinesOfOrders
+pub mod LinesPut
+pub mod FreeNumbers
+pub mod NewOrderCases
+pub mod OrderAdded
+pub mod NewOrderConsistency

@@ -6,3 +6,5 @@ pub mod Machine
 pub mod PaymentLaws
 pub mod OrderStatusLaws
 pub mod MachineLaws
+pub mod NewOrder
+pub mod NewOrderLaws

@@ -1,5 +1,6 @@
 //! Laws of the definitions of transactions: functions that do nothing, and are proved.
 ghost use Rattle.machine.specs.PaymentLaws.{PaymentIsLocal, PaymentKeepsConsistency, PaymentKeepsOtherGroups, PaymentKeepsScale, PaymentKeepsSums, PaymentReadsItsGroups};
+ghost use Rattle.machine.specs.NewOrderLaws.{NewOrderKeepsConsistency};
 ghost use Rattle.machine.specs.MachineLaws.{RequestsKeepConsistency, TransactionKeepsConsistency, TransactionKeepsOtherGroups, TransactionReadsItsGroups};
 
 /// A payment changes no row but those of the home warehouse and district, the district's list of
@@ -32,6 +33,11 @@ pub fn payment_keeps_sums()
 /// After a payment the tables are consistent as before, whatever the reply (clause 3.3).
 pub fn payment_keeps_consistency()
     ensures { PaymentKeepsConsistency }
+{}
+
+/// After a New-Order the tables are consistent as before, whatever the reply (clause 3.3).
+pub fn new_order_keeps_consistency()
+    ensures { NewOrderKeepsConsistency }
 {}
 
 /// After any one request the tables are consistent as before, whatever the reply (clause 3.3).

@@ -10,9 +10,10 @@ mod plain;
 
 pub use choosing::chosen;
 pub use laws::{
-    payment_is_local, payment_keeps_consistency, payment_keeps_other_groups, payment_keeps_scale,
-    payment_keeps_sums, payment_reads_its_groups, requests_keep_consistency,
-    transaction_keeps_consistency, transaction_keeps_other_groups, transaction_reads_its_groups,
+    new_order_keeps_consistency, payment_is_local, payment_keeps_consistency,
+    payment_keeps_other_groups, payment_keeps_scale, payment_keeps_sums, payment_reads_its_groups,
+    requests_keep_consistency, transaction_keeps_consistency, transaction_keeps_other_groups,
+    transaction_reads_its_groups,
 };
 pub use order_status::{latest_shown, status_reply};
 pub use payment::{
