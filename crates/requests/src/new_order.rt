@@ -1,11 +1,8 @@
 //! New-Order (clause 2.4), and what is shown of it.
-ghost use Rattle.std.specs.Prelude.{◌≡◌, IfOk};
-
 use crate::Lines;
 use amounts::{Cents, Rate};
 use schema::{
-    BrandGeneric, Credit, DistrictKey, LineAmount, LineQuantity, Moment, NoMemory, Price,
-    StockQuantity, Text,
+    BrandGeneric, Credit, DistrictKey, LineAmount, LineQuantity, Moment, Price, StockQuantity, Text,
 };
 
 /// A customer orders items (clause 2.4.1). As it comes, any number may be out of its range.
@@ -82,13 +79,4 @@ pub enum NewOrderFault {
     },
     /// A value would have left the range of its column.
     Range,
-}
-
-impl NewOrderReply {
-    /// An equal reply. Its lines take memory; `NoMemory` leaves nothing behind.
-    pub fn try_clone(&self) -> Result<NewOrderReply, NoMemory>
-        ensures { IfOk result (λ copy. copy ≡ self.now) }
-    {
-        self.clone()
-    }
 }

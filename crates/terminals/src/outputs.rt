@@ -10,7 +10,7 @@ use schema::NoMemory;
 use std::alloc::Global;
 use std::io::Write;
 
-/// Writes a record for each thing that is told of a schedule, and gives the sink back. Use a `&mut` to a
+/// Writes a record for each output of a schedule, and gives the sink back. Use a `&mut` to a
 /// sink that is needed after a fault too.
 pub fn write_outputs<W: Write + Drop>(
     alloc: Global,
@@ -29,7 +29,7 @@ pub fn write_outputs<W: Write + Drop>(
     writer.finish()
 }
 
-// Adds the fields of what is told.
+// Adds the fields of an output.
 fn put_output(row: &mut NewRecord, told: &Output) -> Result<(), NoMemory>
     ensures { OnOk result ((fields : List (List ℕ)) × IsOutput told.now fields × (row.new ≡ row.old ++ fields)) }
 {

@@ -12,7 +12,7 @@ use world::{GatherFault, OpenFault, simulate};
 /// Simulates a schedule on the dataset, event by event, and gives the exit status.
 ///
 /// `data` is read first, and then the schedule; the first fault decides, and then nothing was run. What is
-/// told of the schedule goes to `told`, one record for each event, then the log to `log`, and then the
+/// printed of the schedule goes to `told`, one record for each event, then the log to `log`, and then the
 /// tables to `tables`; there are none while a transaction is active, or where there is no memory for them,
 /// which is no fault where none are asked for. Why a simulation ended early is told
 /// on `errors`, as `tpcc: PATH: row R: fault N`, `tpcc: not consistent: N`, `tpcc: not idle` or

@@ -74,7 +74,7 @@ module _ {J : Type 0} where
     pub many : length w.desk.sessions.items ≡ 64
     pub each : (session : ℕ) → session < 64 → slice_get w.desk.sessions.items session ≡ Some (session_with (new_pass session, new_seat session))
 
--- A schedule was simulated on tables: in a new world on them its events happened in turn; this is what is told of them; with
+-- A schedule was simulated on tables: in a new world on them its events happened in turn; this is what is printed of them; with
 -- their answers they are a history that fits the last world; the log is that world's; and so are the tables, the machine's
 -- last, unless a transaction is active or there is no memory for them.
 pub record Simulates (J : Type 0) (opening : Database) (schedule : List Scheduled) (s : Simulation) : Type 0 where
