@@ -3,6 +3,7 @@ pub mod Content
 pub mod Modes
 pub mod Payment
 pub mod OrderStatus
+pub mod StockLevel
 pub mod Footprint
 pub mod Laws
 pub mod Wants

@@ -1,5 +1,5 @@
 use super::*;
-use requests::{Choice, Group, OrderStatus, Payment, Request};
+use requests::{Choice, Group, OrderStatus, Payment, Request, StockLevel};
 use schema::{DistrictKey, Moment};
 use std::test::Fail;
 
@@ -43,6 +43,39 @@ fn a_status_claims_what_it_reads(rt: HostRuntime) -> Result<(), Fail> {
     ];
     let wishes = footprint(rt.alloc(), &status)?;
     assert_eq!(rt; wishes.as_slice(), claimed.as_slice());
+    Ok(())
+}
+
+#[test]
+fn a_stock_level_claims_all_stock_of_its_warehouse(rt: HostRuntime) -> Result<(), Fail> {
+    let asked = StockLevel {
+        home: district(3, 4),
+        threshold: 10,
+    };
+    let wishes = stock_level::wishes(rt.alloc(), &asked)?;
+    assert_eq!(rt; wishes.len(), 66);
+    let own = [
+        wish(Group::District { w_id: 3, d_id: 4 }, Mode::Shared),
+        wish(Group::Orders { w_id: 3, d_id: 4 }, Mode::Shared),
+        wish(
+            Group::Stock {
+                w_id: 3,
+                residue: 0,
+            },
+            Mode::Shared,
+        ),
+    ];
+    assert_eq!(rt; &wishes[..3], own.as_slice());
+    assert_eq!(rt;
+        wishes[65],
+        wish(
+            Group::Stock {
+                w_id: 3,
+                residue: 63
+            },
+            Mode::Shared
+        )
+    );
     Ok(())
 }
 

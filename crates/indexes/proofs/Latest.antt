@@ -37,7 +37,7 @@ and_second true b h = h
 and_second false b h = absurd cc
 
 -- an order is its customer's
-by_its_customer : (c : CustomerKey) (key : OrderKey) (row : Order) → is_order_by c (key, row) ≡ true → customer_of_order key row ≡ c
+pub by_its_customer : (c : CustomerKey) (key : OrderKey) (row : Order) → is_order_by c (key, row) ≡ true → customer_of_order key row ≡ c
 by_its_customer c key row h =
     let w_true : (key.w_id == c.w_id) ≡ true = and_first _ _ h in
     let rest : ((key.d_id == c.d_id) && (row.c_id == c.c_id)) ≡ true = and_second _ _ h in
@@ -48,11 +48,11 @@ by_its_customer c key row h =
     let n : row.c_id ≡ c.c_id = grind (arith, nat_tests) in
     λ i. record { w_id = w i; d_id = d i; c_id = n i }
 
-own_order : (key : OrderKey) (row : Order) → is_order_by (customer_of_order key row) (key, row) ≡ true
+pub own_order : (key : OrderKey) (row : Order) → is_order_by (customer_of_order key row) (key, row) ≡ true
 own_order key row = grind (arith, nat_tests)
 
 -- another customer's place is another
-apart : (slot : Slots) (customers : ℕ) → AreApart slot → (c : CustomerKey) (key : OrderKey) (row : Order) (place : ℕ) → is_order_by c (key, row) ≡ false
+pub apart : (slot : Slots) (customers : ℕ) → AreApart slot → (c : CustomerKey) (key : OrderKey) (row : Order) (place : ℕ) → is_order_by c (key, row) ≡ false
     → customer_slot_by slot customers c ≡ Some place → customer_slot_by slot customers (customer_of_order key row) ≡ Some place → ⊥
 apart slot customers districts_apart c key row place other at there =
     let same : customer_of_order key row ≡ c = place_exact slot customers districts_apart (customer_of_order key row) c place there at in
@@ -64,10 +64,10 @@ apart slot customers districts_apart c key row place other at there =
 abbrev pub most : CustomerKey → List (OrderKey × Order) → ℕ
 most c es = greatest (numbers (filter (is_order_by c) es))
 
-most-cons : (c : CustomerKey) (e : OrderKey × Order) (es : List (OrderKey × Order)) → most c (e ∷ es) ≡ cond (is_order_by c e) (max e.0.o_id (most c es)) (most c es)
+pub most-cons : (c : CustomerKey) (e : OrderKey × Order) (es : List (OrderKey × Order)) → most c (e ∷ es) ≡ cond (is_order_by c e) (max e.0.o_id (most c es)) (most c es)
 most-cons c e es = elim (is_order_by c e) as (λ b. greatest (numbers (cond b (e ∷ filter (is_order_by c) es) (filter (is_order_by c) es))) ≡ cond b (max e.0.o_id (most c es)) (most c es)) [ true ↦ refl | false ↦ refl ]
 
-passed_over : (b t : Bool) (x n g : ℕ) → cond b (max x (cond t (max n g) g)) (cond t (max n g) g) ≡ cond t (max n (cond b (max x g) g)) (cond b (max x g) g)
+pub passed_over : (b t : Bool) (x n g : ℕ) → cond b (max x (cond t (max n g) g)) (cond t (max n g) g) ≡ cond t (max n (cond b (max x g) g)) (cond b (max x g) g)
 passed_over true true x n g = omega arith
 passed_over true false x n g = refl
 passed_over false true x n g = refl
@@ -89,7 +89,7 @@ most-put c key row (e ∷ es) none =
     ] refl none
 
 -- the tables with one order more
-most-insert : (t : Database) (key : OrderKey) (row : Order) → map.get t.orders key ≡ None → (c : CustomerKey)
+pub most-insert : (t : Database) (key : OrderKey) (row : Order) → map.get t.orders key ≡ None → (c : CustomerKey)
     → most c (entries (map.insert t.orders key row)) ≡ cond (is_order_by c (key, row)) (max key.o_id (most c (entries t.orders))) (most c (entries t.orders))
 most-insert t key row none c =
     ap (most c) (entries-insert orders_total t.orders key row) ∙ most-put c key row (entries t.orders) (sym (get-entries t.orders key) ∙ none)
@@ -122,7 +122,7 @@ noted_fits slot index t key row districts_apart fits none larger c place at =
 -- ---- an order's row that is put again
 
 -- a customer's order counts
-counted : (c : CustomerKey) (key : OrderKey) (row : Order) (es : List (OrderKey × Order)) → find order_cmp key es ≡ Some row → is_order_by c (key, row) ≡ true → key.o_id ≤ most c es
+pub counted : (c : CustomerKey) (key : OrderKey) (row : Order) (es : List (OrderKey × Order)) → find order_cmp key es ≡ Some row → is_order_by c (key, row) ≡ true → key.o_id ≤ most c es
 counted c key row [] found own = absurd cc
 counted c key row (e ∷ es) found own =
     let first = most-cons c e es in
@@ -146,7 +146,7 @@ counted c key row (e ∷ es) found own =
         let first : most c (e ∷ es) ≡ cond (is_order_by c e) (max e.0.o_id (most c es)) (most c es) = most-cons c e es in
         elim (is_order_by c e) as (λ b. most c (e ∷ es) ≡ cond b (max e.0.o_id (most c es)) (most c es) → key.o_id ≤ most c (e ∷ es)) [ true ↦ λ h. omega arith | false ↦ λ h. omega arith ] first
 
-most-put-again : (c : CustomerKey) (key : OrderKey) (old new : Order) (es : List (OrderKey × Order)) → find order_cmp key es ≡ Some old → is_order_by c (key, new) ≡ is_order_by c (key, old)
+pub most-put-again : (c : CustomerKey) (key : OrderKey) (old new : Order) (es : List (OrderKey × Order)) → find order_cmp key es ≡ Some old → is_order_by c (key, new) ≡ is_order_by c (key, old)
     → most c (put order_cmp key new es) ≡ most c es
 most-put-again c key old new [] found same = absurd cc
 most-put-again c key old new (e ∷ es) found same =

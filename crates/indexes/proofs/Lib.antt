@@ -7,3 +7,4 @@ pub mod Members
 pub mod Middles
 pub mod Names
 pub mod Places
+pub mod Raised

@@ -1,5 +1,5 @@
 -- Laws of the look-up of latest orders, wherever the districts stand.
-use Rattle.std.specs.Prelude.{◌≡◌, ℕ, ◌<◌, List, unwrap_or, Some, None}
+use Rattle.std.specs.Prelude.{◌≡◌, ℕ, ◌<◌, List, unwrap_or, Some, None, IfSome}
 use Rattle.std.specs.FinMap as map
 use Rattle.rows.specs.declared.keys.CustomerKey.{CustomerKey}
 use Rattle.rows.specs.declared.keys.OrderKey.{OrderKey}
@@ -8,13 +8,28 @@ use Rattle.schema.specs.Database.{Database, customer_of_order}
 use Rattle.schema.specs.Consistency.{greatest}
 use Rattle.partitions.specs.Slots.{Slots, AreApart}
 use Rattle.indexes.specs.LatestOrder.{order_numbers}
-use Rattle.indexes.specs.LatestIndex.{FitsLatestBy, latest_at, with_latest}
+use Rattle.indexes.specs.LatestIndex.{FitsLatestBy, latest_at, with_latest, raised}
 
 -- a new order whose number is larger than those of its customer's orders is noted
 abbrev pub NotedOrderFits : Type 0
 NotedOrderFits = (slot : Slots) (index : List ℕ) (t : Database) (key : OrderKey) (row : Order) → AreApart slot → FitsLatestBy slot index t → map.get t.orders key ≡ None
     → greatest (order_numbers t.orders (customer_of_order key row)) < key.o_id
     → FitsLatestBy slot (with_latest slot t.scale.customers index (customer_of_order key row) key.o_id) (record t { orders = map.insert t.orders key row })
+
+-- an order that is put where none stood, or one of the same customer, is noted where its number is larger than what was
+abbrev pub RaisedOrderFits : Type 0
+RaisedOrderFits = (slot : Slots) (index : List ℕ) (t : Database) (key : OrderKey) (row : Order) → AreApart slot → FitsLatestBy slot index t
+    → IfSome (map.get t.orders key) (λ old. old.c_id ≡ row.c_id)
+    → FitsLatestBy slot (raised slot t.scale.customers index (customer_of_order key row) key.o_id) (record t { orders = map.insert t.orders key row })
+
+-- an order that is put in place of another customer's is noted so too, once that customer's are looked through
+abbrev pub ReplacedOrderFits : Type 0
+ReplacedOrderFits = (slot : Slots) (index : List ℕ) (t : Database) (key : OrderKey) (old row : Order) → AreApart slot → FitsLatestBy slot index t
+    → map.get t.orders key ≡ Some old
+    → FitsLatestBy slot
+    (with_latest slot t.scale.customers (raised slot t.scale.customers index (customer_of_order key row) key.o_id)
+    (customer_of_order key old) (greatest (order_numbers (map.insert t.orders key row) (customer_of_order key old))))
+    (record t { orders = map.insert t.orders key row })
 
 -- what is put back as it was leaves no trace
 abbrev pub TakenBackIsAsBefore : Type 0

@@ -1,10 +1,11 @@
-ghost use Rattle.std.specs.Prelude.{◌≡◌, IfOk, unwrap_or, replicate};
+ghost use Rattle.std.specs.Prelude.{◌≡◌, IfOk, unwrap_or, replicate, max, if◌then◌else◌};
+ghost use Rattle.schema.specs.Consistency.{greatest};
 ghost use Rattle.partitions.specs.Slots.{AreRows, customer_slot_by};
-ghost use Rattle.indexes.specs.LatestOrder.{latest};
+ghost use Rattle.indexes.specs.LatestOrder.{is_order_by, latest, order_numbers};
 ghost use Rattle.indexes.specs.LatestIndex.{FitsLatestBy, HasPlace, latest_at, with_latest, raised, number_of};
 
 use partitions::Rows;
-use schema::{CustomerKey, NoMemory};
+use schema::{CustomerKey, NoMemory, Order, OrderKey};
 use std::alloc::Global;
 use std::marker::Model;
 use std::mem;
@@ -74,6 +75,30 @@ impl LatestOrders {
         }
     }
 
+    /// Raises the customer's number to that of an order, from 1, where it was less. A customer whose row is not here
+    /// changes nothing. The index fits any rows with that order where none stood at its key before, or one of the same
+    /// customer (`raised_order_fits`).
+    pub fn raise_order<T: Rows>(&mut self, rows: &T, customer: CustomerKey, number: u32)
+        ensures { self.new ≡ raised (T.slot rows.now) (T.tables rows.now).scale.customers self.old customer number }
+    {
+        if let Some(slot) = customer_slot(rows, customer) {
+            if slot < self.numbers.len() {
+                self.numbers[slot] = self.numbers[slot].max(number);
+            }
+        }
+    }
+
+    /// Looks through all orders that are here for the customer's, and notes the largest number, 0 where there is none:
+    /// for an order that was put in place of that customer's (`replaced_order_fits`), which is so in no consistent
+    /// tables. A customer whose row is not here changes nothing.
+    pub fn look_through<T: Rows>(&mut self, rows: &T, customer: CustomerKey)
+        ensures { self.new ≡ with_latest (T.slot rows.now) (T.tables rows.now).scale.customers self.old customer
+            (greatest (order_numbers (T.tables rows.now).orders customer)) }
+    {
+        let number = greatest_number(rows, customer);
+        self.note_order(rows, customer, number);
+    }
+
     /// Puts back what `note_order` gave for that customer, where the order is taken away again. The
     /// index is then as it was before (`taken_back_is_as_before`).
     pub fn take_back<T: Rows>(&mut self, rows: &T, customer: CustomerKey, before: Option<u32>)
@@ -94,6 +119,29 @@ fn customer_slot<T: Rows>(rows: &T, customer: CustomerKey) -> Option<usize>
         Some(district * customers as usize + (customer.c_id as usize - 1))
     } else {
         None
+    }
+}
+
+// The largest number of the customer's orders, 0 where there is none.
+fn greatest_number<T: Rows>(rows: &T, customer: CustomerKey) -> u32
+    ensures { result ≡ greatest (order_numbers (T.tables rows.now).orders customer) }
+{
+    let mut number = 0;
+    for (key, order) in rows.orders() {
+        number = grown(number, customer, key, order);
+    }
+    number
+}
+
+// The larger of the number and the order's, where it is the customer's.
+fn grown(number: u32, customer: CustomerKey, key: OrderKey, order: &Order) -> u32
+    ensures { result ≡ (if is_order_by customer (key, order.now) then max key.o_id number else number) }
+{
+    let is_at = key.w_id == customer.w_id && key.d_id == customer.d_id;
+    if is_at && order.c_id == customer.c_id {
+        key.o_id.max(number)
+    } else {
+        number
     }
 }
 

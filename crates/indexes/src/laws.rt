@@ -1,6 +1,6 @@
 //! Laws of the look-ups: functions that do nothing, and are proved.
 ghost use Rattle.indexes.specs.NameLaws.{MiddleIsOne, MiddleIsThere, SameNamesFit, PutKeepsNames};
-ghost use Rattle.indexes.specs.LatestLaws.{NotedOrderFits, PutOrderFits, TakenBackIsAsBefore};
+ghost use Rattle.indexes.specs.LatestLaws.{NotedOrderFits, PutOrderFits, RaisedOrderFits, ReplacedOrderFits, TakenBackIsAsBefore};
 
 /// At most one customer of a district is the middle one of those with a last name.
 pub fn middle_is_one()
@@ -27,6 +27,18 @@ pub fn put_keeps_names()
 /// was not there before, and its number is larger than those of its customer's orders.
 pub fn noted_order_fits()
     ensures { NotedOrderFits }
+{}
+
+/// In any tables: an index of latest orders that fits them fits them with an order that is put where none stood, or
+/// one of the same customer, once it is raised to that.
+pub fn raised_order_fits()
+    ensures { RaisedOrderFits }
+{}
+
+/// In any tables: where the order is put in place of another customer's, that customer's orders are looked through
+/// too.
+pub fn replaced_order_fits()
+    ensures { ReplacedOrderFits }
 {}
 
 /// Where the number that stood there is put back, the index is as it was before the order was noted.

@@ -257,6 +257,25 @@ fn a_noted_order_is_taken_back(rt: HostRuntime) -> Result<(), Fail> {
     Ok(())
 }
 
+#[test]
+fn a_number_is_raised_and_looked_through(rt: HostRuntime) -> Result<(), Fail> {
+    let tables = tables(rt.alloc())?;
+    let mut index = LatestOrders::build(rt.alloc(), &tables)?;
+    let (old, new, outside) = (customer_key(1, 2), customer_key(1, 1), customer_key(1, 7));
+    index.raise_order(&tables, old, 2);
+    assert_eq!(rt; index.note_order(&tables, old, 9), Some(3));
+    index.raise_order(&tables, old, 12);
+    assert_eq!(rt; index.note_order(&tables, old, 9), Some(12));
+    index.look_through(&tables, old);
+    assert_eq!(rt; index.note_order(&tables, old, 9), Some(3));
+    index.raise_order(&tables, new, 4);
+    index.look_through(&tables, new);
+    assert_eq!(rt; index.note_order(&tables, new, 9), None);
+    index.raise_order(&tables, outside, 4);
+    index.look_through(&tables, outside);
+    Ok(())
+}
+
 // The index, built again where memory was wanting.
 fn names_again(alloc: Global, tables: &Tables) -> Result<NameIndex, NoMemory>
     ensures { IfOk result (λ index. FitsNames index tables.now) }

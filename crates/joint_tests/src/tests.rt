@@ -5,9 +5,11 @@ use std::process::Abort;
 use std::test::Fail;
 
 mod log;
+mod orders;
 mod places;
 mod serving;
 mod slice;
+mod stock_level;
 
 // A payment in district (1, 1) by the customer of that number there, on 2024-05-01 at noon.
 fn payment(customer: u32, amount: u32) -> Request {

@@ -7,4 +7,10 @@ pub mod PaymentLaws
 pub mod OrderStatusLaws
 pub mod MachineLaws
 pub mod NewOrder
+pub mod NewOrderLines
 pub mod NewOrderLaws
+pub mod Delivery
+pub mod DeliveryLaws
+pub mod DeliverySteps
+pub mod StockLevel
+pub mod StockLevelLaws

@@ -1,6 +1,8 @@
 //! Laws of the definitions of transactions: functions that do nothing, and are proved.
 ghost use Rattle.machine.specs.PaymentLaws.{PaymentIsLocal, PaymentKeepsConsistency, PaymentKeepsOtherGroups, PaymentKeepsScale, PaymentKeepsSums, PaymentReadsItsGroups};
 ghost use Rattle.machine.specs.NewOrderLaws.{NewOrderKeepsConsistency};
+ghost use Rattle.machine.specs.DeliveryLaws.{DeliveryKeepsConsistency};
+ghost use Rattle.machine.specs.StockLevelLaws.{StockLevelReadsItsGroups};
 ghost use Rattle.machine.specs.MachineLaws.{RequestsKeepConsistency, TransactionKeepsConsistency, TransactionKeepsOtherGroups, TransactionReadsItsGroups};
 
 /// A payment changes no row but those of the home warehouse and district, the district's list of
@@ -38,6 +40,16 @@ pub fn payment_keeps_consistency()
 /// After a New-Order the tables are consistent as before, whatever the reply (clause 3.3).
 pub fn new_order_keeps_consistency()
     ensures { NewOrderKeepsConsistency }
+{}
+
+/// After a Delivery the tables are consistent as before, whatever the reply (clause 3.3).
+pub fn delivery_keeps_consistency()
+    ensures { DeliveryKeepsConsistency }
+{}
+
+/// What Stock-Level shows follows from what the groups have that it claims.
+pub fn stock_level_reads_its_groups()
+    ensures { StockLevelReadsItsGroups }
 {}
 
 /// After any one request the tables are consistent as before, whatever the reply (clause 3.3).

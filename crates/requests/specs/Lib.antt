@@ -2,6 +2,9 @@ pub mod Group
 pub mod Refusal
 pub mod Payment
 pub mod OrderStatus
+pub mod NewOrder
+pub mod Delivery
+pub mod StockLevel
 pub mod Check
 pub mod Requests
 pub mod LastName

@@ -4,6 +4,7 @@
 
 mod answer;
 mod checks;
+mod delivery;
 mod group;
 mod last_name;
 mod lines;
@@ -14,9 +15,11 @@ mod refusal;
 mod reply;
 mod request;
 mod script;
+mod stock_level;
 
 pub use answer::Answer;
 pub use checks::check;
+pub use delivery::{Delivery, DeliveryReply};
 pub use group::Group;
 pub use last_name::LastName;
 pub use lines::Lines;
@@ -27,6 +30,7 @@ pub use refusal::Refusal;
 pub use reply::{Fault, Reply, Shown};
 pub use request::{Choice, Request};
 pub use script::{MOST_REQUESTS, Script};
+pub use stock_level::{StockLevel, StockLevelReply};
 
 #[cfg(test)]
 mod tests;

@@ -1,4 +1,5 @@
 pub mod Choices
+pub mod FieldsOfEach
 pub mod Listings
 pub mod Nullables
 pub mod Numbered

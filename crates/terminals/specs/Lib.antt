@@ -3,6 +3,9 @@ pub mod ChoiceLaws
 pub mod Nullable
 pub mod Payment
 pub mod OrderStatus
+pub mod NewOrder
+pub mod Delivery
+pub mod StockLevel
 pub mod RequestFields
 pub mod ReplyFields
 pub mod Numbered

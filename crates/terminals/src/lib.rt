@@ -26,9 +26,11 @@
 
 mod answers;
 mod choice;
+mod delivery;
 mod laws;
 mod listing;
 mod log_records;
+mod new_order;
 mod order_status;
 mod outputs;
 mod payment;
@@ -36,6 +38,7 @@ mod reply;
 mod request;
 mod schedules;
 mod scripts;
+mod stock_level;
 
 pub use answers::{answer_record, write_answers};
 pub use files::{FaultKind, FileError, FileFault};

@@ -11,6 +11,7 @@ use std::io;
 use std::io::{Read, Write};
 use std::test::Fail;
 
+mod kinds;
 mod logs;
 mod order_status;
 mod outputs;

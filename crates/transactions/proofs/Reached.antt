@@ -1,8 +1,18 @@
 -- However far a transaction of any kind has come.
-use Rattle.std.proofs.Common.{arith}
+use Rattle.std.proofs.Common.{◌≡◌, ℕ, Bool, List, [], ◌∷◌, ◌++◌, cond, map, refl, arith}
+use Rattle.std.specs.Prelude.{count_by}
+use Rattle.std.proofs.lemmas.List.Sums.{sum_by-cons}
 use Rattle.requests.specs.declared.request.Request.TheVariants as request
+use Rattle.groups.specs.declared.wishes.Wish.{Wish}
+use Rattle.groups.specs.Footprint.{footprint}
+use Rattle.groups.specs.Groups.{is_same}
+use Rattle.groups.specs.Laws.{FootprintsNameEachGroupOnce}
+use Rattle.tickets.specs.Claims.{all_claims}
+use Rattle.transactions.specs.Granted.{wish_of}
+use Rattle.transactions.specs.Progresses.{works_of}
+use Rattle.transactions.specs.Works.{all_wishes}
 use Rattle.transactions.specs.declared.progress.Progress.TheVariants.{Payment, OrderStatus}
-use Rattle.transactions.specs.Laws.{AcceptedRequestsHaveTheirGroups, ActionsCanDoTheirWork, ClaimsAreOfTheFootprint, PhasesHaveActions, ReachedRequestsAreAccepted, TransactionsHaveFewActions}
+use Rattle.transactions.specs.Laws.{AcceptedRequestsHaveTheirGroups, ActionsCanDoTheirWork, ClaimsAreOfTheFootprint, PhasesHaveActions, ReachedRequestsAreAccepted, TransactionsClaimEachGroupOnce, TransactionsHaveFewActions}
 use Rattle.transactions.proofs.PaymentWorks as payment
 use Rattle.transactions.proofs.OrderStatusWorks as order_status
 
@@ -25,6 +35,29 @@ can_all shared asked (OrderStatus progress) held reached = order_status.can_all 
 pub within : ClaimsAreOfTheFootprint
 within shared asked (Payment progress) held reached = payment.within shared asked progress held reached
 within shared asked (OrderStatus progress) held reached = order_status.within shared asked progress held reached
+
+-- those whose image passes are as many as the images that pass
+pub counted : {X Y : Type 0} (test : Y → Bool) (image : X → Y) (xs : List X) → count_by test (map image xs) ≡ count_by (λ (x : X). test (image x)) xs
+counted test image [] = refl
+counted {X} {Y} test image (x ∷ xs) =
+    omega (
+      arith,
+      sum_by-cons (λ (y : Y). cond {A = ℕ} (test y) 1 0) (image x) (map image xs),
+      sum_by-cons (λ (z : X). cond {A = ℕ} (test (image z)) 1 0) x xs,
+      counted test image xs,
+    )
+
+-- as in a footprint no group comes twice, none does among some of it
+pub each_once : FootprintsNameEachGroupOnce → TransactionsClaimEachGroupOnce
+each_once named shared asked progress held reached group =
+    let claimed = map wish_of (all_claims held) ++ all_wishes (works_of progress) in
+    omega (
+      arith,
+      counted (is_same group) (λ (wish : Wish). wish.group) claimed,
+      counted (is_same group) (λ (wish : Wish). wish.group) (footprint asked),
+      within shared asked progress held reached (λ (wish : Wish). is_same group wish.group),
+      named asked group,
+    )
 
 pub few_actions : TransactionsHaveFewActions
 few_actions shared asked (Payment progress) held reached = omega (arith, payment.few_actions shared asked progress held reached)

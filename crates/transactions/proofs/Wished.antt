@@ -7,7 +7,6 @@ use Rattle.std.proofs.lemmas.List.{length-map, take_more}
 use Rattle.std.proofs.lemmas.List.Elements.{All-head, All-tail, All-from_recursion}
 use Rattle.std.proofs.lemmas.List.Folds.{find-append}
 use Rattle.std.proofs.lemmas.Option.{slice_get_within, get_or_from_slice_get}
-use Rattle.partitions.specs.Parts.{Shared}
 use Rattle.requests.specs.declared.group.Group.{Group}
 use Rattle.groups.specs.Footprint.{groups_of}
 use Rattle.groups.specs.Groups.{warehouse_of}
@@ -17,9 +16,8 @@ use Rattle.tickets.proofs.Committed.{All-front}
 use Rattle.slices.proofs.Steps.{All-last}
 use Rattle.transactions.specs.declared.work.Work.TheVariants.{Payment, OrderStatus}
 use Rattle.transactions.specs.declared.work.Work.{Work}
-use Rattle.transactions.specs.declared.work.Found.{Found}
 use Rattle.transactions.specs.Granted.{AreWishesAt, IsGrantedFor, AreGrantedFor, AreLeft}
-use Rattle.transactions.specs.Works.{home_of, wishes_of, HasDone}
+use Rattle.transactions.specs.Works.{home_of, wishes_of}
 use Rattle.transactions.specs.Acting.{can_be_granted, first_held, CanBeSettled, CanBeUndone}
 use Rattle.transactions.specs.Laws.{WorksAreAtWarehouses, WorksAreDoneAtHome, WorksClaimAtHome, WorksHaveAClaimForEachWish, WorksHaveTheirGroups, WorksHaveWishes}
 use Rattle.transactions.proofs.Footprints.{AreApart}
@@ -142,16 +140,14 @@ pub works_have_wishes : WorksHaveWishes
 works_have_wishes (Payment work) = payment.works_have_wishes work
 works_have_wishes (OrderStatus work) = order_status.works_have_wishes work
 
--- the claims are on the groups that it wished for
-done_on : (shared : Shared) (work : Work) (found : Found) (claims : List Claiming) → HasDone shared work found claims
-    → map (λ (claim : Claiming). claim.group) claims ≡ groups_of (wishes_of work)
-done_on shared (Payment work) found claims done = payment.done_on shared work done.0 claims done.2
-done_on shared (OrderStatus work) found claims done = order_status.done_on shared work done.0 claims done.2
-
 pub works_have_a_claim_for_each_wish : WorksHaveAClaimForEachWish
-works_have_a_claim_for_each_wish shared work found claims done =
-    sym (length-map claims (λ (claim : Claiming). claim.group)) ∙ ap length (done_on shared work found claims done)
-    ∙ length-map (wishes_of work) (λ (wish : Wish). wish.group)
+works_have_a_claim_for_each_wish shared (Payment work) found claims done = payment.done_on shared work done.0 claims done.2
+works_have_a_claim_for_each_wish shared (OrderStatus work) found claims done = order_status.done_on shared work done.0 claims done.2
+
+-- as many claims as wishes
+as_many : (wishes : List Wish) (claims : List Claiming) → map (λ (claim : Claiming). claim.group) claims ≡ groups_of wishes → length claims ≡ length wishes
+as_many wishes claims on =
+    sym (length-map claims (λ (claim : Claiming). claim.group)) ∙ ap length on ∙ length-map wishes (λ (wish : Wish). wish.group)
 
 -- ---- at which warehouse
 
@@ -169,7 +165,8 @@ works_are_at_warehouses shared (OrderStatus work) can = order_status.works_are_a
 
 pub works_are_done_at_home : WorksAreDoneAtHome
 works_are_done_at_home shared work found claims done =
-    let here = claims_here (home_of work) (wishes_of work) claims (done_on shared work found claims done) (works_claim_at_home work) in
+    let on = works_have_a_claim_for_each_wish shared work found claims done in
+    let here = claims_here (home_of work) (wishes_of work) claims on (works_claim_at_home work) in
     let some = works_have_wishes work in
-    let many = works_have_a_claim_for_each_wish shared work found claims done in
+    let many = as_many (wishes_of work) claims on in
     (here, of_one_home (home_of work) claims (omega (arith, some, many)) here)

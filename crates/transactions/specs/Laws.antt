@@ -1,14 +1,16 @@
 -- What the transactions of all kinds keep.
-use Rattle.std.specs.Prelude.{◌≡◌, ◌≤◌, ◌+◌, List, ◌++◌, All, IsTrue, length, map}
+use Rattle.std.specs.Prelude.{◌≡◌, ◌≤◌, ◌+◌, List, ◌++◌, All, IsTrue, length, map, count_by}
 use Rattle.partitions.specs.Parts.{Shared}
 use Rattle.schema.specs.declared.scale.Scale.{Scale}
 use Rattle.schema.specs.Scale.{has_warehouse}
 use Rattle.schema.specs.Database.{Database}
+use Rattle.requests.specs.declared.group.Group.{Group}
 use Rattle.requests.specs.declared.request.Request.{Request}
 use Rattle.requests.specs.declared.reply.Fault.{Fault}
 use Rattle.requests.specs.declared.reply.Reply.TheVariants as reply
 use Rattle.requests.specs.Check.{IsAccepted}
 use Rattle.groups.specs.Footprint.{footprint, groups_of}
+use Rattle.groups.specs.Groups.{is_same}
 use Rattle.tickets.specs.Claims.{Claiming, all_claims, leaving}
 use Rattle.tickets.specs.Places.{IsGroupOf}
 use Rattle.commit_log.specs.Claimed.{IsCarriedOut}
@@ -47,11 +49,11 @@ WorksHaveTheirGroups =
 abbrev pub WorksHaveWishes : Type 0
 WorksHaveWishes = (work : Work) → 1 ≤ length (wishes_of work)
 
--- The claims under which work was done are as many as its wishes.
+-- The claims under which work was done are on the groups that it wished for, one for each wish in turn.
 abbrev pub WorksHaveAClaimForEachWish : Type 0
 WorksHaveAClaimForEachWish =
     (shared : Shared) (work : Work) (found : Found) (claims : List Claiming)
-    → HasDone shared work found claims → length claims ≡ length (wishes_of work)
+    → HasDone shared work found claims → map (λ (claim : Claiming). claim.group) claims ≡ groups_of (wishes_of work)
 
 -- ---- at which warehouse an action does its work
 
@@ -82,6 +84,12 @@ abbrev pub ClaimsAreOfTheFootprint : Type 0
 ClaimsAreOfTheFootprint =
     (shared : Shared) (asked : Request) (progress : Progress) (held : List (List Claiming)) → IsReached shared asked progress held
     → AreSomeOf (map wish_of (all_claims held) ++ all_wishes (works_of progress)) (footprint asked)
+
+-- Among what a transaction holds and what the actions of its phase claim, no group comes twice.
+abbrev pub TransactionsClaimEachGroupOnce : Type 0
+TransactionsClaimEachGroupOnce =
+    (shared : Shared) (asked : Request) (progress : Progress) (held : List (List Claiming)) → IsReached shared asked progress held
+    → (group : Group) → count_by (is_same group) (groups_of (map wish_of (all_claims held) ++ all_wishes (works_of progress))) ≤ 1
 
 -- What is carried out is a request that its check accepts.
 abbrev pub ReachedRequestsAreAccepted : Type 0

@@ -1,5 +1,7 @@
 //! Laws of all kinds of transactions: functions that do nothing, and are proved.
-ghost use Rattle.transactions.specs.Laws.{AcceptedRequestsHaveTheirGroups, ActionsCanDoTheirWork, ClaimsAreOfTheFootprint, PhasesHaveActions, ReachedRequestsAreAccepted, RolledBackClaimsCanBeUndone, TransactionsHaveFewActions, WorksAreAtWarehouses, WorksAreDoneAtHome, WorksClaimAtHome, WorksHaveAClaimForEachWish, WorksHaveTheirGroups, WorksHaveWishes};
+ghost use Rattle.transactions.specs.Laws.{AcceptedRequestsHaveTheirGroups, ActionsCanDoTheirWork, ClaimsAreOfTheFootprint, PhasesHaveActions, ReachedRequestsAreAccepted, RolledBackClaimsCanBeUndone, TransactionsClaimEachGroupOnce, TransactionsHaveFewActions, WorksAreAtWarehouses, WorksAreDoneAtHome, WorksClaimAtHome, WorksHaveAClaimForEachWish, WorksHaveTheirGroups, WorksHaveWishes};
+
+use groups::footprints_name_each_group_once;
 
 /// No transaction has more actions, those of all its phases together.
 pub const MOST_ACTIONS: usize = 18;
@@ -19,7 +21,7 @@ pub fn works_have_their_groups()
     ensures { WorksHaveTheirGroups }
 {}
 
-/// Each work claims some group, and is done under one claim for each of its wishes.
+/// Each work claims some group, and is done under one claim for each of its wishes, on the group wished for.
 pub fn works_have_wishes()
     ensures some { WorksHaveWishes }
     ensures claims { WorksHaveAClaimForEachWish }
@@ -46,10 +48,14 @@ pub fn actions_can_do_their_work()
 {}
 
 /// What a transaction holds, and what the actions of its phase claim, is some of its request's footprint, and
-/// each claim once: as no group comes twice in a footprint, actions of one transaction never meet.
+/// each claim once. As no group comes twice in a footprint, none does among these claims: actions of one
+/// transaction never meet.
 pub fn claims_are_of_the_footprint()
-    ensures { ClaimsAreOfTheFootprint }
-{}
+    ensures some { ClaimsAreOfTheFootprint }
+    ensures once { TransactionsClaimEachGroupOnce }
+{
+    footprints_name_each_group_once();
+}
 
 /// However far a transaction has come, its request is one that the check accepts.
 pub fn reached_requests_are_accepted()

@@ -28,4 +28,6 @@ pub mod Works
 pub mod Submitting
 pub mod Admissions
 pub mod Opened
+pub mod OnGroups
+pub mod Alone
 pub mod Schedules

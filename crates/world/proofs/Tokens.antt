@@ -43,10 +43,16 @@ weigh_ending (Acting m) = 0
 weigh_ending Committing = 0
 weigh_ending Ending = 1
 
+-- a token of anything but an action
+abbrev pub weigh_other : Token → ℕ
+weigh_other (Acting m) = 0
+weigh_other Committing = 1
+weigh_other Ending = 1
+
 pub one_weighs : (n : ℕ) → cond {A = ℕ} (n == n) 1 0 ≡ 1
 one_weighs n = ap {B = ℕ} (λ b. cond b 1 0) (eq-eqb n n refl)
 
-no_acting : (weight : Token → ℕ) → ((n : ℕ) → weight (Acting n) ≡ 0) → (ns : List ℕ) → sum_by weight (map Acting ns) ≡ 0
+pub no_acting : (weight : Token → ℕ) → ((n : ℕ) → weight (Acting n) ≡ 0) → (ns : List ℕ) → sum_by weight (map Acting ns) ≡ 0
 no_acting weight none [] = refl
 no_acting weight none (n ∷ ns) = omega (arith, sum_by-cons weight (Acting n) (map Acting ns), none n, no_acting weight none ns)
 

@@ -23,14 +23,19 @@ use Rattle.history.specs.declared.event.EventAnswer.TheVariants.{Accepted, Took,
 use Rattle.history.specs.History.{Step, step, is_of}
 use Rattle.history.specs.Fits.{Fits as HistoryFits}
 use Rattle.slices.specs.Sliced.{Joined, all_standing, everywhere}
+use Rattle.transactions.specs.declared.acting.Ran.{Ran}
+use Rattle.transactions.specs.declared.acting.Ran.TheVariants as ran
 use Rattle.transactions.specs.declared.work.Work.{Work}
 use Rattle.transactions.specs.Progresses.{IsReached, works_of}
 use Rattle.world.specs.declared.desk.Active.TheVariants.{Acting}
 use Rattle.world.specs.declared.desk.SessionDesk.{SessionDesk}
 use Rattle.world.specs.declared.flight.Flow.{Flow}
+use Rattle.world.specs.declared.flight.Act.{Act}
 use Rattle.world.specs.declared.flight.Message.{Message}
-use Rattle.world.specs.declared.flight.Message.TheVariants.{Start}
+use Rattle.world.specs.declared.flight.Message.TheVariants as message
+use Rattle.world.specs.declared.flight.Report.{Report}
 use Rattle.world.specs.declared.flight.Item.{Item}
+use Rattle.world.specs.declared.flight.Item.TheVariants as item
 use Rattle.world.specs.declared.world.Parts.{Parts}
 use Rattle.world.specs.Flights.{InFlight}
 use Rattle.world.specs.Parted.{joined_in}
@@ -102,7 +107,7 @@ module _ {J : Type 0} where
     pub works_are : works.items ≡ works_of flow.progress
     pub catalog : new.catalog ≡ old.catalog
     pub slices : new.slices ≡ old.slices
-    pub inbox : new.inbox ≡ old.inbox ++ Start flow works ∷ []
+    pub inbox : new.inbox ≡ old.inbox ++ message.Start flow works ∷ []
     pub outbox : new.outbox ≡ old.outbox
     pub log : new.log ≡ old.log
     pub admitted : new.desk.admitted ≡ old.desk.admitted + 1
@@ -195,3 +200,16 @@ module _ {J : Type 0} where
   IsBusyExactly (Submit session number asked) w answer =
       session < 64 → (answer ≡ Answered session number (Refused refusal.SessionBusy)) ↔ (1 ≤ count_by (is_of session) (flight w).pending)
   IsBusyExactly event w answer = Unit {0}
+
+  -- the action has not died: it has done its work, or there was no memory for it
+  abbrev pub HasNotDied : Ran J → Type 0
+  HasNotDied (ran.Done claims found) = Unit {0}
+  HasNotDied (ran.Died group holder) = ⊥
+  HasNotDied ran.NoMemory = Unit {0}
+
+  -- An action on which the executor works doesn't die: its report, which then stands at the outbox's end, tells of no death.
+  abbrev pub NoneDies : Event → Parts J → Parts J → Type 0
+  NoneDies (Take executor) old new =
+      (act : Act J) (rest : List (Message J)) (report : Report J)
+      → old.inbox ≡ message.Act act ∷ rest → new.outbox ≡ old.outbox ++ item.Report report ∷ [] → HasNotDied report.ran
+  NoneDies event old new = Unit {0}

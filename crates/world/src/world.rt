@@ -4,7 +4,7 @@ ghost use Rattle.std.specs.Prelude.{List};
 ghost use Rattle.history.specs.History.{Step, step as one_step};
 ghost use Rattle.world.specs.Openings.{IsGathered};
 ghost use Rattle.world.specs.Sound.{flight};
-ghost use Rattle.world.specs.Worlds.{Advances, CannotHappen, Fits, HappenInTurn, Happens, IsAtRest, IsBusyExactly, steps_of, tables_now};
+ghost use Rattle.world.specs.Worlds.{Advances, CannotHappen, Fits, HappenInTurn, Happens, IsAtRest, IsBusyExactly, NoneDies, steps_of, tables_now};
 
 use crate::desk::Desk;
 use crate::flight::{Item, Message};
@@ -16,6 +16,7 @@ use schema::{NoMemory, Tables};
 use slices::{Slice, copy_whole, whole};
 use std::alloc::Global;
 use std::marker::Model;
+use transactions::claims_are_of_the_footprint;
 
 /// How many messages an inbox takes.
 pub const INBOX: usize = 1024;
@@ -96,13 +97,16 @@ impl<J: Names> World<J> {
     /// those of a machine that carries out its requests one at a time, in log order, and the tables that
     /// it leaves are the committed ones; each transaction is whole, and stands behind those that were
     /// answered before it was submitted. What the event changes is told exactly, and what can't happen
-    /// is answered `Nothing` and changes nothing.
+    /// is answered `Nothing` and changes nothing. As one transaction is active at a time, no action of it
+    /// dies.
     pub fn step(&mut self, alloc: Global, event: &Event) -> EventAnswer
         ensures advances { Advances self.old (one_step event.now result ∷ []) self.new }
         ensures happens { Happens event.now self.old result self.new }
         ensures nothing { (result ≡ EventAnswer.Nothing) ↔ CannotHappen event.now self.old }
         ensures busy { IsBusyExactly event.now self.old result }
+        ensures alone { (opening : Database) (history : List Step) → Fits opening history self.old → NoneDies event.now self.old self.new }
     {
+        claims_are_of_the_footprint();
         self.parts.happen(alloc, event)
     }
 

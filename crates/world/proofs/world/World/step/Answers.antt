@@ -1,8 +1,10 @@
-use Rattle.std.proofs.Common.{subst, ◌∷◌, []}
+use Rattle.std.proofs.Common.{subst, List, ◌∷◌, []}
 use Rattle.partitions.specs.Parts.{shared_of}
-use Rattle.history.specs.History.{step}
+use Rattle.schema.specs.Database.{Database}
+use Rattle.history.specs.History.{Step, step}
 use Rattle.world.specs.declared.world.Parts.{Parts}
-use Rattle.world.specs.Worlds.{Advances, Happens, IsBusyExactly}
+use Rattle.world.specs.Worlds.{Advances, Fits, Happens, IsBusyExactly, NoneDies}
+use Rattle.world.proofs.Alone.{none_dies}
 use Rattle.world.proofs.Busy.{busy_exactly}
 use Rattle.world.proofs.Answered.{nothing_exactly}
 use Rattle.world.proofs.world.World.step.Goals as goal
@@ -20,3 +22,8 @@ pub returns-clause-busy : goal.returns-clause-busy
 returns-clause-busy g c =
     subst (λ (old : Parts g.row.J.Denot). IsBusyExactly c.args.event.now old c.happen.result) c.self.view_is
     (busy_exactly (shared_of g.J.LogNames.opening) c.args.event.now c.self.inside.parts c.happen.new.self c.happen.result c.self.invariant.0 c.happen.ensures.happens)
+
+pub returns-clause-alone : goal.returns-clause-alone
+returns-clause-alone g c =
+    subst (λ (old : Parts g.row.J.Denot). (opening : Database) (history : List Step) → Fits opening history old → NoneDies c.args.event.now old c.happen.new.self) c.self.view_is
+    (none_dies c.claims_are_of_the_footprint.ensures.once (shared_of g.J.LogNames.opening) c.args.event.now c.self.inside.parts c.happen.new.self c.happen.result c.self.invariant.0 c.happen.ensures.happens)

@@ -1,0 +1,56 @@
+-- The steps in which a Delivery is carried out: what is due in a district, and the tables once it was handed over.
+use Rattle.std.specs.Prelude.{ℕ, take, Option, Some, None, Result, Ok, Err}
+use Rattle.std.specs.List.{range_with_len}
+use Rattle.std.specs.Option.{option_map, option_and_then}
+use Rattle.std.specs.FinMap as table
+use Rattle.rows.specs.declared.keys.DistrictKey.{DistrictKey}
+use Rattle.rows.specs.declared.keys.OrderKey.{OrderKey}
+use Rattle.schema.specs.Database.{Database, customer_of_order}
+use Rattle.schema.specs.OrderRows.{with_delivery, oldest_new_order}
+use Rattle.requests.specs.declared.delivery.Delivery.{Delivery}
+use Rattle.requests.specs.declared.delivery.DeliveryReply.{DeliveryReply}
+use Rattle.requests.specs.declared.reply.Fault.{Fault}
+use Rattle.requests.specs.declared.reply.Fault.TheVariants.{Range}
+use Rattle.machine.specs.declared.delivery.Handover.{Handover}
+use Rattle.machine.specs.NewOrder.{order_key}
+use Rattle.machine.specs.Delivery.{Outcome, Turn, delivered_in, receiver, told}
+
+-- the order, its customer, and the customer's row once the order was delivered; None where there is no such row
+abbrev pub handover_of : Database → OrderKey → Option Handover
+handover_of t order =
+    option_and_then
+    (λ row. option_map (λ c. record { order = order; customer = customer_of_order order row; row = c }) (receiver t order row))
+    (table.get t.orders order)
+
+-- where there is one
+abbrev pub found_due : Option Handover → Result (Option Handover) Fault
+found_due (Some handover) = Ok (Some handover)
+found_due None = Err Range
+
+-- by the number of the oldest new order
+abbrev pub due_by : Database → DistrictKey → Option ℕ → Result (Option Handover) Fault
+due_by t home None = Ok None
+due_by t home (Some o_id) = found_due (handover_of t (order_key home o_id))
+
+-- what is due in a district: nothing where it has no new order
+abbrev pub due : Database → DistrictKey → Result (Option Handover) Fault
+due t home = due_by t home (oldest_new_order t home)
+
+-- the turn of a district in which this is due
+abbrev pub turn_with : Database → ℕ → ℕ → Option Handover → Turn
+turn_with t carrier moment None = record { tables = t; o_id = None }
+turn_with t carrier moment (Some handover) = record {
+  tables = record (with_delivery t handover.order carrier moment) {
+    customers = table.insert t.customers handover.customer handover.row;
+  };
+  o_id = Some handover.order.o_id;
+}
+
+-- what the first districts leave and answer
+abbrev pub first_delivered : Database → Delivery → ℕ → Outcome
+first_delivered t d count = told t d (delivered_in t d (range_with_len 1 count))
+
+-- what is shown of the first districts
+abbrev pub first_shown : ℕ → Result DeliveryReply Fault → Result DeliveryReply Fault
+first_shown count (Ok reply) = Ok (record reply { orders = take count reply.orders })
+first_shown count (Err fault) = Err fault

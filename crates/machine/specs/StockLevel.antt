@@ -1,0 +1,53 @@
+-- Stock-Level (clause 2.8).
+use Rattle.std.specs.Prelude.{ℕ, ◌-◌, Bool, false, ◌&&◌, ◌==◌, nat_lt, List, map, count_by, Option, Some, None}
+use Rattle.std.specs.List.{list_any}
+use Rattle.std.specs.FinMap as table
+use Rattle.rows.specs.declared.keys.DistrictKey.{DistrictKey}
+use Rattle.rows.specs.declared.keys.StockKey.{StockKey}
+use Rattle.rows.specs.declared.records.District.{District}
+use Rattle.rows.specs.declared.records.Stock.{Stock}
+use Rattle.schema.specs.Scale.{stock_key}
+use Rattle.schema.specs.Database.{Database, rows_where}
+use Rattle.schema.specs.OrderRows.{is_in_span}
+use Rattle.requests.specs.declared.stock_level.StockLevel.{StockLevel}
+use Rattle.requests.specs.declared.stock_level.StockLevelReply.{StockLevelReply}
+
+-- D_NEXT_O_ID, and 0 where there is no such district
+abbrev pub next_order : Option District → ℕ
+next_order (Some row) = row.next_o_id
+next_order None = 0
+
+-- the item of each line of the district's 20 orders before this number
+abbrev pub recent_items : Database → DistrictKey → ℕ → List ℕ
+recent_items t home next = map (λ line. line.1.i_id) (rows_where (is_in_span home (next - 20) next) t.lines)
+
+-- the item is one of these
+abbrev pub is_one_of : List ℕ → ℕ → Bool
+is_one_of items item = list_any (λ i. i == item) items
+
+-- the row of STOCK is the warehouse's, its quantity is below the threshold, and its item is one of these
+abbrev pub is_low : ℕ → ℕ → List ℕ → StockKey × Stock → Bool
+is_low warehouse threshold items row =
+    (row.0.w_id == warehouse) && (nat_lt row.1.quantity threshold && is_one_of items row.0.i_id)
+
+-- how many rows of STOCK are low: an item has one row, however often it is named
+abbrev pub low_stock : Database → ℕ → ℕ → List ℕ → ℕ
+low_stock t warehouse threshold items = count_by (is_low warehouse threshold items) (table.entries t.stocks)
+
+-- What Stock-Level shows: how many of the items of the district's last 20 orders are low in its warehouse (clause
+-- 2.8.2.2). It changes nothing.
+abbrev pub stock_level : Database → StockLevel → StockLevelReply
+stock_level t asked = record {
+  count = low_stock t asked.home.w_id asked.threshold (recent_items t asked.home (next_order (table.get t.districts asked.home)));
+}
+
+-- ---- of one item
+
+-- there is a row, and its quantity is below the threshold
+abbrev pub is_below : ℕ → Option Stock → Bool
+is_below threshold (Some row) = nat_lt row.quantity threshold
+is_below threshold None = false
+
+-- the warehouse has less of the item than the threshold
+abbrev pub is_short : Database → ℕ → ℕ → ℕ → Bool
+is_short t warehouse threshold item = is_below threshold (table.get t.stocks (stock_key warehouse item))

@@ -1,0 +1,166 @@
+ghost use Rattle.std.specs.Prelude.{◌≡◌, ◌≤◌, ◌+ℤ◌, length, pos, IfOk, IfSome, OnOk, OnErr, IsTrue};
+ghost use Rattle.std.specs.Option.{option_map};
+ghost use Rattle.std.specs.FinMap as map;
+ghost use Rattle.amounts.specs.Money.{money};
+ghost use Rattle.machine.specs.Delivery as spec;
+ghost use Rattle.machine.specs.DeliverySteps as steps;
+
+use amounts::Cents;
+use requests::{Delivery, DeliveryReply, Fault};
+use schema::{CarrierId, Customer, CustomerKey, DistrictKey, Moment, NoMemory, OrderKey, Tables};
+
+// An order that is to be delivered, and the row that its customer will have.
+#[derive(Drop)]
+struct Handover {
+    order: OrderKey,
+    customer: CustomerKey,
+    row: Customer,
+}
+
+/// Delivers the oldest new order of each of the warehouse's ten districts (clause 2.7.4); a district without one is
+/// skipped. `Err` is `Fault::Range`, where a C_BALANCE or a C_DELIVERY_CNT would leave its range, and then nothing
+/// changes. Orders and lines are looked up by their keys. Want of memory changes nothing.
+pub fn deliver(
+    tables: &mut Tables,
+    delivery: &Delivery,
+) -> Result<Result<DeliveryReply, Fault>, NoMemory>
+    requires { spec.HasCarrier delivery.now }
+    ensures reply { IfOk result (λ reply. reply ≡ (spec.delivery tables.old delivery.now).reply) }
+    ensures tables { OnOk result (tables.new ≡ (spec.delivery tables.old delivery.now).tables) }
+    ensures err { OnErr result (tables.new ≡ tables.old) }
+{
+    let carrier = CarrierId::new(delivery.carrier_id);
+    deliver_first(tables, delivery, carrier, 10)
+}
+
+// Delivers in the districts from 1 to `count`. The last of them is looked at before any of them changes, and changes
+// after the others have: so nothing has changed where one can't be delivered.
+fn deliver_first(
+    tables: &mut Tables,
+    delivery: &Delivery,
+    carrier: CarrierId,
+    count: u32,
+) -> Result<Result<DeliveryReply, Fault>, NoMemory>
+    requires most { count ≤ 10 }
+    requires carrier { carrier ≡ delivery.now.carrier_id }
+    ensures reply { IfOk result (λ reply.
+        steps.first_shown count reply ≡ (steps.first_delivered tables.old delivery.now count).reply) }
+    ensures ten { IfOk result (λ reply. IfOk reply (λ shown. length shown.orders ≡ 10)) }
+    ensures tables { OnOk result (tables.new ≡ (steps.first_delivered tables.old delivery.now count).tables) }
+    ensures err { OnErr result (tables.new ≡ tables.old) }
+{
+    if count == 0 {
+        return Ok(Ok(DeliveryReply {
+            carrier_id: delivery.carrier_id,
+            orders: [None; 10],
+        }));
+    }
+    let home = DistrictKey {
+        w_id: delivery.w_id,
+        d_id: count,
+    };
+    let due = match due_in(tables, home)? {
+        Ok(due) => due,
+        Err(fault) => return Ok(Err(fault)),
+    };
+    let mut reply = match deliver_first(tables, delivery, carrier, count - 1)? {
+        Ok(reply) => reply,
+        Err(fault) => return Ok(Err(fault)),
+    };
+    reply.orders[count as usize - 1] = hand_over(tables, due, carrier, delivery.moment);
+    Ok(Ok(reply))
+}
+
+// What is due in the district, `None` where it has no new order.
+fn due_in(tables: &Tables, home: DistrictKey) -> Result<Result<Option<Handover>, Fault>, NoMemory>
+    ensures { IfOk result (λ r. r ≡ steps.due tables.now home) }
+{
+    let Some(o_id) = tables.oldest_new_order(home) else {
+        return Ok(Ok(None));
+    };
+    let order = OrderKey {
+        w_id: home.w_id,
+        d_id: home.d_id,
+        o_id,
+    };
+    match handover_of(tables, order)? {
+        Some(handover) => Ok(Ok(Some(handover))),
+        None => Ok(Err(Fault::Range)),
+    }
+}
+
+// The order with its customer, `None` where one of them is missing or a value would leave its range.
+fn handover_of(tables: &Tables, order: OrderKey) -> Result<Option<Handover>, NoMemory>
+    ensures { IfOk result (λ r. r ≡ steps.handover_of tables.now order) }
+{
+    let Some(row) = tables.order(order) else {
+        return Ok(None);
+    };
+    let customer = CustomerKey {
+        w_id: order.w_id,
+        d_id: order.d_id,
+        c_id: row.c_id,
+    };
+    let Some(was) = tables.customer(customer) else {
+        return Ok(None);
+    };
+    let Some(row) = customer_delivered(tables, order, was)? else {
+        return Ok(None);
+    };
+    Ok(Some(Handover {
+        order,
+        customer,
+        row,
+    }))
+}
+
+// The customer's row once the order was delivered, or `None` where a value leaves its range.
+fn customer_delivered(
+    tables: &Tables,
+    order: OrderKey,
+    row: &Customer,
+) -> Result<Option<Customer>, NoMemory>
+    ensures { IfOk result (λ r. r ≡ spec.customer_delivered row.now (spec.amount_of tables.now order)) }
+{
+    let Some(balance) = balance_delivered(tables, order, row.balance) else {
+        return Ok(None);
+    };
+    let Some(delivery_cnt) = row.delivery_cnt.checked_add(1) else {
+        return Ok(None);
+    };
+    let mut row = row.clone()?;
+    row.balance = balance;
+    row.delivery_cnt = delivery_cnt;
+    Ok(Some(row))
+}
+
+// C_BALANCE with what the order's lines come to, or `None` where that leaves its range: no line takes it back.
+fn balance_delivered(tables: &Tables, order: OrderKey, balance: Cents) -> Option<Cents>
+    ensures { result ≡ money (balance +ℤ pos (spec.amount_of tables.now order)) }
+{
+    let mut cents = balance.get();
+    for (_, line) in tables.lines_of(order) {
+        let Some(sum) = Cents::checked_new(cents + i64::from(line.amount.get())) else {
+            return None;
+        };
+        cents = sum.get();
+    }
+    Some(Cents::new(cents))
+}
+
+// Changes the rows of what is due, and gives the order's number. It takes no memory.
+fn hand_over(
+    tables: &mut Tables,
+    due: Option<Handover>,
+    carrier: CarrierId,
+    moment: Moment,
+) -> Option<u32>
+    requires { IfSome due (λ handover. IsTrue (map.contains_key tables.old.customers handover.customer)) }
+    ensures tables { tables.new ≡ (steps.turn_with tables.old carrier moment due).tables }
+    ensures number { result ≡ (steps.turn_with tables.old carrier moment due).o_id }
+{
+    let handover = due?;
+    tables.replace_customer(handover.customer, handover.row);
+    tables.deliver_order(handover.order, carrier, moment);
+    Some(handover.order.o_id)
+}

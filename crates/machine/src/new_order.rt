@@ -1,0 +1,203 @@
+ghost use Rattle.std.specs.Prelude.{◌≡◌, ◌≤◌, ◌==◌, ◌*◌, length, IsTrue, IfOk, OnOk, OnErr};
+ghost use Rattle.std.specs.List.{list_all};
+ghost use Rattle.std.specs.FinMap as table;
+ghost use Rattle.schema.specs.Database.{is_order_id, customer_of_order};
+ghost use Rattle.schema.specs.Scale.{has_customer, customer_key};
+ghost use Rattle.schema.specs.OrderRows.{is_line_within, with_order};
+ghost use Rattle.machine.specs.NewOrder as spec;
+ghost use Rattle.machine.specs.NewOrderLines.{IsOrderWithin, stocks_put};
+
+use crate::new_order_lines::{LinesPlaced, has_items, place_lines, stock_key};
+use amounts::{Cents, order_total};
+use requests::{Lines, NewOrder, NewOrderFault, NewOrderLine, NewOrderReply, OrderedLine};
+use schema::{
+    Customer, CustomerKey, District, DistrictKey, LineCount, NoMemory, Order, OrderKey, OrderLine,
+    Stock, Tables, Warehouse,
+};
+use std::alloc::Global;
+
+/// Carries out a New-Order (clause 2.4): the reply and the tables are those that its definition gives. A fault, the
+/// first of those that `NewOrderFault` lists, and want of memory change nothing.
+pub fn place_order(
+    alloc: Global,
+    tables: &mut Tables,
+    order: &NewOrder,
+) -> Result<Result<NewOrderReply, NewOrderFault>, NoMemory>
+    requires { IsOrderWithin order.now }
+    ensures reply { IfOk result (λ reply. reply ≡ (spec.new_order tables.old order.now).reply) }
+    ensures tables { OnOk result (tables.new ≡ (spec.new_order tables.old order.now).tables) }
+    ensures err { OnErr result (tables.new ≡ tables.old) }
+{
+    // For its contract: what the tables have is of the scale.
+    tables.scale();
+    let Some(warehouse) = tables.warehouse(order.home.w_id) else {
+        return Ok(Err(NewOrderFault::NoCustomer));
+    };
+    let Some(district) = tables.district(order.home) else {
+        return Ok(Err(NewOrderFault::NoCustomer));
+    };
+    let Some(customer) = tables.customer(customer_key(order)) else {
+        return Ok(Err(NewOrderFault::NoCustomer));
+    };
+    let o_id = district.next_o_id.get();
+    if !has_items(tables, order.lines.as_slice()) {
+        return Ok(Err(NewOrderFault::NoItem {
+            last: customer.last.copy(),
+            credit: customer.credit,
+            o_id,
+        }));
+    }
+    let Some(new_district) = district_ordered(district)? else {
+        return Ok(Err(NewOrderFault::Range));
+    };
+    let Some(placed) = place_lines(alloc, tables, order)? else {
+        return Ok(Err(NewOrderFault::Range));
+    };
+    let LinesPlaced {
+        rows,
+        shown,
+        stocks,
+    } = placed;
+    let reply = new_order_reply(order, warehouse, district, customer, rows.as_slice(), shown);
+    post(tables, order, o_id, new_district, rows, stocks)?;
+    Ok(Ok(reply))
+}
+
+// Changes all rows of an order at once: what may want memory comes first.
+fn post(
+    tables: &mut Tables,
+    order: &NewOrder,
+    o_id: u32,
+    district: District,
+    rows: Vec<OrderLine>,
+    stocks: Vec<Stock>,
+) -> Result<(), NoMemory>
+    requires within { IsOrderWithin order.now }
+    requires number { IsTrue (is_order_id o_id) }
+    requires district_is_there { IsTrue (table.contains_key tables.old.districts order.now.home) }
+    requires customer_is_there { IsTrue (has_customer tables.old.scale (customer_of_order (spec.order_key order.now.home o_id) (spec.order_row order.now))) }
+    requires few { length rows.items ≤ 15 }
+    requires lines { IsTrue (list_all (is_line_within tables.old.scale) rows.items) }
+    requires stocks_are_there { IsTrue (list_all (λ line. table.contains_key tables.old.stocks (spec.stock_key_of line)) order.now.lines) }
+    requires as_many { length stocks.items ≡ length order.now.lines }
+    ensures ok { OnOk result (tables.new ≡ with_order
+        (record tables.old { districts = table.insert tables.old.districts order.now.home district; stocks = stocks_put order.now.lines stocks.items tables.old.stocks })
+        (spec.order_key order.now.home o_id) (spec.order_row order.now) rows.items) }
+    ensures err { OnErr result (tables.new ≡ tables.old) }
+{
+    tables.add_order(order_key(order.home, o_id), order_row(order), rows)?;
+    tables.replace_district(order.home, district);
+    put_stocks(tables, order.lines.as_slice(), stocks);
+    Ok(())
+}
+
+// Puts the rows in the places of those that supply the lines, the last first.
+fn put_stocks(tables: &mut Tables, lines: &[OrderedLine], stocks: Vec<Stock>)
+    requires there { IsTrue (list_all (λ line. table.contains_key tables.old.stocks (spec.stock_key_of line)) lines.now) }
+    requires as_many { length stocks.items ≡ length lines.now }
+    ensures { tables.new ≡ record tables.old { stocks = stocks_put lines.now stocks.items tables.old.stocks } }
+{
+    let mut rest = stocks;
+    while let Some(row) = rest.pop() {
+        let key = stock_key(lines[rest.len()]);
+        tables.replace_stock(key, row);
+    }
+}
+
+/// The row of ORDER that an order adds.
+pub fn order_row(order: &NewOrder) -> Order
+    requires { IsOrderWithin order.now }
+    ensures { result ≡ spec.order_row order.now }
+{
+    let lines = order.lines.as_slice();
+    Order {
+        c_id: order.c_id,
+        entry_d: order.moment,
+        carrier_id: None,
+        ol_cnt: LineCount::new(lines.len() as u32),
+        all_local: are_local(order.home.w_id, lines),
+    }
+}
+
+// Whether the warehouse supplies each line.
+fn are_local(home: u32, lines: &[OrderedLine]) -> bool
+    ensures { result ≡ list_all (λ line. line.supply_w_id == home) lines.now }
+{
+    for line in lines {
+        if line.supply_w_id != home {
+            return false;
+        }
+    }
+    true
+}
+
+/// The district's row after an order: its next number is one more, or `None` where it leaves its range.
+pub fn district_ordered(row: &District) -> Result<Option<District>, NoMemory>
+    ensures { IfOk result (λ r. r ≡ spec.district_ordered row.now) }
+{
+    let Some(next) = row.next_o_id.checked_add(1) else {
+        return Ok(None);
+    };
+    let mut row = row.clone()?;
+    row.next_o_id = next;
+    Ok(Some(row))
+}
+
+/// What an order shows, by the rows before it, its rows of ORDER-LINE, and what is shown of these.
+pub fn new_order_reply(
+    order: &NewOrder,
+    warehouse: &Warehouse,
+    district: &District,
+    customer: &Customer,
+    rows: &[OrderLine],
+    shown: Vec<NewOrderLine>,
+) -> NewOrderReply
+    requires { length rows.now ≤ 15 }
+    ensures { result ≡ spec.new_order_reply order.now warehouse.now district.now customer.now rows.now shown.items }
+{
+    let sum = Cents::new(i64::from(sum_of(rows)));
+    NewOrderReply {
+        last: customer.last.copy(),
+        credit: customer.credit,
+        discount: customer.discount,
+        warehouse_tax: warehouse.tax,
+        district_tax: district.tax,
+        o_id: district.next_o_id.get(),
+        entry_d: order.moment,
+        total: order_total(sum, customer.discount, warehouse.tax, district.tax),
+        lines: Lines::new(shown),
+    }
+}
+
+// What the lines come to, in cents.
+fn sum_of(rows: &[OrderLine]) -> u32
+    requires { length rows.now ≤ 15 }
+    ensures value { result ≡ spec.sum_of rows.now }
+    ensures fits { result ≤ 15 * 999999 }
+{
+    let mut sum = 0;
+    for row in rows {
+        sum += row.amount.get();
+    }
+    sum
+}
+
+fn customer_key(order: &NewOrder) -> CustomerKey
+    ensures { result ≡ customer_key order.now.home order.now.c_id }
+{
+    CustomerKey {
+        w_id: order.home.w_id,
+        d_id: order.home.d_id,
+        c_id: order.c_id,
+    }
+}
+
+fn order_key(home: DistrictKey, o_id: u32) -> OrderKey
+    ensures { result ≡ spec.order_key home o_id }
+{
+    OrderKey {
+        w_id: home.w_id,
+        d_id: home.d_id,
+        o_id,
+    }
+}

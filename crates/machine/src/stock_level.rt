@@ -1,0 +1,97 @@
+ghost use Rattle.std.specs.Prelude.{◌≡◌, ◌≤◌, count_by, length, IfOk};
+ghost use Rattle.std.specs.FinMap as table;
+ghost use Rattle.machine.specs.StockLevel as spec;
+
+use requests::{StockLevel, StockLevelReply};
+use schema::{DistrictKey, NoMemory, StockKey, Tables};
+use std::alloc::Global;
+
+// 20 orders of at most 15 lines.
+const MOST_LINES: usize = 300;
+
+/// What Stock-Level shows (clause 2.8): of how many items of the district's last 20 orders its warehouse has less than the
+/// threshold, 0 where there is no such district. It reads the lines of these orders and a row of STOCK for each of their
+/// items, and changes nothing. Want of memory leaves nothing behind.
+pub fn stock_level_reply(
+    alloc: Global,
+    tables: &Tables,
+    asked: &StockLevel,
+) -> Result<StockLevelReply, NoMemory>
+    ensures { IfOk result (λ reply. reply ≡ spec.stock_level tables.now asked.now) }
+{
+    let next = next_order(tables, asked.home);
+    let items = recent_items(alloc, tables, asked.home, next)?;
+    let count = low_stock(tables, asked.home.w_id, asked.threshold, items);
+    Ok(StockLevelReply {
+        count: count as u32,
+    })
+}
+
+/// The item of each line of the district's 20 orders before this number, by O_ID and then by OL_NUMBER: 300 at most. Want
+/// of memory leaves nothing behind.
+pub fn recent_items(
+    alloc: Global,
+    tables: &Tables,
+    home: DistrictKey,
+    next: u32,
+) -> Result<Vec<u32>, NoMemory>
+    ensures value { IfOk result (λ items. items.items ≡ spec.recent_items tables.now home next) }
+    ensures few { IfOk result (λ items. length items.items ≤ 300) }
+{
+    // Within the scale no order has more than 15 lines.
+    let _ = tables.scale();
+    let mut items = Vec::with_capacity(alloc, MOST_LINES)?;
+    for (_, row) in tables.lines_of_span(home, next.saturating_sub(20), next) {
+        items.push(row.i_id)?;
+    }
+    Ok(items)
+}
+
+/// How many of these items the warehouse has less of than the threshold, each counted once, however often it is named. It
+/// takes no memory.
+pub fn low_stock(tables: &Tables, warehouse: u32, threshold: u32, items: Vec<u32>) -> usize
+    ensures value { result ≡ spec.low_stock tables.now warehouse threshold items.items }
+    ensures few { result ≤ length items.items }
+{
+    let mut items = items;
+    items.sort_unstable();
+    items.dedup();
+    count_short(tables, warehouse, threshold, &items)
+}
+
+// How many of these items the warehouse has less of than the threshold, each as often as it is named.
+fn count_short(tables: &Tables, warehouse: u32, threshold: u32, items: &[u32]) -> usize
+    ensures { result ≡ count_by (spec.is_short tables.now warehouse threshold) items.now }
+{
+    let mut count = 0;
+    for &item in items {
+        if is_short(tables, warehouse, threshold, item) {
+            count += 1;
+        }
+    }
+    count
+}
+
+// Whether the warehouse has less of the item than the threshold.
+fn is_short(tables: &Tables, warehouse: u32, threshold: u32, item: u32) -> bool
+    ensures { result ≡ spec.is_short tables.now warehouse threshold item }
+{
+    let key = StockKey {
+        w_id: warehouse,
+        i_id: item,
+    };
+    match tables.stock(key) {
+        Some(row) => row.quantity.get() < threshold,
+        None => false,
+    }
+}
+
+// The number that the district's next order gets, 0 where there is no such district.
+fn next_order(tables: &Tables, home: DistrictKey) -> u32
+    ensures { result ≡ spec.next_order (table.get tables.now.districts home) }
+{
+    match tables.district(home) {
+        Some(row) => row.next_o_id.get(),
+        None => 0,
+    }
+}

@@ -1,0 +1,89 @@
+//! The fields of a Delivery, and of its reply.
+ghost use Rattle.std.specs.Prelude.{◌≡◌, ℕ, List, [], ◌∷◌, ◌++◌, map, OnOk, codes};
+ghost use Rattle.files.specs.Taken.{TakesWell, Takes};
+ghost use Rattle.terminals.specs.Nullable.{nullable_text};
+ghost use Rattle.terminals.specs.Delivery.{IsDelivery, delivery_reply_fields};
+
+use files::{Fields, NewRecord, moment_text};
+use requests::{Delivery, DeliveryReply};
+use schema::{NoMemory, Ranged};
+
+/// How many fields a Delivery has, with its letter.
+pub const FIELDS: u64 = 4;
+
+/// Takes the fields of a Delivery that come after its letter.
+pub fn take(fields: &mut Fields) -> Delivery
+    ensures { Takes fields.old fields.new (λ said. IsDelivery result (codes "D" ∷ said)) }
+{
+    Delivery {
+        w_id: fields.whole(0, u32::MAX),
+        carrier_id: fields.whole(0, u32::MAX),
+        moment: fields.moment(),
+    }
+}
+
+/// Adds the fields of a Delivery, with its letter.
+pub fn put(row: &mut NewRecord, asked: &Delivery) -> Result<(), NoMemory>
+    ensures { OnOk result ((fields : List (List ℕ)) × IsDelivery asked.now fields × (row.new ≡ row.old ++ fields)) }
+{
+    row.push("D")?;
+    row.push_number(u64::from(asked.w_id))?;
+    row.push_number(u64::from(asked.carrier_id))?;
+    row.push(moment_text(asked.moment).as_str())
+}
+
+/// Takes the fields of a reply of Delivery that come after its letter.
+pub fn take_reply(fields: &mut Fields) -> DeliveryReply
+    ensures { Takes fields.old fields.new (λ said. codes "D" ∷ said ≡ delivery_reply_fields result) }
+{
+    DeliveryReply {
+        carrier_id: fields.whole(1, 10),
+        orders: take_orders(fields),
+    }
+}
+
+// Takes the orders of the ten districts.
+fn take_orders(fields: &mut Fields) -> [Option<u32>; 10]
+    ensures { Takes fields.old fields.new (λ said. said ≡ map nullable_text result) }
+{
+    let mut orders = [None; 10];
+    for district in 0..10 {
+        orders[district] = take_order(fields);
+    }
+    orders
+}
+
+// Takes the number of an order, 1 to 9,999,999; `None` for the empty field.
+fn take_order(fields: &mut Fields) -> Option<u32>
+    ensures { TakesWell fields.old fields.new (nullable_text result) }
+{
+    let number: Option<Ranged<1, 9_999_999>> = fields.optional_ranged();
+    Some(number?.get())
+}
+
+/// Adds the fields of a reply of Delivery, with its letter.
+pub fn put_reply(row: &mut NewRecord, shown: &DeliveryReply) -> Result<(), NoMemory>
+    ensures { OnOk result (row.new ≡ row.old ++ delivery_reply_fields shown.now) }
+{
+    row.push("D")?;
+    row.push_number(u64::from(shown.carrier_id))?;
+    put_orders(row, &shown.orders)
+}
+
+fn put_orders(row: &mut NewRecord, orders: &[Option<u32>]) -> Result<(), NoMemory>
+    ensures { OnOk result (row.new ≡ row.old ++ map nullable_text orders.now) }
+{
+    for order in orders {
+        put_order(row, order)?;
+    }
+    Ok(())
+}
+
+fn put_order(row: &mut NewRecord, order: &Option<u32>) -> Result<(), NoMemory>
+    ensures { OnOk result (row.new ≡ row.old ++ (nullable_text order.now ∷ [])) }
+{
+    match order {
+        Some(number) => row.push_number(u64::from(*number)),
+        None => row.push(""),
+    }
+}

@@ -1,0 +1,190 @@
+//! The fields of a New-Order, and of its reply.
+ghost use Rattle.std.specs.Prelude.{◌≡◌, ℕ, List, ◌∷◌, ◌++◌, OnOk, IfOk, codes, flat_map};
+ghost use Rattle.files.specs.Taken.{TakesWell, Takes};
+ghost use Rattle.terminals.specs.NewOrder.{IsNewOrder, IsNewOrderReply, brand_text, new_order_line_fields, order_shown_fields, ordered_line_fields};
+
+use crate::request::{put_district, take_district};
+use files::{FaultKind, Fields, NewRecord, credit_word, moment_text};
+use requests::{Lines, NewOrder, NewOrderLine, NewOrderReply, OrderedLine};
+use schema::{BrandGeneric, NoMemory};
+use std::alloc::Global;
+
+/// How many lines an order has in a record, at most.
+pub const MOST_LINES: usize = 64;
+
+// How many fields a line has that is ordered, and one that is shown.
+const ORDERED_FIELDS: usize = 3;
+
+const SHOWN_FIELDS: usize = 8;
+
+/// Takes the fields of a New-Order that come after its letter. Fields that make no line, or come after 64 lines, are left.
+pub fn take(alloc: Global, fields: &mut Fields) -> Result<NewOrder, NoMemory>
+    ensures { IfOk result (λ order. Takes fields.old fields.new (λ said. IsNewOrder order (codes "N" ∷ said))) }
+{
+    Ok(NewOrder {
+        home: take_district(fields),
+        c_id: fields.whole(0, u32::MAX),
+        moment: fields.moment(),
+        lines: take_lines(alloc, fields)?,
+    })
+}
+
+fn take_lines(alloc: Global, fields: &mut Fields) -> Result<Lines<OrderedLine>, NoMemory>
+    ensures { IfOk result (λ lines. Takes fields.old fields.new (λ said. said ≡ flat_map ordered_line_fields lines)) }
+{
+    let mut lines = Vec::new(alloc);
+    for _ in 0..(fields.left() / ORDERED_FIELDS).min(MOST_LINES) {
+        let line = take_line(fields);
+        lines.push(line)?;
+    }
+    Ok(Lines::new(lines))
+}
+
+fn take_line(fields: &mut Fields) -> OrderedLine
+    ensures { Takes fields.old fields.new (λ said. said ≡ ordered_line_fields result) }
+{
+    OrderedLine {
+        i_id: fields.whole(0, u32::MAX),
+        supply_w_id: fields.whole(0, u32::MAX),
+        quantity: fields.whole(0, u32::MAX),
+    }
+}
+
+/// Adds the fields of a New-Order, with its letter.
+pub fn put(row: &mut NewRecord, asked: &NewOrder) -> Result<(), NoMemory>
+    ensures { OnOk result ((fields : List (List ℕ)) × IsNewOrder asked.now fields × (row.new ≡ row.old ++ fields)) }
+{
+    row.push("N")?;
+    put_district(row, asked.home)?;
+    row.push_number(u64::from(asked.c_id))?;
+    row.push(moment_text(asked.moment).as_str())?;
+    put_lines(row, asked.lines.as_slice())
+}
+
+fn put_lines(row: &mut NewRecord, lines: &[OrderedLine]) -> Result<(), NoMemory>
+    ensures { OnOk result (row.new ≡ row.old ++ flat_map ordered_line_fields lines.now) }
+{
+    for line in lines {
+        put_line(row, line)?;
+    }
+    Ok(())
+}
+
+fn put_line(row: &mut NewRecord, line: &OrderedLine) -> Result<(), NoMemory>
+    ensures { OnOk result (row.new ≡ row.old ++ ordered_line_fields line.now) }
+{
+    row.push_number(u64::from(line.i_id))?;
+    row.push_number(u64::from(line.supply_w_id))?;
+    row.push_number(u64::from(line.quantity))
+}
+
+/// Takes the fields of a reply of New-Order that come after its letter, to the end of the record.
+pub fn take_reply(alloc: Global, fields: &mut Fields) -> Result<NewOrderReply, NoMemory>
+    ensures { IfOk result (λ shown. Takes fields.old fields.new (λ said. IsNewOrderReply shown (codes "N" ∷ said))) }
+{
+    Ok(NewOrderReply {
+        last: fields.text(),
+        credit: fields.credit(),
+        discount: fields.rate(),
+        warehouse_tax: fields.rate(),
+        district_tax: fields.rate(),
+        o_id: fields.whole(1, 9_999_999),
+        entry_d: fields.moment(),
+        total: fields.cents(),
+        lines: take_shown_lines(alloc, fields)?,
+    })
+}
+
+fn take_shown_lines(alloc: Global, fields: &mut Fields) -> Result<Lines<NewOrderLine>, NoMemory>
+    ensures { IfOk result (λ lines. Takes fields.old fields.new (λ said. said ≡ flat_map new_order_line_fields lines)) }
+{
+    let mut lines = Vec::new(alloc);
+    for _ in 0..(fields.left() / SHOWN_FIELDS).min(MOST_LINES) {
+        let line = take_shown_line(fields);
+        lines.push(line)?;
+    }
+    Ok(Lines::new(lines))
+}
+
+fn take_shown_line(fields: &mut Fields) -> NewOrderLine
+    ensures { Takes fields.old fields.new (λ said. said ≡ new_order_line_fields result) }
+{
+    NewOrderLine {
+        supply_w_id: fields.whole(0, u32::MAX),
+        i_id: fields.whole(0, u32::MAX),
+        name: fields.text(),
+        quantity: fields.ranged(),
+        stock_quantity: fields.ranged(),
+        brand: take_brand(fields),
+        price: fields.ranged(),
+        amount: fields.ranged(),
+    }
+}
+
+// Takes `B` or `G`; another word is noted as `OutOfRange`.
+fn take_brand(fields: &mut Fields) -> BrandGeneric
+    ensures { TakesWell fields.old fields.new (brand_text result) }
+{
+    match fields.word() {
+        "B" => BrandGeneric::Brand,
+        "G" => BrandGeneric::Generic,
+        _ => {
+            fields.note(FaultKind::OutOfRange);
+            BrandGeneric::Generic
+        }
+    }
+}
+
+/// Adds the fields of a reply of New-Order, with its letter.
+pub fn put_reply(row: &mut NewRecord, shown: &NewOrderReply) -> Result<(), NoMemory>
+    ensures { OnOk result ((fields : List (List ℕ)) × IsNewOrderReply shown.now fields × (row.new ≡ row.old ++ fields)) }
+{
+    put_order(row, shown, moment_text(shown.entry_d).as_str())?;
+    put_shown_lines(row, shown.lines.as_slice())
+}
+
+// Adds the letter, and what is shown of the order, whose moment is spelt like this.
+fn put_order(row: &mut NewRecord, shown: &NewOrderReply, entry: &str) -> Result<(), NoMemory>
+    ensures { OnOk result (row.new ≡ row.old ++ order_shown_fields shown.now entry.now) }
+{
+    row.push("N")?;
+    row.push(shown.last.as_str())?;
+    row.push(credit_word(shown.credit))?;
+    row.push_number(u64::from(shown.discount.get()))?;
+    row.push_number(u64::from(shown.warehouse_tax.get()))?;
+    row.push_number(u64::from(shown.district_tax.get()))?;
+    row.push_number(u64::from(shown.o_id))?;
+    row.push(entry)?;
+    row.push_signed(shown.total.get())
+}
+
+fn put_shown_lines(row: &mut NewRecord, lines: &[NewOrderLine]) -> Result<(), NoMemory>
+    ensures { OnOk result (row.new ≡ row.old ++ flat_map new_order_line_fields lines.now) }
+{
+    for line in lines {
+        put_shown_line(row, line)?;
+    }
+    Ok(())
+}
+
+fn put_shown_line(row: &mut NewRecord, line: &NewOrderLine) -> Result<(), NoMemory>
+    ensures { OnOk result (row.new ≡ row.old ++ new_order_line_fields line.now) }
+{
+    row.push_number(u64::from(line.supply_w_id))?;
+    row.push_number(u64::from(line.i_id))?;
+    row.push(line.name.as_str())?;
+    row.push_number(u64::from(line.quantity.get()))?;
+    row.push_number(u64::from(line.stock_quantity.get()))?;
+    row.push(brand_word(line.brand))?;
+    row.push_number(u64::from(line.price.get()))?;
+    row.push_number(u64::from(line.amount.get()))
+}
+
+fn brand_word(brand: BrandGeneric) -> &'static str
+    ensures { result.now ≡ brand_text brand }
+{
+    match brand {
+        BrandGeneric::Brand => "B",
+        BrandGeneric::Generic => "G",
+    }
+}

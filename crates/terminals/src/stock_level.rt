@@ -1,0 +1,45 @@
+//! The fields of a Stock-Level, and of its reply.
+ghost use Rattle.std.specs.Prelude.{◌≡◌, ◌∷◌, ◌++◌, OnOk, codes};
+ghost use Rattle.files.specs.Taken.{Takes};
+ghost use Rattle.terminals.specs.StockLevel.{stock_level_fields, stock_level_reply_fields};
+
+use crate::request::{put_district, take_district};
+use files::{Fields, NewRecord};
+use requests::{StockLevel, StockLevelReply};
+use schema::NoMemory;
+
+/// Takes the fields of a Stock-Level that come after its letter.
+pub fn take(fields: &mut Fields) -> StockLevel
+    ensures { Takes fields.old fields.new (λ said. codes "L" ∷ said ≡ stock_level_fields result) }
+{
+    StockLevel {
+        home: take_district(fields),
+        threshold: fields.whole(0, u32::MAX),
+    }
+}
+
+/// Adds the fields of a Stock-Level, with its letter.
+pub fn put(row: &mut NewRecord, asked: &StockLevel) -> Result<(), NoMemory>
+    ensures { OnOk result (row.new ≡ row.old ++ stock_level_fields asked.now) }
+{
+    row.push("L")?;
+    put_district(row, asked.home)?;
+    row.push_number(u64::from(asked.threshold))
+}
+
+/// Takes the field of a reply of Stock-Level that comes after its letter.
+pub fn take_reply(fields: &mut Fields) -> StockLevelReply
+    ensures { Takes fields.old fields.new (λ said. codes "L" ∷ said ≡ stock_level_reply_fields result) }
+{
+    StockLevelReply {
+        count: fields.whole(0, u32::MAX),
+    }
+}
+
+/// Adds the fields of a reply of Stock-Level, with its letter.
+pub fn put_reply(row: &mut NewRecord, shown: &StockLevelReply) -> Result<(), NoMemory>
+    ensures { OnOk result (row.new ≡ row.old ++ stock_level_reply_fields shown.now) }
+{
+    row.push("L")?;
+    row.push_number(u64::from(shown.count))
+}
