@@ -124,14 +124,10 @@ impl<J: LogNames> StepLog<J> {
         let Ok(request_copy) = request.try_clone() else {
             return Err((AppendFault::NoMemory, pass));
         };
-        let Ok(reply) = self.plain.step(request) else {
+        let Ok((reply, logged)) = self.plain.step(request) else {
             return Err((AppendFault::NoMemory, pass));
         };
-        // Only what changed no table is copied with memory.
-        let Ok(reply_copy) = reply.try_clone() else {
-            return Err((AppendFault::NoMemory, pass));
-        };
-        self.book.log(&mut pass, number, request_copy, reply_copy);
+        self.book.log(&mut pass, number, request_copy, logged);
         Ok((place, reply, pass))
     }
 

@@ -27,7 +27,7 @@ group_at-parts (Orders w_id d_id) = refl
 group_at-parts (History w_id d_id) = refl
 group_at-parts (Stock w_id residue) = refl
 
-is_same-equal : (a b : Group) → is_same a b ≡ true → a ≡ b
+pub is_same-equal : (a b : Group) → is_same a b ≡ true → a ≡ b
 is_same-equal a b same =
     let kind = and_parts (eqb (kind_of a) (kind_of b)) _ same in
     let place = and_parts (eqb (warehouse_of a) (warehouse_of b)) (eqb (number_of a) (number_of b)) kind.1 in

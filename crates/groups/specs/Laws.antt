@@ -20,10 +20,8 @@ use Rattle.rows.specs.declared.records.OrderLine.{OrderLine}
 use Rattle.schema.specs.Database.{Database}
 use Rattle.requests.specs.declared.group.Group.{Group}
 use Rattle.requests.specs.declared.request.Request.{Request}
-use Rattle.requests.specs.declared.stock_level.StockLevel.{StockLevel}
 use Rattle.groups.specs.Groups.{group_of_warehouse, group_of_district, group_of_customer, group_of_order, group_of_line, group_of_history, group_of_stock, is_same}
 use Rattle.groups.specs.Footprint.{footprint, groups_of}
-use Rattle.groups.specs.StockLevel.{stock_level_footprint}
 use Rattle.groups.specs.Content.{Content, content}
 use Rattle.groups.specs.Content.Content.{OfWarehouse, OfDistrict, OfCustomers, OfOrders, OfHistory, OfStock}
 
@@ -32,10 +30,6 @@ use Rattle.groups.specs.Content.Content.{OfWarehouse, OfDistrict, OfCustomers, O
 -- no group comes twice among them
 abbrev pub FootprintsNameEachGroupOnce : Type 0
 FootprintsNameEachGroupOnce = (request : Request) (group : Group) → count_by (is_same group) (groups_of (footprint request)) ≤ 1
-
--- nor does it among those of a Stock-Level
-abbrev pub StockLevelNamesEachGroupOnce : Type 0
-StockLevelNamesEachGroupOnce = (asked : StockLevel) (group : Group) → count_by (is_same group) (groups_of (stock_level_footprint asked)) ≤ 1
 
 -- ---- each row stands in one group
 

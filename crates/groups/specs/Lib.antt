@@ -1,8 +1,10 @@
 pub mod Groups
 pub mod Content
 pub mod Modes
+pub mod NewOrder
 pub mod Payment
 pub mod OrderStatus
+pub mod Delivery
 pub mod StockLevel
 pub mod Footprint
 pub mod Laws

@@ -4,7 +4,7 @@ ghost use Rattle.std.specs.Cmp.{IsTotalOrder};
 ghost use Rattle.std.specs.FinMap.{IsAntisymmetric};
 ghost use Rattle.requests.specs.declared.group.Group.{Group};
 ghost use Rattle.groups.specs.Groups.{group_cmp};
-ghost use Rattle.groups.specs.Laws.{ContentsMakeTables, EachPutChangesOneGroup, EachRowStandsInOneGroup, FootprintsNameEachGroupOnce, ItemsStandInNoGroup, StockLevelNamesEachGroupOnce};
+ghost use Rattle.groups.specs.Laws.{ContentsMakeTables, EachPutChangesOneGroup, EachRowStandsInOneGroup, FootprintsNameEachGroupOnce, ItemsStandInNoGroup};
 
 use requests::Group;
 
@@ -18,11 +18,6 @@ pub fn groups_are_ordered()
 /// No group comes twice among those that a request claims.
 pub fn footprints_name_each_group_once()
     ensures { FootprintsNameEachGroupOnce }
-{}
-
-/// No group comes twice among those that a Stock-Level claims.
-pub fn stock_level_names_each_group_once()
-    ensures { StockLevelNamesEachGroupOnce }
 {}
 
 /// Each row, and each list of HISTORY, stands in its own group as the table has it, and in no other.

@@ -3,8 +3,10 @@
 #![tactic(auto)]
 
 mod content;
+mod delivery;
 mod grouping;
 mod laws;
+mod new_order;
 mod order_status;
 mod payment;
 mod stock_level;
@@ -16,7 +18,6 @@ pub use grouping::group_of_stock;
 pub use laws::{
     contents_make_tables, each_put_changes_one_group, each_row_stands_in_one_group,
     footprints_name_each_group_once, groups_are_ordered, items_stand_in_no_group,
-    stock_level_names_each_group_once,
 };
 pub use wants::{Extent, Kind, Prefix, Want, kind_of, warehouse_of};
 pub use wishes::{Mode, Wish, footprint};

@@ -2,7 +2,7 @@
 ghost use Rattle.std.specs.Prelude.{◌≡◌};
 ghost use Rattle.groups.specs.OrderStatus.{order_status_footprint};
 
-use crate::{Mode, Wish};
+use crate::Wish;
 use requests::{Group, OrderStatus};
 use schema::DistrictKey;
 
@@ -15,8 +15,5 @@ pub(crate) fn wishes(asked: &OrderStatus) -> [Wish; 2]
         Group::Customers { w_id, d_id },
         Group::Orders { w_id, d_id },
     ]
-    .map(|group| Wish {
-        group,
-        mode: Mode::Shared,
-    })
+    .map(Wish::shared)
 }

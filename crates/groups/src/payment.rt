@@ -2,7 +2,7 @@
 ghost use Rattle.std.specs.Prelude.{◌≡◌};
 ghost use Rattle.groups.specs.Payment.{payment_footprint};
 
-use crate::{Mode, Wish};
+use crate::Wish;
 use requests::{Group, Payment};
 
 /// The rows that a payment changes, all of them alone.
@@ -26,8 +26,5 @@ pub(crate) fn wishes(payment: &Payment) -> [Wish; 4]
             d_id: home.d_id,
         },
     ]
-    .map(|group| Wish {
-        group,
-        mode: Mode::Exclusive,
-    })
+    .map(Wish::exclusively)
 }

@@ -1,9 +1,8 @@
 //! The groups that Stock-Level claims.
 ghost use Rattle.std.specs.Prelude.{◌≡◌, IfOk};
-ghost use Rattle.groups.specs.Modes as spec;
 ghost use Rattle.groups.specs.StockLevel.{stock_level_footprint};
 
-use crate::{Mode, Wish};
+use crate::Wish;
 use requests::{Group, StockLevel};
 use schema::{DistrictKey, NoMemory};
 use std::alloc::Global;
@@ -14,19 +13,10 @@ pub(crate) fn wishes(alloc: Global, asked: &StockLevel) -> Result<Vec<Wish>, NoM
 {
     let DistrictKey { w_id, d_id } = asked.home;
     let mut wishes = Vec::with_capacity(alloc, 66)?;
-    wishes.push(shared(Group::District { w_id, d_id }))?;
-    wishes.push(shared(Group::Orders { w_id, d_id }))?;
+    wishes.push(Wish::shared(Group::District { w_id, d_id }))?;
+    wishes.push(Wish::shared(Group::Orders { w_id, d_id }))?;
     for residue in 0..64 {
-        wishes.push(shared(Group::Stock { w_id, residue }))?;
+        wishes.push(Wish::shared(Group::Stock { w_id, residue }))?;
     }
     Ok(wishes)
-}
-
-fn shared(group: Group) -> Wish
-    ensures { result ≡ spec.shared group }
-{
-    Wish {
-        group,
-        mode: Mode::Shared,
-    }
 }

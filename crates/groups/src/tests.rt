@@ -1,5 +1,8 @@
 use super::*;
-use requests::{Choice, Group, OrderStatus, Payment, Request, StockLevel};
+use requests::{
+    Choice, Delivery, Group, Lines, NewOrder, OrderStatus, OrderedLine, Payment, Request,
+    StockLevel,
+};
 use schema::{DistrictKey, Moment};
 use std::test::Fail;
 
@@ -9,6 +12,39 @@ fn district(w_id: u32, d_id: u32) -> DistrictKey {
 
 fn wish(group: Group, mode: Mode) -> Wish {
     Wish { group, mode }
+}
+
+fn line(i_id: u32, supply_w_id: u32) -> OrderedLine {
+    OrderedLine {
+        i_id,
+        supply_w_id,
+        quantity: 5,
+    }
+}
+
+// The second line is of an item whose number is 64 above the first's, and the third of the first's item in another warehouse.
+#[test]
+fn an_order_claims_each_group_of_stock_once(rt: HostRuntime) -> Result<(), Fail> {
+    let lines = [line(5, 1), line(69, 1), line(5, 2), line(7, 1), line(69, 2)];
+    let order = Request::NewOrder(NewOrder {
+        home: district(1, 2),
+        c_id: 3,
+        moment: Moment::new(0),
+        lines: Lines::new(Vec::from_slice(rt.alloc(), &lines)?),
+    });
+    let stock = |w_id: u32, residue: u32| wish(Group::Stock { w_id, residue }, Mode::Exclusive);
+    let claimed = [
+        wish(Group::Warehouse { w_id: 1 }, Mode::Shared),
+        wish(Group::District { w_id: 1, d_id: 2 }, Mode::Exclusive),
+        wish(Group::Customers { w_id: 1, d_id: 2 }, Mode::Shared),
+        stock(1, 5),
+        stock(2, 5),
+        stock(1, 7),
+        wish(Group::Orders { w_id: 1, d_id: 2 }, Mode::Exclusive),
+    ];
+    let wishes = footprint(rt.alloc(), &order)?;
+    assert_eq!(rt; wishes.as_slice(), claimed.as_slice());
+    Ok(())
 }
 
 #[test]
@@ -47,12 +83,36 @@ fn a_status_claims_what_it_reads(rt: HostRuntime) -> Result<(), Fail> {
 }
 
 #[test]
+fn a_delivery_claims_ten_districts(rt: HostRuntime) -> Result<(), Fail> {
+    let delivery = Request::Delivery(Delivery {
+        w_id: 3,
+        carrier_id: 7,
+        moment: Moment::new(0),
+    });
+    let wishes = footprint(rt.alloc(), &delivery)?;
+    assert_eq!(rt; wishes.len(), 20);
+    for (at, group) in [
+        (0, Group::Orders { w_id: 3, d_id: 1 }),
+        (9, Group::Orders { w_id: 3, d_id: 10 }),
+        (10, Group::Customers { w_id: 3, d_id: 1 }),
+        (19, Group::Customers { w_id: 3, d_id: 10 }),
+    ] {
+        assert_eq!(rt;
+            wishes.get(at).copied(),
+            Some(wish(group, Mode::Exclusive)),
+            "at {at}"
+        );
+    }
+    Ok(())
+}
+
+#[test]
 fn a_stock_level_claims_all_stock_of_its_warehouse(rt: HostRuntime) -> Result<(), Fail> {
-    let asked = StockLevel {
+    let asked = Request::StockLevel(StockLevel {
         home: district(3, 4),
         threshold: 10,
-    };
-    let wishes = stock_level::wishes(rt.alloc(), &asked)?;
+    });
+    let wishes = footprint(rt.alloc(), &asked)?;
     assert_eq!(rt; wishes.len(), 66);
     let own = [
         wish(Group::District { w_id: 3, d_id: 4 }, Mode::Shared),

@@ -1,4 +1,5 @@
 use fixtures::{two_warehouses, warehouses};
+use machine::Plain;
 use requests::{Choice, Fault, Payment, Reply, Request};
 use schema::{DistrictKey, Moment, NoMemory, Tables};
 use std::process::Abort;
@@ -21,4 +22,14 @@ fn payment(customer: u32, amount: u32) -> Request {
         amount,
         moment: Moment::new(1_714_564_800),
     })
+}
+
+// Carries the request out, which the check has to accept. The two replies have to be the same.
+fn carried_out(rt: &impl Abort, plain: &mut Plain, request: &Request) -> Result<Reply, NoMemory> {
+    if let Err(refusal) = requests::check(&plain.tables().scale(), request) {
+        panic!(rt; "{refusal:?}");
+    }
+    let (reply, copy) = plain.step(request)?;
+    assert_eq!(rt; reply, copy);
+    Ok(reply)
 }

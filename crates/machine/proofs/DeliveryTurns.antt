@@ -1,6 +1,6 @@
 -- What is due in a district follows from its own rows, which no turn of another district changes: so it can be looked at
 -- before the others have their turns.
-use Rattle.std.proofs.Common.{◌≡◌, ◌≢◌, ℕ, zero, suc, ◌+◌, ◌≤◌, Bool, true, false, cond, List, [], ◌∷◌, ◌++◌, Option, Some, None, Result, Ok, Err, refl, sym, ap, subst, ◌∙◌, arith}
+use Rattle.std.proofs.Common.{◌≡◌, ◌≢◌, ℕ, zero, suc, ◌+◌, ◌≤◌, Bool, true, false, cond, List, [], ◌∷◌, ◌++◌, Option, Some, None, Result, Ok, Err, refl, sym, ap, ◌∙◌, arith}
 use Rattle.std.specs.List.{filter, sum_by, AllByRecursion, range_with_len}
 use Rattle.std.specs.Option.{option_map, option_and_then}
 use Rattle.std.specs.FinMap as table
@@ -25,13 +25,13 @@ use Rattle.requests.specs.declared.delivery.Delivery.{Delivery}
 use Rattle.requests.specs.declared.reply.Fault.{Fault}
 use Rattle.machine.specs.declared.delivery.Handover.{Handover}
 use Rattle.machine.specs.NewOrder.{order_key}
-use Rattle.machine.specs.Delivery.{customer_delivered, amount_of, receiver, handed_over, delivered_order, Turn, turn_of, delivered_oldest, Round, no_turns, after_turn, delivered_in}
+use Rattle.machine.specs.Delivery.{customer_delivered, amount_of, receiver, handed_over, Turn, turn_of, delivered_oldest, Round, no_turns, after_turn, delivered_in}
 use Rattle.machine.specs.DeliverySteps.{handover_of, found_due, due_by, due, turn_with}
 use Rattle.machine.proofs.TableChanges.{get-insert_elsewhere}
 use Rattle.machine.proofs.LinesOfOrders.{order_is}
 use Rattle.machine.proofs.FreeNumbers.{other_district}
 use Rattle.machine.proofs.RowsChanged.{same_or_other, rows_where-map_rows, rows_where-remove_outside}
-use Rattle.machine.proofs.DeliveryConsistency.{mapped_there, then_there}
+use Rattle.machine.proofs.DeliveryCases.{TurnKeeps, round-kept}
 
 -- ---- the rows of a district
 
@@ -99,35 +99,17 @@ module _ (t : Database) (home q : DistrictKey) (o_id carrier moment : ℕ) (row 
 
 -- ---- the turn of another district
 
-order-elsewhere : (t left : Database) (home q : DistrictKey) (o_id carrier moment : ℕ) → q ≢ home → delivered_order t home o_id carrier moment ≡ Some left → IsSameFor q left t
-order-elsewhere t left home q o_id carrier moment apart made =
-    let key = order_key home o_id in
-    let of_order = then_there (λ row. option_map (handed_over t key row carrier moment) (receiver t key row)) (table.get t.orders key) left made in
-    let of_row = mapped_there (handed_over t key of_order.0 carrier moment) (receiver t key of_order.0) left of_order.2 in
-    subst (λ x. IsSameFor q x t) of_row.2 (handed_over-elsewhere t home q o_id carrier moment of_order.0 of_row.0 apart)
+turn-elsewhere : (t : Database) (home q : DistrictKey) (carrier moment : ℕ) → q ≢ home → TurnKeeps (λ s. IsSameFor q s t) carrier moment home
+turn-elsewhere t home q carrier moment apart s o_id row c new oldest row_is c_is receives same =
+    same_after q (handed_over s (order_key home o_id) row carrier moment new) s t (handed_over-elsewhere s home q o_id carrier moment row new apart) same
 
-turn-elsewhere : (t : Database) (home q : DistrictKey) (carrier moment : ℕ) (turn : Turn) → q ≢ home → delivered_oldest t home carrier moment ≡ Some turn → IsSameFor q turn.tables t
-turn-elsewhere t home q carrier moment turn apart made =
-    elim (oldest_new_order t home) as (λ r. turn_of t home carrier moment r ≡ Some turn → IsSameFor q turn.tables t) [
-      | None ↦ λ m. let is : record { tables = t; o_id = None } ≡ turn = cc in subst (λ (x : Turn). IsSameFor q x.tables t) is (same_itself q t)
-      | Some o_id ↦ λ m.
-          let there = mapped_there (λ (left : Database). record { tables = left; o_id = Some o_id }) (delivered_order t home o_id carrier moment) turn m in
-          subst (λ (x : Turn). IsSameFor q x.tables t) there.2 (order-elsewhere t there.0 home q o_id carrier moment apart there.1)
-    ] made
-
-round-elsewhere : (t : Database) (d : Delivery) (districts : List ℕ) (round : Round) (x : ℕ) → AllByRecursion (λ y. x ≢ y) districts → delivered_in t d districts ≡ Some round
-    → IsSameFor (district_key d.w_id x) round.tables t
-unfolding delivered_in
-round-elsewhere t d [] round x apart made =
-    let is : no_turns t ≡ round = cc in
-    subst (λ (r : Round). IsSameFor (district_key d.w_id x) r.tables t) is (same_itself (district_key d.w_id x) t)
-round-elsewhere t d (y ∷ ys) round x apart made =
-    let home = district_key d.w_id x in
-    let first = then_there (λ turn. option_map (after_turn turn) (delivered_in turn.tables d ys)) (delivered_oldest t (district_key d.w_id y) d.carrier_id d.moment) round made in
-    let others = mapped_there (after_turn first.0) (delivered_in first.0.tables d ys) round first.2 in
-    subst (λ (r : Round). IsSameFor home r.tables t) others.2
-    (same_after home others.0.tables first.0.tables t (round-elsewhere first.0.tables d ys others.0 x apart.1 others.1)
-    (turn-elsewhere t (district_key d.w_id y) home d.carrier_id d.moment first.0 (λ same. apart.0 (ap (λ (k : DistrictKey). k.d_id) same)) first.1))
+turns-elsewhere : (t : Database) (d : Delivery) (x : ℕ) (districts : List ℕ) → AllByRecursion (λ y. x ≢ y) districts
+    → AllByRecursion (λ y. TurnKeeps (λ s. IsSameFor (district_key d.w_id x) s t) d.carrier_id d.moment (district_key d.w_id y)) districts
+turns-elsewhere t d x [] apart = tt
+turns-elsewhere t d x (y ∷ ys) apart = (
+  turn-elsewhere t (district_key d.w_id y) (district_key d.w_id x) d.carrier_id d.moment (λ same. apart.0 (ap (λ (k : DistrictKey). k.d_id) same)),
+  turns-elsewhere t d x ys apart.1,
+)
 
 -- ---- what is due
 
@@ -221,7 +203,9 @@ not_among from (suc n) x h = (λ same. absurd (omega arith), not_among (from + 1
 
 -- no turn of the districts before one changes what it has
 pub round-same : (t : Database) (d : Delivery) (n count : ℕ) (round : Round) → count ≡ n + 1 → delivered_in t d (range_with_len 1 n) ≡ Some round → IsSameFor (district_key d.w_id count) round.tables t
-round-same t d n count round e made = round-elsewhere t d (range_with_len 1 n) round count (not_among 1 n count (omega arith)) made
+round-same t d n count round e made =
+    let home = district_key d.w_id count in
+    round-kept (λ s. IsSameFor home s t) t d (range_with_len 1 n) round (turns-elsewhere t d count (range_with_len 1 n) (not_among 1 n count (omega arith))) made (same_itself home t)
 
 -- the districts up to one are those before it, and then it, in which what was due at first is handed over
 pub delivered_up_to : (t : Database) (d : Delivery) (n count : ℕ) → count ≡ n + 1

@@ -1,9 +1,10 @@
--- The indexes that fit tables fit them after a payment too.
+-- The indexes that fit tables fit them after a payment too, and after a New-Order the one by last name.
 use Rattle.std.proofs.Common.{◌≡◌, ℕ, List, Result, Ok, Err, OnOk, OnErr, refl, sym, subst}
 use Rattle.std.specs.Prelude.{pos}
 use Rattle.rows.specs.PaymentNote.{payment_note}
 use Rattle.schema.specs.Database.{Database}
 use Rattle.requests.specs.declared.payment.Payment.{Payment}
+use Rattle.requests.specs.declared.new_order.NewOrder.{NewOrder}
 use Rattle.indexes.specs.LatestIndex.{FitsLatest}
 use Rattle.indexes.specs.NameLaws.{SameNames}
 use Rattle.indexes.specs.NameOrder.{FitsNames}
@@ -11,6 +12,8 @@ use Rattle.indexes.proofs.Names.{same_names_fit, put_keeps_names}
 use Rattle.machine.specs.Payment.{payment}
 use Rattle.machine.proofs.PaidRows.{customer_paid-is}
 use Rattle.machine.proofs.PaymentCases.{payment-cases}
+use Rattle.machine.specs.NewOrder.{new_order}
+use Rattle.machine.proofs.NewOrderCases.{new_order-cases}
 
 payment_keeps_names : (t : Database) (p : Payment) → SameNames t (payment t p).tables
 payment_keeps_names t p =
@@ -29,9 +32,16 @@ payment_keeps_indexes names latest t p fits_names fits_latest = (
       (λ key w new_w d new_d c new_c w_is d_is payer_is w_made d_made c_made. fits_latest),
 )
 
--- whether it was carried out or wanted memory
-pub indexes_stay : {A E : Type 0} (r : Result A E) (names : List (List ℕ)) (latest : List ℕ) (t new : Database) (p : Payment)
-    → OnOk r (new ≡ (payment t p).tables) → OnErr r (new ≡ t) → FitsNames names t × FitsLatest latest t → FitsNames names new × FitsLatest latest new
-indexes_stay (Ok a) names latest t new p ok err fits =
-    subst (λ s. FitsNames names s × FitsLatest latest s) (sym ok) (payment_keeps_indexes names latest t p fits.0 fits.1)
-indexes_stay (Err e) names latest t new p ok err fits = subst (λ s. FitsNames names s × FitsLatest latest s) (sym err) fits
+-- a New-Order changes no customer
+pub new_order_keeps_names : (names : List (List ℕ)) (t : Database) (n : NewOrder) → FitsNames names t → FitsNames names (new_order t n).tables
+new_order_keeps_names names t n fits =
+    same_names_fit names t (new_order t n).tables
+    (new_order-cases t n (λ o. SameNames t o.tables)
+    (λ fault. record { scale = refl; last = λ key. refl; first = λ key. refl })
+    (λ w d new_d c items stocks w_is d_is c_is items_are d_made stocks_are. record { scale = refl; last = λ key. refl; first = λ key. refl }))
+    fits
+
+-- what is so before a transaction and after it, whether it was carried out or wanted memory
+pub still_so : {A E : Type 0} (P : Database → Type 0) (r : Result A E) (before after new : Database) → OnOk r (new ≡ after) → OnErr r (new ≡ before) → P before → P after → P new
+still_so P (Ok a) before after new ok err h then_h = subst P (sym ok) then_h
+still_so P (Err e) before after new ok err h then_h = subst P (sym err) h

@@ -27,6 +27,7 @@ use Rattle.schema.proofs.EachRows.{EachRow-table}
 use Rattle.schema.proofs.TableWrites.{get-map_rows}
 use Rattle.machine.specs.NewOrder.{order_key}
 use Rattle.machine.specs.Delivery.{amount_of, handed_over}
+use Rattle.machine.proofs.DeliveryCases.{Receives}
 use Rattle.machine.proofs.TableChanges.{column-insert}
 use Rattle.machine.proofs.RowsAdded.{has_no_gap}
 use Rattle.machine.proofs.LinesOfOrders.{order_is}
@@ -51,7 +52,7 @@ same_count : (b : Bool) (carrier : ℕ) (row : Order) → (cond b (carried_by ca
 same_count true carrier row = refl
 same_count false carrier row = refl
 
-same_buyer : (b : Bool) (carrier : ℕ) (row : Order) → (cond b (carried_by carrier row) row).c_id ≡ row.c_id
+pub same_buyer : (b : Bool) (carrier : ℕ) (row : Order) → (cond b (carried_by carrier row) row).c_id ≡ row.c_id
 same_buyer true carrier row = refl
 same_buyer false carrier row = refl
 
@@ -106,11 +107,6 @@ share-other false false amount e = refl
 
 undelivered : (delivery_d : Option ℕ) → delivery_d ≡ None → is_some delivery_d ≡ false
 undelivered delivery_d e = ap is_some e
-
--- the sums that a customer has for an order that came
-pub record Receives (row new : Customer) (amount : ℕ) : Type 0 where
-  pub balance : new.balance ≡ row.balance +ℤ pos amount
-  pub ytd_payment : new.ytd_payment ≡ row.ytd_payment
 
 -- the district's oldest new order, with the rows that were found and the customer's new row
 module _ (t : Database) (home : DistrictKey) (o_id carrier moment : ℕ) (row : Order) (c new_c : Customer)

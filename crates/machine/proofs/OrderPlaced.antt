@@ -15,9 +15,11 @@ use Rattle.schema.specs.OrderRows.{is_line_within}
 use Rattle.requests.specs.declared.new_order.NewOrder.{NewOrder}
 use Rattle.requests.specs.declared.new_order.OrderedLine.{OrderedLine}
 use Rattle.requests.specs.declared.new_order.NewOrderLine.{NewOrderLine}
-use Rattle.requests.specs.declared.new_order.NewOrderFault.TheVariants.{NoCustomer, NoItem, Range}
+use Rattle.requests.specs.declared.reply.Fault.TheVariants.{NoCustomer, NoItem, Range}
+use Rattle.requests.specs.declared.reply.Shown.TheVariants.{NewOrder as OrderShown}
 use Rattle.machine.specs.declared.new_order_lines.LinePlaced.{LinePlaced}
-use Rattle.machine.specs.NewOrder.{done, rolled_back, new_order, ordered, placed, placed_of, placed_within, district_ordered, items_found, all_there, supplies, stock_key_of, stock_taken, stocks_taken, taken_from, line_row, line_rows, new_order_reply}
+use Rattle.machine.specs.Outcome.{done, rolled_back}
+use Rattle.machine.specs.NewOrder.{new_order, ordered, placed, placed_of, placed_within, district_ordered, items_found, all_there, supplies, stock_key_of, stock_taken, stocks_taken, taken_from, line_row, line_rows, new_order_reply}
 use Rattle.machine.specs.NewOrderLines.{columns, lines_placed, stocks_put}
 use Rattle.machine.proofs.NewOrderCases.{line_rows-length, items_found-length, supplies-length}
 use Rattle.machine.proofs.StocksInTurn.{taken_at, AreTaken, put_in_turn}
@@ -132,7 +134,7 @@ lines_within t within n (line ∷ lines) (item ∷ items) (old ∷ olds) (new �
 
 -- what the code has to know of an order that is placed by these rows
 pub record IsPlaced (t : Database) (n : NewOrder) (w : Warehouse) (d : District) (c : Customer) (new_d : District) (rows : List OrderLine) (shown : List NewOrderLine) (stocks : List Stock) : Type 0 where
-  pub outcome : new_order t n ≡ done (placed t n d.next_o_id new_d rows) (new_order_reply n w d c rows shown)
+  pub outcome : new_order t n ≡ done (placed t n d.next_o_id new_d rows) (OrderShown (new_order_reply n w d c rows shown))
   pub put : stocks_put n.lines stocks t.stocks ≡ stocks_taken n.home.w_id t.stocks n.lines
   pub counted : length rows ≡ length n.lines
   pub stocks_counted : length stocks ≡ length n.lines
@@ -153,7 +155,7 @@ module _ (t : Database) (n : NewOrder) (w : Warehouse) (d : District) (c : Custo
             asked t n w d c w_is d_is c_is
             ∙ ap (placed_of t n w d c) f
             ∙ (λ i. placed_within t n w d c items (d_made i) (h.found i))
-            ∙ (λ i. done (placed t n d.next_o_id new_d (sym h.rows i)) (new_order_reply n w d c (sym h.rows i) (sym h.shown i)));
+            ∙ (λ i. done (placed t n d.next_o_id new_d (sym h.rows i)) (OrderShown (new_order_reply n w d c (sym h.rows i) (sym h.shown i))));
         put = put_in_turn n.home.w_id t.stocks n.lines (map (λ (l : LinePlaced). l.stock) left) h.taken;
         counted = ap length h.rows ∙ line_rows-length n.home n.lines items h.stocks (items_found-length t n.lines items f) (supplies-length t n h.stocks h.found);
         stocks_counted = taken-length t n n.lines (map (λ (l : LinePlaced). l.stock) left) h.taken;

@@ -20,7 +20,6 @@ use Rattle.schema.proofs.ScaleKept.{scale-warehouse, scale-district, scale-custo
 use Rattle.requests.specs.declared.payment.Payment.{Payment}
 use Rattle.requests.specs.declared.reply.Fault.{Fault}
 use Rattle.requests.specs.declared.reply.Fault.TheVariants.{NoCustomer, Range}
-use Rattle.requests.specs.Replies.{ShowsLines}
 use Rattle.machine.specs.Outcome.{Outcome, rolled_back}
 use Rattle.indexes.specs.Namesakes.{Keyed}
 use Rattle.machine.specs.Chosen.{chosen}
@@ -70,13 +69,6 @@ payment-cases t p G back put =
     posted-cases t p c.0 (payment_row p c.0 w d) (warehouse_paid w (pos p.amount)) (district_paid d (pos p.amount)) (customer_paid c.1 (payment_note c.0 p.home p.amount) (pos p.amount)) G back
     (λ new_w new_d new_c w_made d_made c_made.
     put c.0 w new_w d new_d c.1 new_c w_is d_is (record { who = c_is; row = there.0; of_home = there.1 }) w_made d_made c_made))
-
--- ---- what is shown
-
-pub payment_shows_no_lines : (t : Database) (p : Payment) → ShowsLines (payment t p).reply → ⊥
-payment_shows_no_lines t p =
-    payment-cases t p (λ o. ShowsLines o.reply → ⊥) (λ fault shows. shows)
-    (λ key w new_w d new_d c new_c w_is d_is payer_is w_made d_made c_made shows. shows)
 
 -- ---- no other row
 

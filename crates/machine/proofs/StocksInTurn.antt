@@ -31,7 +31,7 @@ same_counters row a b c p q r true true false = refl
 same_counters row a b c p q r true false z = refl
 same_counters row a b c p q r false y z = refl
 
-nothing_taken : (home : ℕ) (row : Stock) → unwrap_or (stock_taken home row []) row ≡ row
+pub nothing_taken : (home : ℕ) (row : Stock) → unwrap_or (stock_taken home row []) row ≡ row
 nothing_taken home row = same_counters row (row.ytd + 0) (row.order_cnt + 0) (row.remote_cnt + 0) (omega arith) (omega arith) (omega arith) _ _ _
 
 module _ (home : ℕ) (all : List OrderedLine) where

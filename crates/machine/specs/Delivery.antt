@@ -1,5 +1,5 @@
 -- Delivery (clause 2.7).
-use Rattle.std.specs.Prelude.{ℕ, ◌+◌, pos, ℤ, ◌+ℤ◌, List, [], ◌∷◌, Option, Some, None, Result, Ok, Err, IsTrue}
+use Rattle.std.specs.Prelude.{ℕ, ◌+◌, pos, ℤ, ◌+ℤ◌, List, [], ◌∷◌, Option, Some, None, IsTrue}
 use Rattle.std.specs.List.{sum_by, range_with_len}
 use Rattle.std.specs.Option.{option_map, option_and_then}
 use Rattle.std.specs.FinMap as table
@@ -15,8 +15,9 @@ use Rattle.schema.specs.Consistency.{lines_of}
 use Rattle.schema.specs.OrderRows.{with_delivery, oldest_new_order}
 use Rattle.requests.specs.declared.delivery.Delivery.{Delivery}
 use Rattle.requests.specs.declared.delivery.DeliveryReply.{DeliveryReply}
-use Rattle.requests.specs.declared.reply.Fault.{Fault}
+use Rattle.requests.specs.declared.reply.Shown.TheVariants.{Delivery as DeliveryShown}
 use Rattle.requests.specs.declared.reply.Fault.TheVariants.{Range}
+use Rattle.machine.specs.Outcome.{Outcome, done, rolled_back}
 use Rattle.machine.specs.NewOrder.{order_key}
 
 -- ---- one order (clause 2.7.4.2)
@@ -91,19 +92,14 @@ delivered_in t d (district ∷ districts) =
 
 -- ---- what a Delivery leaves and answers
 
--- the tables that it leaves, and what is shown, or why it changed nothing
-pub record Outcome : Type 0 where
-  pub tables : Database
-  pub reply : Result DeliveryReply Fault
-
 -- what is shown (clause 2.7.3.2)
 abbrev pub delivery_reply : Delivery → List (Option ℕ) → DeliveryReply
 delivery_reply d orders = record { carrier_id = d.carrier_id; orders = orders }
 
 -- by the ten turns, which are one transaction: where one can't be delivered, nothing changes
 abbrev pub told : Database → Delivery → Option Round → Outcome
-told t d (Some round) = record { tables = round.tables; reply = Ok (delivery_reply d round.orders) }
-told t d None = record { tables = t; reply = Err Range }
+told t d (Some round) = done round.tables (DeliveryShown (delivery_reply d round.orders))
+told t d None = rolled_back t Range
 
 -- what a Delivery leaves and answers
 abbrev pub delivery : Database → Delivery → Outcome

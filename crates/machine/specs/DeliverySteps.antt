@@ -9,11 +9,15 @@ use Rattle.schema.specs.Database.{Database, customer_of_order}
 use Rattle.schema.specs.OrderRows.{with_delivery, oldest_new_order}
 use Rattle.requests.specs.declared.delivery.Delivery.{Delivery}
 use Rattle.requests.specs.declared.delivery.DeliveryReply.{DeliveryReply}
+use Rattle.requests.specs.declared.reply.Reply.{Reply}
+use Rattle.requests.specs.declared.reply.Reply.TheVariants.{Done, RolledBack}
+use Rattle.requests.specs.declared.reply.Shown.TheVariants.{Delivery as DeliveryShown}
 use Rattle.requests.specs.declared.reply.Fault.{Fault}
 use Rattle.requests.specs.declared.reply.Fault.TheVariants.{Range}
 use Rattle.machine.specs.declared.delivery.Handover.{Handover}
+use Rattle.machine.specs.Outcome.{Outcome}
 use Rattle.machine.specs.NewOrder.{order_key}
-use Rattle.machine.specs.Delivery.{Outcome, Turn, delivered_in, receiver, told}
+use Rattle.machine.specs.Delivery.{Turn, delivered_in, receiver, told}
 
 -- the order, its customer, and the customer's row once the order was delivered; None where there is no such row
 abbrev pub handover_of : Database → OrderKey → Option Handover
@@ -50,7 +54,7 @@ turn_with t carrier moment (Some handover) = record {
 abbrev pub first_delivered : Database → Delivery → ℕ → Outcome
 first_delivered t d count = told t d (delivered_in t d (range_with_len 1 count))
 
--- what is shown of the first districts
-abbrev pub first_shown : ℕ → Result DeliveryReply Fault → Result DeliveryReply Fault
-first_shown count (Ok reply) = Ok (record reply { orders = take count reply.orders })
-first_shown count (Err fault) = Err fault
+-- the answer by what is shown, of which the first districts count, or by why nothing is
+abbrev pub first_answer : ℕ → Result DeliveryReply Fault → Reply
+first_answer count (Ok shown) = Done (DeliveryShown (record shown { orders = take count shown.orders }))
+first_answer count (Err fault) = RolledBack fault

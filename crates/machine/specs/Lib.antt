@@ -9,6 +9,7 @@ pub mod MachineLaws
 pub mod NewOrder
 pub mod NewOrderLines
 pub mod NewOrderLaws
+pub mod LatestNoted
 pub mod Delivery
 pub mod DeliveryLaws
 pub mod DeliverySteps

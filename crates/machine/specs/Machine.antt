@@ -2,16 +2,22 @@
 use Rattle.std.specs.Prelude.{List, [], ◌∷◌}
 use Rattle.schema.specs.Database.{Database}
 use Rattle.requests.specs.declared.request.Request.{Request}
-use Rattle.requests.specs.declared.request.Request.TheVariants.{Payment, OrderStatus}
+use Rattle.requests.specs.declared.request.Request.TheVariants.{NewOrder, Payment, OrderStatus, Delivery, StockLevel}
 use Rattle.requests.specs.declared.reply.Reply.{Reply}
 use Rattle.machine.specs.Outcome.{Outcome}
+use Rattle.machine.specs.NewOrder.{new_order}
 use Rattle.machine.specs.Payment.{payment}
 use Rattle.machine.specs.OrderStatus.{order_status}
+use Rattle.machine.specs.Delivery.{delivery}
+use Rattle.machine.specs.StockLevel.{stock_level}
 
 -- what one request leaves and answers
 abbrev pub transaction : Database → Request → Outcome
+transaction t (NewOrder n) = new_order t n
 transaction t (Payment p) = payment t p
 transaction t (OrderStatus o) = order_status t o
+transaction t (Delivery d) = delivery t d
+transaction t (StockLevel s) = stock_level t s
 
 -- the replies to requests, one after another
 abbrev pub replies : Database → List Request → List Reply

@@ -1,5 +1,5 @@
 -- New-Order (clause 2.4).
-use Rattle.std.specs.Prelude.{ℕ, ◌+◌, ◌*◌, ◌==◌, Bool, ◌&&◌, not, pos, List, [], ◌∷◌, length, map, take, Option, Some, None, Result, Ok, Err, unwrap_or}
+use Rattle.std.specs.Prelude.{ℕ, ◌+◌, ◌*◌, ◌==◌, Bool, ◌&&◌, not, pos, List, [], ◌∷◌, length, map, take, Option, Some, None, unwrap_or}
 use Rattle.std.specs.List.{filter, list_all, sum_by}
 use Rattle.std.specs.Option.{option_map, option_and_then}
 use Rattle.std.specs.FinMap as table
@@ -27,8 +27,9 @@ use Rattle.requests.specs.declared.new_order.NewOrder.{NewOrder}
 use Rattle.requests.specs.declared.new_order.OrderedLine.{OrderedLine}
 use Rattle.requests.specs.declared.new_order.NewOrderLine.{NewOrderLine}
 use Rattle.requests.specs.declared.new_order.NewOrderReply.{NewOrderReply}
-use Rattle.requests.specs.declared.new_order.NewOrderFault.{NewOrderFault}
-use Rattle.requests.specs.declared.new_order.NewOrderFault.TheVariants.{NoCustomer, NoItem, Range}
+use Rattle.requests.specs.declared.reply.Shown.TheVariants.{NewOrder as OrderShown}
+use Rattle.requests.specs.declared.reply.Fault.TheVariants.{NoCustomer, NoItem, Range}
+use Rattle.machine.specs.Outcome.{Outcome, done, rolled_back}
 
 -- ---- the stock (clause 2.4.2.2)
 
@@ -174,22 +175,7 @@ new_order_reply n w d c rows shown = record {
   lines = shown;
 }
 
--- ---- what a New-Order leaves and answers
-
--- the tables that it leaves, and what is shown, or why it changed nothing
-pub record Outcome : Type 0 where
-  pub tables : Database
-  pub reply : Result NewOrderReply NewOrderFault
-
--- these tables, and what is shown
-abbrev pub done : Database → NewOrderReply → Outcome
-done t shown = record { tables = t; reply = Ok shown }
-
--- a rollback changes nothing (clause 2.4.2.3)
-abbrev pub rolled_back : Database → NewOrderFault → Outcome
-rolled_back t fault = record { tables = t; reply = Err fault }
-
--- ---- all tables at once
+-- ---- what a New-Order leaves and answers: all tables at once
 
 -- D_NEXT_O_ID grows by 1
 abbrev pub district_ordered : District → Option District
@@ -209,7 +195,7 @@ placed t n o_id district rows =
 abbrev pub placed_within : Database → NewOrder → Warehouse → District → Customer → List Item → Option District → Option (List Stock) → Outcome
 placed_within t n w d c items (Some district) (Some stocks) =
     let rows = line_rows n.home n.lines items stocks in
-    done (placed t n d.next_o_id district rows) (new_order_reply n w d c rows (lines_shown n.lines 1 n.lines items stocks))
+    done (placed t n d.next_o_id district rows) (OrderShown (new_order_reply n w d c rows (lines_shown n.lines 1 n.lines items stocks)))
 placed_within t n w d c items _ _ = rolled_back t Range
 
 -- where each line's item is there: if not, the number that the order would have had is shown all the same (clause 2.4.3.4)

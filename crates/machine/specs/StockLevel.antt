@@ -11,6 +11,8 @@ use Rattle.schema.specs.Database.{Database, rows_where}
 use Rattle.schema.specs.OrderRows.{is_in_span}
 use Rattle.requests.specs.declared.stock_level.StockLevel.{StockLevel}
 use Rattle.requests.specs.declared.stock_level.StockLevelReply.{StockLevelReply}
+use Rattle.requests.specs.declared.reply.Shown.TheVariants.{StockLevel as LevelShown}
+use Rattle.machine.specs.Outcome.{Outcome, done}
 
 -- D_NEXT_O_ID, and 0 where there is no such district
 abbrev pub next_order : Option District → ℕ
@@ -34,12 +36,15 @@ is_low warehouse threshold items row =
 abbrev pub low_stock : Database → ℕ → ℕ → List ℕ → ℕ
 low_stock t warehouse threshold items = count_by (is_low warehouse threshold items) (table.entries t.stocks)
 
--- What Stock-Level shows: how many of the items of the district's last 20 orders are low in its warehouse (clause
--- 2.8.2.2). It changes nothing.
-abbrev pub stock_level : Database → StockLevel → StockLevelReply
-stock_level t asked = record {
+-- what Stock-Level shows: how many of the items of the district's last 20 orders are low in its warehouse (clause 2.8.2.2)
+abbrev pub level_shown : Database → StockLevel → StockLevelReply
+level_shown t asked = record {
   count = low_stock t asked.home.w_id asked.threshold (recent_items t asked.home (next_order (table.get t.districts asked.home)));
 }
+
+-- what Stock-Level leaves and answers: it changes nothing
+abbrev pub stock_level : Database → StockLevel → Outcome
+stock_level t asked = done t (LevelShown (level_shown t asked))
 
 -- ---- of one item
 

@@ -5,11 +5,11 @@ use Rattle.requests.specs.declared.stock_level.StockLevel.{StockLevel}
 use Rattle.groups.specs.Content.{AreAlikeIn}
 use Rattle.groups.specs.StockLevel.{stock_level_footprint}
 use Rattle.groups.specs.Footprint.{groups_of}
-use Rattle.machine.specs.StockLevel.{stock_level}
+use Rattle.machine.specs.StockLevel.{level_shown}
 
 -- What it shows follows from the district's row, its orders with their lines, and the stock of its warehouse: where other
 -- tables have the same there, it is the same.
 abbrev pub StockLevelReadsItsGroups : Type 0
 StockLevelReadsItsGroups =
     (s t : Database) (asked : StockLevel) → AreAlikeIn (groups_of (stock_level_footprint asked)) s t
-    → stock_level s asked ≡ stock_level t asked
+    → level_shown s asked ≡ level_shown t asked

@@ -6,7 +6,7 @@ ghost use Rattle.machine.specs.Delivery as spec;
 ghost use Rattle.machine.specs.DeliverySteps as steps;
 
 use amounts::Cents;
-use requests::{Delivery, DeliveryReply, Fault};
+use requests::{Delivery, DeliveryReply, Fault, Reply, Shown};
 use schema::{CarrierId, Customer, CustomerKey, DistrictKey, Moment, NoMemory, OrderKey, Tables};
 
 // An order that is to be delivered, and the row that its customer will have.
@@ -18,19 +18,19 @@ struct Handover {
 }
 
 /// Delivers the oldest new order of each of the warehouse's ten districts (clause 2.7.4); a district without one is
-/// skipped. `Err` is `Fault::Range`, where a C_BALANCE or a C_DELIVERY_CNT would leave its range, and then nothing
+/// skipped. It is rolled back with `Fault::Range` where a C_BALANCE or a C_DELIVERY_CNT would leave its range, and then nothing
 /// changes. Orders and lines are looked up by their keys. Want of memory changes nothing.
-pub fn deliver(
-    tables: &mut Tables,
-    delivery: &Delivery,
-) -> Result<Result<DeliveryReply, Fault>, NoMemory>
+pub(crate) fn deliver(tables: &mut Tables, delivery: &Delivery) -> Result<Reply, NoMemory>
     requires { spec.HasCarrier delivery.now }
     ensures reply { IfOk result (λ reply. reply ≡ (spec.delivery tables.old delivery.now).reply) }
     ensures tables { OnOk result (tables.new ≡ (spec.delivery tables.old delivery.now).tables) }
     ensures err { OnErr result (tables.new ≡ tables.old) }
 {
     let carrier = CarrierId::new(delivery.carrier_id);
-    deliver_first(tables, delivery, carrier, 10)
+    match deliver_first(tables, delivery, carrier, 10)? {
+        Ok(shown) => Ok(Reply::Done(Shown::Delivery(shown))),
+        Err(fault) => Ok(Reply::RolledBack(fault)),
+    }
 }
 
 // Delivers in the districts from 1 to `count`. The last of them is looked at before any of them changes, and changes
@@ -44,7 +44,7 @@ fn deliver_first(
     requires most { count ≤ 10 }
     requires carrier { carrier ≡ delivery.now.carrier_id }
     ensures reply { IfOk result (λ reply.
-        steps.first_shown count reply ≡ (steps.first_delivered tables.old delivery.now count).reply) }
+        steps.first_answer count reply ≡ (steps.first_delivered tables.old delivery.now count).reply) }
     ensures ten { IfOk result (λ reply. IfOk reply (λ shown. length shown.orders ≡ 10)) }
     ensures tables { OnOk result (tables.new ≡ (steps.first_delivered tables.old delivery.now count).tables) }
     ensures err { OnErr result (tables.new ≡ tables.old) }

@@ -1,7 +1,7 @@
 //! Laws of the definitions of transactions: functions that do nothing, and are proved.
 ghost use Rattle.machine.specs.PaymentLaws.{PaymentIsLocal, PaymentKeepsConsistency, PaymentKeepsOtherGroups, PaymentKeepsScale, PaymentKeepsSums, PaymentReadsItsGroups};
-ghost use Rattle.machine.specs.NewOrderLaws.{NewOrderKeepsConsistency};
-ghost use Rattle.machine.specs.DeliveryLaws.{DeliveryKeepsConsistency};
+ghost use Rattle.machine.specs.NewOrderLaws.{NewOrderKeepsConsistency, NewOrderKeepsOtherGroups, NewOrderReadsItsGroups};
+ghost use Rattle.machine.specs.DeliveryLaws.{DeliveryKeepsConsistency, DeliveryKeepsOtherGroups, DeliveryReadsItsGroups};
 ghost use Rattle.machine.specs.StockLevelLaws.{StockLevelReadsItsGroups};
 ghost use Rattle.machine.specs.MachineLaws.{RequestsKeepConsistency, TransactionKeepsConsistency, TransactionKeepsOtherGroups, TransactionReadsItsGroups};
 
@@ -42,9 +42,30 @@ pub fn new_order_keeps_consistency()
     ensures { NewOrderKeepsConsistency }
 {}
 
+/// The reply to a New-Order, and what the groups that it claims have after it, follow from the items and from what these
+/// groups have before.
+pub fn new_order_reads_its_groups()
+    ensures { NewOrderReadsItsGroups }
+{}
+
+/// A New-Order changes nothing that a group has which it doesn't claim.
+pub fn new_order_keeps_other_groups()
+    ensures { NewOrderKeepsOtherGroups }
+{}
+
 /// After a Delivery the tables are consistent as before, whatever the reply (clause 3.3).
 pub fn delivery_keeps_consistency()
     ensures { DeliveryKeepsConsistency }
+{}
+
+/// The reply to a Delivery, and what the groups that it claims have after it, follow from what these groups have before.
+pub fn delivery_reads_its_groups()
+    ensures { DeliveryReadsItsGroups }
+{}
+
+/// A Delivery changes nothing that a group has which it doesn't claim.
+pub fn delivery_keeps_other_groups()
+    ensures { DeliveryKeepsOtherGroups }
 {}
 
 /// What Stock-Level shows follows from what the groups have that it claims.

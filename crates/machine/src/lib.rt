@@ -13,14 +13,15 @@ mod plain;
 mod stock_level;
 
 pub use choosing::chosen;
-pub use delivery::deliver;
 pub use laws::{
-    delivery_keeps_consistency, new_order_keeps_consistency, payment_is_local,
-    payment_keeps_consistency, payment_keeps_other_groups, payment_keeps_scale, payment_keeps_sums,
-    payment_reads_its_groups, requests_keep_consistency, stock_level_reads_its_groups,
-    transaction_keeps_consistency, transaction_keeps_other_groups, transaction_reads_its_groups,
+    delivery_keeps_consistency, delivery_keeps_other_groups, delivery_reads_its_groups,
+    new_order_keeps_consistency, new_order_keeps_other_groups, new_order_reads_its_groups,
+    payment_is_local, payment_keeps_consistency, payment_keeps_other_groups, payment_keeps_scale,
+    payment_keeps_sums, payment_reads_its_groups, requests_keep_consistency,
+    stock_level_reads_its_groups, transaction_keeps_consistency, transaction_keeps_other_groups,
+    transaction_reads_its_groups,
 };
-pub use new_order::{district_ordered, new_order_reply, order_row, place_order};
+pub use new_order::{district_ordered, new_order_reply, order_row};
 pub use new_order_lines::{line_row, line_shown, quantity_after, stock_taken};
 pub use order_status::{latest_shown, status_reply};
 pub use payment::{

@@ -1,71 +1,93 @@
 ghost use Rattle.std.specs.Prelude.{◌≡◌, ◌≤◌, ◌==◌, ◌*◌, length, IsTrue, IfOk, OnOk, OnErr};
 ghost use Rattle.std.specs.List.{list_all};
 ghost use Rattle.std.specs.FinMap as table;
-ghost use Rattle.schema.specs.Database.{is_order_id, customer_of_order};
+ghost use Rattle.schema.specs.Database.{Database, is_order_id, customer_of_order};
 ghost use Rattle.schema.specs.Scale.{has_customer, customer_key};
 ghost use Rattle.schema.specs.OrderRows.{is_line_within, with_order};
+ghost use Rattle.indexes.specs.LatestIndex.{FitsLatest};
 ghost use Rattle.machine.specs.NewOrder as spec;
 ghost use Rattle.machine.specs.NewOrderLines.{IsOrderWithin, stocks_put};
+ghost use Rattle.machine.specs.LatestNoted.{IsOrderPut};
 
 use crate::new_order_lines::{LinesPlaced, has_items, place_lines, stock_key};
 use amounts::{Cents, order_total};
-use requests::{Lines, NewOrder, NewOrderFault, NewOrderLine, NewOrderReply, OrderedLine};
+use indexes::LatestOrders;
+use partitions::Rows;
+use requests::{Fault, Lines, NewOrder, NewOrderLine, NewOrderReply, OrderedLine, Reply, Shown};
 use schema::{
     Customer, CustomerKey, District, DistrictKey, LineCount, NoMemory, Order, OrderKey, OrderLine,
     Stock, Tables, Warehouse,
 };
 use std::alloc::Global;
 
-/// Carries out a New-Order (clause 2.4): the reply and the tables are those that its definition gives. A fault, the
-/// first of those that `NewOrderFault` lists, and want of memory change nothing.
-pub fn place_order(
+/// Carries out a New-Order (clause 2.4): the reply, which is made twice before anything changes, and the tables are those
+/// that its definition gives. A fault and want of memory change nothing.
+pub(crate) fn place_order(
     alloc: Global,
     tables: &mut Tables,
+    latest: &mut LatestOrders,
     order: &NewOrder,
-) -> Result<Result<NewOrderReply, NewOrderFault>, NoMemory>
-    requires { IsOrderWithin order.now }
-    ensures reply { IfOk result (λ reply. reply ≡ (spec.new_order tables.old order.now).reply) }
+) -> Result<(Reply, Reply), NoMemory>
+    requires within { IsOrderWithin order.now }
+    requires latest { FitsLatest latest.old tables.old }
+    ensures reply { IfOk result (λ replies. replies.0 ≡ (spec.new_order tables.old order.now).reply) }
+    ensures same { IfOk result (λ replies. replies.1 ≡ replies.0) }
     ensures tables { OnOk result (tables.new ≡ (spec.new_order tables.old order.now).tables) }
+    ensures latest { FitsLatest latest.new tables.new }
     ensures err { OnErr result (tables.new ≡ tables.old) }
 {
     // For its contract: what the tables have is of the scale.
     tables.scale();
     let Some(warehouse) = tables.warehouse(order.home.w_id) else {
-        return Ok(Err(NewOrderFault::NoCustomer));
+        return Ok(rolled_back(Fault::NoCustomer));
     };
     let Some(district) = tables.district(order.home) else {
-        return Ok(Err(NewOrderFault::NoCustomer));
+        return Ok(rolled_back(Fault::NoCustomer));
     };
-    let Some(customer) = tables.customer(customer_key(order)) else {
-        return Ok(Err(NewOrderFault::NoCustomer));
+    let Some(customer) = tables.customer(customer_of(order.home, order.c_id)) else {
+        return Ok(rolled_back(Fault::NoCustomer));
     };
     let o_id = district.next_o_id.get();
     if !has_items(tables, order.lines.as_slice()) {
-        return Ok(Err(NewOrderFault::NoItem {
+        return Ok(rolled_back(Fault::NoItem {
             last: customer.last.copy(),
             credit: customer.credit,
             o_id,
         }));
     }
     let Some(new_district) = district_ordered(district)? else {
-        return Ok(Err(NewOrderFault::Range));
+        return Ok(rolled_back(Fault::Range));
     };
     let Some(placed) = place_lines(alloc, tables, order)? else {
-        return Ok(Err(NewOrderFault::Range));
+        return Ok(rolled_back(Fault::Range));
     };
     let LinesPlaced {
         rows,
         shown,
         stocks,
     } = placed;
-    let reply = new_order_reply(order, warehouse, district, customer, rows.as_slice(), shown);
-    post(tables, order, o_id, new_district, rows, stocks)?;
-    Ok(Ok(reply))
+    let shown = new_order_reply(order, warehouse, district, customer, rows.as_slice(), shown);
+    let copy = shown.try_clone()?;
+    post(tables, latest, order, o_id, new_district, rows, stocks)?;
+    Ok((
+        Reply::Done(Shown::NewOrder(shown)),
+        Reply::Done(Shown::NewOrder(copy)),
+    ))
+}
+
+// The reply to an order that was rolled back, twice.
+fn rolled_back(fault: Fault) -> (Reply, Reply)
+    ensures reply { result.0 ≡ Reply.RolledBack fault }
+    ensures same { result.1 ≡ Reply.RolledBack fault }
+{
+    let copy = fault.copy();
+    (Reply::RolledBack(fault), Reply::RolledBack(copy))
 }
 
 // Changes all rows of an order at once: what may want memory comes first.
 fn post(
     tables: &mut Tables,
+    latest: &mut LatestOrders,
     order: &NewOrder,
     o_id: u32,
     district: District,
@@ -80,15 +102,42 @@ fn post(
     requires lines { IsTrue (list_all (is_line_within tables.old.scale) rows.items) }
     requires stocks_are_there { IsTrue (list_all (λ line. table.contains_key tables.old.stocks (spec.stock_key_of line)) order.now.lines) }
     requires as_many { length stocks.items ≡ length order.now.lines }
+    requires latest { FitsLatest latest.old tables.old }
     ensures ok { OnOk result (tables.new ≡ with_order
         (record tables.old { districts = table.insert tables.old.districts order.now.home district; stocks = stocks_put order.now.lines stocks.items tables.old.stocks })
         (spec.order_key order.now.home o_id) (spec.order_row order.now) rows.items) }
+    ensures latest { FitsLatest latest.new tables.new }
     ensures err { OnErr result (tables.new ≡ tables.old) }
 {
-    tables.add_order(order_key(order.home, o_id), order_row(order), rows)?;
+    let key = order_key(order.home, o_id);
+    let replaced = tables.add_order(key, order_row(order), rows)?;
+    note_latest(tables, latest, order, o_id, replaced.order);
     tables.replace_district(order.home, district);
     put_stocks(tables, order.lines.as_slice(), stocks);
     Ok(())
+}
+
+// Notes the order as its customer's latest, in place of the order, if there was one, that stood at its key: so it may be in
+// tables that aren't consistent.
+fn note_latest(
+    tables: &Tables,
+    latest: &mut LatestOrders,
+    order: &NewOrder,
+    o_id: u32,
+    replaced: Option<Order>,
+)
+    ensures { (before : Database)
+        → IsOrderPut before tables.now (spec.order_key order.now.home o_id) (spec.order_row order.now) replaced
+        → FitsLatest latest.old before → FitsLatest latest.new tables.now }
+{
+    // For its contract: no two districts have one place.
+    Rows::scale(tables);
+    latest.raise_order(tables, customer_of(order.home, order.c_id), o_id);
+    if let Some(other) = replaced {
+        if other.c_id != order.c_id {
+            latest.look_through(tables, customer_of(order.home, other.c_id));
+        }
+    }
 }
 
 // Puts the rows in the places of those that supply the lines, the last first.
@@ -182,13 +231,13 @@ fn sum_of(rows: &[OrderLine]) -> u32
     sum
 }
 
-fn customer_key(order: &NewOrder) -> CustomerKey
-    ensures { result ≡ customer_key order.now.home order.now.c_id }
+fn customer_of(home: DistrictKey, c_id: u32) -> CustomerKey
+    ensures { result ≡ customer_key home c_id }
 {
     CustomerKey {
-        w_id: order.home.w_id,
-        d_id: order.home.d_id,
-        c_id: order.c_id,
+        w_id: home.w_id,
+        d_id: home.d_id,
+        c_id,
     }
 }
 

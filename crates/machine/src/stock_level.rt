@@ -17,7 +17,7 @@ pub fn stock_level_reply(
     tables: &Tables,
     asked: &StockLevel,
 ) -> Result<StockLevelReply, NoMemory>
-    ensures { IfOk result (λ reply. reply ≡ spec.stock_level tables.now asked.now) }
+    ensures { IfOk result (λ reply. reply ≡ spec.level_shown tables.now asked.now) }
 {
     let next = next_order(tables, asked.home);
     let items = recent_items(alloc, tables, asked.home, next)?;

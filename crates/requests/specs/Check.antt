@@ -2,11 +2,14 @@
 use Rattle.std.specs.Prelude.{◌≡◌, Bool, List, [], ◌∷◌, Option, Some, None, Result, Ok, Err, find}
 use Rattle.schema.specs.declared.scale.Scale.{Scale}
 use Rattle.requests.specs.declared.request.Request.{Request}
-use Rattle.requests.specs.declared.request.Request.TheVariants.{Payment, OrderStatus}
+use Rattle.requests.specs.declared.request.Request.TheVariants.{NewOrder, Payment, OrderStatus, Delivery, StockLevel}
 use Rattle.requests.specs.declared.refusal.Refusal.{Refusal}
 use Rattle.requests.specs.declared.refusal.Refusal.TheVariants.{BadWarehouse, BadDistrict, BadLines, BadQuantity, BadSupply, BadAmount, BadThreshold, BadCarrier}
+use Rattle.requests.specs.NewOrder.{new_order_applies}
 use Rattle.requests.specs.Payment.{payment_applies}
 use Rattle.requests.specs.OrderStatus.{order_status_applies}
+use Rattle.requests.specs.Delivery.{delivery_applies}
+use Rattle.requests.specs.StockLevel.{stock_level_applies}
 
 -- the refusals of a request by itself, in the order in which they are looked for
 abbrev pub refusals : List Refusal
@@ -14,8 +17,11 @@ refusals = BadWarehouse ∷ BadDistrict ∷ BadLines ∷ BadQuantity ∷ BadSupp
 
 -- whether a refusal applies to the request, by its kind
 abbrev pub applies : Scale → Request → Refusal → Bool
+applies scale (NewOrder n) refusal = new_order_applies scale n refusal
 applies scale (Payment p) refusal = payment_applies scale p refusal
 applies scale (OrderStatus o) refusal = order_status_applies scale o refusal
+applies scale (Delivery d) refusal = delivery_applies scale d refusal
+applies scale (StockLevel s) refusal = stock_level_applies scale s refusal
 
 -- the refusal, if there is one
 abbrev pub refused_by : Option Refusal → Result (Unit {0}) Refusal

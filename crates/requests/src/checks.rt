@@ -3,7 +3,7 @@ ghost use Rattle.rows.specs.Ranged.{is_between};
 ghost use Rattle.requests.specs.Check.{check_of};
 ghost use Rattle.requests.specs.Refusal.{refusal_number};
 
-use crate::{Refusal, Request, order_status, payment};
+use crate::{Refusal, Request, delivery, new_order, order_status, payment, stock_level};
 use schema::{DistrictKey, Scale};
 
 /// The first of the refusals `BadWarehouse` to `BadCarrier` that applies to the request, in this
@@ -13,8 +13,11 @@ pub fn check(scale: &Scale, request: &Request) -> Result<(), Refusal>
     ensures by_itself { IfErr result (λ refusal. refusal_number refusal ≤ 8) }
 {
     match request {
+        Request::NewOrder(asked) => new_order::check(*scale, asked),
         Request::Payment(asked) => payment::check(*scale, asked),
         Request::OrderStatus(asked) => order_status::check(*scale, asked),
+        Request::Delivery(asked) => delivery::check(*scale, asked),
+        Request::StockLevel(asked) => stock_level::check(*scale, asked),
     }
 }
 

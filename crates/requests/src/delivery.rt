@@ -1,5 +1,9 @@
 //! Delivery (clause 2.7), and what is shown of it.
-use schema::Moment;
+ghost use Rattle.std.specs.Prelude.{◌≡◌};
+ghost use Rattle.requests.specs.Check.{check_of};
+
+use crate::{Refusal, Request};
+use schema::{Moment, Scale};
 
 /// The oldest new order of each district of a warehouse is delivered (clause 2.7.1). As it comes, any number may be out of
 /// its range.
@@ -20,4 +24,17 @@ pub struct DeliveryReply {
     pub carrier_id: u32,
     /// O_ID of the order that was delivered in the districts 1 to 10; `None` where the district had no new order.
     pub orders: [Option<u32>; 10],
+}
+
+/// The first refusal that applies to a Delivery.
+pub(crate) fn check(scale: Scale, delivery: &Delivery) -> Result<(), Refusal>
+    ensures { result ≡ check_of scale (Request.Delivery delivery.now) }
+{
+    if !scale.has_warehouse(delivery.w_id) {
+        return Err(Refusal::BadWarehouse);
+    }
+    if !(1..=10).contains(&delivery.carrier_id) {
+        return Err(Refusal::BadCarrier);
+    }
+    Ok(())
 }

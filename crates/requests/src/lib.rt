@@ -23,7 +23,7 @@ pub use delivery::{Delivery, DeliveryReply};
 pub use group::Group;
 pub use last_name::LastName;
 pub use lines::Lines;
-pub use new_order::{NewOrder, NewOrderFault, NewOrderLine, NewOrderReply, OrderedLine};
+pub use new_order::{NewOrder, NewOrderLine, NewOrderReply, OrderedLine};
 pub use order_status::{OrderStatus, OrderStatusReply, StatusLine, StatusOrder};
 pub use payment::{Payment, PaymentReply};
 pub use refusal::Refusal;

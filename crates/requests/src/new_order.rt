@@ -1,11 +1,19 @@
 //! New-Order (clause 2.4), and what is shown of it.
-use crate::Lines;
+ghost use Rattle.std.specs.Prelude.{◌≡◌, IfOk};
+ghost use Rattle.std.specs.List.{list_all};
+ghost use Rattle.rows.specs.Ranged.{is_between};
+ghost use Rattle.schema.specs.Scale.{has_warehouse};
+ghost use Rattle.requests.specs.Check.{check_of};
+
+use crate::checks::is_district;
+use crate::{Lines, Refusal, Request};
 use amounts::{Cents, Rate};
 use schema::{
-    BrandGeneric, Credit, DistrictKey, LineAmount, LineQuantity, Moment, Price, StockQuantity, Text,
+    BrandGeneric, Credit, DistrictKey, LineAmount, LineQuantity, Moment, NoMemory, Price, Scale,
+    StockQuantity, Text,
 };
 
-/// A customer orders items (clause 2.4.1). As it comes, any number may be out of its range.
+/// A customer orders items (clause 2.4.1). As it comes, any number may be out of its range: `check` tells.
 #[derive(Clone, Debug, PartialEq, Eq, Drop)]
 pub struct NewOrder {
     /// W_ID and D_ID, where the order is placed and the customer belongs: a warehouse of the scale, and 1 to
@@ -65,18 +73,58 @@ pub struct NewOrderLine {
     pub amount: LineAmount,
 }
 
-/// Why a New-Order that was carried out changed nothing.
-#[derive(Clone, Debug, PartialEq, Eq, Drop)]
-pub enum NewOrderFault {
-    /// The district has no such customer.
-    NoCustomer,
-    /// A line's item is not in ITEM (clause 2.4.1.4): C_LAST and C_CREDIT of the customer, and the number
-    /// that the order would have had, 1 to 10,000,000 (clause 2.4.3.4).
-    NoItem {
-        last: Text<16>,
-        credit: Credit,
-        o_id: u32,
-    },
-    /// A value would have left the range of its column.
-    Range,
+impl NewOrderReply {
+    /// An equal reply. Its lines take memory; `NoMemory` leaves nothing behind.
+    pub fn try_clone(&self) -> Result<NewOrderReply, NoMemory>
+        ensures { IfOk result (λ copy. copy ≡ self.now) }
+    {
+        self.clone()
+    }
+}
+
+/// The first refusal that applies to a New-Order.
+pub(crate) fn check(scale: Scale, order: &NewOrder) -> Result<(), Refusal>
+    ensures { result ≡ check_of scale (Request.NewOrder order.now) }
+{
+    if !scale.has_warehouse(order.home.w_id) {
+        return Err(Refusal::BadWarehouse);
+    }
+    if !is_district(order.home) {
+        return Err(Refusal::BadDistrict);
+    }
+    let lines = order.lines.as_slice();
+    if !(5..=15).contains(&lines.len()) {
+        return Err(Refusal::BadLines);
+    }
+    if !are_quantities(lines) {
+        return Err(Refusal::BadQuantity);
+    }
+    if !are_suppliers(scale, lines) {
+        return Err(Refusal::BadSupply);
+    }
+    Ok(())
+}
+
+// Whether each line orders 1 to 10.
+fn are_quantities(lines: &[OrderedLine]) -> bool
+    ensures { result ≡ list_all (λ line. is_between 1 10 line.quantity) lines.now }
+{
+    for line in lines {
+        if !(1..=10).contains(&line.quantity) {
+            return false;
+        }
+    }
+    true
+}
+
+// Whether a warehouse of the scale supplies each line.
+fn are_suppliers(scale: Scale, lines: &[OrderedLine]) -> bool
+    ensures { result ≡ list_all (λ line. has_warehouse scale line.supply_w_id) lines.now }
+{
+    for line in lines {
+        if !scale.has_warehouse(line.supply_w_id) {
+            return false;
+        }
+    }
+    true
 }

@@ -1,23 +1,50 @@
 ghost use Rattle.std.specs.Prelude.{◌≡◌, ◌↔◌, IfOk, IsTrue, OnErr};
 ghost use Rattle.requests.specs.Replies.{HasLines, ShowsLines};
 
-use crate::{OrderStatusReply, PaymentReply};
-use schema::NoMemory;
+use crate::{DeliveryReply, NewOrderReply, OrderStatusReply, PaymentReply, StockLevelReply};
+use schema::{Credit, NoMemory, Text};
 
 /// Why a transaction that was carried out and logged changed nothing.
-#[derive(Clone, Copy, Debug, PartialEq, Eq)]
+#[derive(Clone, Debug, PartialEq, Eq, Drop)]
 pub enum Fault {
     /// The district has no customer of that choice.
     NoCustomer,
+    /// The item of a line of an order is not in ITEM (clause 2.4.1.4): C_LAST and C_CREDIT of the customer, and the
+    /// number that the order would have had, 1 to 10,000,000 (clause 2.4.3.4).
+    NoItem {
+        last: Text<16>,
+        credit: Credit,
+        o_id: u32,
+    },
     /// A value would have left the range of its column.
     Range,
+}
+
+impl Fault {
+    /// An equal fault. It takes no memory.
+    pub fn copy(&self) -> Fault
+        ensures { result ≡ self.now }
+    {
+        match self {
+            Fault::NoCustomer => Fault::NoCustomer,
+            Fault::NoItem { last, credit, o_id } => Fault::NoItem {
+                last: last.copy(),
+                credit: *credit,
+                o_id: *o_id,
+            },
+            Fault::Range => Fault::Range,
+        }
+    }
 }
 
 /// What a terminal shows of a transaction that was not rolled back, by the kind of request.
 #[derive(Clone, Debug, PartialEq, Eq, Drop)]
 pub enum Shown {
+    NewOrder(NewOrderReply),
     Payment(PaymentReply),
     OrderStatus(OrderStatusReply),
+    Delivery(DeliveryReply),
+    StockLevel(StockLevelReply),
 }
 
 impl Shown {
@@ -27,8 +54,11 @@ impl Shown {
         ensures lines { OnErr result (HasLines self.now) }
     {
         match self {
+            Shown::NewOrder(shown) => Ok(Shown::NewOrder(shown.try_clone()?)),
             Shown::Payment(shown) => Ok(Shown::Payment(shown.copy())),
             Shown::OrderStatus(shown) => Ok(Shown::OrderStatus(shown.try_clone()?)),
+            Shown::Delivery(shown) => Ok(Shown::Delivery(*shown)),
+            Shown::StockLevel(shown) => Ok(Shown::StockLevel(*shown)),
         }
     }
 }
@@ -57,7 +87,7 @@ impl Reply {
     {
         match self {
             Reply::Done(shown) => Ok(Reply::Done(shown.try_clone()?)),
-            Reply::RolledBack(fault) => Ok(Reply::RolledBack(*fault)),
+            Reply::RolledBack(fault) => Ok(Reply::RolledBack(fault.copy())),
         }
     }
 }

@@ -1,6 +1,6 @@
 ghost use Rattle.std.specs.Prelude.{◌≡◌, IfOk};
 
-use crate::{LastName, OrderStatus, Payment};
+use crate::{Delivery, LastName, NewOrder, OrderStatus, Payment, StockLevel};
 use schema::NoMemory;
 
 /// How a request names a customer of a district. That nobody there has the number or the name is no
@@ -17,8 +17,11 @@ pub enum Choice {
 /// What a terminal asks of the database.
 #[derive(Clone, Debug, PartialEq, Eq, Drop)]
 pub enum Request {
+    NewOrder(NewOrder),
     Payment(Payment),
     OrderStatus(OrderStatus),
+    Delivery(Delivery),
+    StockLevel(StockLevel),
 }
 
 impl Request {

@@ -1,5 +1,10 @@
 //! Stock-Level (clause 2.8), and what is shown of it.
-use schema::DistrictKey;
+ghost use Rattle.std.specs.Prelude.{◌≡◌};
+ghost use Rattle.requests.specs.Check.{check_of};
+
+use crate::checks::is_district;
+use crate::{Refusal, Request};
+use schema::{DistrictKey, Scale};
 
 /// How many of the items that were ordered lately in a district are low on stock (clause 2.8.1). As it comes, any number may
 /// be out of its range.
@@ -16,4 +21,20 @@ pub struct StockLevel {
 pub struct StockLevelReply {
     /// How many items are low on stock.
     pub count: u32,
+}
+
+/// The first refusal that applies to a Stock-Level.
+pub(crate) fn check(scale: Scale, asked: &StockLevel) -> Result<(), Refusal>
+    ensures { result ≡ check_of scale (Request.StockLevel asked.now) }
+{
+    if !scale.has_warehouse(asked.home.w_id) {
+        return Err(Refusal::BadWarehouse);
+    }
+    if !is_district(asked.home) {
+        return Err(Refusal::BadDistrict);
+    }
+    if !(10..=20).contains(&asked.threshold) {
+        return Err(Refusal::BadThreshold);
+    }
+    Ok(())
 }

@@ -1,6 +1,9 @@
 use super::*;
 use amounts::{Cents, Rate};
-use schema::{Credit, DistrictKey, LineAmount, LineQuantity, Moment, NoMemory, Scale, Text};
+use schema::{
+    BrandGeneric, Credit, DistrictKey, LineAmount, LineQuantity, Moment, NoMemory, Price, Scale,
+    StockQuantity, Text,
+};
 use std::alloc::Global;
 use std::test::Fail;
 
@@ -88,6 +91,102 @@ fn a_status_is_asked_at_a_district_of_the_scale(rt: HostRuntime) -> Result<(), F
             let found = check(&scale, &request).err().map(Refusal::number);
             assert_eq!(rt; found, number, "at {request:?}");
         }
+    }
+    Ok(())
+}
+
+// That many lines of an item of another number each.
+fn lines(
+    rt: &HostRuntime,
+    count: u32,
+    supply_w_id: u32,
+    quantity: u32,
+) -> Result<Lines<OrderedLine>, Fail> {
+    let mut lines = Vec::new(rt.alloc());
+    for i_id in 0..count {
+        lines.push(OrderedLine {
+            i_id,
+            supply_w_id: 1,
+            quantity: 1,
+        })?;
+    }
+    if let Some(last) = lines.last_mut() {
+        last.supply_w_id = supply_w_id;
+        last.quantity = quantity;
+    }
+    Ok(Lines::new(lines))
+}
+
+// The last line alone has another supply warehouse and quantity; what an item's number is, is no fault.
+#[test]
+fn an_order_is_refused_by_its_lines(rt: HostRuntime) -> Result<(), Fail> {
+    let scale = Scale::checked_new(2, 70, 5).ok_or("no scale")?;
+    for (home, count, supply, quantity, number) in [
+        ((1, 1), 5, 1, 1, None),
+        ((2, 10), 15, 2, 10, None),
+        ((0, 1), 5, 1, 1, Some(1)),
+        ((3, 11), 4, 3, 0, Some(1)),
+        ((1, 0), 4, 3, 0, Some(2)),
+        ((1, 11), 5, 1, 1, Some(2)),
+        ((1, 1), 0, 1, 1, Some(3)),
+        ((1, 1), 4, 3, 0, Some(3)),
+        ((1, 1), 16, 1, 1, Some(3)),
+        ((1, 1), 5, 3, 0, Some(4)),
+        ((1, 1), 15, 1, 11, Some(4)),
+        ((1, 1), 5, 0, 1, Some(5)),
+        ((1, 1), 15, 3, 10, Some(5)),
+    ] {
+        let request = Request::NewOrder(NewOrder {
+            home: district(home),
+            c_id: 6,
+            moment: Moment::new(0),
+            lines: lines(&rt, count, supply, quantity)?,
+        });
+        let found = check(&scale, &request).err().map(Refusal::number);
+        assert_eq!(rt; found, number, "at {request:?}");
+    }
+    Ok(())
+}
+
+#[test]
+fn a_delivery_is_refused_by_its_carrier(rt: HostRuntime) -> Result<(), Fail> {
+    let scale = Scale::checked_new(2, 70, 5).ok_or("no scale")?;
+    for (w_id, carrier_id, number) in [
+        (1, 1, None),
+        (2, 10, None),
+        (0, 1, Some(1)),
+        (3, 11, Some(1)),
+        (1, 0, Some(8)),
+        (1, 11, Some(8)),
+    ] {
+        let request = Request::Delivery(Delivery {
+            w_id,
+            carrier_id,
+            moment: Moment::new(0),
+        });
+        let found = check(&scale, &request).err().map(Refusal::number);
+        assert_eq!(rt; found, number, "at {request:?}");
+    }
+    Ok(())
+}
+
+#[test]
+fn a_stock_level_is_refused_by_its_threshold(rt: HostRuntime) -> Result<(), Fail> {
+    let scale = Scale::checked_new(2, 70, 5).ok_or("no scale")?;
+    for (home, threshold, number) in [
+        ((1, 1), 10, None),
+        ((2, 10), 20, None),
+        ((3, 11), 9, Some(1)),
+        ((1, 11), 9, Some(2)),
+        ((1, 1), 9, Some(7)),
+        ((1, 1), 21, Some(7)),
+    ] {
+        let request = Request::StockLevel(StockLevel {
+            home: district(home),
+            threshold,
+        });
+        let found = check(&scale, &request).err().map(Refusal::number);
+        assert_eq!(rt; found, number, "at {request:?}");
     }
     Ok(())
 }
@@ -193,7 +292,25 @@ fn copies_are_equal(rt: HostRuntime) -> Result<(), Fail> {
     }));
     let mut replies = Vec::new(rt.alloc());
     replies.push(paid)?;
-    replies.push(Reply::RolledBack(Fault::NoCustomer))?;
+    for fault in [Fault::NoCustomer, no_item(6)?, no_item(7)?, Fault::Range] {
+        replies.push(Reply::RolledBack(fault))?;
+    }
+    for o_id in [None, Some(5)] {
+        let mut orders = [None; 10];
+        orders[9] = o_id;
+        let shown = DeliveryReply {
+            carrier_id: 7,
+            orders,
+        };
+        replies.push(Reply::Done(Shown::Delivery(shown)))?;
+    }
+    for count in [0, 3] {
+        let shown = StockLevelReply { count };
+        replies.push(Reply::Done(Shown::StockLevel(shown)))?;
+    }
+    for stock_quantity in [10, 100] {
+        replies.push(ordered(rt.alloc(), stock_quantity)?)?;
+    }
     replies.push(status(None)?)?;
     for delivery_d in [None, Some(Moment::new(1))] {
         replies.push(status(Some(one_line(rt.alloc(), delivery_d)?))?)?;
@@ -204,6 +321,41 @@ fn copies_are_equal(rt: HostRuntime) -> Result<(), Fail> {
         }
     }
     Ok(())
+}
+
+fn no_item(o_id: u32) -> Result<Fault, Fail> {
+    Ok(Fault::NoItem {
+        last: Text::parse("BARBARBAR")?,
+        credit: Credit::Good,
+        o_id,
+    })
+}
+
+// What is shown of an order of one line, whose stock is left with this quantity.
+fn ordered(alloc: Global, stock_quantity: u32) -> Result<Reply, Fail> {
+    let stock_quantity = StockQuantity::checked_new(stock_quantity).ok_or("out of range")?;
+    let mut lines = Vec::new(alloc);
+    lines.push(NewOrderLine {
+        supply_w_id: 1,
+        i_id: 1,
+        name: Text::parse("item")?,
+        quantity: LineQuantity::new(5),
+        stock_quantity,
+        brand: BrandGeneric::Brand,
+        price: Price::new(100),
+        amount: LineAmount::new(500),
+    })?;
+    Ok(Reply::Done(Shown::NewOrder(NewOrderReply {
+        last: Text::parse("BARBARBAR")?,
+        credit: Credit::Good,
+        discount: Rate::new(1_000),
+        warehouse_tax: Rate::new(500),
+        district_tax: Rate::new(700),
+        o_id: 6,
+        entry_d: Moment::new(0),
+        total: Cents::new(504),
+        lines: Lines::new(lines),
+    })))
 }
 
 fn status(order: Option<StatusOrder>) -> Result<Reply, Fail> {

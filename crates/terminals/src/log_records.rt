@@ -46,7 +46,7 @@ impl Listed for Entry {
             pass_over_rest(fields);
             return Ok(None);
         };
-        let Some(request) = take_request(count, fields) else {
+        let Some(request) = take_request(alloc, count, fields)? else {
             return Ok(None);
         };
         let letter = fields.word();
@@ -107,16 +107,18 @@ fn pass_over_rest(fields: &mut Fields)
 
 // Takes the fields of a request, with its letter; another number of them than `count` is noted as
 // `WrongShape`. `None` where the letter is unknown, which is noted so too.
-fn take_request(count: u64, fields: &mut Fields) -> Option<Request>
-    ensures taken { IfSome result (λ request. Takes fields.old fields.new (λ asked. IsRequest request asked × (length asked ≡ count))) }
-    ensures unknown { IfNone result (fault_of fields.new ≢ None) }
+fn take_request(alloc: Global, count: u64, fields: &mut Fields) -> Result<Option<Request>, NoMemory>
+    ensures taken { IfOk result (λ taken. IfSome taken (λ request. Takes fields.old fields.new (λ asked. IsRequest request asked × (length asked ≡ count)))) }
+    ensures unknown { IfOk result (λ taken. IfNone taken (fault_of fields.new ≢ None)) }
 {
     let letter = fields.word();
-    let request = request::take(letter, fields)?;
+    let Some(request) = request::take(alloc, count, letter, fields)? else {
+        return Ok(None);
+    };
     if request::field_count(&request) != count {
         fields.note(FaultKind::WrongShape);
     }
-    Some(request)
+    Ok(Some(request))
 }
 
 /// The record of the log's entry at that place.

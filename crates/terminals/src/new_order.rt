@@ -1,5 +1,5 @@
 //! The fields of a New-Order, and of its reply.
-ghost use Rattle.std.specs.Prelude.{◌≡◌, ℕ, List, ◌∷◌, ◌++◌, OnOk, IfOk, codes, flat_map};
+ghost use Rattle.std.specs.Prelude.{◌≡◌, ℕ, List, ◌∷◌, ◌++◌, length, OnOk, IfOk, codes, flat_map};
 ghost use Rattle.files.specs.Taken.{TakesWell, Takes};
 ghost use Rattle.terminals.specs.NewOrder.{IsNewOrder, IsNewOrderReply, brand_text, new_order_line_fields, order_shown_fields, ordered_line_fields};
 
@@ -10,30 +10,40 @@ use schema::{BrandGeneric, NoMemory};
 use std::alloc::Global;
 
 /// How many lines an order has in a record, at most.
-pub const MOST_LINES: usize = 64;
+pub const MOST_LINES: u64 = 64;
+
+// How many fields a New-Order has without its lines, with its letter.
+const FIELDS: u64 = 5;
 
 // How many fields a line has that is ordered, and one that is shown.
-const ORDERED_FIELDS: usize = 3;
+const ORDERED_FIELDS: u64 = 3;
 
-const SHOWN_FIELDS: usize = 8;
+const SHOWN_FIELDS: u64 = 8;
 
-/// Takes the fields of a New-Order that come after its letter. Fields that make no line, or come after 64 lines, are left.
-pub fn take(alloc: Global, fields: &mut Fields) -> Result<NewOrder, NoMemory>
+/// Takes the fields of a New-Order that come after its letter, of `count` fields with the letter. Those of
+/// them that make no line, or come after 64 lines, are left.
+pub fn take(alloc: Global, count: u64, fields: &mut Fields) -> Result<NewOrder, NoMemory>
     ensures { IfOk result (λ order. Takes fields.old fields.new (λ said. IsNewOrder order (codes "N" ∷ said))) }
 {
     Ok(NewOrder {
         home: take_district(fields),
         c_id: fields.whole(0, u32::MAX),
         moment: fields.moment(),
-        lines: take_lines(alloc, fields)?,
+        lines: take_lines(alloc, count.saturating_sub(FIELDS) / ORDERED_FIELDS, fields)?,
     })
 }
 
-fn take_lines(alloc: Global, fields: &mut Fields) -> Result<Lines<OrderedLine>, NoMemory>
+// Takes so many lines, but no more than a record has, and no more than there are fields left for.
+fn take_lines(
+    alloc: Global,
+    count: u64,
+    fields: &mut Fields,
+) -> Result<Lines<OrderedLine>, NoMemory>
     ensures { IfOk result (λ lines. Takes fields.old fields.new (λ said. said ≡ flat_map ordered_line_fields lines)) }
 {
     let mut lines = Vec::new(alloc);
-    for _ in 0..(fields.left() / ORDERED_FIELDS).min(MOST_LINES) {
+    let there = fields.left() as u64 / ORDERED_FIELDS;
+    for _ in 0..count.min(there).min(MOST_LINES) {
         let line = take_line(fields);
         lines.push(line)?;
     }
@@ -48,6 +58,13 @@ fn take_line(fields: &mut Fields) -> OrderedLine
         supply_w_id: fields.whole(0, u32::MAX),
         quantity: fields.whole(0, u32::MAX),
     }
+}
+
+/// How many fields the New-Order has, with its letter.
+pub fn field_count(asked: &NewOrder) -> u64
+    ensures { (fields : List (List ℕ)) → IsNewOrder asked.now fields → length fields ≡ result }
+{
+    FIELDS + ORDERED_FIELDS * asked.lines.as_slice().len() as u64
 }
 
 /// Adds the fields of a New-Order, with its letter.
@@ -99,7 +116,7 @@ fn take_shown_lines(alloc: Global, fields: &mut Fields) -> Result<Lines<NewOrder
     ensures { IfOk result (λ lines. Takes fields.old fields.new (λ said. said ≡ flat_map new_order_line_fields lines)) }
 {
     let mut lines = Vec::new(alloc);
-    for _ in 0..(fields.left() / SHOWN_FIELDS).min(MOST_LINES) {
+    for _ in 0..(fields.left() as u64 / SHOWN_FIELDS).min(MOST_LINES) {
         let line = take_shown_line(fields);
         lines.push(line)?;
     }

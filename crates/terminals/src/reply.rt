@@ -1,9 +1,9 @@
 ghost use Rattle.std.specs.Prelude.{◌≡◌, ◌≢◌, ℕ, List, ◌∷◌, ◌++◌, None, OnOk, IfOk, IfSome, IfNone};
-ghost use Rattle.files.specs.Taken.{fault_of, TakesWell, Takes};
-ghost use Rattle.terminals.specs.ReplyFields.{IsReply, IsShown, fault_text};
+ghost use Rattle.files.specs.Taken.{fault_of, TakesAll, Takes};
+ghost use Rattle.terminals.specs.ReplyFields.{IsReply, IsShown, fault_fields};
 
-use crate::{order_status, payment};
-use files::{FaultKind, Fields, NewRecord};
+use crate::{delivery, new_order, order_status, payment, stock_level};
+use files::{FaultKind, Fields, NewRecord, credit_word};
 use requests::{Fault, Reply, Shown};
 use schema::NoMemory;
 use std::alloc::Global;
@@ -15,6 +15,10 @@ pub fn take(alloc: Global, letter: &str, fields: &mut Fields) -> Result<Option<R
     ensures unknown { IfOk result (λ taken. IfNone taken (fault_of fields.new ≢ None)) }
 {
     match letter {
+        "N" => {
+            let shown = new_order::take_reply(alloc, fields)?;
+            Ok(Some(Reply::Done(Shown::NewOrder(shown))))
+        }
         "P" => {
             let shown = payment::take_reply(fields);
             Ok(Some(Reply::Done(Shown::Payment(shown))))
@@ -22,6 +26,14 @@ pub fn take(alloc: Global, letter: &str, fields: &mut Fields) -> Result<Option<R
         "O" => {
             let shown = order_status::take_reply(alloc, fields)?;
             Ok(Some(Reply::Done(Shown::OrderStatus(shown))))
+        }
+        "D" => {
+            let shown = delivery::take_reply(fields);
+            Ok(Some(Reply::Done(Shown::Delivery(shown))))
+        }
+        "L" => {
+            let shown = stock_level::take_reply(fields);
+            Ok(Some(Reply::Done(Shown::StockLevel(shown))))
         }
         "X" => match take_fault(fields) {
             Some(fault) => Ok(Some(Reply::RolledBack(fault))),
@@ -34,12 +46,18 @@ pub fn take(alloc: Global, letter: &str, fields: &mut Fields) -> Result<Option<R
     }
 }
 
+// Takes why nothing changed; `None` where the word is unknown, which is noted as `WrongShape`.
 fn take_fault(fields: &mut Fields) -> Option<Fault>
-    ensures taken { IfSome result (λ fault. TakesWell fields.old fields.new (fault_text fault)) }
+    ensures taken { IfSome result (λ fault. TakesAll fields.old fields.new (fault_fields fault)) }
     ensures unknown { IfNone result (fault_of fields.new ≢ None) }
 {
     match fields.word() {
         "nocustomer" => Some(Fault::NoCustomer),
+        "noitem" => Some(Fault::NoItem {
+            last: fields.text(),
+            credit: fields.credit(),
+            o_id: fields.whole(1, 10_000_000),
+        }),
         "range" => Some(Fault::Range),
         _ => {
             fields.note(FaultKind::WrongShape);
@@ -56,7 +74,7 @@ pub fn put(row: &mut NewRecord, reply: &Reply) -> Result<(), NoMemory>
         Reply::Done(shown) => put_shown(row, shown),
         Reply::RolledBack(fault) => {
             row.push("X")?;
-            row.push(fault_word(*fault))
+            put_fault(row, fault)
         }
     }
 }
@@ -66,16 +84,26 @@ fn put_shown(row: &mut NewRecord, shown: &Shown) -> Result<(), NoMemory>
     ensures { OnOk result ((fields : List (List ℕ)) × IsShown shown.now fields × (row.new ≡ row.old ++ fields)) }
 {
     match shown {
+        Shown::NewOrder(shown) => new_order::put_reply(row, shown),
         Shown::Payment(shown) => payment::put_reply(row, shown),
         Shown::OrderStatus(shown) => order_status::put_reply(row, shown),
+        Shown::Delivery(shown) => delivery::put_reply(row, shown),
+        Shown::StockLevel(shown) => stock_level::put_reply(row, shown),
     }
 }
 
-fn fault_word(fault: Fault) -> &'static str
-    ensures { result.now ≡ fault_text fault }
+// Adds why nothing changed.
+fn put_fault(row: &mut NewRecord, fault: &Fault) -> Result<(), NoMemory>
+    ensures { OnOk result (row.new ≡ row.old ++ fault_fields fault.now) }
 {
     match fault {
-        Fault::NoCustomer => "nocustomer",
-        Fault::Range => "range",
+        Fault::NoCustomer => row.push("nocustomer"),
+        Fault::NoItem { last, credit, o_id } => {
+            row.push("noitem")?;
+            row.push(last.as_str())?;
+            row.push(credit_word(*credit))?;
+            row.push_number(u64::from(*o_id))
+        }
+        Fault::Range => row.push("range"),
     }
 }

@@ -1,10 +1,10 @@
-ghost use Rattle.std.specs.Prelude.{◌≡◌, ◌≢◌, ℕ, List, [], ◌∷◌, ◌++◌, length, None, OnOk, IfSome, IfNone};
+ghost use Rattle.std.specs.Prelude.{◌≡◌, ◌≢◌, ℕ, List, [], ◌∷◌, ◌++◌, length, None, OnOk, IfOk, IfSome, IfNone};
 ghost use Rattle.std.specs.Fmt.{decimal};
 ghost use Rattle.files.specs.Taken.{fault_of, TakesAll, Takes};
 ghost use Rattle.terminals.specs.RequestFields.{IsRequest};
 
 use crate::listing::Listed;
-use crate::{order_status, payment};
+use crate::{delivery, new_order, order_status, payment, stock_level};
 use files::{FaultKind, Fields, NewRecord};
 use requests::Request;
 use schema::{DistrictKey, NoMemory};
@@ -14,27 +14,39 @@ impl Listed for Request {
     ghost is_record = { λ place. IsRequest };
 
     fn take(
-        _alloc: Global,
+        alloc: Global,
         _place: u64,
         letter: &str,
         fields: &mut Fields,
     ) -> Result<Option<Request>, NoMemory> {
-        Ok(take(letter, fields))
+        take(alloc, fields.count() as u64, letter, fields)
     }
 }
 
-/// Takes the fields of a request that come after its letter. `None` where the letter is unknown, which
-/// is noted as `WrongShape`.
-pub fn take(letter: &str, fields: &mut Fields) -> Option<Request>
-    ensures taken { IfSome result (λ request. Takes fields.old fields.new (λ said. IsRequest request (letter.now ∷ said))) }
-    ensures unknown { IfNone result (fault_of fields.new ≢ None) }
+/// Takes the fields of a request that come after its letter. `count` is how many it should have, with the
+/// letter, which tells how many lines an order has. `None` where the letter is unknown, which is noted as
+/// `WrongShape`. Only the lines of an order take memory.
+pub fn take(
+    alloc: Global,
+    count: u64,
+    letter: &str,
+    fields: &mut Fields,
+) -> Result<Option<Request>, NoMemory>
+    ensures taken { IfOk result (λ taken. IfSome taken (λ request. Takes fields.old fields.new (λ said. IsRequest request (letter.now ∷ said)))) }
+    ensures unknown { IfOk result (λ taken. IfNone taken (fault_of fields.new ≢ None)) }
 {
     match letter {
-        "P" => Some(Request::Payment(payment::take(fields))),
-        "O" => Some(Request::OrderStatus(order_status::take(fields))),
+        "N" => {
+            let asked = new_order::take(alloc, count, fields)?;
+            Ok(Some(Request::NewOrder(asked)))
+        }
+        "P" => Ok(Some(Request::Payment(payment::take(fields)))),
+        "O" => Ok(Some(Request::OrderStatus(order_status::take(fields)))),
+        "D" => Ok(Some(Request::Delivery(delivery::take(fields)))),
+        "L" => Ok(Some(Request::StockLevel(stock_level::take(fields)))),
         _ => {
             fields.note(FaultKind::WrongShape);
-            None
+            Ok(None)
         }
     }
 }
@@ -54,8 +66,11 @@ pub fn field_count(request: &Request) -> u64
     ensures { (fields : List (List ℕ)) → IsRequest request.now fields → length fields ≡ result }
 {
     match request {
+        Request::NewOrder(asked) => new_order::field_count(asked),
         Request::Payment(_) => payment::FIELDS,
         Request::OrderStatus(_) => order_status::FIELDS,
+        Request::Delivery(_) => delivery::FIELDS,
+        Request::StockLevel(_) => stock_level::FIELDS,
     }
 }
 
@@ -64,8 +79,11 @@ pub fn put(row: &mut NewRecord, request: &Request) -> Result<(), NoMemory>
     ensures { OnOk result ((fields : List (List ℕ)) × IsRequest request.now fields × (row.new ≡ row.old ++ fields)) }
 {
     match request {
+        Request::NewOrder(asked) => new_order::put(row, asked),
         Request::Payment(asked) => payment::put(row, asked),
         Request::OrderStatus(asked) => order_status::put(row, asked),
+        Request::Delivery(asked) => delivery::put(row, asked),
+        Request::StockLevel(asked) => stock_level::put(row, asked),
     }
 }
 

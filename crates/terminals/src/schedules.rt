@@ -26,49 +26,50 @@ impl Listed for Scheduled {
     ghost is_record = { λ place. IsScheduleRecord };
 
     fn take(
-        _alloc: Global,
+        alloc: Global,
         _place: u64,
         letter: &str,
         fields: &mut Fields,
     ) -> Result<Option<Scheduled>, NoMemory> {
-        Ok(take(letter, fields))
+        take(alloc, letter, fields)
     }
 }
 
-fn take(letter: &str, fields: &mut Fields) -> Option<Scheduled>
-    ensures taken { IfSome result (λ item. Takes fields.old fields.new (λ said. IsScheduleRecord item (letter.now ∷ said))) }
-    ensures unknown { IfNone result (fault_of fields.new ≢ None) }
+fn take(alloc: Global, letter: &str, fields: &mut Fields) -> Result<Option<Scheduled>, NoMemory>
+    ensures taken { IfOk result (λ taken. IfSome taken (λ item. Takes fields.old fields.new (λ said. IsScheduleRecord item (letter.now ∷ said)))) }
+    ensures unknown { IfOk result (λ taken. IfNone taken (fault_of fields.new ≢ None)) }
 {
     match letter {
-        "S" => take_submit(fields),
-        "T" => Some(Scheduled::Event(Event::Take {
+        "S" => take_submit(alloc, fields),
+        "T" => Ok(Some(Scheduled::Event(Event::Take {
             executor: fields.whole(0, u32::MAX),
-        })),
-        "X" => Some(Scheduled::Event(Event::Send {
+        }))),
+        "X" => Ok(Some(Scheduled::Event(Event::Send {
             executor: fields.whole(0, u32::MAX),
-        })),
-        "R" => Some(Scheduled::Rounds),
+        }))),
+        "R" => Ok(Some(Scheduled::Rounds)),
         _ => {
             fields.note(FaultKind::WrongShape);
-            None
+            Ok(None)
         }
     }
 }
 
 // Takes the session, the number and the request; `None` where the request's letter is unknown.
-fn take_submit(fields: &mut Fields) -> Option<Scheduled>
-    ensures taken { IfSome result (λ item. Takes fields.old fields.new (λ said. IsScheduleRecord item (codes "S" ∷ said))) }
-    ensures unknown { IfNone result (fault_of fields.new ≢ None) }
+fn take_submit(alloc: Global, fields: &mut Fields) -> Result<Option<Scheduled>, NoMemory>
+    ensures taken { IfOk result (λ taken. IfSome taken (λ item. Takes fields.old fields.new (λ said. IsScheduleRecord item (codes "S" ∷ said)))) }
+    ensures unknown { IfOk result (λ taken. IfNone taken (fault_of fields.new ≢ None)) }
 {
     let session = fields.whole(0, u32::MAX);
     let number = fields.whole(0, u32::MAX);
+    let count = fields.left() as u64;
     let letter = fields.word();
-    match request::take(letter, fields) {
-        Some(request) => Some(Scheduled::Event(Event::Submit {
+    match request::take(alloc, count, letter, fields)? {
+        Some(request) => Ok(Some(Scheduled::Event(Event::Submit {
             session,
             number,
             request,
-        })),
-        None => None,
+        }))),
+        None => Ok(None),
     }
 }

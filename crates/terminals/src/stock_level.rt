@@ -8,6 +8,9 @@ use files::{Fields, NewRecord};
 use requests::{StockLevel, StockLevelReply};
 use schema::NoMemory;
 
+/// How many fields a Stock-Level has, with its letter.
+pub const FIELDS: u64 = 4;
+
 /// Takes the fields of a Stock-Level that come after its letter.
 pub fn take(fields: &mut Fields) -> StockLevel
     ensures { Takes fields.old fields.new (λ said. codes "L" ∷ said ≡ stock_level_fields result) }

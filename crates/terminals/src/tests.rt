@@ -11,6 +11,7 @@ use std::io;
 use std::io::{Read, Write};
 use std::test::Fail;
 
+mod kind_faults;
 mod kinds;
 mod logs;
 mod order_status;

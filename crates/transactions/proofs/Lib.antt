@@ -8,6 +8,7 @@ pub mod Returned
 pub mod PaymentDone
 pub mod Undone
 pub mod InScale
+pub mod AcceptedGroups
 pub mod Footprints
 pub mod OrderStatusShown
 pub mod OrderStatusCarriedOut

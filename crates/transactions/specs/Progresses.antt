@@ -1,8 +1,9 @@
 -- How far a transaction of any kind has come, and what follows.
-use Rattle.std.specs.Prelude.{◌≡◌, List, ◌++◌}
+use Rattle.std.specs.Prelude.{◌≡◌, Bool, true, false, List, ◌++◌}
 use Rattle.partitions.specs.Parts.{Shared, shared_of}
 use Rattle.schema.specs.Database.{Database}
 use Rattle.requests.specs.declared.request.Request.{Request}
+use Rattle.requests.specs.declared.request.Request.TheVariants as request
 use Rattle.requests.specs.declared.reply.Reply.TheVariants.{RolledBack}
 use Rattle.tickets.specs.Claims.{Claiming, all_claims}
 use Rattle.commit_log.specs.Claimed.{IsCarriedOut}
@@ -15,6 +16,12 @@ use Rattle.transactions.specs.declared.progress.Gathered.TheVariants.{Next, Fini
 use Rattle.transactions.specs.Payment as payment
 use Rattle.transactions.specs.OrderStatus as order_status
 use Rattle.transactions.specs.Works.{HaveAllDone}
+
+-- whether requests of its kind have a flow graph: so far these two
+abbrev pub has_graph : Request → Bool
+has_graph (request.Payment p) = true
+has_graph (request.OrderStatus o) = true
+has_graph asked = false
 
 -- what is known of how far it has come, for a request, beside the claims of each action of the phases before, by place
 abbrev pub IsReached : Shared → Request → Progress → List (List Claiming) → Type 0

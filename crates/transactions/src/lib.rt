@@ -26,5 +26,5 @@ pub use laws::{
     rolled_back_claims_can_be_undone, transactions_have_few_actions, works_are_at_warehouses,
     works_are_done_at_home, works_claim_at_home, works_have_their_groups, works_have_wishes,
 };
-pub use progress::{Gathered, Progress};
+pub use progress::{Gathered, Progress, has_graph};
 pub use work::{Found, Work, run};

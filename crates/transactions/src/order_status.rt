@@ -13,7 +13,6 @@ ghost use Rattle.transactions.specs.OrderStatusLaws.{AcceptedStatusesHaveTheirDi
 ghost use Rattle.transactions.specs.Progresses.{FollowsFrom, HasFound};
 
 use crate::progress::Gathered;
-use crate::work::shared;
 use amounts::Cents;
 use groups::Wish;
 use machine::{chosen, latest_shown};
@@ -114,7 +113,7 @@ impl Work {
             },
         };
         match number {
-            0 => Some(shared(group)),
+            0 => Some(Wish::shared(group)),
             _ => None,
         }
     }

@@ -19,7 +19,6 @@ ghost use Rattle.transactions.specs.PaymentLaws.{AcceptedPaymentsHaveTheirDistri
 ghost use Rattle.transactions.specs.Progresses.{FollowsFrom, HasFound};
 
 use crate::progress::Gathered;
-use crate::work::exclusively;
 use amounts::Cents;
 use groups::Wish;
 use machine::{chosen, customer_paid, district_paid, history_row, payment_reply, warehouse_paid};
@@ -123,22 +122,22 @@ impl Work {
             Work::PayHome(payment) => {
                 let DistrictKey { w_id, d_id } = payment.home;
                 match number {
-                    0 => Some(exclusively(Group::Warehouse { w_id })),
-                    1 => Some(exclusively(Group::District { w_id, d_id })),
+                    0 => Some(Wish::exclusively(Group::Warehouse { w_id })),
+                    1 => Some(Wish::exclusively(Group::District { w_id, d_id })),
                     _ => None,
                 }
             }
             Work::PayCustomer(payment) => {
                 let DistrictKey { w_id, d_id } = payment.customer_home;
                 match number {
-                    0 => Some(exclusively(Group::Customers { w_id, d_id })),
+                    0 => Some(Wish::exclusively(Group::Customers { w_id, d_id })),
                     _ => None,
                 }
             }
             Work::AddPayment(payment, _) => {
                 let DistrictKey { w_id, d_id } = payment.home;
                 match number {
-                    0 => Some(exclusively(Group::History { w_id, d_id })),
+                    0 => Some(Wish::exclusively(Group::History { w_id, d_id })),
                     _ => None,
                 }
             }

@@ -1,10 +1,10 @@
 //! How far a transaction has come, by kind, and what follows of what the actions of its phase found.
-ghost use Rattle.std.specs.Prelude.{◌≡◌, List, IfOk};
+ghost use Rattle.std.specs.Prelude.{◌≡◌, List, IfOk, IsTrue};
 ghost use Rattle.partitions.specs.Parts.{Shared};
 ghost use Rattle.requests.specs.declared.request.Request.{Request as AnyRequest};
 ghost use Rattle.tickets.specs.Claims.{Claiming};
 ghost use Rattle.transactions.specs.Granted.{IsAsked};
-ghost use Rattle.transactions.specs.Progresses.{FollowsFrom, HasFound, IsReached, works_of};
+ghost use Rattle.transactions.specs.Progresses.{FollowsFrom, HasFound, IsReached, has_graph, works_of};
 
 use crate::work::{Found, Work};
 use crate::{order_status, payment};
@@ -30,9 +30,20 @@ pub enum Gathered {
     RollBack(Fault),
 }
 
+/// Whether requests of its kind have a flow graph: those of the other kinds can't be carried out by actions.
+pub fn has_graph(request: &Request) -> bool
+    ensures { result ≡ has_graph request.now }
+{
+    match request {
+        Request::Payment(_) | Request::OrderStatus(_) => true,
+        Request::NewOrder(_) | Request::Delivery(_) | Request::StockLevel(_) => false,
+    }
+}
+
 impl Progress {
     /// Where a transaction begins.
     pub fn begin(request: Request) -> Progress
+        requires { IsTrue (has_graph request) }
         ensures { (shared : Shared) (asked : AnyRequest) (held : List (List Claiming)) → IsAsked shared asked request held → IsReached shared asked result held }
     {
         match request {
@@ -40,6 +51,7 @@ impl Progress {
             Request::OrderStatus(asked) => {
                 Progress::OrderStatus(order_status::Progress::ReadCustomer(asked))
             }
+            Request::NewOrder(_) | Request::Delivery(_) | Request::StockLevel(_) => unreachable!(),
         }
     }
 

@@ -1,14 +1,12 @@
 //! What the actions of all transactions do and find, by kind.
 ghost use Rattle.std.specs.Prelude.{◌≡◌, length, slice_get, IfOk, OnErr};
 ghost use Rattle.partitions.specs.Parts.{shared_of};
-ghost use Rattle.groups.specs.Footprint as footprint;
 ghost use Rattle.slices.specs.Sliced.{SliceKeeps};
 ghost use Rattle.transactions.specs.Granted.{AreGrantedFor, AreLeft};
 ghost use Rattle.transactions.specs.Works.{CanDo, HasDone, home_of, wishes_of};
 
 use crate::{order_status, payment};
-use groups::{Mode, Wish};
-use requests::Group;
+use groups::Wish;
 use schema::NoMemory;
 use slices::Slice;
 use std::alloc::Global;
@@ -58,26 +56,6 @@ impl Work {
             Work::Payment(work) => work.wish(number),
             Work::OrderStatus(work) => work.wish(number),
         }
-    }
-}
-
-// A wish to change the group.
-pub(crate) fn exclusively(group: Group) -> Wish
-    ensures { result ≡ footprint.exclusively group }
-{
-    Wish {
-        group,
-        mode: Mode::Exclusive,
-    }
-}
-
-// A wish to read the group.
-pub(crate) fn shared(group: Group) -> Wish
-    ensures { result ≡ footprint.shared group }
-{
-    Wish {
-        group,
-        mode: Mode::Shared,
     }
 }
 

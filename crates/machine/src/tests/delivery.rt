@@ -4,9 +4,9 @@ ghost use Rattle.schema.specs.Scale.{has_customer};
 ghost use Rattle.schema.specs.Database.{customer_of_order, is_order_id};
 ghost use Rattle.schema.specs.OrderRows.{is_line_within};
 
-use crate::deliver;
+use crate::Plain;
 use amounts::{Cents, Rate};
-use requests::{Delivery, Fault};
+use requests::{Delivery, Fault, Reply, Request, Shown, check};
 use schema::{
     Address, CarrierId, Counter, Credit, Customer, CustomerKey, District, DistrictKey, HistoryList,
     ImageId, Item, LineAmount, LineCount, LineQuantity, Moment, NewOrder, NextOrderId, NoMemory,
@@ -14,6 +14,7 @@ use schema::{
     Tables, Text, Warehouse,
 };
 use std::alloc::Global;
+use std::process::Abort;
 use std::test::Fail;
 
 const MOST_MONEY: i64 = 1_000_000_000_000_000;
@@ -184,14 +185,25 @@ fn balance_of(tables: &Tables, d_id: u32) -> Option<(Cents, Counter)> {
     Some((customer.balance, customer.delivery_cnt))
 }
 
+// A Delivery of the warehouse by this carrier. The two replies have to be the same.
+fn delivered(rt: &impl Abort, plain: &mut Plain, carrier_id: u32) -> Result<Reply, NoMemory> {
+    let request = Request::Delivery(Delivery {
+        w_id: 1,
+        carrier_id,
+        moment: Moment::new(9),
+    });
+    if let Err(refusal) = check(&plain.tables().scale(), &request) {
+        panic!(rt; "{refusal:?}");
+    }
+    let (reply, copy) = plain.step(&request)?;
+    assert_eq!(rt; reply, copy);
+    Ok(reply)
+}
+
 #[test]
 fn each_district_delivers_its_oldest(rt: HostRuntime) -> Result<(), Fail> {
-    let mut tables = small_tables(rt.alloc(), Cents::new(-1_000))?;
-    let request = Delivery {
-        w_id: 1,
-        carrier_id: 7,
-        moment: Moment::new(9),
-    };
+    let tables = small_tables(rt.alloc(), Cents::new(-1_000))?;
+    let mut plain = Plain::open(rt.alloc(), tables)?;
     let mut expected = [None; 10];
     for (first, tenth, balance, count) in [
         (Some(3), Some(4), 250, 1),
@@ -200,23 +212,19 @@ fn each_district_delivers_its_oldest(rt: HostRuntime) -> Result<(), Fail> {
     ] {
         expected[0] = first;
         expected[9] = tenth;
-        match deliver(&mut tables, &request)? {
-            Ok(shown) => {
-                assert_eq!(rt; shown.carrier_id, 7);
-                assert_eq!(rt; shown.orders, expected);
-            }
-            Err(_) => assert!(rt; false, "each district can be delivered"),
-        }
+        let Reply::Done(Shown::Delivery(shown)) = delivered(&rt, &mut plain, 7)? else {
+            panic!(rt; "each district can be delivered");
+        };
+        assert_eq!(rt; shown.carrier_id, 7);
+        assert_eq!(rt; shown.orders, expected);
+        let tables = plain.tables();
         assert_eq!(rt;
-            balance_of(&tables, 1),
+            balance_of(tables, 1),
             Some((Cents::new(balance), Counter::new(count)))
         );
+        assert_eq!(rt; balance_of(tables, 2), Some((Cents::ZERO, Counter::new(0))));
         assert_eq!(rt;
-            balance_of(&tables, 2),
-            Some((Cents::ZERO, Counter::new(0)))
-        );
-        assert_eq!(rt;
-            balance_of(&tables, 10),
+            balance_of(tables, 10),
             Some((Cents::new(-700), Counter::new(1)))
         );
         for number in 1..=2 {
@@ -226,7 +234,7 @@ fn each_district_delivers_its_oldest(rt: HostRuntime) -> Result<(), Fail> {
         let row = tables.order(key(10, 4)).ok_or("no order")?;
         assert_eq!(rt; row.carrier_id, Some(CarrierId::new(7)));
     }
-    assert_eq!(rt; tables.rows().new_orders.len(), 0);
+    assert_eq!(rt; plain.tables().rows().new_orders.len(), 0);
     Ok(())
 }
 
@@ -235,20 +243,14 @@ fn each_district_delivers_its_oldest(rt: HostRuntime) -> Result<(), Fail> {
 fn where_one_is_out_of_range_none_is_delivered(rt: HostRuntime) -> Result<(), Fail> {
     for (below, is_done) in [(299, false), (300, true)] {
         let owed = Cents::new(MOST_MONEY - below);
-        let mut tables = small_tables(rt.alloc(), owed)?;
+        let mut plain = Plain::open(rt.alloc(), small_tables(rt.alloc(), owed)?)?;
         let before = small_tables(rt.alloc(), owed)?;
-        let request = Delivery {
-            w_id: 1,
-            carrier_id: 1,
-            moment: Moment::new(9),
-        };
-        match deliver(&mut tables, &request)? {
-            Ok(_) => assert!(rt; is_done, "at {below}"),
-            Err(fault) => {
-                assert!(rt; !is_done, "at {below}");
-                assert_eq!(rt; fault, Fault::Range);
-                assert!(rt; are_alike(&tables, &before));
-            }
+        let reply = delivered(&rt, &mut plain, 1)?;
+        if is_done {
+            assert!(rt; matches!(reply, Reply::Done(_)), "at {below}");
+        } else {
+            assert_eq!(rt; reply, Reply::RolledBack(Fault::Range), "at {below}");
+            assert!(rt; are_alike(plain.tables(), &before), "at {below}");
         }
     }
     Ok(())

@@ -1,8 +1,9 @@
+use super::kinds::kinds;
 use super::order_status::{asked, delivered_order, named, open_order, status};
 use super::*;
 
 // The number of the log's fault and its record, or `None` where it is read.
-fn log_fault(alloc: Global, log: &[u8]) -> Result<Option<(u8, u64)>, AllocError> {
+pub fn log_fault(alloc: Global, log: &[u8]) -> Result<Option<(u8, u64)>, AllocError> {
     match read_log(alloc, log) {
         Ok(_) => Ok(None),
         Err(FileError::File(fault)) => Ok(Some((fault.kind.number(), fault.record))),
@@ -26,6 +27,9 @@ fn all_kinds(alloc: Global) -> Result<Vec<Entry>, Fail> {
             request: asked(customer),
             reply,
         })?;
+    }
+    for entry in kinds(alloc)? {
+        entries.push(entry)?;
     }
     Ok(entries)
 }

@@ -2,7 +2,7 @@ use super::*;
 use history::{Event, Scheduled};
 
 // The number of the schedule's fault and its record, or `None` where it is read.
-fn schedule_fault(alloc: Global, schedule: &[u8]) -> Result<Option<(u8, u64)>, AllocError> {
+pub fn schedule_fault(alloc: Global, schedule: &[u8]) -> Result<Option<(u8, u64)>, AllocError> {
     match read_schedule(alloc, schedule) {
         Ok(_) => Ok(None),
         Err(FileError::File(fault)) => Ok(Some((fault.kind.number(), fault.record))),

@@ -1,9 +1,12 @@
 use Rattle.std.proofs.Common.{◌≡◌, ◌+◌, ◌-◌, ◌<◌, ℕ, List, [], ◌∷◌, length, take, slice_set, Option, None, Result, Ok, Err, IfOk, ap, sym, ◌∙◌, arith}
 use Rattle.std.proofs.lemmas.Grind.{take-set_at}
 use Rattle.requests.specs.declared.delivery.DeliveryReply.{DeliveryReply}
+use Rattle.requests.specs.declared.reply.Reply.{Reply}
+use Rattle.requests.specs.declared.reply.Reply.TheVariants.{Done}
+use Rattle.requests.specs.declared.reply.Shown.TheVariants.{Delivery as DeliveryShown}
 use Rattle.requests.specs.declared.reply.Fault.{Fault}
 use Rattle.machine.specs.Delivery.{delivery_reply}
-use Rattle.machine.specs.DeliverySteps.{first_shown, turn_with}
+use Rattle.machine.specs.DeliverySteps.{first_answer, turn_with}
 use Rattle.machine.proofs.DeliverySteps.{none_delivered, not_due, not_before, delivered_too, shown_too, shows_carrier, customer_is_there}
 use Rattle.machine.proofs.delivery.+deliver_first.Goals as goal
 
@@ -18,7 +21,7 @@ pub returns-then-count-eq0-clause-reply : goal.returns-then-count-eq0-clause-rep
 unfolding nobody
 returns-then-count-eq0-clause-reply t c =
     let none : c.args.count ≡ 0 = omega arith in
-    let reply = λ (n : ℕ). let r : Result DeliveryReply Fault = Ok (delivery_reply c.args.delivery.now (take n nobody)) in r in
+    let reply = λ (n : ℕ). let r : Reply = Done (DeliveryShown (delivery_reply c.args.delivery.now (take n nobody))) in r in
     ap reply none ∙ ap (λ o. o.reply) (sym (none_delivered c.args.tables.now c.args.delivery.now c.args.count none))
 
 pub returns-then-count-eq0-clause-tables : goal.returns-then-count-eq0-clause-tables
@@ -39,13 +42,13 @@ returns-in-Err-clause-tables t c =
 pub returns-in-Err-2-clause-reply : goal.returns-in-Err-2-clause-reply
 returns-in-Err-2-clause-reply t c =
     let next : c.args.count ≡ (c.args.count - 1) + 1 = omega arith in
-    let failed = ap (first_shown (c.args.count - 1)) (sym c.in-Err-2.is) ∙ c.in_ok-reply.ensures.reply in
+    let failed = ap (first_answer (c.args.count - 1)) (sym c.in-Err-2.is) ∙ c.in_ok-reply.ensures.reply in
     failed ∙ ap (λ o. o.reply) (sym (not_before c.args.tables.now c.args.delivery.now (c.args.count - 1) c.args.count c.in-Err-2.fault next failed))
 
 pub returns-in-Err-2-clause-tables : goal.returns-in-Err-2-clause-tables
 returns-in-Err-2-clause-tables t c =
     let next : c.args.count ≡ (c.args.count - 1) + 1 = omega arith in
-    let failed = ap (first_shown (c.args.count - 1)) (sym c.in-Err-2.is) ∙ c.in_ok-reply.ensures.reply in
+    let failed = ap (first_answer (c.args.count - 1)) (sym c.in-Err-2.is) ∙ c.in_ok-reply.ensures.reply in
     c.in_ok-reply.ensures.tables ∙ ap (λ o. o.tables) (sym (not_before c.args.tables.now c.args.delivery.now (c.args.count - 1) c.args.count c.in-Err-2.fault next failed))
 
 pub hand_over-requires : goal.hand_over-requires
@@ -53,7 +56,7 @@ hand_over-requires t c =
     let next : c.args.count ≡ (c.args.count - 1) + 1 = omega arith in
     let shown : DeliveryReply = record { carrier_id = c.in-Ok-2.reply.carrier_id; orders = take (c.args.count - 1) c.in-Ok-2.reply.orders } in
     customer_is_there c.args.tables.now c.deliver_first.new.tables c.args.delivery.now (c.args.count - 1) c.args.count shown c.in-Ok.due next
-    (sym c.in_ok-due.ensures ∙ c.in-Ok.is) (ap (first_shown (c.args.count - 1)) (sym c.in-Ok-2.is) ∙ c.in_ok-reply.ensures.reply) c.in_ok-reply.ensures.tables
+    (sym c.in_ok-due.ensures ∙ c.in-Ok.is) (ap (first_answer (c.args.count - 1)) (sym c.in-Ok-2.is) ∙ c.in_ok-reply.ensures.reply) c.in_ok-reply.ensures.tables
 
 pub returns-clause-reply : goal.returns-clause-reply
 returns-clause-reply t c =
@@ -61,7 +64,7 @@ returns-clause-reply t c =
     let d = c.args.delivery.now in
     let left = c.deliver_first.new.tables in
     let shown : DeliveryReply = record { carrier_id = c.in-Ok-2.reply.carrier_id; orders = take (c.args.count - 1) c.in-Ok-2.reply.orders } in
-    let reply = ap (first_shown (c.args.count - 1)) (sym c.in-Ok-2.is) ∙ c.in_ok-reply.ensures.reply in
+    let reply = ap (first_answer (c.args.count - 1)) (sym c.in-Ok-2.is) ∙ c.in_ok-reply.ensures.reply in
     let carrier = c.requires.carrier in
     let ten : length c.in-Ok-2.reply.orders ≡ 10 = ten_of (c.in_ok-reply.field-0) c.in-Ok-2.reply c.in-Ok-2.is c.in_ok-reply.ensures.ten in
     let within : c.args.count - 1 < length c.in-Ok-2.reply.orders = omega arith in
@@ -78,7 +81,7 @@ returns-clause-tables t c =
     let d = c.args.delivery.now in
     let left = c.deliver_first.new.tables in
     let shown : DeliveryReply = record { carrier_id = c.in-Ok-2.reply.carrier_id; orders = take (c.args.count - 1) c.in-Ok-2.reply.orders } in
-    let reply = ap (first_shown (c.args.count - 1)) (sym c.in-Ok-2.is) ∙ c.in_ok-reply.ensures.reply in
+    let reply = ap (first_answer (c.args.count - 1)) (sym c.in-Ok-2.is) ∙ c.in_ok-reply.ensures.reply in
     c.hand_over.ensures.tables ∙ ap (λ n. (turn_with left n d.moment c.in-Ok.due).tables) c.requires.carrier
     ∙ ap (λ o. o.tables) (sym (delivered_too c.args.tables.now left d (c.args.count - 1) c.args.count shown c.in-Ok.due next
     (sym c.in_ok-due.ensures ∙ c.in-Ok.is) reply c.in_ok-reply.ensures.tables))

@@ -1,12 +1,15 @@
-use Rattle.std.proofs.Common.{◌≡◌, ◌≤◌, true, length, Ok, is_some, sym, ap, ◌∙◌, arith}
+use Rattle.std.proofs.Common.{◌≡◌, ◌≤◌, true, length, is_some, sym, ap, ◌∙◌, arith}
 use Rattle.std.specs.Option.{option_map}
 use Rattle.std.specs.FinMap as table
 use Rattle.schema.specs.Scale.{has_warehouse, customer_key}
 use Rattle.schema.specs.OrderRows.{with_order}
 use Rattle.rows.specs.Ranged.{is_between}
 use Rattle.machine.specs.declared.new_order_lines.LinesPlaced.{LinesPlaced}
-use Rattle.machine.specs.NewOrder.{Outcome, new_order, new_order_reply, rolled_back, order_key, order_row, items_found}
-use Rattle.requests.specs.declared.new_order.NewOrderFault.TheVariants.{Range}
+use Rattle.machine.specs.Outcome.{Outcome, rolled_back}
+use Rattle.machine.specs.NewOrder.{new_order, new_order_reply, order_key, order_row, items_found}
+use Rattle.requests.specs.declared.reply.Fault.TheVariants.{Range}
+use Rattle.requests.specs.declared.reply.Reply.TheVariants.{Done}
+use Rattle.requests.specs.declared.reply.Shown.TheVariants.{NewOrder as OrderShown}
 use Rattle.machine.proofs.OrderPlaced.{IsPlaced, is_placed, no_stock, second}
 use Rattle.machine.proofs.new_order.place_order.Goals as goal
 use Rattle.machine.proofs.new_order.place_order.Goals.{In-Some-3, In_default-3}
@@ -17,20 +20,20 @@ ready : (c : In-Some-3) → IsPlaced c.args.tables.now c.args.order.now c.in-Som
 ready c =
     let t = c.args.tables.now in
     is_placed t c.args.order.now c.in-Some.warehouse.now c.in-Some-district.district.now c.in-Some-customer.customer.now
-    (sym c.in-Some.ensures) (sym c.in-Some-district.ensures) (ap (table.get t.customers) (sym c.customer_key.ensures) ∙ sym c.in-Some-customer.ensures)
+    (sym c.in-Some.ensures) (sym c.in-Some-district.ensures) (ap (table.get t.customers) (sym c.customer_of.ensures) ∙ sym c.in-Some-customer.ensures)
     c.scale.ensures.within c.in-Some-2.new_district (sym c.in_ok-new_district.ensures ∙ c.in-Some-2.is)
     c.in-Some-3.placed.rows.items c.in-Some-3.placed.shown.items c.in-Some-3.placed.stocks.items
     (sym (c.if-not-has_items.ensures ∙ ap (λ lines. is_some (items_found t lines)) c.as_slice.ensures))
     (sym (ap (option_map (λ (p : LinesPlaced). (p.rows.items, p.shown.items, p.stocks.items))) c.in-Some-3.is) ∙ c.in_ok-placed.ensures)
 
 few_rows : (c : In-Some-3) → length c.in-Some-3.placed.rows.items ≤ 15
-few_rows c = omega (arith, (ready c).counted, c.requires.most_lines)
+few_rows c = omega (arith, (ready c).counted, c.requires.within.most_lines)
 
 out_of_range : (c : In_default-3) → new_order c.args.tables.now c.args.order.now ≡ rolled_back c.args.tables.now Range
 out_of_range c =
     let t = c.args.tables.now in
     no_stock t c.args.order.now c.in-Some.warehouse.now c.in-Some-district.district.now c.in-Some-customer.customer.now
-    (sym c.in-Some.ensures) (sym c.in-Some-district.ensures) (ap (table.get t.customers) (sym c.customer_key.ensures) ∙ sym c.in-Some-customer.ensures)
+    (sym c.in-Some.ensures) (sym c.in-Some-district.ensures) (ap (table.get t.customers) (sym c.customer_of.ensures) ∙ sym c.in-Some-customer.ensures)
     c.in-Some-2.new_district
     (sym (c.if-not-has_items.ensures ∙ ap (λ lines. is_some (items_found t lines)) c.as_slice.ensures))
     (sym c.in_ok-new_district.ensures ∙ c.in-Some-2.is)
@@ -44,14 +47,15 @@ place_lines-requires-clause-district c =
     second (has_warehouse t.scale home.w_id) (is_between 1 10 home.d_id) (sym (c.scale.ensures.within.districts home) ∙ there)
 
 pub returns-in_default-3-clause-reply : goal.returns-in_default-3-clause-reply
-returns-in_default-3-clause-reply c = sym (ap (λ (o : Outcome). o.reply) (out_of_range c))
+returns-in_default-3-clause-reply c =
+    c.rolled_back-in_default-3.ensures.reply ∙ sym (ap (λ (o : Outcome). o.reply) (out_of_range (goal.at.returns-in_default-3-clause-reply c).In_default-3))
 
 pub returns-in_default-3-clause-tables : goal.returns-in_default-3-clause-tables
-returns-in_default-3-clause-tables c = sym (ap (λ (o : Outcome). o.tables) (out_of_range c))
+returns-in_default-3-clause-tables c = sym (ap (λ (o : Outcome). o.tables) (out_of_range (goal.at.returns-in_default-3-clause-tables c).In_default-3))
 
-pub new_order_reply-reply-requires : goal.new_order_reply-reply-requires
-new_order_reply-reply-requires c =
-    let few = few_rows (goal.at.new_order_reply-reply-requires c).In-Some-3 in
+pub new_order_reply-shown-requires : goal.new_order_reply-shown-requires
+new_order_reply-shown-requires c =
+    let few = few_rows (goal.at.new_order_reply-shown-requires c).In-Some-3 in
     omega (arith, few, ap length c.as_slice-2.ensures.value)
 
 pub post-requires-clause-customer_is_there : goal.post-requires-clause-customer_is_there
@@ -59,7 +63,7 @@ post-requires-clause-customer_is_there c =
     let t = c.args.tables.now in
     let key = customer_key c.args.order.now.home c.args.order.now.c_id in
     sym (c.scale.ensures.within.customers key)
-    ∙ ap is_some (ap (table.get t.customers) (sym c.customer_key.ensures) ∙ sym c.in-Some-customer.ensures)
+    ∙ ap is_some (ap (table.get t.customers) (sym c.customer_of.ensures) ∙ sym c.in-Some-customer.ensures)
 
 pub post-requires-clause-few : goal.post-requires-clause-few
 post-requires-clause-few c = few_rows (goal.at.post-requires-clause-few c).In-Some-3
@@ -76,8 +80,8 @@ post-requires-clause-as_many c = (ready (goal.at.post-requires-clause-as_many c)
 pub returns-clause-reply : goal.returns-clause-reply
 returns-clause-reply c =
     let placed = ready (goal.at.returns-clause-reply c).In-Some-3 in
-    ap (λ r. Ok r)
-    (c.new_order_reply-reply.ensures
+    ap (λ r. Done (OrderShown r))
+    (c.new_order_reply-shown.ensures
     ∙ ap (λ rows. new_order_reply c.args.order.now c.in-Some.warehouse.now c.in-Some-district.district.now c.in-Some-customer.customer.now rows c.in-Some-3.placed.shown.items) c.as_slice-2.ensures.value)
     ∙ sym (ap (λ (o : Outcome). o.reply) placed.outcome)
 

@@ -1,4 +1,4 @@
-use Rattle.std.proofs.Common.{ℕ, List, ◌∷◌, codes, flat_map, refl, ap, ◌∙◌}
+use Rattle.std.proofs.Common.{ℕ, List, ◌∷◌, codes, ap, ◌∙◌}
 use Rattle.std.specs.Fmt.{decimal}
 use Rattle.terminals.proofs.new_order.take.Goals as goal
 

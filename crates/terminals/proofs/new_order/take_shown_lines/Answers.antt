@@ -1,4 +1,4 @@
-use Rattle.std.proofs.Common.{◌≡◌, ◌++◌, [], flat_map, refl, sym, ap, ◌∙◌}
+use Rattle.std.proofs.Common.{◌++◌, [], flat_map, refl, sym, ap, ◌∙◌}
 use Rattle.std.proofs.lemmas.List.{append_assoc}
 use Rattle.files.specs.Taken.{fields_left}
 use Rattle.terminals.specs.NewOrder.{new_order_line_fields}

@@ -4,7 +4,7 @@ use Rattle.terminals.proofs.schedules.take_submit.Goals as goal
 
 pub returns-in-Some-clause-taken : goal.returns-in-Some-clause-taken
 returns-in-Some-clause-taken c = λ none.
-    let request = c.in-Some.ensures.taken none in
+    let request = (rw c.in-Some.is at c.in_ok-request.ensures.taken) none in
     let first = c.word-letter.ensures.taken request.faultless in
     let of_number = c.whole-number.ensures.taken first.0 in
     let of_session = c.whole-session.ensures.taken of_number.0 in

@@ -4,11 +4,11 @@ use Rattle.std.specs.Fmt.{decimal}
 use Rattle.files.specs.Taken.{fields_left}
 use Rattle.terminals.proofs.log_records.EntryListed.take.Goals as goal
 
-pub returns-in-Some-2-clause-taken : goal.returns-in-Some-2-clause-taken
-returns-in-Some-2-clause-taken c = λ none.
-    let reply = (rw c.in-Some-2.is at c.in_ok-reply.ensures.taken) none in
+pub returns-in-Some-3-clause-taken : goal.returns-in-Some-3-clause-taken
+returns-in-Some-3-clause-taken c = λ none.
+    let reply = (rw c.in-Some-3.is at c.in_ok-reply.ensures.taken) none in
     let letter = c.word-letter.ensures.taken reply.faultless in
-    let request = c.in-Some-take_request.ensures.taken letter.0 in
+    let request = (rw c.in-Some-2.is at c.in_ok-request.ensures.taken) letter.0 in
     let count = c.in-Some.ensures.taken request.faultless in
     let number = c.whole-number.ensures.taken count.0 in
     let session = c.whole-session.ensures.taken number.0 in
