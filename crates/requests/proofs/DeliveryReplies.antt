@@ -1,5 +1,5 @@
 -- The comparison of Delivery's replies is exact.
-use Rattle.std.proofs.Common.{rules, ◌≡◌, ℕ, true, ◌&&◌, eqb, List, Option, refl, subst}
+use Rattle.std.proofs.Common.{rules, ◌≡◌, ℕ, true, eqb, List, Option, refl, subst}
 use Rattle.std.specs.Bool.{Decides}
 use Rattle.std.specs.Option.{option_eq}
 use Rattle.std.specs.Cmp.Lexicographic.{pointwise, pointwise_decides}

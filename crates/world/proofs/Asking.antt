@@ -24,8 +24,7 @@ use Rattle.tickets.specs.Committed.{AreCommitted}
 use Rattle.slices.specs.Sliced.{all_standing, everywhere}
 use Rattle.transactions.specs.declared.work.Work.{Work}
 use Rattle.transactions.specs.Works.{CanDo}
-use Rattle.transactions.specs.declared.progress.Progress.{Progress}
-use Rattle.transactions.specs.Progresses.{IsReached, works_of}
+use Rattle.transactions.specs.Progresses.{IsReached}
 use Rattle.transactions.proofs.Reached.{can_all, few_actions, some_actions}
 use Rattle.rendezvous.specs.Awaited.{awaited_from, reported}
 use Rattle.world.specs.declared.desk.Active.{Active}

@@ -18,13 +18,12 @@ use Rattle.requests.specs.declared.refusal.Refusal.TheVariants as refusal
 use Rattle.tickets.specs.Claims.{Claiming, all_claims}
 use Rattle.commit_log.specs.Claimed.{IsCarriedOut}
 use Rattle.history.specs.History.{Step}
-use Rattle.transactions.specs.Works.{HaveAllDone, HasDone}
+use Rattle.transactions.specs.Works.{HaveAllDone}
 use Rattle.transactions.specs.Progresses.{Follows, FollowsFrom, IsReached, works_of}
 use Rattle.transactions.specs.declared.laws.TheConstants.{MOST_ACTIONS}
 use Rattle.transactions.specs.declared.progress.Gathered.{Gathered}
 use Rattle.transactions.specs.declared.progress.Gathered.TheVariants.{Next, Finish, RollBack}
 use Rattle.transactions.specs.declared.work.Work.{Work}
-use Rattle.transactions.specs.declared.work.Found.{Found}
 use Rattle.transactions.specs.declared.progress.Progress.{Progress}
 use Rattle.transactions.proofs.Reached.{can_all, accepted, few_actions, some_actions}
 use Rattle.rendezvous.specs.Awaited.{awaited_from, reported}
@@ -51,7 +50,7 @@ use Rattle.world.proofs.Asking.{all_acting, no_message, one_each, other_under_wa
 use Rattle.world.proofs.Puts.{AreServed, GoesOn, lots, puts_fits, puts_sound}
 use Rattle.world.proofs.Releases.{releases_fits, releases_sound}
 use Rattle.world.proofs.Reporting.{beside, beside_now, first_met, served_same}
-use Rattle.world.proofs.Reported.{HaveReported, all_claims-append, all_done, all_undo, few_hold, is_carried, met_one_more, met_tokens, parts_all, phase_reported, put_at, reported-map}
+use Rattle.world.proofs.Reported.{HaveReported, all_done, all_undo, few_hold, is_carried, met_one_more, met_tokens, parts_all, phase_reported, put_at, reported-map}
 use Rattle.world.proofs.Works.{acts_fine, part_acts}
 
 -- nothing has been reported of a phase that begins

@@ -11,7 +11,6 @@ use Rattle.requests.specs.declared.refusal.Refusal.TheVariants as refusal
 use Rattle.tickets.specs.Claims.{Claiming, all_claims}
 use Rattle.transactions.specs.Works.{HaveAllDone, HasDone}
 use Rattle.transactions.specs.declared.work.Work.{Work}
-use Rattle.transactions.specs.declared.work.Found.{Found}
 use Rattle.transactions.specs.declared.acting.Ran.{Ran}
 use Rattle.transactions.specs.declared.acting.Ran.TheVariants as ran
 use Rattle.transactions.specs.Acting.{claims_of_ran}

@@ -30,10 +30,6 @@ not_refused (Some pass) checked accepted active there ok idle =
     subst (λ (r : Result (Unit {0}) Refusal). refuses (Some pass) r active ≡ None) (sym ok)
     (subst (λ (b : Bool). refuses (Some pass) (Ok accepted) b ≡ None) (sym idle) refl)
 
--- there is no flow graph
-pub no_graph : (graph : Bool) (used room number last : ℕ) → graph ≡ false → (graph && (nat_lt used room && nat_lt number last)) ≡ false
-no_graph graph used room number last none = ap (λ b. b && (nat_lt used room && nat_lt number last)) none
-
 -- there is no room
 pub full : (graph : Bool) (used room number last : ℕ) → room ≤ used → (graph && (nat_lt used room && nat_lt number last)) ≡ false
 full graph used room number last h = ap (λ b. graph && (b && nat_lt number last)) (le-ltb used room h) ∙ and-false graph

@@ -7,7 +7,7 @@ use Rattle.tickets.specs.Committed.{tickets_held}
 use Rattle.tickets.specs.Places.{IsGroupOf}
 use Rattle.slices.specs.declared.ground.Held.{Held}
 use Rattle.slices.specs.Sliced.{Sliced, IsClaimAt, SliceKeeps, standing}
-use Rattle.transactions.specs.Acting.{can_be_granted, dies_on, giving_back}
+use Rattle.transactions.specs.Acting.{dies_on, giving_back}
 use Rattle.transactions.specs.Works.{wishes_of}
 use Rattle.transactions.proofs.Homes.{granted_here}
 use Rattle.transactions.proofs.Kept as kept

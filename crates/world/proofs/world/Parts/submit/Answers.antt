@@ -1,8 +1,8 @@
-use Rattle.std.proofs.Common.{◌≡◌, length, refl, sym, ◌∙◌, arith, inl, true, false}
+use Rattle.std.proofs.Common.{◌≡◌, length, refl, sym, arith, inl, true, false}
 use Rattle.std.specs.Prelude.{slice_get}
 use Rattle.transactions.specs.Progresses.{has_graph}
 use Rattle.world.specs.Worlds.{can_admit}
-use Rattle.world.proofs.Submitting.{can_ask, found, full, has_all, is_there, no_graph, spent, submits, unrefused}
+use Rattle.world.proofs.Submitting.{can_ask, found, full, has_all, is_there, spent, submits, unrefused}
 use Rattle.world.proofs.world.Parts.submit.Goals as goal
 use Rattle.world.proofs.world.Parts.submit.Goals.{then-len-ge-INBOX-via-then-len-ge-INBOX, then-len-ge-INBOX-via-else-len-ge-INBOX+then-self}
 
