@@ -1,32 +1,26 @@
-"""Passes the tests: ./gate.sh [--whole] [--record NAME]
+"""Passes the tests: ./gate.sh [--anew] [--record NAME]
 
-Runs the examples by a program that is built without its proofs; proves every crate and its tests from nothing, tries
-must-fail edits and runs the tests (`rt ci`); runs all scenarios by the program that was proved, and refuses each of its
-allocations in turn. The last line is `rt ci`'s: N passed, 0 failed. The exit status is 0 where all is well.
+First come the definitions that documents quote, and the examples by a program that is built without its proofs. Then `rt ci`
+proves every crate and its tests from nothing, has the prover refuse every must-fail edit, and runs the tests and the stored
+run. Last, all scenarios are run by the program that was proved, and each of its allocations is refused in turn. The last line
+is `rt ci`'s: N passed, 0 failed. The exit status is 0 where all is well.
 
-Of the must-fail edits it tries those of each crate whose own text, or whose definitions and contracts underneath, have
-changed since the last whole run, and those of a fifth of the other crates, another fifth with each commit.
-With --whole it tries every edit of every crate, in place, so that its middle part is `rt ci` as anyone would run it, and
-writes must-fail.txt. With --record it writes what it cost into docs/COSTS.md, under NAME.
+What `rt ci` passed before on this machine, of the same files over the same libraries, it does not do again; with --anew it
+does. With --record the run writes what it cost into docs/COSTS.md, under NAME.
 """
 
 import argparse
 import os
 import re
-import shutil
 import subprocess
 import sys
-import tempfile
 import time
 
 from costs import Costs, record
-from dependence import Dependence
-from tried import Choice, read_record, write_record
 
 ROOT = os.path.dirname(os.path.dirname(os.path.abspath(__file__)))
 PROGRAM = "crates/tpcc/out/tpcc"
 VERDICT = re.compile(r"(\d+) passed, (\d+) failed")
-REFUSED = re.compile(r"rt: must-fail (\w+)/(\S+): refused, as it must be")
 START = time.monotonic()
 
 
@@ -35,50 +29,22 @@ def say(text):
     print(f"gate: {minutes}:{seconds:02}: {text}", flush=True)
 
 
-def fail(text):
-    say(text)
-    print("0 passed, 1 failed")
-    sys.exit(1)
-
-
-def output_of(*words):
-    """Returns what a command prints, or nothing where it fails, as git does outside a checkout."""
-    ran = subprocess.run(words, cwd=ROOT, stdout=subprocess.PIPE, stderr=subprocess.DEVNULL, text=True)
-    return ran.stdout.strip() if ran.returncode == 0 else ""
-
-
-def files():
-    """Returns the paths of the repository's files: as git names them, or all but what runs leave, where git doesn't."""
-    named = output_of("git", "ls-files", "--cached", "--others", "--exclude-standard").splitlines()
-    if named:
-        return named
-    found = []
-    for at, folders, names in os.walk(ROOT):
-        folders[:] = [it for it in folders if it not in (".git", "out", "__pycache__")]
-        found += [os.path.relpath(f"{at}/{name}", ROOT) for name in names]
-    return found
-
-
-def copy_without(to, left_out):
-    """Copies the files of the repository, but for the must-fail edits of these crates."""
-    for name in files():
-        part = name.split("/")
-        is_left_out = part[0] == "crates" and part[2:3] == ["must-fail"] and part[1] in left_out
-        if os.path.isfile(f"{ROOT}/{name}") and not is_left_out:
-            os.makedirs(os.path.dirname(f"{to}/{name}"), exist_ok=True)
-            shutil.copy2(f"{ROOT}/{name}", f"{to}/{name}")
+def crates():
+    """Returns the names of crates.txt."""
+    with open(f"{ROOT}/crates.txt", encoding="utf-8") as file:
+        return [line.split(":")[0].split()[0] for line in file if line.strip() and not line.startswith("#")]
 
 
 class Progress:
-    """Says after each part of `rt ci` how many of how many have passed."""
+    """Says after each part of `rt ci` how many of how many crates have passed it."""
 
-    def __init__(self, root, tried):
-        crates = os.listdir(f"{root}/crates")
-        tests = [it for it in crates if subprocess.run(["grep", "-rqF", "#[test]", f"{root}/crates/{it}/src"]).returncode == 0]
+    def __init__(self):
+        named = crates()
+        has = lambda it, *words: subprocess.run(["grep", "-rqF", *words], cwd=f"{ROOT}/crates/{it}", stderr=subprocess.DEVNULL).returncode == 0
         self.parts = {
-            "proofs": (re.compile(r"rt: (\w+) proved"), len(crates)),
-            "tests": (re.compile(r"rt: (\w+): its tests are proved"), len(tests)),
-            "edits begun": (re.compile(r"rt: (\w+): trying its must-fail edits"), len(tried)),
+            "proofs": (re.compile(r"rt: \w+ (proved|is kept)"), len(named)),
+            "tests": (re.compile(r"rt: \w+: its tests are proved"), sum(has(it, "#[test]", "src") for it in named)),
+            "edits begun": (re.compile(r"rt: \w+: trying its must-fail edits"), sum(has(it, "old:", "must-fail") for it in named)),
         }
         self.done = dict.fromkeys(self.parts, 0)
 
@@ -86,14 +52,13 @@ class Progress:
         for part, (pattern, _) in self.parts.items():
             if pattern.match(line):
                 self.done[part] += 1
-                counts = (f"{name} of {self.done[name]} of {of} crates" for name, (_, of) in self.parts.items())
-                say(", ".join(counts))
+                say(", ".join(f"{name} of {self.done[name]} of {of} crates" for name, (_, of) in self.parts.items()))
 
 
-def run_ci(root, tried):
-    """Runs `rt ci` and returns how many passed and failed, and the edits that were refused, by crate."""
-    progress, refused, verdict = Progress(root, tried), {}, (0, 1)
-    with subprocess.Popen(["rt", "ci"], cwd=root, stdout=subprocess.PIPE, text=True, errors="replace") as ran:
+def prove(words):
+    """Runs `rt ci`, and returns how many passed and failed."""
+    progress, verdict = Progress(), (0, 1)
+    with subprocess.Popen(["rt", "ci", *words], cwd=ROOT, stdout=subprocess.PIPE, text=True, errors="replace") as ran:
         for line in ran.stdout:
             found = VERDICT.fullmatch(line.strip())
             if found:
@@ -101,57 +66,47 @@ def run_ci(root, tried):
                 continue
             print(line, end="", flush=True)
             progress.look(line)
-            edit = REFUSED.match(line)
-            if edit:
-                refused.setdefault(edit[1], []).append(edit[2])
-    return verdict if ran.returncode == 0 else (verdict[0], max(verdict[1], 1)), refused
+    return verdict if ran.returncode == 0 else (verdict[0], max(verdict[1], 1))
 
 
-def run(what, *words):
+def passes(what, *words):
     """Runs a part that is a command of its own, and returns whether it passed."""
     say(what)
-    return subprocess.run([sys.executable, "-B", *words], cwd=ROOT).returncode == 0
+    return subprocess.run([sys.executable, "-B", *words], cwd=ROOT, check=False).returncode == 0
 
 
-def prove(whole, choice):
-    """Runs `rt ci` and what follows with the program that it proved. Returns passed, failed and the refused edits."""
-    with tempfile.TemporaryDirectory(prefix="gate-") as room:
-        root, tried = (ROOT, [*choice.edits]) if whole else (room, choice.tried())
-        if not whole:
-            copy_without(room, {*choice.edits} - {*tried})
-        (passed, failed), refused = run_ci(root, tried)
-        if not failed:
-            program = f"{root}/{PROGRAM}"
-            failed += not run("part 3 of 4: all scenarios by the program that was proved", "scenarios/run", "--program", program)
-            failed += not run("part 4 of 4: each allocation of the program refused in turn", "gate/allocations.py", program)
-    return passed, failed, refused
+def run(anew):
+    """Runs all parts, up to the first that fails. Returns how many passed and failed."""
+    examples = sorted(it for it in os.listdir(f"{ROOT}/scenarios") if it.startswith("the_examples"))
+    if not passes("the definitions that the documents quote", "docs/quotes.py"):
+        return 0, 1
+    if not passes("part 1 of 4: the examples by a program that is built without its proofs", "scenarios/run", *examples):
+        return 0, 1
+    say("part 2 of 4: every crate and its tests proved from nothing; every must-fail edit; the tests")
+    passed, failed = prove(["--anew"] if anew else [])
+    if not failed:
+        failed += not passes("part 3 of 4: all scenarios by the program that was proved", "scenarios/run", "--program", PROGRAM)
+        failed += not passes("part 4 of 4: each allocation of that program refused in turn", "gate/allocations.py", PROGRAM)
+    return passed, failed
+
+
+def commit():
+    """Returns the name of the commit that stands here, or nothing where git tells none."""
+    told = subprocess.run(["git", "rev-parse", "--short", "HEAD"], cwd=ROOT, capture_output=True, text=True, check=False)
+    return told.stdout.strip()
 
 
 def main():
     words = argparse.ArgumentParser(prog="gate.sh", description=__doc__, formatter_class=argparse.RawDescriptionHelpFormatter)
-    words.add_argument("--whole", action="store_true", help="try every must-fail edit, and write must-fail.txt")
+    words.add_argument("--anew", action="store_true", help="prove and try also what passed before on this machine")
     words.add_argument("--record", metavar="NAME", help="write the costs of this run into docs/COSTS.md under this name")
     words = words.parse_args()
-    dependence = Dependence(ROOT, output_of("rt", "version"))
-    choice = Choice(dependence, read_record(ROOT), output_of("git", "rev-parse", "HEAD"))
     with Costs() as costs:
-        if not run("the gate's own tests", "-m", "unittest", "discover", "-q", "-s", "gate"):
-            fail("one of the gate's own tests failed")
-        if not run("the definitions that the documents quote", "docs/quotes.py"):
-            fail("a quote is stale")
-        examples = sorted(it for it in os.listdir(f"{ROOT}/scenarios") if it.startswith("the_examples"))
-        if not run("part 1 of 4: the examples by a program that is built without its proofs", "scenarios/run", *examples):
-            fail("an example failed")
-        say("part 2 of 4: every crate and its tests proved from nothing; must-fail edits; the tests")
-        say("every must-fail edit of every crate" if words.whole else choice.told())
-        passed, failed, refused = prove(words.whole, choice)
-    if words.whole:
-        well = [name for name, number in choice.edits.items() if len(refused.get(name, [])) == number]
-        write_record(ROOT, {name: choice.hashes[name] for name in well})
+        passed, failed = run(words.anew)
     verdict = f"{passed} passed, {failed} failed"
     costs.tell(say)
     if words.record:
-        record(f"{ROOT}/docs/COSTS.md", words.record, costs, output_of("git", "rev-parse", "--short", "HEAD"), verdict)
+        record(f"{ROOT}/docs/COSTS.md", words.record, costs, commit(), verdict, words.anew)
     print(verdict)
     return 1 if failed else 0
 
