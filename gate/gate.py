@@ -106,7 +106,7 @@ def main():
     verdict = f"{passed} passed, {failed} failed"
     costs.tell(say)
     if words.record:
-        record(f"{ROOT}/docs/COSTS.md", words.record, costs, commit(), verdict, words.anew)
+        record(f"{ROOT}/docs/COSTS.md", words.record, costs, commit(), verdict)
     print(verdict)
     return 1 if failed else 0
 
