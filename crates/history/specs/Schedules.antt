@@ -1,5 +1,5 @@
 -- What schedules say, and what is printed of them.
-use Rattle.std.specs.Prelude.{◌≡◌, ◌≤◌, List, [], ◌∷◌, ◌++◌, length}
+use Rattle.std.specs.Prelude.{◌≡◌, ◌≤◌, ℕ, ◌+◌, List, [], ◌∷◌, ◌++◌, length}
 use Rattle.std.specs.List.{All, flat_map}
 use Rattle.history.specs.declared.event.Event.TheVariants as event
 use Rattle.history.specs.declared.event.EventAnswer.{EventAnswer}
@@ -12,18 +12,35 @@ use Rattle.history.specs.History.{Step, step}
 
 -- ---- rounds
 
--- what came of a round of one executor: of its Take, and of its Send
-pub record Round : Type 0 where
+-- what came of an executor's turn in a round: of its Take, and of its Send
+pub record Turn : Type 0 where
   pub took : EventAnswer
   pub sent : EventAnswer
 
--- the two events of a round, with their answers
+-- nothing could happen in it
+abbrev pub IsIdleTurn : Turn → Type 0
+IsIdleTurn t = (t.took ≡ Nothing) × (t.sent ≡ Nothing)
+
+-- a round is a turn of each executor, by their numbers
+abbrev pub Round : Type 0
+Round = List Turn
+
+-- so many executors have their turn in it
+abbrev pub IsRoundOf : ℕ → Round → Type 0
+IsRoundOf executors r = length r ≡ executors
+
+-- the two events of each turn, with their answers, from this executor's on
+abbrev pub steps_from : ℕ → List Turn → List Step
+steps_from executor [] = []
+steps_from executor (t ∷ turns) = step (event.Take executor) t.took ∷ step (event.Send executor) t.sent ∷ steps_from (executor + 1) turns
+
+-- all events of a round, with their answers
 abbrev pub steps_of_round : Round → List Step
-steps_of_round r = step (event.Take 0) r.took ∷ step (event.Send 0) r.sent ∷ []
+steps_of_round r = steps_from 0 r
 
 -- nothing could happen in it
 abbrev pub IsIdle : Round → Type 0
-IsIdle r = (r.took ≡ Nothing) × (r.sent ≡ Nothing)
+IsIdle r = All IsIdleTurn r
 
 -- something happened in it
 abbrev pub IsBusy : Round → Type 0
@@ -37,9 +54,13 @@ outputs_in_round Full = []
 outputs_in_round Nothing = []
 outputs_in_round answer = output.Event answer ∷ []
 
+-- what is printed of a turn
+abbrev pub outputs_of_turn : Turn → List Output
+outputs_of_turn t = outputs_in_round t.took ++ outputs_in_round t.sent
+
 -- what is printed of a round
 abbrev pub outputs_of_round : Round → List Output
-outputs_of_round r = outputs_in_round r.took ++ outputs_in_round r.sent
+outputs_of_round r = flat_map outputs_of_turn r
 
 -- Rounds end quiet with the first in which nothing could happen, and at the limit of 100,000 where something happened in
 -- each.
@@ -55,20 +76,21 @@ EndsQuiet outputs = (before : List Output) × (outputs ≡ before ++ output.Quie
 
 -- ---- schedules
 
--- What is printed of an item of a schedule, and what happens: an event, which is printed with its answer; or rounds.
-abbrev pub Follows : Scheduled → List Output → List Step → Type 0
-Follows (scheduled.Event event) outputs steps = (answer : EventAnswer) × ((outputs ≡ output.Event answer ∷ []) × (steps ≡ step event answer ∷ []))
-Follows scheduled.Rounds outputs steps =
+-- What is printed of an item of a schedule that so many executors play, and what happens: an event, which is printed with its
+-- answer; or rounds, in each of which every executor has its turn.
+abbrev pub Follows : ℕ → Scheduled → List Output → List Step → Type 0
+Follows executors (scheduled.Event event) outputs steps = (answer : EventAnswer) × ((outputs ≡ output.Event answer ∷ []) × (steps ≡ step event answer ∷ []))
+Follows executors scheduled.Rounds outputs steps =
     (rounds : List Round) × ((ending : Output)
-    × ((outputs ≡ flat_map outputs_of_round rounds ++ ending ∷ []) × ((steps ≡ flat_map steps_of_round rounds) × EndAs rounds ending)))
+    × ((outputs ≡ flat_map outputs_of_round rounds ++ ending ∷ []) × ((steps ≡ flat_map steps_of_round rounds) × (All (IsRoundOf executors) rounds × EndAs rounds ending))))
 
 -- What is printed of a schedule, and what happens, item by item.
-abbrev pub Plays : List Scheduled → List Output → List Step → Type 0
-Plays [] outputs steps = (outputs ≡ []) × (steps ≡ [])
-Plays (item ∷ schedule) outputs steps =
+abbrev pub Plays : ℕ → List Scheduled → List Output → List Step → Type 0
+Plays executors [] outputs steps = (outputs ≡ []) × (steps ≡ [])
+Plays executors (item ∷ schedule) outputs steps =
     (first : List Output) × ((rest : List Output) × ((begun : List Step) × ((later : List Step)
-    × ((outputs ≡ first ++ rest) × ((steps ≡ begun ++ later) × (Follows item first begun × Plays schedule rest later))))))
+    × ((outputs ≡ first ++ rest) × ((steps ≡ begun ++ later) × (Follows executors item first begun × Plays executors schedule rest later))))))
 
 -- These events, with their answers, are the first of the schedule's: with some more after them they are a play of all of it.
-abbrev pub Begins : List Scheduled → List Step → Type 0
-Begins schedule steps = (later : List Step) × ((outputs : List Output) × Plays schedule outputs (steps ++ later))
+abbrev pub Begins : ℕ → List Scheduled → List Step → Type 0
+Begins executors schedule steps = (later : List Step) × ((outputs : List Output) × Plays executors schedule outputs (steps ++ later))

@@ -1,5 +1,5 @@
 -- Settings within their limits.
-use Rattle.std.specs.Prelude.{◌≡◌, ◌≤◌, length}
+use Rattle.std.specs.Prelude.{◌≤◌, length}
 use Rattle.tpcc.specs.declared.settings.Settings.{Settings}
 use Rattle.tpcc.specs.declared.settings.Settings.TheVariants.{Run, Sim, Populate, Check, Replay}
 use Rattle.tpcc.specs.declared.settings.RunSettings.{RunSettings}
@@ -9,14 +9,14 @@ use Rattle.tpcc.specs.declared.settings.SimSettings.{SimSettings}
 abbrev pub HasSessions : RunSettings → Type 0
 HasSessions run = (1 ≤ length run.scripts.items) × (length run.scripts.items ≤ 64)
 
--- a simulation has one executor
-abbrev pub HasOneExecutor : SimSettings → Type 0
-HasOneExecutor sim = sim.executors ≡ 1
+-- a simulation has 1 to 16 executors
+abbrev pub HasExecutors : SimSettings → Type 0
+HasExecutors sim = (1 ≤ sim.executors) × (sim.executors ≤ 16)
 
--- a run has its sessions, and a simulation its executor; of the others nothing is asked here
+-- a run has its sessions, and a simulation its executors; of the others nothing is asked here
 abbrev pub IsWithinLimits : Settings → Type 0
 IsWithinLimits (Run run) = HasSessions run
-IsWithinLimits (Sim sim) = HasOneExecutor sim
+IsWithinLimits (Sim sim) = HasExecutors sim
 IsWithinLimits (Populate populate) = Unit {0}
 IsWithinLimits (Check check) = Unit {0}
 IsWithinLimits (Replay replay) = Unit {0}

@@ -1,5 +1,5 @@
 ghost use Rattle.std.specs.Prelude.{◌≡◌, length, IfOk};
-ghost use Rattle.tpcc.specs.Settings.{IsWithinLimits, HasOneExecutor, HasSessions};
+ghost use Rattle.tpcc.specs.Settings.{IsWithinLimits, HasExecutors, HasSessions};
 
 use crate::check::check_over;
 use crate::command_fault::CommandFault;
@@ -73,7 +73,7 @@ fn carry_out_sim<R: Files + AllocGlobal>(
     mut stderr: Stderr,
     settings: &SimSettings,
 ) -> Status
-    requires { HasOneExecutor settings.now }
+    requires { HasExecutors settings.now }
 {
     match SimFiles::open(rt, settings, stderr) {
         Ok(

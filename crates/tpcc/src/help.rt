@@ -65,9 +65,10 @@ Exit statuses: 0 equal, 1 a fault of a file, 2 the words are wrong, 3 differs, 4
 pub const SIM: &str = "\
 Items of a schedule:
   S,session,number,..   the session, 0 to 63, submits the request that follows
-  T,executor            the executor, 0, takes the first message of its inbox
+  T,executor            the executor, from 0, takes the first message of its inbox
   X,executor            the first item of its outbox is sent
-  R                     takes and sends in turn until nothing can happen, at most 100,000 rounds
+  R                     rounds: each executor takes and sends in turn, until nothing can happen in a round, at most
+                        100,000 rounds
 Prints a record for each event: accepted, answered, took, sent, full, logged or nothing; for R only those that
 tell of a transaction, and then quiet or limit.
 

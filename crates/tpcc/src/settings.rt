@@ -1,5 +1,5 @@
 ghost use Rattle.std.specs.Prelude.{◌≡◌, ◌≤◌, IfOk, None, Ok};
-ghost use Rattle.tpcc.specs.Settings.{IsWithinLimits, HasOneExecutor, HasSessions};
+ghost use Rattle.tpcc.specs.Settings.{IsWithinLimits, HasExecutors, HasSessions};
 
 use crate::help;
 use crate::usage::UsageFault;
@@ -33,7 +33,7 @@ pub struct RunSettings<'a> {
 pub struct SimSettings<'a> {
     pub data: &'a str,
     pub schedule: &'a str,
-    /// 1.
+    /// 1 to 16.
     pub executors: u32,
     pub log: Option<&'a str>,
     pub tables: Option<&'a str>,
@@ -95,12 +95,12 @@ fn run_settings<'a>(alloc: Global, matches: &ArgMatches<'a>) -> Result<RunSettin
 }
 
 fn sim_settings<'a>(matches: &ArgMatches<'a>) -> Result<SimSettings<'a>, UsageFault>
-    ensures { IfOk result HasOneExecutor }
+    ensures { IfOk result HasExecutors }
 {
     Ok(SimSettings {
         data: matches.get_str("DATA").unwrap_or(""),
         schedule: matches.get_str("SCHEDULE").unwrap_or(""),
-        executors: executors(matches.get_str("executors"))?,
+        executors: number(matches.get_str("executors"), 2, 1, 16, "--executors")?,
         log: matches.get_str("log"),
         tables: matches.get_str("tables"),
     })
@@ -133,19 +133,6 @@ fn replay_settings<'a>(matches: &ArgMatches<'a>) -> ReplaySettings<'a> {
         data: matches.get_str("DATA").unwrap_or(""),
         log: matches.get_str("LOG").unwrap_or(""),
         tables: matches.get_str("tables"),
-    }
-}
-
-// How many executors the words ask for, 1 where they don't say.
-fn executors(words: Option<&str>) -> Result<u32, UsageFault>
-    ensures { IfOk result (λ count. count ≡ 1) }
-{
-    let Some(words) = words else {
-        return Ok(1);
-    };
-    match parse_whole(words, 1, 1) {
-        Ok(count) => Ok(count as u32),
-        Err(_) => Err(UsageFault::ExecutorCount),
     }
 }
 
@@ -284,7 +271,7 @@ fn sim_command<'a>(alloc: Global) -> Result<Command<'a>, AllocError> {
     let executors = Arg::new(alloc, "executors")
         .long("executors")
         .value_name("N")
-        .help("How many executors there are: 1, also by default");
+        .help("How many executors there are, 1 to 16; 2 by default");
     let tables = Arg::new(alloc, "tables")
         .long("tables")
         .value_name("FILE")

@@ -1,4 +1,4 @@
-ghost use Rattle.tpcc.specs.Settings.{HasOneExecutor};
+ghost use Rattle.tpcc.specs.Settings.{HasExecutors};
 
 use crate::command_fault::CommandFault;
 use crate::settings::SimSettings;
@@ -34,7 +34,7 @@ pub fn sim_over<
     tables: Option<T>,
     errors: &mut E,
 ) -> Status
-    requires { HasOneExecutor settings.now }
+    requires { HasExecutors settings.now }
 {
     match sim(alloc, settings, data, schedule, told, log, tables) {
         Ok(()) => Status::Success,
@@ -51,7 +51,7 @@ fn sim<'a, D: Read + Drop, S: Read + Drop, A: Write, L: Write + Drop, T: Write +
     log: Option<L>,
     tables: Option<T>,
 ) -> Result<(), CommandFault<'a>>
-    requires { HasOneExecutor settings.now }
+    requires { HasExecutors settings.now }
 {
     let opening = read_tables(alloc, settings.data, data)?;
     let schedule = match read_schedule(alloc, schedule) {

@@ -14,8 +14,6 @@ pub enum UsageFault {
     NoCommand,
     /// There are not 1 to 64 scripts.
     ScriptCount,
-    /// There is not one executor.
-    ExecutorCount,
     /// What stands for this option is no number, or none in its limits.
     Number {
         option: &'static str,
@@ -45,7 +43,6 @@ impl fmt::Display for UsageFault {
             },
             UsageFault::NoCommand => f.write_str("error: no command: try `tpcc --help`\n"),
             UsageFault::ScriptCount => f.write_str("error: `tpcc run` takes 1 to 64 scripts\n"),
-            UsageFault::ExecutorCount => f.write_str("error: `tpcc sim` takes 1 executor\n"),
             UsageFault::Number { option, low, high } => {
                 writeln!(f, "error: {option} takes a number from {low} to {high}")
             }

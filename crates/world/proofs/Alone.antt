@@ -1,8 +1,8 @@
 -- While an action is to run, no claim is out on a group for which it wishes: so it doesn't die.
-use Rattle.std.proofs.Common.{◌≡◌, ℕ, ◌+◌, ◌-◌, ◌≤◌, zero, suc, List, [], ◌∷◌, ◌++◌, length, Option, Some, None, refl, sym, ◌∙◌, ap, subst, arith}
-use Rattle.std.specs.Prelude.{All, map, option_map}
+use Rattle.std.proofs.Common.{◌≡◌, ℕ, ◌+◌, ◌-◌, ◌<◌, ◌≤◌, zero, suc, List, [], ◌∷◌, ◌++◌, length, Option, Some, None, refl, sym, ◌∙◌, ap, subst, arith}
+use Rattle.std.specs.Prelude.{All, map, option_map, slice_index_or}
 use Rattle.std.specs.List.{slice_get, sum_by}
-use Rattle.std.proofs.lemmas.List.{append_cancel_left, length-append}
+use Rattle.std.proofs.lemmas.List.{append_cancel_left, get_or-set_same, length-append}
 use Rattle.std.proofs.lemmas.List.Elements.{All-head, All-tail}
 use Rattle.std.proofs.lemmas.List.Sums.{sum_by-cons, sum_by-append}
 use Rattle.partitions.specs.Parts.{Shared}
@@ -36,12 +36,16 @@ use Rattle.world.specs.declared.flight.Report.{Report}
 use Rattle.world.specs.declared.flight.Item.{Item}
 use Rattle.world.specs.declared.flight.Item.TheVariants as item
 use Rattle.world.specs.declared.world.Parts.{Parts}
+use Rattle.world.specs.declared.world.Core.{Core}
 use Rattle.world.specs.Parted.{joined_in}
 use Rattle.world.specs.Flights.{Token, Acting, Committing, Ending, InFlight, nothing, parts, part_carried, part_message, part_item, part_met, acting_from, claims_reported}
 use Rattle.world.specs.Sound.{IsSoundWith, IsSoundActive, IsSoundAct, IsSoundItem, IsSoundMessage, IsSoundPhase, IsSoundRan, IsCarriedAt, IsPlaceOf, UnderWay, awaited, flight, reported_to}
 use Rattle.world.specs.Events.{ComesOf, TakesMessage}
+use Rattle.world.specs.Together.{IsSound, in_hand, together}
 use Rattle.world.specs.Worlds.{Fits, HasNotDied, Happens, NoneDies, TakesFirst}
 use Rattle.world.proofs.Balances.{in_inbox, in_outbox, in_meeting, message_taken}
+use Rattle.world.proofs.Executing.{fits_first, first_sound, has_queue, taken_from}
+use Rattle.world.proofs.Apart.{others}
 use Rattle.world.proofs.OnGroups.{wishes_on, claims_on, one_wish_on, one_claim_on, done_on, no_tickets, wished, none_held}
 use Rattle.world.proofs.Reported.{met_tokens}
 use Rattle.world.proofs.Taking.{message_in_hand}
@@ -330,23 +334,30 @@ module _ {J : Type 0} where
   not_died old new work (ran.Died group holder) none of = let held = of.0 in absurd (cc)
   not_died old new work ran.NoMemory none of = tt
 
-  pub none_dies : TransactionsClaimEachGroupOnce → (shared : Shared) (event : Event) (old new : Parts J) (answer : EventAnswer)
-      → IsSoundWith shared nothing old → Happens event old answer new
-      → (opening : Database) (history : List Step) → Fits opening history old → NoneDies event old new
+  pub none_dies : TransactionsClaimEachGroupOnce → (shared : Shared) (event : Event) (old new : Core J) (answer : EventAnswer)
+      → IsSound shared old → Happens event old answer new
+      → (opening : Database) (history : List Step) → Fits opening history (together old) → NoneDies event old new
   none_dies once shared (Submit session number asked) old new answer h said opening history fits = tt
   none_dies once shared (Send executor) old new answer h said opening history fits = tt
-  none_dies once shared (Take (suc executor)) old new answer h said opening history fits = λ act rest report is put.
-      let stays : new.outbox ≡ old.outbox = ap (λ (w : Parts J). w.outbox) said.1 in
-      let longer = ap (λ (items : List (Item J)). length items) (sym stays ∙ put) in
-      absurd (omega (arith, longer, length-append old.outbox (item.Report report ∷ [])))
-  none_dies once shared (Take zero) old new answer h said opening history fits = λ act rest report is put.
-      let takes : TakesMessage (Act act) (record old { inbox = rest }) new =
-      (subst (λ messages. TakesFirst messages old answer new) is said).1 in
+  none_dies once shared (Take executor) old new answer h said opening history fits = λ act rest report is put.
+      let inbox = slice_index_or old.inboxes executor [] in
+      let outbox = slice_index_or old.outboxes executor [] in
+      let took = subst (λ messages. TakesFirst executor messages old answer new) is said in
+      let parts = took.1.0 in
+      let takes : TakesMessage (Act act) (record (in_hand executor executor old) { inbox = rest }) parts = took.1.1.0 in
+      let some : 1 ≤ length inbox = omega (arith, ap (λ (messages : List (Message J)). length messages) is) in
+      let to_there : executor < length old.inboxes = has_queue old.inboxes executor some in
+      let from_there : executor < length old.outboxes = omega (arith, to_there, h.inboxes, h.outboxes) in
       let one = takes.1.1.1.1.put in
-      let more : new.outbox ≡ old.outbox ++ takes.0 = ap (λ (w : Parts J). w.outbox) takes.1.1.0 in
-      let same = append_cancel_left old.outbox takes.0 (item.Report report ∷ []) (sym more ∙ put) in
+      let more : parts.outbox ≡ outbox ++ takes.0 = ap (λ (w : Parts J). w.outbox) takes.1.1.0 in
+      let stands : slice_index_or new.outboxes executor [] ≡ parts.outbox =
+      ap (λ (w : Core J). slice_index_or w.outboxes executor []) took.1.1.1 ∙ get_or-set_same old.outboxes executor parts.outbox [] from_there in
+      let same = append_cancel_left outbox takes.0 (item.Report report ∷ []) (sym more ∙ sym stands ∙ put) in
       let made = one.1.0 in
       let told : Report J = record { place = act.place; flow = act.flow; ran = one.0 } in
       let is_told : told ≡ report = cc in
+      let from = taken_from shared old h executor executor from_there to_there (Act act) rest is in
       subst (λ (r : Report J). HasNotDied r.ran) is_told
-      (not_died (joined_in old) _ act.work one.0 (all_free once shared old act rest is h opening history fits) one.1.1)
+      (not_died (joined_in old.parts) _ act.work one.0
+      (all_free once shared from act (rest ++ others executor old.inboxes) refl (first_sound shared old h executor executor from_there to_there (Act act) rest is) opening history
+      (fits_first shared old h executor executor from_there to_there (Act act) rest is opening history fits)) one.1.1)

@@ -1,5 +1,6 @@
 -- Which events are answered Nothing.
-use Rattle.std.proofs.Common.{◌≡◌, ◌≢◌, ◌↔◌, ◌⊎◌, inl, inr, ℕ, zero, suc, Bool, true, false, List, [], ◌∷◌, Option, Some, None, refl, sym, ◌∙◌, subst, ⊎_elim}
+use Rattle.std.proofs.Common.{◌≡◌, ◌↔◌, ℕ, Bool, true, false, List, [], ◌∷◌, Option, Some, None, refl, sym, ◌∙◌, subst, ⊎_elim}
+use Rattle.std.specs.Prelude.{slice_index_or}
 use Rattle.std.specs.List.{slice_get}
 use Rattle.requests.specs.declared.request.Request.{Request}
 use Rattle.requests.specs.declared.refusal.Refusal.{Refusal}
@@ -11,17 +12,14 @@ use Rattle.world.specs.declared.desk.SessionDesk.{SessionDesk}
 use Rattle.world.specs.declared.flight.Message.{Message}
 use Rattle.world.specs.declared.flight.Item.{Item}
 use Rattle.world.specs.declared.world.Parts.{Parts}
-use Rattle.world.specs.Worlds.{Happens, CannotHappen, CannotSubmit, SubmitsAt, SubmitsUnless, SubmitsInto, TakesFirst, SendsFirst, refusal_at, can_admit}
+use Rattle.world.specs.declared.world.Core.{Core}
+use Rattle.world.specs.Together.{in_hand}
+use Rattle.world.specs.Worlds.{Happens, begins_at, CannotHappen, CannotSubmit, SubmitsAt, SubmitsUnless, SubmitsInto, TakesFirst, SendsFirst, refusal_at, can_admit}
 use Rattle.world.proofs.Quiet.{sends_something}
 use Rattle.world.proofs.Tokens.{IsFalse}
 
 not_both : (b : Bool) → b ≡ true → b ≡ false → ⊥
 not_both b is other = subst (λ c. IsFalse c) (sym other ∙ is) tt
-
-at_executor : (executor : ℕ) (P : Type 0) (answer : EventAnswer) → (executor ≡ 0 → (answer ≡ Nothing → P) × (P → answer ≡ Nothing)) → (executor ≢ 0 → answer ≡ Nothing)
-    → (answer ≡ Nothing) ↔ ((executor ≢ 0) ⊎ P)
-at_executor zero P answer here other = (λ is. inr ((here refl).0 is), λ h. ⊎_elim (λ no_such. absurd (no_such refl)) (λ p. (here refl).1 p) h)
-at_executor (suc executor) P answer here other = (λ is. inl (λ same. absurd (cc)), λ h. other (λ same. absurd (cc)))
 
 module _ {J : Type 0} where
   into_nothing : (can : Bool) (session number : ℕ) (asked : Request) (desk : SessionDesk J) (old new : Parts J) (answer : EventAnswer) → SubmitsInto can session number asked desk old answer new
@@ -45,17 +43,16 @@ module _ {J : Type 0} where
   submit_nothing None session number asked old new answer said = (λ is. tt, λ h. said.0)
   submit_nothing (Some desk) session number asked old new answer said = unless_nothing (refusal_at desk asked old) session number asked desk old new answer said
 
-  take_nothing : (messages : List (Message J)) (old new : Parts J) (answer : EventAnswer) → TakesFirst messages old answer new → (answer ≡ Nothing → messages ≡ []) × (messages ≡ [] → answer ≡ Nothing)
-  take_nothing [] old new answer said = (λ is. refl, λ is. said.0)
-  take_nothing (message ∷ rest) old new answer said = (λ is. let e = said.0 in absurd (cc), λ is. absurd (cc))
+  take_nothing : (executor : ℕ) (messages : List (Message J)) (old new : Core J) (answer : EventAnswer) → TakesFirst executor messages old answer new → (answer ≡ Nothing) ↔ (messages ≡ [])
+  take_nothing executor [] old new answer said = (λ is. refl, λ is. said.0)
+  take_nothing executor (message ∷ rest) old new answer said = (λ is. let e = said.0 in absurd (cc), λ is. absurd (cc))
 
-  send_nothing : (items : List (Item J)) (old new : Parts J) (answer : EventAnswer) → SendsFirst items old answer new → (answer ≡ Nothing → items ≡ []) × (items ≡ [] → answer ≡ Nothing)
-  send_nothing [] old new answer said = (λ is. refl, λ is. said.0)
-  send_nothing (item ∷ rest) old new answer said = (λ is. absurd (sends_something item _ new answer said is), λ is. absurd (cc))
+  send_nothing : (executor : ℕ) (items : List (Item J)) (old new : Core J) (answer : EventAnswer) → SendsFirst executor items old answer new → (answer ≡ Nothing) ↔ (items ≡ [])
+  send_nothing executor [] old new answer said = (λ is. refl, λ is. said.0)
+  send_nothing executor (item ∷ rest) old new answer said = (λ is. absurd (sends_something item _ said.0 answer said.1.0 is), λ is. absurd (cc))
 
-  pub nothing_exactly : (event : Event) (old new : Parts J) (answer : EventAnswer) → Happens event old answer new → (answer ≡ Nothing) ↔ CannotHappen event old
-  nothing_exactly (Submit session number asked) old new answer said = submit_nothing (slice_get old.desk.sessions.items session) session number asked old new answer said
-  nothing_exactly (Take zero) old new answer said = at_executor 0 (old.inbox ≡ []) answer (λ is. take_nothing old.inbox old new answer said) (λ other. absurd (other refl))
-  nothing_exactly (Take (suc executor)) old new answer said = at_executor (suc executor) (old.inbox ≡ []) answer (λ is. absurd (cc)) (λ other. said.0)
-  nothing_exactly (Send zero) old new answer said = at_executor 0 (old.outbox ≡ []) answer (λ is. send_nothing old.outbox old new answer said) (λ other. absurd (other refl))
-  nothing_exactly (Send (suc executor)) old new answer said = at_executor (suc executor) (old.outbox ≡ []) answer (λ is. absurd (cc)) (λ other. said.0)
+  pub nothing_exactly : (event : Event) (old new : Core J) (answer : EventAnswer) → Happens event old answer new → (answer ≡ Nothing) ↔ CannotHappen event old
+  nothing_exactly (Submit session number asked) old new answer said =
+      submit_nothing (slice_get old.parts.desk.sessions.items session) session number asked (in_hand (begins_at asked old) (begins_at asked old) old) said.0 answer said.1.0
+  nothing_exactly (Take executor) old new answer said = take_nothing executor (slice_index_or old.inboxes executor []) old new answer said
+  nothing_exactly (Send executor) old new answer said = send_nothing executor (slice_index_or old.outboxes executor []) old new answer said

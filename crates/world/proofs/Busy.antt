@@ -17,9 +17,11 @@ use Rattle.history.specs.declared.event.EventAnswer.TheVariants.{Answered}
 use Rattle.history.specs.History.{is_of}
 use Rattle.world.specs.declared.desk.SessionDesk.{SessionDesk}
 use Rattle.world.specs.declared.world.Parts.{Parts}
+use Rattle.world.specs.declared.world.Core.{Core}
 use Rattle.world.specs.Flights.{nothing}
 use Rattle.world.specs.Sound.{IsSoundWith, flight}
-use Rattle.world.specs.Worlds.{Happens, IsBusyExactly, SubmitsAt, SubmitsUnless, SubmitsInto, can_admit, refuses}
+use Rattle.world.specs.Together.{IsSound, in_hand, together}
+use Rattle.world.specs.Worlds.{Happens, begins_at, IsBusyExactly, SubmitsAt, SubmitsUnless, SubmitsInto, can_admit, refuses}
 use Rattle.world.proofs.Ready.{stands_at}
 
 -- no check answers that a session is waiting
@@ -44,20 +46,22 @@ module _ {J : Type 0} where
       by_check (Ok u) true at said = let e = said.0 in absurd (cc)
       by_check (Ok u) false at said = into (can_admit asked old) said
 
-  busy_of : (shared : Shared) (old new : Parts J) (h : IsSoundWith shared nothing old) (session number : ℕ) (asked : Request) (answer : EventAnswer) (desk : SessionDesk J) (pass : Option Passing) → desk.pass ≡ pass
-      → slice_get old.desk.sessions.items session ≡ Some desk
+  busy_of : (shared : Shared) (w : Parts J) (h : IsSoundWith shared nothing w) (old new : Parts J) (session number : ℕ) (asked : Request) (answer : EventAnswer) (desk : SessionDesk J) (pass : Option Passing) → desk.pass ≡ pass
+      → slice_get w.desk.sessions.items session ≡ Some desk
       → SubmitsUnless (refuses pass (check_of old.catalog.scale asked) (is_some old.desk.active)) session number asked desk old answer new
-      → (answer ≡ Answered session number (Refused SessionBusy)) ↔ (1 ≤ count_by (is_of session) (flight old).pending)
-  busy_of shared old new h session number asked answer desk None is there said =
+      → (answer ≡ Answered session number (Refused SessionBusy)) ↔ (1 ≤ count_by (is_of session) (flight w).pending)
+  busy_of shared w h old new session number asked answer desk None is there said =
       (λ told. omega (arith, h.balance.alone session desk there, ap (λ (o : Option Passing). cond {A = ℕ} (is_some o) 1 0) is), λ some. said.0)
-  busy_of shared old new h session number asked answer desk (Some pass) is there said = (
+  busy_of shared w h old new session number asked answer desk (Some pass) is there said = (
     λ told. absurd (here_not_busy old.catalog asked pass (is_some old.desk.active) session number desk old new answer said told),
     λ some. absurd (omega (arith, some, h.balance.alone session desk there, ap (λ (o : Option Passing). cond {A = ℕ} (is_some o) 1 0) is)),
   )
 
-  pub busy_exactly : (shared : Shared) (event : Event) (old new : Parts J) (answer : EventAnswer) → IsSoundWith shared nothing old → Happens event old answer new → IsBusyExactly event old answer
+  pub busy_exactly : (shared : Shared) (event : Event) (old new : Core J) (answer : EventAnswer) → IsSound shared old → Happens event old answer new → IsBusyExactly event old answer
   busy_exactly shared (Submit session number asked) old new answer h said = λ below.
-      let found = stands_at old.desk.sessions.items session (subst (λ n. session < n) (sym h.seats) below) in
-      busy_of shared old new h session number asked answer found.0 found.0.pass refl found.1 (subst (λ o. SubmitsAt o session number asked old answer new) found.1 said)
+      let to = begins_at asked old in
+      let found = stands_at old.parts.desk.sessions.items session (subst (λ n. session < n) (sym h.all.seats) below) in
+      busy_of shared (together old) h.all (in_hand to to old) said.0 session number asked answer found.0 found.0.pass refl found.1
+      (subst (λ o. SubmitsAt o session number asked (in_hand to to old) answer said.0) found.1 said.1.0)
   busy_exactly shared (Take executor) old new answer h said = tt
   busy_exactly shared (Send executor) old new answer h said = tt

@@ -29,7 +29,7 @@ module _ {J : Type 0} where
       (subst (λ a. Fits opening (history ++ step event a ∷ []) old) (sym said.0)
       (fits_quiet opening history old.log (joined_in old) old.desk.admitted (flight old) event told quiet f))
 
-  submits_into : (shared : Shared) (old new : Parts J) (h : IsSoundWith shared nothing old) (session number : ℕ) (asked : Request) (desk : SessionDesk J) (answer : EventAnswer)
+  pub submits_into : (shared : Shared) (old new : Parts J) (h : IsSoundWith shared nothing old) (session number : ℕ) (asked : Request) (desk : SessionDesk J) (answer : EventAnswer)
       → slice_get old.desk.sessions.items session ≡ Some desk → refusal_at desk asked old ≡ None → (can : Bool) → SubmitsInto can session number asked desk old answer new
       → IsSoundWith shared nothing new × Advances old (step (Submit session number asked) answer ∷ []) new
   submits_into shared old new h session number asked desk answer there free false said =

@@ -45,7 +45,7 @@ module _ {J : Type 0} where
         (fits_quiet opening history next.log (joined_in next) next.desk.admitted (flight next) (Send executor) Sent tt (goes.fits opening history f)));
   }
 
-  sends_push : (shared : Shared) (w new : Parts J) (message : Message J) (answer : EventAnswer) (room : Bool) → (h : IsSoundWith shared (part_message message) w) → IsSoundMessage shared h.under_way message
+  pub sends_push : (shared : Shared) (w new : Parts J) (message : Message J) (answer : EventAnswer) (room : Bool) → (h : IsSoundWith shared (part_message message) w) → IsSoundMessage shared h.under_way message
       → Pushes room message w answer new → SendsOn shared (part_message message) w answer new
   sends_push shared w new message answer true h s said =
       quietly shared (part_message message) w (record w { inbox = w.inbox ++ message ∷ [] }) new answer

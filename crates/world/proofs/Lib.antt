@@ -1,4 +1,5 @@
 pub mod Joins
+pub mod Apart
 pub mod Balances
 pub mod Fitting
 pub mod Taking
@@ -18,6 +19,9 @@ pub mod Rooms
 pub mod Ready
 pub mod ItemsSent
 pub mod Happened
+pub mod Reordered
+pub mod Framed
+pub mod Executing
 pub mod Quiet
 pub mod Answered
 pub mod Runs

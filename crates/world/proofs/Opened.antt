@@ -1,7 +1,7 @@
 -- A world that was just opened.
-use Rattle.std.proofs.Common.{◌≡◌, ℕ, ◌+◌, ◌<◌, suc, List, [], ◌∷◌, Option, Some, None, map, length, get_or, refl, sym, ap, subst, ◌∙◌, cond, arith, option_map}
-use Rattle.std.specs.Prelude.{count_by, slice_get, sum_by, All}
-use Rattle.std.proofs.lemmas.List.{get_or-map, length-map}
+use Rattle.std.proofs.Common.{◌≡◌, ℕ, ◌+◌, ◌<◌, zero, suc, List, [], ◌∷◌, Option, Some, None, map, length, get_or, refl, sym, ap, subst, ◌∙◌, cond, arith, option_map}
+use Rattle.std.specs.Prelude.{count_by, replicate, slice_get, sum_by, All}
+use Rattle.std.proofs.lemmas.List.{get_or-map, length-map, length-replicate}
 use Rattle.std.proofs.lemmas.List.Elements.{All-nil}
 use Rattle.std.proofs.lemmas.List.Sums.{sum_by-cons}
 use Rattle.std.proofs.lemmas.Option.{slice_get-map, slice_get_within}
@@ -24,11 +24,16 @@ use Rattle.slices.proofs.Joined.{cut_slices_are_at_rest}
 use Rattle.slices.proofs.Opened.{opened_groups_have_boxes}
 use Rattle.world.specs.declared.desk.SessionDesk.{SessionDesk}
 use Rattle.world.specs.declared.world.Parts.{Parts}
+use Rattle.world.specs.declared.world.Core.{Core}
+use Rattle.world.specs.declared.flight.Message.{Message}
+use Rattle.world.specs.declared.flight.Item.{Item}
+use Rattle.routing.specs.Routes.{Routes}
+use Rattle.world.specs.Together.{IsSound, all_of, together}
 use Rattle.world.specs.Parted.{joined_in}
 use Rattle.world.specs.Flights.{nothing, join, parts, part_message, part_item, part_met}
 use Rattle.world.specs.Openings.{AreNewLanes, IsNew, session_with}
 use Rattle.world.specs.Sound.{IsSoundWith, IsSoundMessage, IsSoundItem, IsSoundActive, IsPassOf, IsBalanced, UnderWay, awaited, is_here, reported_to, flight}
-use Rattle.world.specs.Worlds.{FitsPart}
+use Rattle.world.specs.Worlds.{Fits, FitsPart}
 
 -- ---- the log's seats
 
@@ -108,19 +113,41 @@ module _ {J : Type 0} where
         });
       }
 
-  pub opened_new : (t : Database) (lanes : List (Passing × Seating)) (w : Parts J) → AreNewLanes lanes → AreSlicesOf w.catalog w.slices.items → joined_in w ≡ all_at_rest t → w.inbox ≡ [] → w.outbox ≡ [] → w.log ≡ [] → w.desk.admitted ≡ 0 → w.desk.active ≡ None
-      → w.desk.sessions.items ≡ map session_with lanes → IsNew t w
-  opened_new t lanes w new slices rows inbox outbox log admitted active sessions = record {
+  pub opened_new : (t : Database) (executors : ℕ) (lanes : List (Passing × Seating)) (w : Core J) → AreNewLanes lanes → AreSlicesOf w.parts.catalog w.parts.slices.items → joined_in w.parts ≡ all_at_rest t
+      → w.routing ≡ record { warehouses = t.scale.warehouses; executors = executors } → w.inboxes ≡ replicate executors [] → w.outboxes ≡ replicate executors []
+      → w.parts.log ≡ [] → w.parts.desk.admitted ≡ 0 → w.parts.desk.active ≡ None
+      → w.parts.desk.sessions.items ≡ map session_with lanes → IsNew t executors w
+  opened_new t executors lanes w new slices rows routing inboxes outboxes log admitted active sessions = record {
     slices = slices;
     rows = rows;
-    inbox = inbox;
-    outbox = outbox;
+    routing = routing;
+    inboxes = inboxes;
+    outboxes = outboxes;
     log = log;
     admitted = admitted;
     active = active;
     many = ap length sessions ∙ length-map lanes session_with ∙ new.many;
     each = λ number below.
         ap (λ l. slice_get l number) sessions ∙ slice_get-map session_with lanes number ∙ ap (λ lane. option_map session_with lane) (new.each number below);
+  }
+
+-- nothing waits in empty queues
+none_waits : (X : Type 0) (executors : ℕ) → all_of {X = X} (replicate executors []) ≡ []
+none_waits X zero = refl
+none_waits X (suc n) = none_waits X n
+
+module _ {J : Type 0} where
+  -- so it is where each executor has empty queues
+  pub opened_core : (shared : Shared) (executors : ℕ) (lanes : List (Passing × Seating)) (w : Core J) → AreNewLanes lanes → w.parts.catalog ≡ shared → AreSlicesOf w.parts.catalog w.parts.slices.items
+      → w.routing ≡ record { warehouses = shared.scale.warehouses; executors = executors } → w.inboxes ≡ replicate executors [] → w.outboxes ≡ replicate executors []
+      → w.parts.inbox ≡ [] → w.parts.outbox ≡ [] → w.parts.desk.active ≡ None → w.parts.desk.sessions.items ≡ map session_with lanes → IsSound shared w
+  opened_core shared executors lanes w new shared_is slices routing inboxes outboxes inbox outbox active sessions = record {
+    all = opened_sound shared lanes (together w) new shared_is slices (ap (λ qs. all_of qs) inboxes ∙ none_waits (Message J) executors) (ap (λ qs. all_of qs) outboxes ∙ none_waits (Item J) executors) active sessions;
+    routed = ap (λ (r : Routes). r.warehouses) routing;
+    inboxes = ap (λ qs. length qs) inboxes ∙ length-replicate executors [] ∙ sym (ap (λ (r : Routes). r.executors) routing);
+    outboxes = ap (λ qs. length qs) outboxes ∙ length-replicate executors [] ∙ sym (ap (λ (r : Routes). r.executors) routing);
+    no_inbox = inbox;
+    no_outbox = outbox;
   }
 
 -- ---- its history
@@ -137,8 +164,14 @@ module _ (t : Database) (consistent : Consistent t) where
     items = refl;
   }
 
-  pub opened_fits : {J : Type 0} (w : Parts J) (log : List Entry) → joined_in w ≡ all_at_rest t → log ≡ [] → w.inbox ≡ [] → w.outbox ≡ [] → w.desk.active ≡ None
-      → FitsPart t [] log (joined_in w) 0 (flight w)
-  opened_fits w log rest empty inbox outbox active =
-      subst (λ p. FitsPart t [] log (joined_in w) 0 p) (sym (nothing_flies w inbox outbox active))
-      (subst (λ l. FitsPart t [] l (joined_in w) 0 nothing) (sym empty) (subst (λ s. FitsPart t [] [] s 0 nothing) (sym rest) rest_fits))
+  opened_parts : {J : Type 0} (w : Parts J) → joined_in w ≡ all_at_rest t → w.log ≡ [] → w.inbox ≡ [] → w.outbox ≡ [] → w.desk.active ≡ None → w.desk.admitted ≡ 0
+      → Fits t [] w
+  opened_parts w rest empty inbox outbox active admitted =
+      subst (λ p. FitsPart t [] w.log (joined_in w) w.desk.admitted p) (sym (nothing_flies w inbox outbox active))
+      (subst (λ n. FitsPart t [] w.log (joined_in w) n nothing) (sym admitted)
+      (subst (λ l. FitsPart t [] l (joined_in w) 0 nothing) (sym empty) (subst (λ s. FitsPart t [] [] s 0 nothing) (sym rest) rest_fits)))
+
+  pub opened_fits : {J : Type 0} (executors : ℕ) (w : Core J) → joined_in w.parts ≡ all_at_rest t → w.parts.log ≡ [] → w.inboxes ≡ replicate executors [] → w.outboxes ≡ replicate executors []
+      → w.parts.desk.active ≡ None → w.parts.desk.admitted ≡ 0 → Fits t [] (together w)
+  opened_fits {J} executors w rest empty inboxes outboxes active admitted =
+      opened_parts (together w) rest empty (ap (λ qs. all_of qs) inboxes ∙ none_waits (Message J) executors) (ap (λ qs. all_of qs) outboxes ∙ none_waits (Item J) executors) active admitted

@@ -25,10 +25,12 @@ use Rattle.world.specs.declared.flight.Message.{Message}
 use Rattle.world.specs.declared.flight.Item.{Item}
 use Rattle.world.specs.declared.flight.Item.TheVariants as item
 use Rattle.world.specs.declared.world.Parts.{Parts}
+use Rattle.world.specs.declared.world.Core.{Core}
 use Rattle.world.specs.Parted.{joined_in}
 use Rattle.world.specs.Flights.{nothing, parts, part_message, part_item, part_met}
 use Rattle.world.specs.Sound.{IsSoundWith, IsSoundActive, IsSoundItem, UnderWay, awaited, flight, reported_to}
 use Rattle.world.specs.Events.{Pushes, Commits, SendsItem}
+use Rattle.world.specs.Together.{IsSound, together}
 use Rattle.world.specs.Worlds.{Fits, IsAtRest, tables_now}
 use Rattle.world.proofs.Balances.{in_inbox, in_outbox}
 use Rattle.world.proofs.Asking.{as_many_from, one_each, some_token, no_message}
@@ -60,10 +62,10 @@ module _ {J : Type 0} where
       )
 
   -- it is so of how the world is seen
-  pub rests_idle : (shared : Shared) (w seen : Parts J) → w ≡ seen → IsSoundWith shared nothing w → IsAtRest seen → seen.desk.active ≡ None
+  pub rests_idle : (shared : Shared) (w seen : Core J) → w ≡ seen → IsSound shared w → IsAtRest seen → seen.parts.desk.active ≡ None
   rests_idle shared w seen same h rests =
       let here = subst IsAtRest (sym same) rests in
-      subst (λ (v : Parts J). v.desk.active ≡ None) same ((quiet_rests shared w h here.0 here.1).0)
+      subst (λ (v : Core J). v.parts.desk.active ≡ None) same ((quiet_rests shared (together w) h.all here.0 here.1).0)
 
   -- ---- where nothing is active
 

@@ -5,6 +5,8 @@ use Rattle.history.specs.declared.event.Event.{Event}
 use Rattle.history.specs.declared.event.EventAnswer.{EventAnswer}
 use Rattle.history.specs.History.{Step, step}
 use Rattle.world.specs.declared.world.Parts.{Parts}
+use Rattle.world.specs.declared.world.Core.{Core}
+use Rattle.world.specs.Together.{together}
 use Rattle.world.specs.Worlds.{Advances, ComeAbout, Fits, HappenInTurn, Happens, steps_of}
 
 -- one event and one answer more
@@ -37,15 +39,15 @@ of_none (Some x) is = absurd (cc)
 
 module _ {J : Type 0} where
   -- more happens
-  pub happen_after : (some more : List Step) (old mid new : Parts J) → HappenInTurn some old mid → HappenInTurn more mid new → HappenInTurn (some ++ more) old new
+  pub happen_after : (some more : List Step) (old mid new : Core J) → HappenInTurn some old mid → HappenInTurn more mid new → HappenInTurn (some ++ more) old new
   happen_after [] more old mid new before after = subst (λ w. HappenInTurn more w new) before after
   happen_after (s ∷ some) more old mid new before after = (before.0, (before.1.0, happen_after some more before.0 mid new before.1.1 after))
 
   -- one event happens
-  pub happens_once : (event : Event) (answer : EventAnswer) (old new : Parts J) → Happens event old answer new → HappenInTurn (step event answer ∷ []) old new
+  pub happens_once : (event : Event) (answer : EventAnswer) (old new : Core J) → Happens event old answer new → HappenInTurn (step event answer ∷ []) old new
   happens_once event answer old new happens = (new, (happens, refl))
 
   -- more comes about
-  pub comes_after : (some more : List Step) (old mid new : Parts J) → ComeAbout some old mid → ComeAbout more mid new → ComeAbout (some ++ more) old new
+  pub comes_after : (some more : List Step) (old mid new : Core J) → ComeAbout some old mid → ComeAbout more mid new → ComeAbout (some ++ more) old new
   comes_after some more old mid new before after =
-      (happen_after some more old mid new before.0 after.0, one_after_another old mid new some more before.1 after.1)
+      (happen_after some more old mid new before.0 after.0, one_after_another (together old) (together mid) (together new) some more before.1 after.1)

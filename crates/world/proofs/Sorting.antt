@@ -107,7 +107,7 @@ module _ {J : Type 0} where
   -- ---- what follows
 
   -- what is carried is there
-  carried_there : (reports : List (Report J)) (P Q : Flow J → Type 0) → ((f : Flow J) → P f → Q f) → CarriesFirst reports P → CarriesFirst reports Q
+  pub carried_there : (reports : List (Report J)) (P Q : Flow J → Type 0) → ((f : Flow J) → P f → Q f) → CarriesFirst reports P → CarriesFirst reports Q
   carried_there [] P Q gives h = absurd h
   carried_there (r ∷ reports) P Q gives h = by r.flow h
     where

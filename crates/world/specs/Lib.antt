@@ -3,5 +3,6 @@ pub mod Parted
 pub mod Sound
 pub mod Following
 pub mod Events
+pub mod Together
 pub mod Worlds
 pub mod Openings

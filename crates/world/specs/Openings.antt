@@ -1,5 +1,5 @@
 -- For what a world is opened, why none was, what its sessions are then, and what a simulation tells.
-use Rattle.std.specs.Prelude.{◌≡◌, ◌⊎◌, ◌<◌, ℕ, Bool, true, false, List, [], Some, None, Result, Ok, Err, is_some, slice_get, length}
+use Rattle.std.specs.Prelude.{◌≡◌, ◌⊎◌, ◌<◌, ℕ, Bool, true, false, List, [], Some, None, Result, Ok, Err, is_some, replicate, slice_get, length, ◌≤◌}
 use Rattle.schema.specs.Database.{Database}
 use Rattle.consistency.specs.Broken.{BreaksFirst}
 use Rattle.tickets.specs.declared.group_names.GroupNames.{Ghosts as GroupNames}
@@ -19,8 +19,10 @@ use Rattle.slices.specs.Sliced.{AreSlicesOf, all_at_rest}
 use Rattle.world.specs.declared.simulating.Simulation.{Simulation}
 use Rattle.world.specs.declared.world.GatherFault.{GatherFault}
 use Rattle.world.specs.declared.world.GatherFault.TheVariants as gather
-use Rattle.world.specs.declared.world.Parts.{Parts}
+use Rattle.world.specs.declared.world.Core.{Core}
+use Rattle.routing.specs.Routes.{Routes}
 use Rattle.world.specs.Parted.{joined_in}
+use Rattle.world.specs.Together.{together}
 use Rattle.world.specs.Worlds.{Fits, HappenInTurn, tables_now}
 
 -- A world's names were picked for these tables and this opening: there are agreements for each group of the tables, with what
@@ -61,29 +63,35 @@ module _ {J : Type 0} where
   abbrev pub session_with : Passing × Seating → SessionDesk J
   session_with lane = record { seat = lane.1; pass = Some lane.0 }
 
-  -- A world on these tables in which nothing has happened: it has a slice for each warehouse, all tickets are at home, queues
-  -- and log are empty, no transaction was admitted, and each of 64 sessions has its pass at the desk and has asked nothing.
-  pub record IsNew (tables : Database) (w : Parts J) : Type 0 where
-    pub slices : AreSlicesOf w.catalog w.slices.items
-    pub rows : joined_in w ≡ all_at_rest tables
-    pub inbox : w.inbox ≡ []
-    pub outbox : w.outbox ≡ []
-    pub log : w.log ≡ []
-    pub admitted : w.desk.admitted ≡ 0
-    pub active : w.desk.active ≡ None
-    pub many : length w.desk.sessions.items ≡ 64
-    pub each : (session : ℕ) → session < 64 → slice_get w.desk.sessions.items session ≡ Some (session_with (new_pass session, new_seat session))
+  -- A world of so many executors on these tables in which nothing has happened: it has a slice for each warehouse, all tickets
+  -- are at home, the warehouses are dealt out to the executors, the queues of each and the log are empty, no transaction was
+  -- admitted, and each of 64 sessions has its pass at the desk and has asked nothing.
+  pub record IsNew (tables : Database) (executors : ℕ) (w : Core J) : Type 0 where
+    pub slices : AreSlicesOf w.parts.catalog w.parts.slices.items
+    pub rows : joined_in w.parts ≡ all_at_rest tables
+    pub routing : w.routing ≡ record { warehouses = tables.scale.warehouses; executors = executors }
+    pub inboxes : w.inboxes ≡ replicate executors []
+    pub outboxes : w.outboxes ≡ replicate executors []
+    pub log : w.parts.log ≡ []
+    pub admitted : w.parts.desk.admitted ≡ 0
+    pub active : w.parts.desk.active ≡ None
+    pub many : length w.parts.desk.sessions.items ≡ 64
+    pub each : (session : ℕ) → session < 64 → slice_get w.parts.desk.sessions.items session ≡ Some (session_with (new_pass session, new_seat session))
 
--- A schedule was simulated on tables: in a new world on them its events happened in turn; this is what is printed of them; with
--- their answers they are a history that fits the last world; the log is that world's; and so are the tables, the machine's
--- last, unless a transaction is active or there is no memory for them.
-pub record Simulates (J : Type 0) (opening : Database) (schedule : List Scheduled) (s : Simulation) : Type 0 where
-  pub first : Parts J
-  pub last : Parts J
+-- there are so many executors as a world can have
+abbrev pub CanHave : ℕ → Type 0
+CanHave executors = (1 ≤ executors) × (executors ≤ 16)
+
+-- A schedule was simulated on tables with so many executors: in a new world on them its events happened in turn; this is what is
+-- printed of them; with their answers they are a history that fits the last world; the log is that world's; and so are the
+-- tables, the machine's last, unless a transaction is active or there is no memory for them.
+pub record Simulates (J : Type 0) (opening : Database) (executors : ℕ) (schedule : List Scheduled) (s : Simulation) : Type 0 where
+  pub first : Core J
+  pub last : Core J
   pub steps : List Step
-  pub new : IsNew opening first
-  pub plays : Plays schedule s.outputs.items steps
+  pub new : IsNew opening executors first
+  pub plays : Plays executors schedule s.outputs.items steps
   pub happen : HappenInTurn steps first last
-  pub fits : Fits opening steps last
-  pub log : s.log.items ≡ last.log
-  pub tables : IsGathered (is_some last.desk.active) (tables_now opening s.log.items) s.tables
+  pub fits : Fits opening steps (together last)
+  pub log : s.log.items ≡ last.parts.log
+  pub tables : IsGathered (is_some last.parts.desk.active) (tables_now opening s.log.items) s.tables

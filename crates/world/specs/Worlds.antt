@@ -1,5 +1,5 @@
 -- What holds of a world and its history.
-use Rattle.std.specs.Prelude.{◌≡◌, ◌≢◌, ◌⊎◌, ℕ, ◌+◌, Bool, true, false, List, [], ◌∷◌, ◌++◌, Option, Some, None, Result, Ok, Err, zero, suc, nat_lt, ◌&&◌, length, replicate, Vec, IsTrue, is_some, slice_set, ◌<◌, ◌≤◌, ◌↔◌, count_by}
+use Rattle.std.specs.Prelude.{◌≡◌, ◌≢◌, ◌⊎◌, ℕ, ◌+◌, Bool, true, false, List, [], ◌∷◌, ◌++◌, Option, Some, None, Result, Ok, Err, zero, suc, nat_lt, ◌&&◌, length, replicate, Vec, IsTrue, is_some, slice_set, slice_index_or, ◌<◌, ◌≤◌, ◌↔◌, count_by}
 use Rattle.std.specs.List.{slice_get}
 use Rattle.std.specs.declared.alloc.Global.{Global}
 use Rattle.partitions.specs.Parts.{Shared}
@@ -22,6 +22,7 @@ use Rattle.history.specs.declared.event.EventAnswer.{EventAnswer}
 use Rattle.history.specs.declared.event.EventAnswer.TheVariants.{Accepted, Took, Answered, Nothing}
 use Rattle.history.specs.History.{Step, step, is_of}
 use Rattle.history.specs.Fits.{Fits as HistoryFits}
+use Rattle.history.specs.Schedules.{IsIdle, Round}
 use Rattle.slices.specs.Sliced.{Joined, all_standing, everywhere}
 use Rattle.transactions.specs.declared.acting.Ran.{Ran}
 use Rattle.transactions.specs.declared.acting.Ran.TheVariants as ran
@@ -37,10 +38,13 @@ use Rattle.world.specs.declared.flight.Report.{Report}
 use Rattle.world.specs.declared.flight.Item.{Item}
 use Rattle.world.specs.declared.flight.Item.TheVariants as item
 use Rattle.world.specs.declared.world.Parts.{Parts}
+use Rattle.world.specs.declared.world.Core.{Core}
 use Rattle.world.specs.Flights.{InFlight}
 use Rattle.world.specs.Parted.{joined_in}
 use Rattle.world.specs.Sound.{IsSessionOf, flight}
 use Rattle.world.specs.Events.{TakesMessage, SendsItem}
+use Rattle.world.specs.Together.{all_of, goes_to, home_of_request, in_hand, put_back, together}
+use Rattle.routing.specs.Routes.{executor_of}
 
 -- ---- the history
 
@@ -62,6 +66,10 @@ steps_of [] answers = []
 steps_of (event ∷ events) [] = []
 steps_of (event ∷ events) (answer ∷ answers) = step event answer ∷ steps_of events answers
 
+-- so it is told whether nothing could happen in a round
+abbrev pub IsIdleExactly : Bool → Round → Type 0
+IsIdleExactly told r = IsTrue told ↔ IsIdle r
+
 -- ---- submissions
 
 -- Why the desk refuses a request at once: its session has a transaction without an answer, its check refuses it, or a
@@ -73,7 +81,7 @@ refuses (Some pass) (Ok accepted) true = Some refusal.Busy
 refuses (Some pass) (Ok accepted) false = None
 
 module _ {J : Type 0} where
-  -- a history fits this world from an opening
+  -- a history fits what a world consists of, with all executors' queues as one, from an opening
   abbrev pub Fits : Database → List Step → Parts J → Type 0
   Fits opening history w = FitsPart opening history w.log (joined_in w) w.desk.admitted (flight w)
 
@@ -147,39 +155,54 @@ module _ {J : Type 0} where
 
   -- ---- one event
 
-  -- The first message of the inbox is worked on, where there is one.
-  abbrev pub TakesFirst : List (Message J) → Parts J → EventAnswer → Parts J → Type 0
-  TakesFirst [] old answer new = StaysAt Nothing old answer new
-  TakesFirst (message ∷ rest) old answer new = (answer ≡ Took) × TakesMessage message (record old { inbox = rest }) new
+  -- the event is answered so, and nothing changes
+  abbrev pub StaysAs : EventAnswer → Core J → EventAnswer → Core J → Type 0
+  StaysAs told old answer new = (answer ≡ told) × (new ≡ old)
 
-  -- The first item of the outbox is sent, where there is one.
-  abbrev pub SendsFirst : List (Item J) → Parts J → EventAnswer → Parts J → Type 0
-  SendsFirst [] old answer new = StaysAt Nothing old answer new
-  SendsFirst (item ∷ rest) old answer new = SendsItem item (record old { outbox = rest }) answer new
+  -- the executor that has the warehouse whose terminal asks
+  abbrev pub begins_at : Request → Core J → ℕ
+  begins_at asked w = executor_of w.routing (home_of_request asked)
 
-  -- there is one executor, of number 0
-  abbrev pub AtExecutor : ℕ → (Parts J → EventAnswer → Parts J → Type 0) → Parts J → EventAnswer → Parts J → Type 0
-  AtExecutor zero happens old answer new = happens old answer new
-  AtExecutor (suc executor) happens old answer new = StaysAt Nothing old answer new
+  -- A submission, with the inbox in hand of the executor where the request begins.
+  abbrev pub Submits : ℕ → ℕ → Request → Core J → EventAnswer → Core J → Type 0
+  Submits session number asked old answer new =
+      let to = begins_at asked old in
+      (parts : Parts J) × (SubmitsAt (slice_get old.parts.desk.sessions.items session) session number asked (in_hand to to old) answer parts × (new ≡ put_back to to parts old))
 
-  -- What an event is answered, and all that it changes.
-  abbrev pub Happens : Event → Parts J → EventAnswer → Parts J → Type 0
-  Happens (Submit session number asked) old answer new = SubmitsAt (slice_get old.desk.sessions.items session) session number asked old answer new
-  Happens (Take executor) old answer new = AtExecutor executor (TakesFirst old.inbox) old answer new
-  Happens (Send executor) old answer new = AtExecutor executor (SendsFirst old.outbox) old answer new
+  -- The first message of an executor's inbox is worked on, where there is one. Of the queues its inbox and its outbox change,
+  -- and no other executor's.
+  abbrev pub TakesFirst : ℕ → List (Message J) → Core J → EventAnswer → Core J → Type 0
+  TakesFirst executor [] old answer new = StaysAs Nothing old answer new
+  TakesFirst executor (message ∷ rest) old answer new =
+      (answer ≡ Took)
+      × ((parts : Parts J) × (TakesMessage message (record (in_hand executor executor old) { inbox = rest }) parts × (new ≡ put_back executor executor parts old)))
+
+  -- The first item of an executor's outbox is sent, where there is one. Of the queues its outbox changes, and the inbox of the
+  -- executor to which a message is pushed, and no other.
+  abbrev pub SendsFirst : ℕ → List (Item J) → Core J → EventAnswer → Core J → Type 0
+  SendsFirst executor [] old answer new = StaysAs Nothing old answer new
+  SendsFirst executor (item ∷ rest) old answer new =
+      let to = goes_to old.routing executor item in
+      (parts : Parts J) × (SendsItem item (record (in_hand executor to old) { outbox = rest }) answer parts × (new ≡ put_back executor to parts old))
+
+  -- What an event is answered, and all that it changes. An executor that there isn't has no message and no item.
+  abbrev pub Happens : Event → Core J → EventAnswer → Core J → Type 0
+  Happens (Submit session number asked) old answer new = Submits session number asked old answer new
+  Happens (Take executor) old answer new = TakesFirst executor (slice_index_or old.inboxes executor []) old answer new
+  Happens (Send executor) old answer new = SendsFirst executor (slice_index_or old.outboxes executor []) old answer new
 
   -- Events happen one after another, each with its answer.
-  abbrev pub HappenInTurn : List Step → Parts J → Parts J → Type 0
+  abbrev pub HappenInTurn : List Step → Core J → Core J → Type 0
   HappenInTurn [] old new = new ≡ old
-  HappenInTurn (s ∷ steps) old new = (mid : Parts J) × (Happens s.event old s.answer mid × HappenInTurn steps mid new)
+  HappenInTurn (s ∷ steps) old new = (mid : Core J) × (Happens s.event old s.answer mid × HappenInTurn steps mid new)
 
   -- these events came about: they happened in turn, and a history that fits goes on with them
-  abbrev pub ComeAbout : List Step → Parts J → Parts J → Type 0
-  ComeAbout steps old new = HappenInTurn steps old new × Advances old steps new
+  abbrev pub ComeAbout : List Step → Core J → Core J → Type 0
+  ComeAbout steps old new = HappenInTurn steps old new × Advances (together old) steps (together new)
 
-  -- nothing can be taken, and nothing be sent
-  abbrev pub IsAtRest : Parts J → Type 0
-  IsAtRest w = (w.inbox ≡ []) × (w.outbox ≡ [])
+  -- no executor can take anything, or send anything
+  abbrev pub IsAtRest : Core J → Type 0
+  IsAtRest w = (all_of w.inboxes ≡ []) × (all_of w.outboxes ≡ [])
 
   -- ---- what can't happen
 
@@ -188,18 +211,20 @@ module _ {J : Type 0} where
   CannotSubmit None asked w = Unit {0}
   CannotSubmit (Some desk) asked w = (refusal_at desk asked w ≡ None) × (can_admit asked w ≡ false)
 
-  -- A submission by a session of 64 or above, or one that isn't refused while its kind has no flow graph, the inbox is full or
-  -- no age is left; and a Take or a Send where there is nothing to take or to send, or no such executor.
-  abbrev pub CannotHappen : Event → Parts J → Type 0
-  CannotHappen (Submit session number asked) w = CannotSubmit (slice_get w.desk.sessions.items session) asked w
-  CannotHappen (Take executor) w = (executor ≢ 0) ⊎ (w.inbox ≡ [])
-  CannotHappen (Send executor) w = (executor ≢ 0) ⊎ (w.outbox ≡ [])
+  -- A submission by a session of 64 or above, or one that isn't refused while its kind has no flow graph, the inbox is full of
+  -- the executor where it would begin, or no age is left; and a Take or a Send where there is nothing to take or to send, or no
+  -- such executor.
+  abbrev pub CannotHappen : Event → Core J → Type 0
+  CannotHappen (Submit session number asked) w =
+      CannotSubmit (slice_get w.parts.desk.sessions.items session) asked (in_hand (begins_at asked w) (begins_at asked w) w)
+  CannotHappen (Take executor) w = slice_index_or w.inboxes executor [] ≡ []
+  CannotHappen (Send executor) w = slice_index_or w.outboxes executor [] ≡ []
 
   -- A submission by one of the 64 sessions is refused with SessionBusy exactly where the session has a transaction without an
   -- answer.
-  abbrev pub IsBusyExactly : Event → Parts J → EventAnswer → Type 0
+  abbrev pub IsBusyExactly : Event → Core J → EventAnswer → Type 0
   IsBusyExactly (Submit session number asked) w answer =
-      session < 64 → (answer ≡ Answered session number (Refused refusal.SessionBusy)) ↔ (1 ≤ count_by (is_of session) (flight w).pending)
+      session < 64 → (answer ≡ Answered session number (Refused refusal.SessionBusy)) ↔ (1 ≤ count_by (is_of session) (flight (together w)).pending)
   IsBusyExactly event w answer = Unit {0}
 
   -- the action has not died: it has done its work, or there was no memory for it
@@ -208,9 +233,11 @@ module _ {J : Type 0} where
   HasNotDied (ran.Died group holder) = ⊥
   HasNotDied ran.NoMemory = Unit {0}
 
-  -- An action on which the executor works doesn't die: its report, which then stands at the outbox's end, tells of no death.
-  abbrev pub NoneDies : Event → Parts J → Parts J → Type 0
+  -- An action on which an executor works doesn't die: its report, which then stands at the outbox's end, tells of no death.
+  abbrev pub NoneDies : Event → Core J → Core J → Type 0
   NoneDies (Take executor) old new =
       (act : Act J) (rest : List (Message J)) (report : Report J)
-      → old.inbox ≡ message.Act act ∷ rest → new.outbox ≡ old.outbox ++ item.Report report ∷ [] → HasNotDied report.ran
+      → slice_index_or old.inboxes executor [] ≡ message.Act act ∷ rest
+      → slice_index_or new.outboxes executor [] ≡ slice_index_or old.outboxes executor [] ++ item.Report report ∷ []
+      → HasNotDied report.ran
   NoneDies event old new = Unit {0}

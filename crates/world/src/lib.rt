@@ -5,7 +5,7 @@
 //! No thread owns a transaction. It is a flow graph: the actions of each phase go as messages to the
 //! executor that has the rows; what one reports meets the others of its phase; the last report brings the
 //! next phase, or the commit. The rows of each warehouse are a slice of their own, and a message is worked on
-//! at the slice of its warehouse.
+//! at the slice of its warehouse, by the executor to which the warehouse belongs.
 #![tactic(auto)]
 
 mod admitting;
@@ -16,9 +16,11 @@ mod flight;
 mod gathering;
 mod happening;
 mod held;
+mod homes;
 mod opening;
 mod playing;
 mod queue;
+mod queues;
 mod sending;
 mod simulating;
 mod working;
@@ -29,6 +31,7 @@ pub use flight::{Act, CommitItem, Flow, Item, Message, ReplyItem, Report, Transa
 pub use held::HeldClaims;
 pub use opening::{OpenFault, Opening};
 pub use queue::Queue;
+pub use queues::Queues;
 pub use sending::Release;
 pub use simulating::{Simulation, simulate};
-pub use world::{GatherFault, INBOX, Parts, World};
+pub use world::{Core, GatherFault, INBOX, Parts, World};

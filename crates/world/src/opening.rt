@@ -1,15 +1,18 @@
 //! A world is opened over tables that meet the consistency conditions.
-ghost use Rattle.std.specs.Prelude.{◌≡◌, ◌≢◌, ◌↔◌, [], map, IfOk, IfErr, OnOk, IsErrAnd};
+ghost use Rattle.std.specs.Prelude.{◌≡◌, ◌↔◌, ◌≤◌, [], map, IfOk, IfErr, OnOk, IsErrAnd};
 ghost use Rattle.schema.specs.Consistency.{Consistent};
 ghost use Rattle.slices.specs.Openings.{AreOpenedFor};
-ghost use Rattle.world.specs.Openings.{IsFaultOf, IsNamedFor, IsNew, number_of, session_with};
+ghost use Rattle.world.specs.Openings.{CanHave, IsFaultOf, IsNamedFor, IsNew, number_of, session_with};
+ghost use Rattle.world.specs.Together.{together};
 ghost use Rattle.world.specs.Worlds.{Fits};
 
 use crate::desk::{Desk, SessionDesk};
 use crate::queue::Queue;
-use crate::world::{Parts, World};
+use crate::queues::Queues;
+use crate::world::{Core, Parts, World};
 use commit_log::{Log, LogBook, Names, Pass, SessionSeat, UnnamedLog};
 use consistency::first_broken;
+use routing::{MOST_EXECUTORS, Routing};
 use schema::{NoMemory, Tables};
 use slices::{cut, open_groups};
 use std::alloc::{AllocError, Global};
@@ -39,7 +42,7 @@ impl Opening {
 pub enum OpenFault {
     /// There was no memory to check the tables, or for the world.
     NoMemory,
-    /// A world has one executor, and another number was asked for.
+    /// A world has 1 to 16 executors, and another number was asked for.
     BadExecutors,
     /// The tables break the consistency condition of this number, and none of a lower one: 1 to 10, or 12
     /// (TPC-C 5.11, clause 3.3.2).
@@ -71,8 +74,8 @@ impl From<AllocError> for OpenFault {
 }
 
 impl<J: Names> World<J> {
-    /// A world of one executor over these tables, with an empty log, in which nothing is under way. The
-    /// number of executors is looked at before the conditions. Nothing is left after an error.
+    /// A world of so many executors over these tables, with an empty log, in which nothing is under way. The
+    /// number of executors, 1 to 16, is looked at before the conditions. Nothing is left after an error.
     pub fn open(
         alloc: Global,
         tables: Tables,
@@ -80,30 +83,39 @@ impl<J: Names> World<J> {
         opening: Opening,
     ) -> Result<World<J>, OpenFault>
         requires named { IsNamedFor J.LogNames J.GroupNames tables opening }
-        ensures fits { IfOk result (λ world. Fits tables [] world) }
-        ensures new { IfOk result (λ world. IsNew tables world) }
+        ensures fits { IfOk result (λ world. Fits tables [] (together world)) }
+        ensures new { IfOk result (λ world. IsNew tables executors world) }
         ensures consistent { OnOk result (Consistent tables) }
-        ensures bad_executors { IsErrAnd result (λ fault. fault ≡ OpenFault.BadExecutors) ↔ (executors ≢ 1) }
+        ensures bad_executors { IsErrAnd result (λ fault. fault ≡ OpenFault.BadExecutors) ↔ ¬ CanHave executors }
         ensures fault { IfErr result (λ fault. IsFaultOf tables fault) }
     {
-        if executors != 1 {
+        if !(1..=MOST_EXECUTORS).contains(&executors) {
             return Err(OpenFault::BadExecutors);
         }
         if let Some(condition) = first_broken(alloc, &tables)? {
             return Err(OpenFault::NotConsistent(condition));
         }
-        let world = World::over(alloc, tables, opening)?;
+        let world = World::over(alloc, tables, executors, opening)?;
         Ok(world)
     }
 
     // A world over tables that are consistent.
-    fn over(alloc: Global, tables: Tables, opening: Opening) -> Result<World<J>, NoMemory>
+    fn over(
+        alloc: Global,
+        tables: Tables,
+        executors: u32,
+        opening: Opening,
+    ) -> Result<World<J>, NoMemory>
+        requires some { 1 ≤ executors }
         requires consistent { Consistent tables }
         requires named { IsNamedFor J.LogNames J.GroupNames tables opening }
-        ensures fits { IfOk result (λ world. Fits tables [] world) }
-        ensures new { IfOk result (λ world. IsNew tables world) }
+        ensures fits { IfOk result (λ world. Fits tables [] (together world)) }
+        ensures new { IfOk result (λ world. IsNew tables executors world) }
     {
         let Opening { groups, log } = opening;
+        let routing = Routing::opening(&tables.scale(), executors);
+        let inboxes = Queues::open(alloc, executors as usize)?;
+        let outboxes = Queues::open(alloc, executors as usize)?;
         let inbox = Queue::open(alloc)?;
         let outbox = Queue::open(alloc)?;
         let (boxes, seats) = named_all::<J>(alloc, tables.scale().warehouses, groups)?;
@@ -122,7 +134,14 @@ impl<J: Names> World<J> {
             },
             log: Log::new(book, seats),
         };
-        Ok(World { parts })
+        Ok(World {
+            core: Core {
+                parts,
+                routing,
+                inboxes,
+                outboxes,
+            },
+        })
     }
 }
 

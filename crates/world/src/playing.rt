@@ -1,10 +1,10 @@
 //! Schedules are played.
-ghost use Rattle.std.specs.Prelude.{◌≡◌, ◌↔◌, ◌++◌, [], ◌∷◌, List, IfOk, IsTrue, OnErr, OnOk};
+ghost use Rattle.std.specs.Prelude.{◌≡◌, ◌↔◌, ◌≤◌, ◌<◌, ◌+◌, ◌*◌, ◌++◌, [], ◌∷◌, List, IfOk, IsTrue, OnErr, OnOk, length, vec_capacity};
 ghost use Rattle.history.specs.History.{Step};
-ghost use Rattle.history.specs.Schedules.{Begins, EndsQuiet, Follows, Plays, outputs_in_round};
+ghost use Rattle.history.specs.Schedules.{Begins, EndsQuiet, Follows, IsRoundOf, Plays, Round, outputs_in_round, outputs_of_round, steps_of_round};
 ghost use Rattle.history.specs.declared.schedule.Scheduled.TheVariants.{Rounds};
 ghost use Rattle.history.specs.declared.schedule.Output.{Output};
-ghost use Rattle.world.specs.Worlds.{ComeAbout, IsAtRest};
+ghost use Rattle.world.specs.Worlds.{ComeAbout, IsAtRest, IsIdleExactly};
 
 use crate::world::World;
 use commit_log::Names;
@@ -19,9 +19,9 @@ impl<J: Names> World<J> {
     /// After an error, which says that there was no memory for what is printed, the first of the schedule's
     /// events have come about, and nothing else.
     pub fn play(&mut self, alloc: Global, schedule: &[Scheduled]) -> Result<Vec<Output>, NoMemory>
-        ensures plays { IfOk result (λ outputs. (steps : List Step) × (Plays schedule.now outputs.items steps × ComeAbout steps self.old self.new)) }
+        ensures plays { IfOk result (λ outputs. (steps : List Step) × (Plays self.old.routing.executors schedule.now outputs.items steps × ComeAbout steps self.old self.new)) }
         ensures rest { IfOk result (λ outputs. EndsQuiet outputs.items → IsAtRest self.new) }
-        ensures err { OnErr result ((steps : List Step) × (Begins schedule.now steps × ComeAbout steps self.old self.new)) }
+        ensures err { OnErr result ((steps : List Step) × (Begins self.old.routing.executors schedule.now steps × ComeAbout steps self.old self.new)) }
     {
         let mut outputs = Vec::with_capacity(alloc, schedule.len())?;
         for item in schedule {
@@ -38,9 +38,10 @@ impl<J: Names> World<J> {
         outputs: &mut Vec<Output>,
     ) -> Result<(), NoMemory>
         ensures follows { OnOk result ((more : List Output) × ((steps : List Step)
-            × ((outputs.new.items ≡ outputs.old.items ++ more) × (Follows item.now more steps × ComeAbout steps self.old self.new)))) }
+            × ((outputs.new.items ≡ outputs.old.items ++ more) × (Follows self.old.routing.executors item.now more steps × ComeAbout steps self.old self.new)))) }
         ensures rest { OnOk result (EndsQuiet outputs.new.items → IsAtRest self.new) }
-        ensures err { OnErr result ((steps : List Step) × (Begins (item.now ∷ []) steps × ComeAbout steps self.old self.new)) }
+        ensures err { OnErr result ((steps : List Step) × (Begins self.old.routing.executors (item.now ∷ []) steps × ComeAbout steps self.old self.new)) }
+        ensures same { self.new.routing ≡ self.old.routing }
     {
         match item {
             Scheduled::Event(event) => {
@@ -52,27 +53,53 @@ impl<J: Names> World<J> {
         }
     }
 
-    // Rounds, each a Take and a Send, up to the first in which nothing can happen, or the last that there
-    // may be.
+    // Rounds, each a Take and a Send of each executor in turn, up to the first in which nothing can happen,
+    // or the last that there may be.
     fn run_rounds(&mut self, alloc: Global, outputs: &mut Vec<Output>) -> Result<(), NoMemory>
         ensures follows { OnOk result ((more : List Output) × ((steps : List Step)
-            × ((outputs.new.items ≡ outputs.old.items ++ more) × (Follows Rounds more steps × ComeAbout steps self.old self.new)))) }
+            × ((outputs.new.items ≡ outputs.old.items ++ more) × (Follows self.old.routing.executors Rounds more steps × ComeAbout steps self.old self.new)))) }
         ensures rest { OnOk result (EndsQuiet outputs.new.items → IsAtRest self.new) }
-        ensures err { OnErr result ((steps : List Step) × (Begins (Rounds ∷ []) steps × ComeAbout steps self.old self.new)) }
+        ensures err { OnErr result ((steps : List Step) × (Begins self.old.routing.executors (Rounds ∷ []) steps × ComeAbout steps self.old self.new)) }
+        ensures same { self.new.routing ≡ self.old.routing }
     {
+        let executors = self.core.routing.executors();
         for _ in 0..MOST_ROUNDS {
-            let took = self.step(alloc, &Event::Take { executor: 0 });
-            let sent = self.step(alloc, &Event::Send { executor: 0 });
-            if is_nothing(&took) && is_nothing(&sent) {
+            outputs.reserve(2 * executors as usize)?;
+            if self.run_round(alloc, outputs) {
                 outputs.push(Output::Quiet)?;
                 return Ok(());
             }
-            add_output(outputs, took)?;
-            add_output(outputs, sent)?;
         }
         outputs.push(Output::Limit)?;
         Ok(())
     }
+
+    // A round: whether nothing could happen in it. There is room for what is printed.
+    fn run_round(&mut self, alloc: Global, outputs: &mut Vec<Output>) -> bool
+        requires room { length outputs.old.items + 2 * self.old.routing.executors ≤ vec_capacity outputs.old }
+        ensures round { (r : Round) × (IsRoundOf self.old.routing.executors r
+            × ((outputs.new.items ≡ outputs.old.items ++ outputs_of_round r) × (ComeAbout (steps_of_round r) self.old self.new × IsIdleExactly result r))) }
+        ensures rest { IsTrue result → IsAtRest self.new }
+        ensures same { self.new.routing ≡ self.old.routing }
+    {
+        let executors = self.core.routing.executors();
+        let mut is_idle = true;
+        for executor in 0..executors {
+            let took = self.step(alloc, &Event::Take { executor });
+            let sent = self.step(alloc, &Event::Send { executor });
+            is_idle = stays_idle(is_idle, &took, &sent);
+            add_output(outputs, took);
+            add_output(outputs, sent);
+        }
+        is_idle
+    }
+}
+
+// Whether nothing could happen so far, and in this turn.
+fn stays_idle(is_idle: bool, took: &EventAnswer, sent: &EventAnswer) -> bool
+    ensures { IsTrue result ↔ (IsTrue is_idle × ((took.now ≡ EventAnswer.Nothing) × (sent.now ≡ EventAnswer.Nothing))) }
+{
+    is_idle && is_nothing(took) && is_nothing(sent)
 }
 
 // Whether the event could not happen.
@@ -86,13 +113,14 @@ fn is_nothing(answer: &EventAnswer) -> bool
 }
 
 // Adds what is printed of an event in a round.
-fn add_output(outputs: &mut Vec<Output>, answer: EventAnswer) -> Result<(), NoMemory>
-    ensures { OnOk result (outputs.new.items ≡ outputs.old.items ++ outputs_in_round answer) }
+fn add_output(outputs: &mut Vec<Output>, answer: EventAnswer)
+    requires room { length outputs.old.items < vec_capacity outputs.old }
+    ensures added { outputs.new.items ≡ outputs.old.items ++ outputs_in_round answer }
+    ensures room { vec_capacity outputs.new ≡ vec_capacity outputs.old }
 {
     match answer {
         EventAnswer::Took | EventAnswer::Sent | EventAnswer::Full | EventAnswer::Nothing => {}
         EventAnswer::Accepted { .. } | EventAnswer::Logged { .. } | EventAnswer::Answered { .. } =>
-            outputs.push(Output::Event(answer))?,
+            outputs.push_reserved(Output::Event(answer)),
     }
-    Ok(())
 }

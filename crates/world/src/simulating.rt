@@ -1,15 +1,17 @@
 //! Schedules are simulated, event by event.
-ghost use Rattle.std.specs.Prelude.{◌≡◌, ◌≢◌, ◌↔◌, [], IfOk, IfErr, IsErrAnd};
+ghost use Rattle.std.specs.Prelude.{◌≡◌, ◌≢◌, ◌↔◌, ℕ, [], IfOk, IfErr, IsErrAnd};
 ghost use Rattle.schema.specs.Database.{Database};
 ghost use Rattle.history.specs.Schedules.{EndsQuiet};
 ghost use Rattle.std.specs.declared.marker.Brand.{Brand};
-ghost use Rattle.world.specs.Openings.{IsFaultOf, IsNamedFor, IsNew, Simulates};
+ghost use Rattle.world.specs.Openings.{CanHave, IsFaultOf, IsNamedFor, IsNew, Simulates};
+ghost use Rattle.world.specs.Together.{together};
 ghost use Rattle.world.specs.Worlds.{Fits};
 
 use crate::opening::{OpenFault, Opening};
 use crate::world::{GatherFault, World};
 use commit_log::{Entry, Names};
 use history::{Output, Scheduled};
+use routing::MOST_EXECUTORS;
 use schema::{NoMemory, Tables};
 use std::alloc::Global;
 use std::marker::Brand;
@@ -25,7 +27,7 @@ pub struct Simulation {
     pub tables: Result<Tables, GatherFault>,
 }
 
-/// Plays a schedule from these tables, event by event, in a world of so many executors.
+/// Plays a schedule from these tables, event by event, in a world of so many executors, 1 to 16.
 ///
 /// However its events follow one another, the replies of the log and the tables at the end are those of a
 /// machine that carries out the log's requests one at a time, in log order. Each event is answered as
@@ -38,12 +40,12 @@ pub fn simulate(
     executors: u32,
     schedule: &[Scheduled],
 ) -> Result<Simulation, OpenFault>
-    ensures simulates { IfOk result (Simulates Brand tables schedule.now) }
+    ensures simulates { IfOk result (Simulates Brand tables executors schedule.now) }
     ensures quiet { IfOk result (λ s. EndsQuiet s.outputs.items → s.tables ≢ Err GatherFault.NotIdle) }
-    ensures bad_executors { IsErrAnd result (λ fault. fault ≡ OpenFault.BadExecutors) ↔ (executors ≢ 1) }
+    ensures bad_executors { IsErrAnd result (λ fault. fault ≡ OpenFault.BadExecutors) ↔ ¬ CanHave executors }
     ensures fault { IfErr result (λ fault. IsFaultOf tables fault) }
 {
-    if executors != 1 {
+    if !(1..=MOST_EXECUTORS).contains(&executors) {
         return Err(OpenFault::BadExecutors);
     }
     let opening = Opening::open(alloc, &tables)?;
@@ -59,9 +61,9 @@ fn simulate_from<J: Names>(
     schedule: &[Scheduled],
 ) -> Result<Simulation, OpenFault>
     requires named { IsNamedFor J.LogNames J.GroupNames tables opening }
-    ensures simulates { IfOk result (Simulates J tables schedule.now) }
+    ensures simulates { IfOk result (Simulates J tables executors schedule.now) }
     ensures quiet { IfOk result (λ s. EndsQuiet s.outputs.items → s.tables ≢ Err GatherFault.NotIdle) }
-    ensures bad_executors { IsErrAnd result (λ fault. fault ≡ OpenFault.BadExecutors) ↔ (executors ≢ 1) }
+    ensures bad_executors { IsErrAnd result (λ fault. fault ≡ OpenFault.BadExecutors) ↔ ¬ CanHave executors }
     ensures fault { IfErr result (λ fault. IsFaultOf tables fault) }
 {
     let world = World::<J>::open(alloc, tables, executors, opening)?;
@@ -75,7 +77,7 @@ fn simulate_in<J: Names>(
     mut world: World<J>,
     schedule: &[Scheduled],
 ) -> Result<Simulation, NoMemory>
-    ensures simulates { IfOk result (λ s. (opening : Database) → IsNew opening world → Fits opening [] world → Simulates J opening schedule.now s) }
+    ensures simulates { IfOk result (λ s. (opening : Database) (executors : ℕ) → IsNew opening executors world → Fits opening [] (together world) → Simulates J opening executors schedule.now s) }
     ensures quiet { IfOk result (λ s. EndsQuiet s.outputs.items → s.tables ≢ Err GatherFault.NotIdle) }
 {
     let outputs = world.play(alloc, schedule)?;

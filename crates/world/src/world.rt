@@ -4,14 +4,17 @@ ghost use Rattle.std.specs.Prelude.{List};
 ghost use Rattle.history.specs.History.{Step, step as one_step};
 ghost use Rattle.world.specs.Openings.{IsGathered};
 ghost use Rattle.world.specs.Sound.{flight};
+ghost use Rattle.world.specs.Together.{together};
 ghost use Rattle.world.specs.Worlds.{Advances, CannotHappen, Fits, HappenInTurn, Happens, IsAtRest, IsBusyExactly, NoneDies, steps_of, tables_now};
 
 use crate::desk::Desk;
 use crate::flight::{Item, Message};
 use crate::queue::Queue;
+use crate::queues::Queues;
 use commit_log::{Entry, Log, Names};
 use history::{Event, EventAnswer};
 use partitions::Catalog;
+use routing::Routing;
 use schema::{NoMemory, Tables};
 use slices::{Slice, copy_whole, whole};
 use std::alloc::Global;
@@ -21,47 +24,60 @@ use transactions::claims_are_of_the_footprint;
 /// How many messages an inbox takes.
 pub const INBOX: usize = 1024;
 
-/// What a world consists of.
+/// What an event works with.
 #[derive(Drop)]
 pub struct Parts<J: Names> {
     /// What the slices share.
     pub catalog: Catalog,
     /// One for each warehouse, in order.
     pub slices: Vec<Slice<J>>,
+    /// An executor's, in hand while an event puts a message there or takes one; else it has nothing.
     pub inbox: Queue<Message<J>, 1024>,
+    /// An executor's, in hand while an event puts items there or takes one; else it has nothing.
     pub outbox: Queue<Item<J>, 4096>,
     pub desk: Desk<J>,
     pub log: Log<J>,
 }
 
-/// An engine of one executor, in which one event happens at a time.
+/// What a world consists of.
+#[derive(Drop)]
+pub struct Core<J: Names> {
+    pub parts: Parts<J>,
+    /// Which executor has which warehouse.
+    pub routing: Routing,
+    /// The inbox of each executor, by its number.
+    pub inboxes: Queues<Message<J>, 1024>,
+    /// The outbox of each executor, by its number.
+    pub outboxes: Queues<Item<J>, 4096>,
+}
+
+/// An engine of one to sixteen executors, in which one event happens at a time.
 ///
 /// Contracts see what it consists of. A world is always sound: whoever has one has nothing to show for a
 /// call.
 #[derive(Drop)]
 pub struct World<J: Names> {
-    pub(crate) parts: Parts<J>,
+    pub(crate) core: Core<J>,
 }
 
 impl<J: Names> Model for World<J> {
     ghost use Rattle.std.specs.Prelude.{◌≡◌};
-    ghost use Rattle.world.specs.declared.world.Parts.{Parts};
-    ghost use Rattle.world.specs.Flights.{nothing};
+    ghost use Rattle.world.specs.declared.world.Core.{Core};
     ghost use Rattle.partitions.specs.Parts.{shared_of};
-    ghost use Rattle.world.specs.Sound.{IsSoundWith};
+    ghost use Rattle.world.specs.Together.{IsSound};
     ghost use Rattle.std.specs.Coded.{codes};
     ghost use Rattle.groups.specs.contracts.content.Content as content;
     ghost use Rattle.partitions.specs.contracts.catalog.Catalog as catalog;
     ghost use Rattle.schema.specs.contracts.tables.Tables as tables_kind;
-    ghost use Rattle.world.specs.contracts.world.Parts as parts_kind;
+    ghost use Rattle.world.specs.contracts.world.Core as core_kind;
 
-    ghost Value = { Parts J };
+    ghost Value = { Core J };
 
     ghost coded = { Prim.hlevel (codes, catalog.the_row.coded, content.the_row.coded, tables_kind.the_row.coded) };
 
-    ghost view = { λ w. w.parts };
+    ghost view = { λ w. w.core };
 
-    ghost invariant = { λ w. IsSoundWith (shared_of J.opening) nothing w.parts × (J.warehouses ≡ J.opening.scale.warehouses) };
+    ghost invariant = { λ w. IsSound (shared_of J.opening) w.core × (J.warehouses ≡ J.opening.scale.warehouses) };
 }
 
 impl<J: Names> Parts<J> {
@@ -100,19 +116,20 @@ impl<J: Names> World<J> {
     /// is answered `Nothing` and changes nothing. As one transaction is active at a time, no action of it
     /// dies.
     pub fn step(&mut self, alloc: Global, event: &Event) -> EventAnswer
-        ensures advances { Advances self.old (one_step event.now result ∷ []) self.new }
+        ensures advances { Advances (together self.old) (one_step event.now result ∷ []) (together self.new) }
         ensures happens { Happens event.now self.old result self.new }
         ensures nothing { (result ≡ EventAnswer.Nothing) ↔ CannotHappen event.now self.old }
         ensures busy { IsBusyExactly event.now self.old result }
-        ensures alone { (opening : Database) (history : List Step) → Fits opening history self.old → NoneDies event.now self.old self.new }
+        ensures routing { self.new.routing ≡ self.old.routing }
+        ensures alone { (opening : Database) (history : List Step) → Fits opening history (together self.old) → NoneDies event.now self.old self.new }
     {
         claims_are_of_the_footprint();
-        self.parts.happen(alloc, event)
+        self.core.happen(alloc, event)
     }
 
     /// Events happen in order. The room for their answers is made first: an error changes nothing.
     pub fn run(&mut self, alloc: Global, events: &[Event]) -> Result<Vec<EventAnswer>, NoMemory>
-        ensures advances { IfOk result (λ answers. Advances self.old (steps_of events.now answers.items) self.new) }
+        ensures advances { IfOk result (λ answers. Advances (together self.old) (steps_of events.now answers.items) (together self.new)) }
         ensures happen { IfOk result (λ answers. HappenInTurn (steps_of events.now answers.items) self.old self.new) }
         ensures count { IfOk result (λ answers. length answers.items ≡ length events.now) }
         ensures err { OnErr result (self.new ≡ self.old) }
@@ -129,14 +146,15 @@ impl<J: Names> World<J> {
     /// transaction is active, unless there is no memory; where no message can be taken and no item be sent, none
     /// is active.
     pub fn gather(&self, alloc: Global) -> Result<Tables, GatherFault>
-        ensures tables { IfOk result (λ tables. (opening : Database) (history : List Step) → Fits opening history self.now → tables ≡ tables_now opening self.now.log) }
-        ensures idle { IsErrAnd result (λ fault. fault ≡ GatherFault.NotIdle) ↔ IsTrue (is_some self.now.desk.active) }
-        ensures at_rest { IsAtRest self.now → self.now.desk.active ≡ None }
+        ensures tables { IfOk result (λ tables. (opening : Database) (history : List Step) → Fits opening history (together self.now) → tables ≡ tables_now opening self.now.parts.log) }
+        ensures idle { IsErrAnd result (λ fault. fault ≡ GatherFault.NotIdle) ↔ IsTrue (is_some self.now.parts.desk.active) }
+        ensures at_rest { IsAtRest self.now → self.now.parts.desk.active ≡ None }
     {
-        if self.parts.desk.active.is_some() {
+        let parts = &self.core.parts;
+        if parts.desk.active.is_some() {
             return Err(GatherFault::NotIdle);
         }
-        match copy_whole(alloc, &self.parts.catalog, &self.parts.slices) {
+        match copy_whole(alloc, &parts.catalog, &parts.slices) {
             Ok(tables) => Ok(tables),
             Err(NoMemory) => Err(GatherFault::NoMemory),
         }
@@ -146,13 +164,15 @@ impl<J: Names> World<J> {
     /// exactly where a transaction is active. Entries and rows are moved, and none is copied; where there is
     /// no memory for the tables, the log is given all the same.
     pub fn close(self) -> (Vec<Entry>, Result<Tables, GatherFault>)
-        ensures log { result.0.items ≡ self.log }
-        ensures tables { (opening : Database) (history : List Step) → Fits opening history self → IsGathered (is_some self.desk.active) (tables_now opening self.log) result.1 }
-        ensures idle { IsErrAnd result.1 (λ fault. fault ≡ GatherFault.NotIdle) ↔ IsTrue (is_some self.desk.active) }
-        ensures at_rest { IsAtRest self → self.desk.active ≡ None }
+        ensures log { result.0.items ≡ self.parts.log }
+        ensures tables { (opening : Database) (history : List Step) → Fits opening history (together self) → IsGathered (is_some self.parts.desk.active) (tables_now opening self.parts.log) result.1 }
+        ensures idle { IsErrAnd result.1 (λ fault. fault ≡ GatherFault.NotIdle) ↔ IsTrue (is_some self.parts.desk.active) }
+        ensures at_rest { IsAtRest self → self.parts.desk.active ≡ None }
     {
-        let is_idle = self.parts.desk.active.is_none();
-        let (entries, catalog, slices) = self.parts.into_log_and_slices();
+        let World { core } = self;
+        let Core { parts, .. } = core;
+        let is_idle = parts.desk.active.is_none();
+        let (entries, catalog, slices) = parts.into_log_and_slices();
         if !is_idle {
             return (entries, Err(GatherFault::NotIdle));
         }
@@ -166,15 +186,15 @@ impl<J: Names> World<J> {
     /// out.
     pub fn is_quiet(&self) -> bool
         ensures quiet { IsTrue result ↔ IsAtRest self.now }
-        ensures rest { IsTrue result → (self.now.desk.active ≡ None) × ((flight self.now).claims ≡ []) }
+        ensures rest { IsTrue result → (self.now.parts.desk.active ≡ None) × ((flight (together self.now)).claims ≡ []) }
     {
-        self.parts.inbox.len() == 0 && self.parts.outbox.len() == 0
+        self.core.inboxes.are_empty() && self.core.outboxes.are_empty()
     }
 
     /// The entries of the log, in log order.
     pub fn log(&self) -> &[Entry]
-        ensures { result.now ≡ self.now.log }
+        ensures { result.now ≡ self.now.parts.log }
     {
-        self.parts.log.entries()
+        self.core.parts.log.entries()
     }
 }

@@ -53,12 +53,13 @@ fn a_simulation_has_its_files(rt: HostRuntime) -> Result<(), Fail> {
     };
     assert_eq!(rt; (sim.data, sim.schedule), ("data", "schedule"));
     assert_eq!(rt; (sim.log, sim.tables), (Some("log"), Some("tables")));
+    assert_eq!(rt; sim.executors, 1);
     let words = all_words(rt.alloc(), &["sim", "data", "schedule"])?;
     let Settings::Sim(sim) = read_words(rt.alloc(), words.as_slice())? else {
         panic!(rt; "a simulation");
     };
     assert_eq!(rt; (sim.log, sim.tables), (None, None));
-    assert_eq!(rt; sim.executors, 1);
+    assert_eq!(rt; sim.executors, 2);
     Ok(())
 }
 
@@ -160,16 +161,19 @@ fn a_check_and_a_replay_have_their_files(rt: HostRuntime) -> Result<(), Fail> {
     Ok(())
 }
 
-// There is one executor, and its number is spelt as numbers are.
+// There are 1 to 16 executors, and their number is spelt as numbers are.
 #[test]
 fn other_numbers_of_executors_are_usage(rt: HostRuntime) -> Result<(), Fail> {
-    for count in ["0", "2", "+1", "01", "", "one", "18446744073709551617"] {
+    for count in ["0", "17", "+1", "01", "", "one", "18446744073709551617"] {
         let text = fault_text(
             rt.alloc(),
             &["sim", "data", "schedule", "--executors", count],
         )?
         .ok_or("a fault")?;
-        assert_eq!(rt; text.as_str(), "error: `tpcc sim` takes 1 executor\n");
+        assert_eq!(rt;
+            text.as_str(),
+            "error: --executors takes a number from 1 to 16\n"
+        );
     }
     Ok(())
 }

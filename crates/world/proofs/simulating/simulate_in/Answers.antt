@@ -1,12 +1,14 @@
-use Rattle.std.proofs.Common.{[], List, sym, subst}
+use Rattle.std.proofs.Common.{ℕ, [], List, ap, sym, subst}
 use Rattle.std.specs.Prelude.{is_some}
 use Rattle.commit_log.specs.declared.entry.Entry.{Entry}
+use Rattle.history.specs.Schedules.{Plays}
+use Rattle.routing.specs.Routes.{Routes}
 use Rattle.world.specs.Openings.{IsGathered}
 use Rattle.world.specs.Worlds.{tables_now}
 use Rattle.world.proofs.simulating.simulate_in.Goals as goal
 
 pub returns-clause-simulates : goal.returns-clause-simulates
-returns-clause-simulates g c = λ opening new fits.
+returns-clause-simulates g c = λ opening executors new fits.
     let played = c.in_ok-outputs.ensures.plays in
     let last = c.play.new.self in
     let after = played.1.1.1 opening [] fits in
@@ -16,10 +18,10 @@ returns-clause-simulates g c = λ opening new fits.
       last = last;
       steps = played.0;
       new = new;
-      plays = played.1.0;
+      plays = subst (λ (n : ℕ). Plays n c.args.schedule.now c.in_ok-outputs.outputs.items played.0) (ap (λ (r : Routes). r.executors) new.routing) played.1.0;
       happen = played.1.1.0;
       fits = after;
       log = log;
-      tables = subst (λ (l : List Entry). IsGathered (is_some last.desk.active) (tables_now opening l) c.close-log.result.1) (sym log)
+      tables = subst (λ (l : List Entry). IsGathered (is_some last.parts.desk.active) (tables_now opening l) c.close-log.result.1) (sym log)
           (c.close-log.ensures.tables opening played.0 after);
     }

@@ -3,44 +3,45 @@ use Rattle.std.specs.Prelude.{is_some}
 use Rattle.partitions.specs.Parts.{Shared, shared_of}
 use Rattle.slices.specs.Sliced.{Sliced, joined}
 use Rattle.world.specs.declared.world.GatherFault.TheVariants as gather
-use Rattle.world.specs.declared.world.Parts.{Parts}
+use Rattle.world.specs.declared.world.Core.{Core}
 use Rattle.world.specs.Openings.{IsGathered}
 use Rattle.world.specs.Parted.{joined_in}
+use Rattle.world.specs.Together.{together}
 use Rattle.world.specs.Worlds.{Fits, tables_now}
 use Rattle.world.proofs.Quiet.{idle_tables, rests_idle}
 use Rattle.world.proofs.Runs.{of_none}
 use Rattle.world.proofs.world.World.close.Goals as goal
 
 pub returns-then-not-is_idle-clause-at_rest : goal.returns-then-not-is_idle-clause-at_rest
-returns-then-not-is_idle-clause-at_rest g c = rests_idle (shared_of g.J.LogNames.opening) c.self.inside.parts c.args.self c.self.view_is c.self.invariant.0
+returns-then-not-is_idle-clause-at_rest g c = rests_idle (shared_of g.J.LogNames.opening) c.self.inside.core c.args.self c.self.view_is c.self.invariant.0
 
 pub returns-in-Ok-clause-at_rest : goal.returns-in-Ok-clause-at_rest
-returns-in-Ok-clause-at_rest g c = rests_idle (shared_of g.J.LogNames.opening) c.self.inside.parts c.args.self c.self.view_is c.self.invariant.0
+returns-in-Ok-clause-at_rest g c = rests_idle (shared_of g.J.LogNames.opening) c.self.inside.core c.args.self c.self.view_is c.self.invariant.0
 
-pub returns-in-Err-clause-at_rest : goal.returns-in-Err-clause-at_rest
-returns-in-Err-clause-at_rest g c = rests_idle (shared_of g.J.LogNames.opening) c.self.inside.parts c.args.self c.self.view_is c.self.invariant.0
+pub returns-clause-at_rest : goal.returns-clause-at_rest
+returns-clause-at_rest g c = rests_idle (shared_of g.J.LogNames.opening) c.self.inside.core c.args.self c.self.view_is c.self.invariant.0
 
 pub returns-in-Ok-clause-tables : goal.returns-in-Ok-clause-tables
 returns-in-Ok-clause-tables g c opening history f =
-    let w = c.self.inside.parts in
+    let w = together c.self.inside.core in
     let left = c.into_log_and_slices-entries in
     let none : is_some w.desk.active ≡ false = c.is_none-is_idle.ensures ∙ ap not c.if-not-is_idle.false in
     let moved : (joined left.result.1 left.result.2.items).tables ≡ (joined_in w).tables =
     ap (λ (s : Shared). (joined s left.result.2.items).tables) left.ensures.catalog ∙ ap (λ (l : List Sliced). (joined w.catalog l).tables) left.ensures.slices in
-    let is = idle_tables (shared_of g.J.LogNames.opening) w c.self.invariant.0 (of_none w.desk.active none) opening history (subst (λ (v : Parts g.row.J.Denot). Fits opening history v) (sym c.self.view_is) f) in
-    subst (λ (v : Parts g.row.J.Denot). IsGathered (is_some v.desk.active) (tables_now opening v.log) (Ok c.in-Ok.tables)) c.self.view_is
+    let is = idle_tables (shared_of g.J.LogNames.opening) w c.self.invariant.0.all (of_none w.desk.active none) opening history (subst (λ (v : Core g.row.J.Denot). Fits opening history (together v)) (sym c.self.view_is) f) in
+    subst (λ (v : Core g.row.J.Denot). IsGathered (is_some v.parts.desk.active) (tables_now opening v.parts.log) (Ok c.in-Ok.tables)) c.self.view_is
     (subst (λ b. IsGathered b (tables_now opening w.log) (Ok c.in-Ok.tables)) (sym none) (inl (ap Ok (c.in-Ok.ensures ∙ moved ∙ is))))
 
-pub returns-in-Err-clause-tables : goal.returns-in-Err-clause-tables
-returns-in-Err-clause-tables g c opening history f =
-    let w = c.self.inside.parts in
+pub returns-clause-tables : goal.returns-clause-tables
+returns-clause-tables g c opening history f =
+    let w = together c.self.inside.core in
     let none : is_some w.desk.active ≡ false = c.is_none-is_idle.ensures ∙ ap not c.if-not-is_idle.false in
-    subst (λ (v : Parts g.row.J.Denot). IsGathered (is_some v.desk.active) (tables_now opening v.log) (Err gather.NoMemory)) c.self.view_is
+    subst (λ (v : Core g.row.J.Denot). IsGathered (is_some v.parts.desk.active) (tables_now opening v.parts.log) (Err gather.NoMemory)) c.self.view_is
     (subst (λ b. IsGathered b (tables_now opening w.log) (Err gather.NoMemory)) (sym none) (inr refl))
 
 pub returns-then-not-is_idle-clause-tables : goal.returns-then-not-is_idle-clause-tables
 returns-then-not-is_idle-clause-tables g c opening history f =
-    let w = c.self.inside.parts in
+    let w = together c.self.inside.core in
     let some : is_some w.desk.active ≡ true = c.is_none-is_idle.ensures ∙ ap not c.if-not-is_idle.true in
-    subst (λ (v : Parts g.row.J.Denot). IsGathered (is_some v.desk.active) (tables_now opening v.log) (Err gather.NotIdle)) c.self.view_is
+    subst (λ (v : Core g.row.J.Denot). IsGathered (is_some v.parts.desk.active) (tables_now opening v.parts.log) (Err gather.NotIdle)) c.self.view_is
     (subst (λ b. IsGathered b (tables_now opening w.log) (Err gather.NotIdle)) (sym some) refl)

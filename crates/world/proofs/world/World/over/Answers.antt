@@ -1,25 +1,26 @@
 use Rattle.std.proofs.Common.{refl, sym, ap, subst, ◌∙◌, arith, None}
 use Rattle.schema.specs.Database.{Database}
+use Rattle.schema.specs.declared.scale.Scale.{Scale}
 use Rattle.partitions.specs.Parts.{shared_of}
 use Rattle.groups.specs.Content.{content}
 use Rattle.tickets.specs.LogSeats.{SeatsTell}
 use Rattle.tickets.specs.Places.{AreInPlace}
 use Rattle.slices.specs.Openings.{AreBoxesOf}
 use Rattle.slices.proofs.Opened.{opened_groups_have_boxes}
-use Rattle.world.specs.declared.world.Parts.{Parts}
-use Rattle.world.proofs.Opened.{cut_slices, opened_fits, opened_new, opened_sound, seats_tell}
+use Rattle.world.specs.declared.world.Core.{Core}
+use Rattle.world.proofs.Opened.{cut_slices, opened_core, opened_fits, opened_new, seats_tell}
 use Rattle.world.proofs.world.World.over.Goals as goal
 
 pub cut-requires-clause-boxes : goal.cut-requires-clause-boxes
 cut-requires-clause-boxes g c =
     let boxed = c.in_ok-boxes.ensures in
-    let in_place : AreInPlace c.args.tables.scale.warehouses c.in_ok-boxes.seats = subst (λ s. AreInPlace s.warehouses c.in_ok-boxes.seats) c.scale.ensures.value boxed.places in
+    let in_place : AreInPlace c.args.tables.scale.warehouses c.in_ok-boxes.seats = subst (λ s. AreInPlace s.warehouses c.in_ok-boxes.seats) c.scale-2.ensures.value boxed.places in
     subst (AreBoxesOf c.args.tables) (sym boxed.boxes) (opened_groups_have_boxes c.args.tables c.args.opening.groups.items c.in_ok-boxes.seats c.requires.named.opened in_place boxed.contents)
 
 pub new-requires-clause-opening : goal.new-requires-clause-opening
 new-requires-clause-opening g c =
     let boxed = c.in_ok-boxes.ensures in
-    let in_place : AreInPlace c.args.tables.scale.warehouses c.in_ok-boxes.seats = subst (λ s. AreInPlace s.warehouses c.in_ok-boxes.seats) c.scale.ensures.value boxed.places in
+    let in_place : AreInPlace c.args.tables.scale.warehouses c.in_ok-boxes.seats = subst (λ s. AreInPlace s.warehouses c.in_ok-boxes.seats) c.scale-2.ensures.value boxed.places in
     subst (λ (t : Database). SeatsTell (content t) c.in_ok-boxes.seats) (sym c.requires.named.tables_are)
     (seats_tell c.args.tables c.args.opening.groups.items c.in_ok-boxes.seats c.requires.named.opened in_place boxed.contents)
 
@@ -28,8 +29,9 @@ invariant_of-result g c =
     let cut = c.in_ok-catalog in
     let scale = ap (λ (t : Database). t.scale) c.requires.named.tables_are in
     let slices = cut_slices c.args.tables cut.catalog cut.slices.items c.scale.ensures.within cut.ensures.catalog cut.ensures.slices in (
-      opened_sound (shared_of g.J.LogNames.opening) c.in_ok-book.lanes.items _ (record { many = omega (arith, c.in_ok-book.lanes.ok.0, c.in_ok-book.ensures.count); each = c.in_ok-book.ensures.sessions })
-          (cut.ensures.catalog ∙ ap shared_of (sym c.requires.named.tables_are)) slices.0 c.in_ok-inbox.ensures c.in_ok-outbox.ensures refl c.in_ok-sessions.ensures,
+      opened_core (shared_of g.J.LogNames.opening) c.args.executors c.in_ok-book.lanes.items _ (record { many = omega (arith, c.in_ok-book.lanes.ok.0, c.in_ok-book.ensures.count); each = c.in_ok-book.ensures.sessions })
+          (cut.ensures.catalog ∙ ap shared_of (sym c.requires.named.tables_are)) slices.0 (c.opening-routing.ensures ∙ ap (λ (s : Scale). record { warehouses = s.warehouses; executors = c.args.executors }) (c.scale.ensures.value ∙ sym scale))
+          c.in_ok-inboxes.ensures c.in_ok-outboxes.ensures c.in_ok-inbox.ensures c.in_ok-outbox.ensures refl c.in_ok-sessions.ensures,
       c.requires.named.warehouses ∙ sym (ap (λ s. s.warehouses) scale),
     )
 
@@ -37,28 +39,39 @@ pub returns-clause-fits : goal.returns-clause-fits
 returns-clause-fits g c =
     let cut = c.in_ok-catalog in
     let slices = cut_slices c.args.tables cut.catalog cut.slices.items c.scale.ensures.within cut.ensures.catalog cut.ensures.slices in
-    let parts : Parts g.row.J.Denot = record {
-      catalog = cut.catalog;
-      slices = cut.slices;
-      inbox = c.in_ok-inbox.inbox;
-      outbox = c.in_ok-outbox.outbox;
-      desk = record { admitted = 0; sessions = c.in_ok-sessions.sessions; active = None };
-      log = c.new.result;
+    let core : Core g.row.J.Denot = record {
+      parts = record {
+        catalog = cut.catalog;
+        slices = cut.slices;
+        inbox = c.in_ok-inbox.inbox;
+        outbox = c.in_ok-outbox.outbox;
+        desk = record { admitted = 0; sessions = c.in_ok-sessions.sessions; active = None };
+        log = c.new.result;
+      };
+      routing = c.opening-routing.result;
+      inboxes = c.in_ok-inboxes.inboxes;
+      outboxes = c.in_ok-outboxes.outboxes;
     } in
-    opened_fits c.args.tables c.requires.consistent parts c.new.result slices.1 c.new.ensures c.in_ok-inbox.ensures c.in_ok-outbox.ensures refl
+    opened_fits c.args.tables c.requires.consistent c.args.executors core slices.1 c.new.ensures c.in_ok-inboxes.ensures c.in_ok-outboxes.ensures refl refl
 
 pub returns-clause-new : goal.returns-clause-new
 returns-clause-new g c =
     let cut = c.in_ok-catalog in
     let slices = cut_slices c.args.tables cut.catalog cut.slices.items c.scale.ensures.within cut.ensures.catalog cut.ensures.slices in
-    let parts : Parts g.row.J.Denot = record {
-      catalog = cut.catalog;
-      slices = cut.slices;
-      inbox = c.in_ok-inbox.inbox;
-      outbox = c.in_ok-outbox.outbox;
-      desk = record { admitted = 0; sessions = c.in_ok-sessions.sessions; active = None };
-      log = c.new.result;
+    let core : Core g.row.J.Denot = record {
+      parts = record {
+        catalog = cut.catalog;
+        slices = cut.slices;
+        inbox = c.in_ok-inbox.inbox;
+        outbox = c.in_ok-outbox.outbox;
+        desk = record { admitted = 0; sessions = c.in_ok-sessions.sessions; active = None };
+        log = c.new.result;
+      };
+      routing = c.opening-routing.result;
+      inboxes = c.in_ok-inboxes.inboxes;
+      outboxes = c.in_ok-outboxes.outboxes;
     } in
-    opened_new c.args.tables c.in_ok-book.lanes.items parts
+    opened_new c.args.tables c.args.executors c.in_ok-book.lanes.items core
     (record { many = omega (arith, c.in_ok-book.lanes.ok.0, c.in_ok-book.ensures.count); each = c.in_ok-book.ensures.sessions })
-    slices.0 slices.1 c.in_ok-inbox.ensures c.in_ok-outbox.ensures c.new.ensures refl refl c.in_ok-sessions.ensures
+    slices.0 slices.1 (c.opening-routing.ensures ∙ ap (λ (s : Scale). record { warehouses = s.warehouses; executors = c.args.executors }) c.scale.ensures.value)
+    c.in_ok-inboxes.ensures c.in_ok-outboxes.ensures c.new.ensures refl refl c.in_ok-sessions.ensures

@@ -4,6 +4,7 @@ use Rattle.std.proofs.Math.ListN.{length-take}
 use Rattle.history.specs.declared.event.Event.{Event}
 use Rattle.history.specs.declared.event.EventAnswer.{EventAnswer}
 use Rattle.history.specs.History.{Step, step}
+use Rattle.world.specs.Together.{together}
 use Rattle.world.specs.Worlds.{Advances, HappenInTurn, steps_of}
 use Rattle.world.proofs.Runs.{steps_of-push, happen_after, happens_once, one_after_another, no_events}
 use Rattle.world.proofs.world.World.run.Goals as goal
@@ -14,7 +15,7 @@ loop-event-init g c = record {
   filled = c.in_ok-answers.ensures.len;
   room = c.in_ok-answers.ensures.capacity;
   happen = refl;
-  advances = no_events c.args.self.now;
+  advances = no_events (together c.args.self.now);
 }
 
 pub push_reserved-requires : goal.push_reserved-requires
@@ -41,14 +42,14 @@ loop-event-preserved g c =
       happen = subst (λ (ss : List Step). HappenInTurn ss c.args.self.now c.step-answer.new.self) (sym steps)
           (happen_after (steps_of (take i events) answers) (step event answer ∷ []) c.args.self.now c.loop-event.self c.step-answer.new.self c.loop-event.invariant.happen
           (happens_once event answer c.loop-event.self c.step-answer.new.self c.step-answer.ensures.happens));
-      advances = subst (λ (ss : List Step). Advances c.args.self.now ss c.step-answer.new.self) (sym steps)
-          (one_after_another c.args.self.now c.loop-event.self c.step-answer.new.self (steps_of (take i events) answers) (step event answer ∷ []) c.loop-event.invariant.advances c.step-answer.ensures.advances);
+      advances = subst (λ (ss : List Step). Advances (together c.args.self.now) ss (together c.step-answer.new.self)) (sym steps)
+          (one_after_another (together c.args.self.now) (together c.loop-event.self) (together c.step-answer.new.self) (steps_of (take i events) answers) (step event answer ∷ []) c.loop-event.invariant.advances c.step-answer.ensures.advances);
     }
 
 pub returns-clause-advances : goal.returns-clause-advances
 returns-clause-advances g c =
     let all : take c.loop-event.event-index c.args.events.now ≡ c.args.events.now = take_all c.loop-event.event-index c.args.events.now c.loop-event-test.false in
-    subst (λ (es : List Event). Advances c.args.self.now (steps_of es c.loop-event.answers.items) c.loop-event.self) all c.loop-event.invariant.advances
+    subst (λ (es : List Event). Advances (together c.args.self.now) (steps_of es c.loop-event.answers.items) (together c.loop-event.self)) all c.loop-event.invariant.advances
 
 pub returns-clause-count : goal.returns-clause-count
 returns-clause-count g c = omega (arith, c.loop-event.invariant.count, c.loop-event-test.false, c.loop-event.auto.event-index-end)

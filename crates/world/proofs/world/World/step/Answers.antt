@@ -1,29 +1,36 @@
-use Rattle.std.proofs.Common.{subst, List, ◌∷◌, []}
+use Rattle.std.proofs.Common.{◌≡◌, subst, List, ◌∷◌, []}
 use Rattle.partitions.specs.Parts.{shared_of}
 use Rattle.schema.specs.Database.{Database}
 use Rattle.history.specs.History.{Step, step}
-use Rattle.world.specs.declared.world.Parts.{Parts}
+use Rattle.world.specs.declared.world.Core.{Core}
+use Rattle.world.specs.Together.{together}
 use Rattle.world.specs.Worlds.{Advances, Fits, Happens, IsBusyExactly, NoneDies}
 use Rattle.world.proofs.Alone.{none_dies}
 use Rattle.world.proofs.Busy.{busy_exactly}
 use Rattle.world.proofs.Answered.{nothing_exactly}
+use Rattle.world.proofs.Schedules.{routing_stays}
 use Rattle.world.proofs.world.World.step.Goals as goal
 
 pub returns-clause-advances : goal.returns-clause-advances
 returns-clause-advances g c =
-    subst (λ (old : Parts g.row.J.Denot). Advances old (step c.args.event.now c.happen.result ∷ []) c.happen.new.self) c.self.view_is c.happen.ensures.advances
+    subst (λ (old : Core g.row.J.Denot). Advances (together old) (step c.args.event.now c.happen.result ∷ []) (together c.happen.new.self)) c.self.view_is c.happen.ensures.advances
 
 pub returns-clause-nothing : goal.returns-clause-nothing
 returns-clause-nothing g c =
     nothing_exactly c.args.event.now c.args.self.now c.happen.new.self c.happen.result
-    (subst (λ (old : Parts g.row.J.Denot). Happens c.args.event.now old c.happen.result c.happen.new.self) c.self.view_is c.happen.ensures.happens)
+    (subst (λ (old : Core g.row.J.Denot). Happens c.args.event.now old c.happen.result c.happen.new.self) c.self.view_is c.happen.ensures.happens)
 
 pub returns-clause-busy : goal.returns-clause-busy
 returns-clause-busy g c =
-    subst (λ (old : Parts g.row.J.Denot). IsBusyExactly c.args.event.now old c.happen.result) c.self.view_is
-    (busy_exactly (shared_of g.J.LogNames.opening) c.args.event.now c.self.inside.parts c.happen.new.self c.happen.result c.self.invariant.0 c.happen.ensures.happens)
+    subst (λ (old : Core g.row.J.Denot). IsBusyExactly c.args.event.now old c.happen.result) c.self.view_is
+    (busy_exactly (shared_of g.J.LogNames.opening) c.args.event.now c.self.inside.core c.happen.new.self c.happen.result c.self.invariant.0 c.happen.ensures.happens)
 
 pub returns-clause-alone : goal.returns-clause-alone
 returns-clause-alone g c =
-    subst (λ (old : Parts g.row.J.Denot). (opening : Database) (history : List Step) → Fits opening history old → NoneDies c.args.event.now old c.happen.new.self) c.self.view_is
-    (none_dies c.claims_are_of_the_footprint.ensures.once (shared_of g.J.LogNames.opening) c.args.event.now c.self.inside.parts c.happen.new.self c.happen.result c.self.invariant.0 c.happen.ensures.happens)
+    subst (λ (old : Core g.row.J.Denot). (opening : Database) (history : List Step) → Fits opening history (together old) → NoneDies c.args.event.now old c.happen.new.self) c.self.view_is
+    (none_dies c.claims_are_of_the_footprint.ensures.once (shared_of g.J.LogNames.opening) c.args.event.now c.self.inside.core c.happen.new.self c.happen.result c.self.invariant.0 c.happen.ensures.happens)
+
+pub returns-clause-routing : goal.returns-clause-routing
+returns-clause-routing g c =
+    subst (λ (old : Core g.row.J.Denot). c.happen.new.self.routing ≡ old.routing) c.self.view_is
+    (routing_stays c.args.event.now c.self.inside.core c.happen.new.self c.happen.result c.happen.ensures.happens)

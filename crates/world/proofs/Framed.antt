@@ -1,0 +1,189 @@
+-- What an event does with one executor's queues in hand, it does with all queues as one.
+use Rattle.std.proofs.Common.{◌≡◌, ◌⊎◌, inl, inr, ℕ, ◌+◌, Bool, true, false, List, [], ◌∷◌, ◌++◌, length, Option, Some, None, refl, sym, ◌∙◌, ap, subst, append_assoc, nat_lt, ⊎_elim}
+use Rattle.std.specs.Prelude.{map}
+use Rattle.std.specs.List.{slice_get}
+use Rattle.partitions.specs.Parts.{Shared}
+use Rattle.requests.specs.declared.request.Request.{Request}
+use Rattle.requests.specs.declared.refusal.Refusal.{Refusal}
+use Rattle.history.specs.declared.event.Event.TheVariants.{Submit}
+use Rattle.history.specs.declared.event.EventAnswer.{EventAnswer}
+use Rattle.history.specs.declared.event.EventAnswer.TheVariants.{Accepted, Took, Sent, Full, Logged, Answered, Nothing}
+use Rattle.history.specs.History.{step}
+use Rattle.requests.specs.declared.answer.Answer.TheVariants.{Done, Refused}
+use Rattle.transactions.specs.declared.progress.Gathered.{Gathered}
+use Rattle.transactions.specs.declared.progress.Gathered.TheVariants.{Next, Finish, RollBack}
+use Rattle.transactions.specs.declared.progress.Progress.{Progress}
+use Rattle.transactions.specs.declared.work.Found.{Found}
+use Rattle.world.specs.declared.desk.Active.{Active}
+use Rattle.world.specs.declared.desk.SessionDesk.{SessionDesk}
+use Rattle.world.specs.declared.flight.CommitItem.{CommitItem}
+use Rattle.world.specs.declared.flight.Flow.{Flow}
+use Rattle.world.specs.declared.flight.Transaction.{Transaction}
+use Rattle.world.specs.declared.flight.Message.{Message}
+use Rattle.world.specs.declared.flight.Message.TheVariants as message
+use Rattle.world.specs.declared.flight.Report.{Report}
+use Rattle.world.specs.declared.flight.Item.{Item}
+use Rattle.world.specs.declared.flight.Item.TheVariants as item
+use Rattle.world.specs.declared.world.Parts.{Parts}
+use Rattle.world.specs.Flights.{nothing, part_item}
+use Rattle.commit_log.specs.Claimed.{claims_logged}
+use Rattle.commit_log.specs.Items.{item as item_of}
+use Rattle.commit_log.specs.Passing.{after_item}
+use Rattle.world.specs.declared.sending.Release.{Release}
+use Rattle.world.specs.Following.{is_settled, items_released, putting, refusal_of, release}
+use Rattle.world.specs.Sound.{IsSoundWith, IsSoundItem}
+use Rattle.world.specs.Events.{Commits, GathersInto, MeetsAs, MeetsUnless, Pushes, Reports, ReportsInto, SendsItem, TakesMessage, goes_on, logging}
+use Rattle.world.specs.Worlds.{Admits, Advances, SubmitsAt, SubmitsInto, SubmitsUnless, can_admit, refusal_at}
+use Rattle.world.proofs.Happened.{stays, submits_into}
+use Rattle.world.proofs.ItemsSent.{SendsOn, sends_on, sends_push}
+use Rattle.world.proofs.Reordered.{queued}
+use Rattle.world.proofs.Sorting.{carried_there}
+
+module _ {J : Type 0} (messages : List (Message J)) (items : List (Item J)) where
+  -- behind what all other executors have
+  abbrev pub framed : Parts J → Parts J
+  framed w = queued w (messages ++ w.inbox) (items ++ w.outbox)
+
+  -- ---- an item is sent
+
+  puts_framed : (put : List (Item J)) (active : Option (Active J)) (w : Parts J) → framed (putting put active w) ≡ putting put active (framed w)
+  puts_framed put active w = λ i. record (putting put active (framed w)) { outbox = sym (append_assoc items w.outbox put) i }
+
+  goes_framed : (t : Transaction J) (g : Gathered) (w : Parts J) → framed (goes_on t g w) ≡ goes_on t g (framed w)
+  goes_framed t (Next progress) w = puts_framed _ _ w
+  goes_framed t (Finish shown) w = puts_framed _ _ w
+  goes_framed t (RollBack fault) w = puts_framed _ _ w
+
+  gathers_framed : (progress : Progress) (found : List Found) (t : Transaction J) (old new : Parts J) → GathersInto progress found t old new → GathersInto progress found t (framed old) (framed new)
+  gathers_framed progress found t old new (inl said) = inl (ap framed said ∙ puts_framed _ _ old)
+  gathers_framed progress found t old new (inr said) = inr (said.0, (said.1.0, ap framed said.1.1 ∙ goes_framed t said.0 old))
+
+  unless_framed : (why : Option Refusal) (reports : List (Report J)) (flow : Flow J) (old new : Parts J) → MeetsUnless why reports flow old new → MeetsUnless why reports flow (framed old) (framed new)
+  unless_framed (Some why) reports flow old new said = ap framed said ∙ puts_framed _ _ old
+  unless_framed None reports flow old new said = gathers_framed flow.progress _ _ old new said
+
+  meets_framed : (reports : List (Report J)) (old new : Parts J) → MeetsAs reports old new → MeetsAs reports (framed old) (framed new)
+  meets_framed reports old new said =
+      carried_there reports (λ flow. MeetsUnless (refusal_of None reports) reports flow old new) (λ flow. MeetsUnless (refusal_of None reports) reports flow (framed old) (framed new))
+      (λ flow one. unless_framed (refusal_of None reports) reports flow old new one) said
+
+  into_framed : (first : ℕ) (slots : List (Option (Report J))) (old new : Parts J) → ReportsInto first slots old new → ReportsInto first slots (framed old) (framed new)
+  into_framed first slots old new (inl said) = inl (said.0, ap framed said.1)
+  into_framed first slots old new (inr said) = inr (said.0, (said.1.0, meets_framed said.0 old new said.1.1))
+
+  reports_framed : (r : Report J) (old new : Parts J) → Reports r old new → Reports r (framed old) (framed new)
+  reports_framed r old new said = (said.0, (said.1.0, (said.1.1.0, into_framed said.0 _ old new said.1.1.1)))
+
+  logs_framed : (commit : CommitItem J) (w : Parts J) → framed (logging commit w) ≡ logging commit (framed w)
+  logs_framed commit w =
+      let t = commit.transaction in
+      let pass = after_item t.pass (item_of (length w.log) t.number t.request commit.reply) in
+      let released : Release J = release t pass (Done (length w.log) commit.reply) (map (claims_logged commit.reply) t.held) in
+      (λ i. record (logging commit (framed w)) { outbox = sym (append_assoc items w.outbox (items_released (is_settled commit.reply) released)) i })
+
+  commits_framed : (commit : CommitItem J) (old new : Parts J) (answer : EventAnswer) → Commits commit old answer new → Commits commit (framed old) answer (framed new)
+  commits_framed commit old new (Logged place) said = (said.0, (said.1.0, ap framed said.1.1 ∙ logs_framed commit old))
+  commits_framed commit old new Sent said = (said.0, (said.1.0, (said.1.1.0, ap framed said.1.1.1 ∙ puts_framed _ _ old)))
+  commits_framed commit old new (Accepted age) said = absurd said
+  commits_framed commit old new Took said = absurd said
+  commits_framed commit old new Full said = absurd said
+  commits_framed commit old new (Answered session number told) said = absurd said
+  commits_framed commit old new Nothing said = absurd said
+
+  pushes_framed : (room : Bool) (m : Message J) (old new : Parts J) (answer : EventAnswer) → Pushes room m old answer new → Pushes room m (framed old) answer (framed new)
+  pushes_framed true m old new answer said =
+      (said.0, ap framed said.1 ∙ (λ i. record (framed old) { inbox = sym (append_assoc messages old.inbox (m ∷ [])) i }))
+  pushes_framed false m old new answer said =
+      (said.0, ap framed said.1 ∙ (λ i. record (framed old) { outbox = sym (append_assoc items old.outbox (item.Push m ∷ [])) i }))
+
+  pub sends_framed : (shared : Shared) (old new : Parts J) (i : Item J) (answer : EventAnswer) (h : IsSoundWith shared (part_item i) (framed old)) → IsSoundItem shared old.log h.under_way i
+      → SendsItem i old answer new → SendsOn shared (part_item i) (framed old) answer (framed new)
+  sends_framed shared old new (item.Push m) answer h s said =
+      sends_push shared (framed old) (framed new) m answer (nat_lt (length old.inbox) 1024) h s (pushes_framed (nat_lt (length old.inbox) 1024) m old new answer said)
+  sends_framed shared old new (item.Report r) answer h s said =
+      sends_on shared (framed old) (framed new) (item.Report r) answer h s (said.0, reports_framed r old new said.1)
+  sends_framed shared old new item.Ended answer h s said =
+      sends_on shared (framed old) (framed new) item.Ended answer h s (said.0, (said.1.0, (said.1.1.0, ap framed said.1.1.1)))
+  sends_framed shared old new (item.Commit commit) answer h s said =
+      sends_on shared (framed old) (framed new) (item.Commit commit) answer h s (commits_framed commit old new answer said)
+  sends_framed shared old new (item.Reply told) answer h s said =
+      let same = said.1.1.1 in
+      sends_on shared (framed old) (framed new) (item.Reply told) answer h s (
+        said.0,
+        (
+          said.1.0,
+          (
+            said.1.1.0,
+            (same.0, (same.1.0, (ap (λ (ms : List (Message J)). messages ++ ms) same.1.1.0, (ap (λ (is : List (Item J)). items ++ is) same.1.1.1.0, same.1.1.1.1)))),
+          ),
+        ),
+      )
+
+  -- ---- a request is submitted
+
+  admits_framed : (session number : ℕ) (asked : Request) (desk : SessionDesk J) (old new : Parts J) → Admits session number asked desk old new → Admits session number asked desk (framed old) (framed new)
+  admits_framed session number asked desk old new a = record {
+    flow = a.flow;
+    works = a.works;
+    pass = a.pass;
+    age = a.age;
+    number_is = a.number_is;
+    request = a.request;
+    held = a.held;
+    begins = a.begins;
+    here = a.here;
+    pass_is = a.pass_is;
+    works_are = a.works_are;
+    catalog = a.catalog;
+    slices = a.slices;
+    inbox = ap (λ (ms : List (Message J)). messages ++ ms) a.inbox ∙ sym (append_assoc messages old.inbox (message.Start a.flow a.works ∷ []));
+    outbox = ap (λ (is : List (Item J)). items ++ is) a.outbox;
+    log = a.log;
+    admitted = a.admitted;
+    active = a.active;
+    sessions = a.sessions;
+  }
+
+  into_submitted : (can : Bool) (session number : ℕ) (asked : Request) (desk : SessionDesk J) (old new : Parts J) (answer : EventAnswer)
+      → SubmitsInto can session number asked desk old answer new → SubmitsInto can session number asked desk (framed old) answer (framed new)
+  into_submitted false session number asked desk old new answer said = (said.0, ap framed said.1)
+  into_submitted true session number asked desk old new answer said =
+      ⊎_elim (λ refused. inl (refused.0, ap framed refused.1)) (λ admitted. inr (admitted.0, admits_framed session number asked desk old new admitted.1)) said
+
+  unless_submitted : (shared : Shared) (old new : Parts J) (h : IsSoundWith shared nothing (framed old)) (session number : ℕ) (asked : Request) (desk : SessionDesk J) (answer : EventAnswer)
+      → slice_get old.desk.sessions.items session ≡ Some desk → (why : Option Refusal) → refusal_at desk asked old ≡ why → SubmitsUnless why session number asked desk old answer new
+      → IsSoundWith shared nothing (framed new) × Advances (framed old) (step (Submit session number asked) answer ∷ []) (framed new)
+  unless_submitted shared old new h session number asked desk answer there (Some why) is said = (
+    subst (λ w. IsSoundWith shared nothing (framed w)) (sym said.1) h,
+    stays (framed old) (framed new) (Submit session number asked) (Answered session number (Refused why)) answer tt (said.0, ap framed said.1),
+  )
+  unless_submitted shared old new h session number asked desk answer there None is said =
+      submits_into shared (framed old) (framed new) h session number asked desk answer there is (can_admit asked old)
+      (into_submitted (can_admit asked old) session number asked desk old new answer said)
+
+  pub submits_framed : (shared : Shared) (old new : Parts J) (h : IsSoundWith shared nothing (framed old)) (session number : ℕ) (asked : Request) (answer : EventAnswer)
+      → (found : Option (SessionDesk J)) → slice_get old.desk.sessions.items session ≡ found → SubmitsAt found session number asked old answer new
+      → IsSoundWith shared nothing (framed new) × Advances (framed old) (step (Submit session number asked) answer ∷ []) (framed new)
+  submits_framed shared old new h session number asked answer None there said = (
+    subst (λ w. IsSoundWith shared nothing (framed w)) (sym said.1) h,
+    stays (framed old) (framed new) (Submit session number asked) Nothing answer tt (said.0, ap framed said.1),
+  )
+  submits_framed shared old new h session number asked answer (Some desk) there said =
+      unless_submitted shared old new h session number asked desk answer there (refusal_at desk asked old) refl said
+
+  -- ---- a message is taken
+
+  -- with the other executors' messages behind those that are left
+  pub takes_framed : (m : Message J) (rest : List (Message J)) (old new : Parts J) → TakesMessage m (record old { inbox = rest }) new
+      → TakesMessage m (queued old (rest ++ messages) (items ++ old.outbox)) (queued new (rest ++ messages) (items ++ new.outbox))
+  takes_framed m rest old new said = (
+    said.0,
+    (
+      said.1.0,
+      (
+        ap (λ (w : Parts J). queued w (rest ++ messages) (items ++ w.outbox)) said.1.1.0
+            ∙ (λ i. record (queued old (rest ++ messages) (items ++ old.outbox)) { slices = said.1.0; outbox = sym (append_assoc items old.outbox said.0) i }),
+        said.1.1.1,
+      ),
+    ),
+  )
