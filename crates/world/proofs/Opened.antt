@@ -14,7 +14,6 @@ use Rattle.tickets.specs.LogSeats.{Committed}
 use Rattle.tickets.specs.Openings.{Opened, box_beside, contents_committed, contents_opened}
 use Rattle.tickets.specs.Places.{AreInPlace}
 use Rattle.tickets.proofs.Committed as kept
-use Rattle.commit_log.specs.declared.entry.Entry.{Entry}
 use Rattle.commit_log.specs.Passing.{Passing, Seating, new_pass, new_seat}
 use Rattle.history.proofs.Fitting.{empty_history_fits}
 use Rattle.transactions.proofs.Unasked.{unasked, unasked_progress}

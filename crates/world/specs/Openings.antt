@@ -20,7 +20,6 @@ use Rattle.world.specs.declared.simulating.Simulation.{Simulation}
 use Rattle.world.specs.declared.world.GatherFault.{GatherFault}
 use Rattle.world.specs.declared.world.GatherFault.TheVariants as gather
 use Rattle.world.specs.declared.world.Core.{Core}
-use Rattle.routing.specs.Routes.{Routes}
 use Rattle.world.specs.Parted.{joined_in}
 use Rattle.world.specs.Together.{together}
 use Rattle.world.specs.Worlds.{Fits, HappenInTurn, tables_now}

@@ -1,5 +1,5 @@
 -- What holds of a world and its history.
-use Rattle.std.specs.Prelude.{◌≡◌, ◌≢◌, ◌⊎◌, ℕ, ◌+◌, Bool, true, false, List, [], ◌∷◌, ◌++◌, Option, Some, None, Result, Ok, Err, zero, suc, nat_lt, ◌&&◌, length, replicate, Vec, IsTrue, is_some, slice_set, slice_index_or, ◌<◌, ◌≤◌, ◌↔◌, count_by}
+use Rattle.std.specs.Prelude.{◌≡◌, ◌⊎◌, ℕ, ◌+◌, Bool, true, false, List, [], ◌∷◌, ◌++◌, Option, Some, None, Result, Ok, Err, nat_lt, ◌&&◌, length, replicate, Vec, IsTrue, is_some, slice_set, slice_index_or, ◌<◌, ◌≤◌, ◌↔◌, count_by}
 use Rattle.std.specs.List.{slice_get}
 use Rattle.std.specs.declared.alloc.Global.{Global}
 use Rattle.partitions.specs.Parts.{Shared}
