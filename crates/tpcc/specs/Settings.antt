@@ -2,8 +2,8 @@
 use Rattle.std.specs.Prelude.{◌≡◌, ◌≤◌, length}
 use Rattle.tpcc.specs.declared.settings.Settings.{Settings}
 use Rattle.tpcc.specs.declared.settings.Settings.TheVariants.{Run, Sim, Populate, Check, Replay}
-use Rattle.tpcc.specs.declared.settings.RunSettings.{RunSettings}
-use Rattle.tpcc.specs.declared.settings.SimSettings.{SimSettings}
+use Rattle.tpcc.specs.declared.settings.run.RunSettings.{RunSettings}
+use Rattle.tpcc.specs.declared.settings.sim.SimSettings.{SimSettings}
 
 -- a run has 1 to 64 scripts, one for each session
 abbrev pub HasSessions : RunSettings → Type 0

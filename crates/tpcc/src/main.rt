@@ -5,6 +5,7 @@ mod check;
 mod command_fault;
 mod commands;
 mod help;
+mod opening;
 mod populate;
 mod progress;
 mod replay;

@@ -1,6 +1,6 @@
 -- So many scripts are open.
 use Rattle.std.proofs.Common.{◌≡◌, length}
-use Rattle.tpcc.proofs.commands.RunFiles.open.Given as goal
+use Rattle.tpcc.proofs.commands.run.RunFiles.open.Given as goal
 
 abbrev pub invariant-loop-path : goal.invariant-loop-path
 invariant-loop-path g l = length l.scripts.items ≡ l.path-index

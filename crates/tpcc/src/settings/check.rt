@@ -1,0 +1,38 @@
+use crate::settings::arguments::data;
+use clap::{Arg, ArgAction, ArgMatches, Command};
+use std::alloc::{AllocError, Global};
+
+/// What `tpcc check` was asked to do: the path of the dataset, and whether it is a fresh one at full scale.
+#[derive(Debug, Drop)]
+pub struct CheckSettings<'a> {
+    pub data: &'a str,
+    pub fresh: bool,
+}
+
+/// What the words of `tpcc check` ask for.
+pub fn read<'a>(matches: &ArgMatches<'a>) -> CheckSettings<'a> {
+    CheckSettings {
+        data: matches.get_str("DATA").unwrap_or(""),
+        fresh: matches.get_flag("fresh"),
+    }
+}
+
+/// The command and its options.
+pub fn command<'a>(alloc: Global) -> Result<Command<'a>, AllocError> {
+    let fresh = Arg::new(alloc, "fresh")
+        .long("fresh")
+        .help("Asks condition 11 too, which holds of a fresh dataset at full scale")
+        .action(ArgAction::SetTrue);
+    Command::new(alloc, "check")
+        .about("Tells of each of the twelve conditions of consistency whether the dataset meets it")
+        .after_help(HELP)
+        .arg(data(alloc))?
+        .arg(fresh)
+}
+
+// What is told after the arguments by `tpcc check --help`.
+const HELP: &str = "\
+Prints a line for each condition of TPC-C 5.11, clause 3.3.2: `1 ok` or `1 broken`, and so on to 12;
+`11 skipped` without --fresh.
+
+Exit statuses: 0 none is broken, 1 a fault of DATA, 2 the words are wrong, 3 one is broken, 4 no memory";

@@ -1,0 +1,73 @@
+use crate::settings::arguments::{counted, moment, number};
+use crate::usage::UsageFault;
+use clap::{Arg, ArgMatches, Command};
+use schema::{Moment, Scale};
+use std::alloc::{AllocError, Global};
+
+/// What `tpcc populate` was asked to do: the path of the dataset, and what it is made of.
+#[derive(Debug, Drop)]
+pub struct PopulateSettings<'a> {
+    pub file: &'a str,
+    pub scale: Scale,
+    pub seed: u32,
+    /// The moment of everything that has one.
+    pub now: Moment,
+}
+
+/// What the words of `tpcc populate` ask for.
+pub fn read<'a>(matches: &ArgMatches<'a>) -> Result<PopulateSettings<'a>, UsageFault> {
+    let warehouses = number(matches.get_str("warehouses"), 1, 1, 64, "--warehouses")?;
+    let items = number(matches.get_str("items"), 100_000, 1, 100_000, "--items")?;
+    let customers = number(matches.get_str("customers"), 3_000, 1, 3_000, "--customers")?;
+    let Some(scale) = Scale::checked_new(warehouses, items, customers) else {
+        unreachable!()
+    };
+    Ok(PopulateSettings {
+        file: matches.get_str("FILE").unwrap_or(""),
+        scale,
+        seed: number(matches.get_str("seed"), 1, 0, u32::MAX, "--seed")?,
+        now: moment(matches.get_str("now"))?,
+    })
+}
+
+/// The command and its options.
+pub fn command<'a>(alloc: Global) -> Result<Command<'a>, AllocError> {
+    let file = Arg::new(alloc, "FILE")
+        .help("Where the dataset is written")
+        .required(true);
+    Command::new(alloc, "populate")
+        .about("Makes a dataset as the benchmark begins with, after clause 4.3")
+        .after_help(HELP)
+        .arg(file)?
+        .arg(counted(
+            alloc,
+            "warehouses",
+            "How many warehouses, 1 to 64; 1 by default",
+        ))?
+        .arg(counted(
+            alloc,
+            "items",
+            "How many items, 1 to 100,000; 100,000 by default",
+        ))?
+        .arg(counted(
+            alloc,
+            "customers",
+            "How many customers a district has, 1 to 3,000; 3,000 by default",
+        ))?
+        .arg(counted(
+            alloc,
+            "seed",
+            "The seed of all draws, 0 to 4,294,967,295; 1 by default",
+        ))?
+        .arg(
+            Arg::new(alloc, "now").long("now").value_name("MOMENT").help(
+                "The date and time of all rows; 2024-01-01T00:00:00 by default",
+            ),
+        )
+}
+
+// What is told after the arguments by `tpcc populate --help`.
+const HELP: &str = "\
+The same words give the same bytes. Prints nothing.
+
+Exit statuses: 0 the dataset is written, 1 FILE can't be made or written, 2 the words are wrong, 4 no memory";

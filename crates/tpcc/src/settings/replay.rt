@@ -1,0 +1,44 @@
+use crate::settings::arguments::data;
+use clap::{Arg, ArgMatches, Command};
+use std::alloc::{AllocError, Global};
+
+/// What `tpcc replay` was asked to do: paths of files.
+#[derive(Debug, Drop)]
+pub struct ReplaySettings<'a> {
+    pub data: &'a str,
+    pub log: &'a str,
+    pub tables: Option<&'a str>,
+}
+
+/// What the words of `tpcc replay` ask for.
+pub fn read<'a>(matches: &ArgMatches<'a>) -> ReplaySettings<'a> {
+    ReplaySettings {
+        data: matches.get_str("DATA").unwrap_or(""),
+        log: matches.get_str("LOG").unwrap_or(""),
+        tables: matches.get_str("tables"),
+    }
+}
+
+/// The command and its options.
+pub fn command<'a>(alloc: Global) -> Result<Command<'a>, AllocError> {
+    let entries = Arg::new(alloc, "LOG")
+        .help("The log of what was carried out from that dataset on")
+        .required(true);
+    let tables = Arg::new(alloc, "tables")
+        .long("tables")
+        .value_name("FILE")
+        .help("Where the tables at the end are written, as a dataset, if the log is equal");
+    Command::new(alloc, "replay")
+        .about("Carries out a log's requests one at a time, and compares the replies")
+        .after_help(HELP)
+        .arg(data(alloc))?
+        .arg(entries)?
+        .arg(tables)
+}
+
+// What is told after the arguments by `tpcc replay --help`.
+const HELP: &str = "\
+Prints `equal N`, with the number of entries, or `differs P`, with the first place, from 0, whose request is
+refused by its check or whose reply is another.
+
+Exit statuses: 0 equal, 1 a fault of a file, 2 the words are wrong, 3 differs, 4 no memory";

@@ -1,0 +1,58 @@
+ghost use Rattle.std.specs.Prelude.{IfOk};
+ghost use Rattle.tpcc.specs.Settings.{HasSessions};
+
+use crate::settings::arguments::{data, log};
+use crate::usage::UsageFault;
+use clap::{Arg, ArgAction, ArgMatches, Command};
+use engine::MOST_SESSIONS;
+use std::alloc::{AllocError, Global};
+
+/// What `tpcc run` was asked to do: paths of files.
+#[derive(Debug, Drop)]
+pub struct RunSettings<'a> {
+    pub data: &'a str,
+    /// 1 to 64. Script s, from 0, is session s.
+    pub scripts: Vec<&'a str>,
+    pub log: Option<&'a str>,
+}
+
+/// What the words of `tpcc run` ask for.
+pub fn read<'a>(alloc: Global, matches: &ArgMatches<'a>) -> Result<RunSettings<'a>, UsageFault>
+    ensures { IfOk result HasSessions }
+{
+    let scripts = matches.get_strs("SCRIPT").unwrap_or(&[]);
+    if !(1..=MOST_SESSIONS).contains(&scripts.len()) {
+        return Err(UsageFault::ScriptCount);
+    }
+    Ok(RunSettings {
+        data: matches.get_str("DATA").unwrap_or(""),
+        scripts: scripts.to_vec(alloc)?,
+        log: matches.get_str("log"),
+    })
+}
+
+/// The command and its options.
+pub fn command<'a>(alloc: Global) -> Result<Command<'a>, AllocError> {
+    let scripts = Arg::new(alloc, "SCRIPT")
+        .help("Scripts of requests, one for each session, at most 64")
+        .required(true)
+        .num_args(1..)
+        .action(ArgAction::Append);
+    Command::new(alloc, "run")
+        .about("Serves scripts of requests and prints their answers, by session and number")
+        .after_help(HELP)
+        .arg(data(alloc))?
+        .arg(scripts)?
+        .arg(log(alloc))
+}
+
+// What is told after the arguments by `tpcc run --help`.
+const HELP: &str = "\
+The first SCRIPT is session 0, the next session 1, and so on. They are served at the same time, each in the
+order of its requests, numbered from 0. Prints a record for each request:
+  session,number,done,place,..     it stands in the log at this place, from 0; then the reply
+  session,number,refused,code,..   it is not in the log, and changed nothing
+Amounts and balances are in cents, discounts in ten-thousandths.
+
+Exit statuses: 0 all were answered, 1 a fault of a file or no thread, 2 the words are wrong,
+3 the dataset is not consistent, 4 no memory";

@@ -1,0 +1,81 @@
+ghost use Rattle.std.specs.Prelude.{◌≡◌, IfOk};
+ghost use Rattle.tpcc.specs.Settings.{HasOneExecutor};
+
+use crate::settings::arguments::{data, log};
+use crate::usage::UsageFault;
+use clap::{Arg, ArgMatches, Command};
+use files::parse_whole;
+use std::alloc::{AllocError, Global};
+
+/// What `tpcc sim` was asked to do: paths of files, and how many executors there are.
+#[derive(Debug, Drop)]
+pub struct SimSettings<'a> {
+    pub data: &'a str,
+    pub schedule: &'a str,
+    /// 1.
+    pub executors: u32,
+    pub log: Option<&'a str>,
+    pub tables: Option<&'a str>,
+}
+
+/// What the words of `tpcc sim` ask for.
+pub fn read<'a>(matches: &ArgMatches<'a>) -> Result<SimSettings<'a>, UsageFault>
+    ensures { IfOk result HasOneExecutor }
+{
+    Ok(SimSettings {
+        data: matches.get_str("DATA").unwrap_or(""),
+        schedule: matches.get_str("SCHEDULE").unwrap_or(""),
+        executors: executors(matches.get_str("executors"))?,
+        log: matches.get_str("log"),
+        tables: matches.get_str("tables"),
+    })
+}
+
+/// The command and its options.
+pub fn command<'a>(alloc: Global) -> Result<Command<'a>, AllocError> {
+    let schedule = Arg::new(alloc, "SCHEDULE")
+        .help("What is to happen: submissions, takes, sends and rounds, one after another")
+        .required(true);
+    let executors = Arg::new(alloc, "executors")
+        .long("executors")
+        .value_name("N")
+        .help("How many executors there are: 1, also by default");
+    let tables = Arg::new(alloc, "tables")
+        .long("tables")
+        .value_name("FILE")
+        .help("Where the tables are written, as a dataset, if no transaction is active at the end");
+    Command::new(alloc, "sim")
+        .about("Plays a schedule, event by event, and prints what comes of each event")
+        .after_help(HELP)
+        .arg(data(alloc))?
+        .arg(schedule)?
+        .arg(executors)?
+        .arg(log(alloc))?
+        .arg(tables)
+}
+
+// How many executors the words ask for, 1 where they don't say.
+fn executors(words: Option<&str>) -> Result<u32, UsageFault>
+    ensures { IfOk result (λ count. count ≡ 1) }
+{
+    let Some(words) = words else {
+        return Ok(1);
+    };
+    match parse_whole(words, 1, 1) {
+        Ok(count) => Ok(count as u32),
+        Err(_) => Err(UsageFault::ExecutorCount),
+    }
+}
+
+// What is told after the arguments by `tpcc sim --help`.
+const HELP: &str = "\
+Items of a schedule:
+  S,session,number,..   the session, 0 to 63, submits the request that follows
+  T,executor            the executor, 0, takes the first message of its inbox
+  X,executor            the first item of its outbox is sent
+  R                     takes and sends in turn until nothing can happen, at most 100,000 rounds
+Prints a record for each event: accepted, answered, took, sent, full, logged or nothing; for R only those that
+tell of a transaction, and then quiet or limit.
+
+Exit statuses: 0 all was played, 1 a fault of a file, or `tpcc: not idle`: --tables was asked for and a
+transaction is active at the end, 2 the words are wrong, 3 the dataset is not consistent, 4 no memory";
