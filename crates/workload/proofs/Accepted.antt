@@ -1,6 +1,5 @@
 -- Which requests the check accepts, by their fields.
-use Rattle.std.proofs.Common.{◌≡◌, ℕ, true, List, length, refl}
-use Rattle.std.specs.Prelude.{Ok}
+use Rattle.std.proofs.Common.{◌≡◌, true, length, refl}
 use Rattle.std.specs.List.{list_all}
 use Rattle.rows.specs.Ranged.{is_between}
 use Rattle.schema.specs.declared.scale.Scale.{Scale}

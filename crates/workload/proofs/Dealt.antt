@@ -1,6 +1,6 @@
 -- What is dealt from decks.
-use Rattle.std.proofs.Common.{◌≡◌, ℕ, zero, suc, ◌+◌, ◌-◌, ◌*◌, ◌/◌, ◌<◌, ◌≤◌, List, [], ◌∷◌, ◌++◌, length, take, drop, refl, sym, ap, ◌∙◌, arith, length-append}
-use Rattle.std.specs.Prelude.{All, replicate}
+use Rattle.std.proofs.Common.{◌≡◌, ℕ, zero, suc, ◌+◌, ◌-◌, ◌*◌, ◌/◌, ◌≤◌, List, [], ◌∷◌, ◌++◌, length, drop, refl, ap, ◌∙◌, arith, length-append}
+use Rattle.std.specs.Prelude.{All}
 use Rattle.std.specs.List.{flat_map}
 use Rattle.std.specs.List.Sorted.{IsPermutation}
 use Rattle.std.proofs.lemmas.List.{length-replicate, length-take-le, take-append-drop}
@@ -11,7 +11,6 @@ use Rattle.number_draws.specs.Words.{beyond}
 use Rattle.number_draws.specs.Draws.{shuffled}
 use Rattle.number_draws.proofs.Shuffles.{shuffled-permutation}
 use Rattle.workload.specs.declared.kind.Kind.{Kind}
-use Rattle.workload.specs.declared.kind.Kind.TheVariants.{NewOrder, Payment, OrderStatus, Delivery, StockLevel}
 use Rattle.workload.specs.declared.mix.Mix.{Mix}
 use Rattle.workload.specs.Decks.{cards_of, decks_drawn, kinds_drawn, AreDealt}
 

@@ -1,22 +1,20 @@
 -- Requests that are drawn are accepted, and within what the terminal names.
-use Rattle.std.proofs.Common.{◌≡◌, ℕ, zero, suc, ◌+◌, ◌-◌, ◌<◌, ◌≤◌, true, false, nat_lt, List, [], ◌∷◌, length, map, refl, sym, ap, ◌∙◌, subst, cond, rules, arith}
+use Rattle.std.proofs.Common.{◌≡◌, ℕ, zero, suc, ◌+◌, ◌-◌, ◌<◌, ◌≤◌, true, false, nat_lt, List, [], ◌∷◌, length, map, refl, ap, ◌∙◌, cond, arith}
 use Rattle.std.specs.Prelude.{All, min}
 use Rattle.std.proofs.lemmas.List.Elements.{All-nil, All-cons}
 use Rattle.rand_pcg.specs.Lcg.{Lcg}
 use Rattle.rows.specs.Ranged.{is_between}
 use Rattle.rows.specs.LastName.{last_name_of}
 use Rattle.schema.specs.declared.scale.Scale.{Scale}
-use Rattle.requests.specs.declared.request.Choice.{Choice}
 use Rattle.requests.specs.declared.request.Choice.TheVariants.{Number, LastName}
 use Rattle.requests.specs.Check.{IsAccepted}
 use Rattle.number_draws.specs.Words.{word, beyond}
-use Rattle.number_draws.specs.Draws.{random_of, nu_rand_of}
+use Rattle.number_draws.specs.Draws.{random_of}
 use Rattle.workload.specs.declared.kind.Kind.{Kind}
 use Rattle.workload.specs.declared.kind.Kind.TheVariants.{NewOrder, Payment, OrderStatus, Delivery, StockLevel}
 use Rattle.workload.specs.declared.terminal.Terminal.{Terminal}
 use Rattle.workload.specs.Kinds.{kind_of}
 use Rattle.workload.specs.Customers.{customer_id, name_number, choice_of}
-use Rattle.workload.specs.Warehouses.{customer_home_drawn}
 use Rattle.workload.specs.NewOrders.{rolls_back, lines_drawn, new_order_drawn}
 use Rattle.workload.specs.Payments.{payment_drawn}
 use Rattle.workload.specs.Requests.{moment_at, order_status_drawn, request_drawn, requests_drawn}

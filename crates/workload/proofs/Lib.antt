@@ -1,5 +1,4 @@
 pub mod Numbers
-pub mod Names
 pub mod Accepted
 pub mod OtherWarehouses
 pub mod Lines

@@ -1,6 +1,6 @@
 -- The lines of a New-Order that is drawn.
 use Rattle.std.proofs.Common.{◌≡◌, ℕ, zero, suc, ◌+◌, ◌-◌, ◌≤◌, Bool, true, false, nat_eq, List, [], ◌∷◌, length, refl, sym, ap, ◌∙◌, inl, inr, arith}
-use Rattle.std.specs.Prelude.{IsTrue, All, ◌&&◌}
+use Rattle.std.specs.Prelude.{All, ◌&&◌}
 use Rattle.std.specs.List.{list_all}
 use Rattle.std.proofs.lemmas.Bool.Decides.{nat_tests}
 use Rattle.std.proofs.lemmas.List.Elements.{All-nil, All-cons}
@@ -8,10 +8,7 @@ use Rattle.rand_pcg.specs.Lcg.{Lcg}
 use Rattle.rows.specs.Ranged.{is_between}
 use Rattle.schema.specs.Scale.{has_warehouse, has_item}
 use Rattle.requests.specs.declared.new_order.OrderedLine.{OrderedLine}
-use Rattle.number_draws.specs.Words.{word, beyond}
-use Rattle.number_draws.specs.Draws.{random_of, nu_rand_of}
 use Rattle.workload.specs.declared.terminal.Terminal.{Terminal}
-use Rattle.workload.specs.Warehouses.{supplier_drawn}
 use Rattle.workload.specs.NewOrders.{item_drawn, line_drawn, lines_drawn}
 use Rattle.workload.specs.Within.{IsNear, NameItems}
 use Rattle.workload.proofs.Numbers.{random-between, nu_rand-between}

@@ -1,8 +1,7 @@
 -- What is so of each script that is drawn.
-use Rattle.std.proofs.Common.{◌≡◌, ℕ, zero, suc, ◌+◌, ◌*◌, ◌%◌, ◌/◌, ◌^◌, ◌<◌, ◌≤◌, true, Option, Some, None, List, ◌∷◌, [], length, map, sym, ap, ◌∙◌, subst, refl, arith}
+use Rattle.std.proofs.Common.{◌≡◌, ℕ, suc, ◌+◌, ◌*◌, ◌%◌, ◌/◌, ◌^◌, ◌<◌, true, Option, Some, None, List, ◌∷◌, [], length, map, sym, ap, ◌∙◌, subst, refl, arith}
 use Rattle.std.specs.Prelude.{IsTrue, All}
 use Rattle.std.specs.Option.{ForSome}
-use Rattle.std.proofs.lemmas.Bool.Decides.{nat_tests}
 use Rattle.rand_pcg.specs.Lcg.{Lcg}
 use Rattle.rows.specs.Ranged.{is_between}
 use Rattle.schema.specs.declared.scale.Scale.{Scale}

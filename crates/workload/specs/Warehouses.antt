@@ -1,5 +1,5 @@
 -- Which warehouses take part beside a terminal's own. Each of these is what is drawn, and the generator after it.
-use Rattle.std.specs.Prelude.{ℕ, ◌+◌, ◌-◌, ◌==◌, nat_lt, Bool, if◌then◌else◌}
+use Rattle.std.specs.Prelude.{ℕ, ◌+◌, ◌-◌, ◌==◌, nat_lt, if◌then◌else◌}
 use Rattle.rand_pcg.specs.Lcg.{Lcg}
 use Rattle.rows.specs.declared.keys.DistrictKey.{DistrictKey}
 use Rattle.number_draws.specs.Words.{beyond}

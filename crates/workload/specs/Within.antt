@@ -1,5 +1,5 @@
 -- What the requests of a terminal name.
-use Rattle.std.specs.Prelude.{◌≡◌, ◌≢◌, ℕ, ◌+◌, ◌-◌, ◌<◌, false, true, List, [], ◌∷◌, ◌++◌, IsTrue, All, min}
+use Rattle.std.specs.Prelude.{◌≡◌, ℕ, ◌+◌, ◌<◌, false, List, [], ◌∷◌, IsTrue, All, min}
 use Rattle.std.specs.Prelude.{◌⊎◌}
 use Rattle.rows.specs.LastName.{last_name_of}
 use Rattle.rows.specs.Ranged.{is_between}

@@ -1,4 +1,4 @@
-use Rattle.std.proofs.Common.{◌≡◌, ◌-◌, ◌≤◌, ◌<◌, ◌++◌, ◌∷◌, [], nat_eq, sym, ap, ◌∙◌, rules, arith}
+use Rattle.std.proofs.Common.{◌≡◌, ◌-◌, ◌≤◌, ◌++◌, ◌∷◌, [], nat_eq, sym, ap, ◌∙◌, arith}
 use Rattle.std.specs.Prelude.{◌&&◌, List}
 use Rattle.std.proofs.lemmas.List.{append_assoc, append-nil}
 use Rattle.rand_pcg.specs.Lcg.{Lcg}

@@ -1,8 +1,8 @@
-use Rattle.std.proofs.Common.{◌≡◌, ℕ, suc, ◌+◌, ◌<◌, ◌≤◌, ◌++◌, ◌∷◌, [], get_or, drop, length, sym, ap, ◌∙◌, arith}
+use Rattle.std.proofs.Common.{◌≡◌, suc, ◌+◌, ◌<◌, ◌≤◌, ◌++◌, ◌∷◌, get_or, drop, length, sym, ap, ◌∙◌, arith}
 use Rattle.std.proofs.Math.Seq.{drop-cons, append_snoc}
 use Rattle.std.proofs.lemmas.List.{append-nil, drop_all}
 use Rattle.workload.specs.declared.kind.Kind.TheVariants.{NewOrder}
-use Rattle.workload.specs.Requests.{moment_at, request_drawn, requests_drawn}
+use Rattle.workload.specs.Requests.{request_drawn, requests_drawn}
 use Rattle.workload.proofs.Scripts.{requests-first, requests-none}
 use Rattle.workload.proofs.request_draws.draw_requests.Goals as goal
 
