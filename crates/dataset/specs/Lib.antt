@@ -8,3 +8,4 @@ pub mod Ranges
 pub mod RecordLaws
 pub mod TableRow
 pub mod Expecting
+pub mod FirstRecord

@@ -35,7 +35,7 @@ mod writer;
 pub use files::{FaultKind, FileError, FileFault};
 pub use laws::{different_tables_have_different_records, records_tell_tables};
 pub use ranges::columns_are_in_range;
-pub use reader::read;
+pub use reader::{read, read_scale};
 pub use writer::write;
 
 #[cfg(test)]

@@ -6,6 +6,7 @@ ghost use Rattle.dataset.specs.Expecting.{Expects, Completes, GoesOn, IsFault};
 ghost use Rattle.dataset.specs.Ranges.{InRange};
 ghost use Rattle.dataset.specs.Loading.{HasLoaded, HasEnded, IsLoaded};
 ghost use Rattle.dataset.specs.Records.{AreRecords, AreSpelt, header_fields};
+ghost use Rattle.dataset.specs.FirstRecord.{BeginsWith};
 
 use crate::header;
 use crate::loader::{Loader, Taken};
@@ -30,6 +31,19 @@ pub fn read<R: Read + Drop>(alloc: Global, source: R) -> Result<Tables, FileErro
     let mut loader = Loader::new(alloc, scale);
     read_rows(&mut records, &mut loader)?;
     finish(records, loader)
+}
+
+/// The scale of the dataset that `source` gives, of which the header alone is read.
+///
+/// A fault is one of the header, which is the first record; but for `Io`, it comes only where the text
+/// begins with no header.
+pub fn read_scale<R: Read + Drop>(alloc: Global, source: R) -> Result<Scale, FileError>
+    ensures scale { IfOk result (λ scale. (text : List ℕ) → R.remaining source ≡ Some text → (header : List (List ℕ)) × AreSpelt (header_fields scale) header × BeginsWith text header) }
+    ensures fault { IfErr result (λ error. IsFault error → (text : List ℕ) → R.remaining source ≡ Some text
+        → (s : Scale) (header : List (List ℕ)) (rows : List (List (List ℕ))) → AreSpelt (header_fields s) header → IsCsv text (header ∷ rows) → ⊥) }
+{
+    let mut records = Records::new(alloc, source);
+    read_header(&mut records)
 }
 
 // The scale of the first record, which is the header.

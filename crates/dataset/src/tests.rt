@@ -93,6 +93,32 @@ fn a_good_dataset_is_read(rt: HostRuntime) -> Result<(), Fail> {
     Ok(())
 }
 
+// Of the scale whatever comes behind the header is no matter.
+#[test]
+fn a_header_alone_tells_the_scale(rt: HostRuntime) -> Result<(), Fail> {
+    for text in ["TPCC,1,2,70,5", "TPCC,1,2,70,5\nX\n", "TPCC,1,2,70,5\nEND"] {
+        let scale = read_scale(rt.alloc(), text.as_bytes())?;
+        assert_eq!(rt;
+            (scale.warehouses, scale.items, scale.customers),
+            (2, 70, 5)
+        );
+    }
+    for (text, number) in [
+        ("", 1),
+        ("TPCC,1,2,70", 1),
+        ("TPCC,1,x,70,5", 3),
+        ("TPCC,1,65,1,1", 4),
+    ] {
+        match read_scale(rt.alloc(), text.as_bytes()) {
+            Err(FileError::File(fault)) => {
+                assert_eq!(rt; (fault.kind.number(), fault.record), (number, 1));
+            }
+            _ => panic!(rt; "{text}: no fault"),
+        }
+    }
+    Ok(())
+}
+
 #[test]
 fn the_rows_of_a_customer_are_read(rt: HostRuntime) -> Result<(), Fail> {
     let text = dataset_with(rt.alloc(), &[(44, "O,1,10,1,1,2024-01-02T00:00:00,10,1,0")])?;

@@ -1,9 +1,9 @@
 ghost use Rattle.std.specs.Prelude.{◌≡◌, ◌+◌, ◌<◌, ◌≤◌, ◌^◌, length, IsTrue};
 ghost use Rattle.std.specs.List.{list_all};
+ghost use Rattle.std.specs.List.Sorted.{IsPermutation};
 ghost use Rattle.rows.specs.Text.{is_printable_byte};
 
-use rand_core::{Rng, SeedableRng};
-use rand_pcg::Pcg64;
+use number_draws::NumberDraws;
 use schema::{Address, Text};
 
 const DIGITS: &str = "0123456789";
@@ -14,43 +14,44 @@ const DIGITS_AND_LETTERS: &str = "0123456789ABCDEFGHIJKLMNOPQRSTUVWXYZabcdefghij
 
 const ORIGINAL: &str = "ORIGINAL";
 
-/// The random values of one seed, in the order in which they are drawn. Each is one or more words of
-/// a generator, and of the same seed they are the same.
+/// The random values of one seed, in the order in which they are drawn. Of the same seed they are the same.
 #[derive(Drop)]
 pub(crate) struct Draws {
-    generator: Pcg64,
+    numbers: NumberDraws,
 }
 
 impl Draws {
     pub(crate) fn new(seed: u32) -> Self {
         Draws {
-            generator: Pcg64::seed_from_u64(u64::from(seed)),
+            numbers: NumberDraws::new(u64::from(seed)),
         }
     }
 
-    /// A whole number from `low` to `high`, both included: `low` and the rest of one word divided by
-    /// their count.
+    /// A whole number from `low` to `high`, both included.
     pub(crate) fn random(&mut self, low: u32, high: u32) -> u32
         requires { low ≤ high }
         ensures low { low ≤ result }
         ensures high { result ≤ high }
     {
-        let count = u64::from(high - low) + 1;
-        low + (self.generator.next_u64() % count) as u32
+        self.numbers.random(low, high)
     }
 
-    /// A number from `low` to `high` that isn't evenly spread (clause 2.1.6): the bits of a number up to
-    /// `bits` or those of one from `low` to `high`, and of that the rest by their count. The constant
-    /// that the clause adds is 0.
+    /// A number from `low` to `high` that isn't evenly spread (clause 2.1.6). The constant that the clause
+    /// adds is 0.
     pub(crate) fn nu_rand(&mut self, bits: u32, low: u32, high: u32) -> u32
-        requires order { low ≤ high }
-        requires count { high + 1 < 2 ^ 32 }
+        requires { low ≤ high }
         ensures low { low ≤ result }
         ensures high { result ≤ high }
     {
-        let left = self.random(0, bits);
-        let right = self.random(low, high);
-        (left | right) % (high - low + 1) + low
+        self.numbers.nu_rand(bits, 0, low, high)
+    }
+
+    /// Shuffles the numbers.
+    pub(crate) fn shuffle(&mut self, numbers: &mut [u32])
+        requires { length numbers.old ≤ 2 ^ 32 }
+        ensures { IsPermutation numbers.old numbers.new }
+    {
+        self.numbers.shuffle(numbers);
     }
 
     /// From `low` to `high` digits and letters.

@@ -11,10 +11,7 @@ pub(crate) fn owners(alloc: Global, draws: &mut Draws, count: u32) -> Result<Vec
     ensures { IfOk result (λ owners. IsPermutation (range_with_len 1 count) owners.items) }
 {
     let mut owners = numbers(alloc, count)?;
-    for last in (1..count).rev() {
-        let chosen = draws.random(0, last);
-        owners.swap(last as usize, chosen as usize);
-    }
+    draws.shuffle(owners.as_mut_slice());
     Ok(owners)
 }
 

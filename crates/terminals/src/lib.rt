@@ -57,7 +57,7 @@ pub use laws::choice_texts_differ;
 pub use log_records::{log_record, read_log, write_log};
 pub use outputs::write_outputs;
 pub use schedules::read_schedule;
-pub use scripts::read_script;
+pub use scripts::{read_script, write_script};
 
 #[cfg(test)]
 mod tests;

@@ -1,12 +1,14 @@
-ghost use Rattle.std.specs.Prelude.{◌≡◌, ◌≢◌, ℕ, List, [], ◌∷◌, Some, None, IfOk, IfSome, IfNone};
+ghost use Rattle.std.specs.Prelude.{◌≡◌, ◌≢◌, ℕ, List, [], ◌∷◌, ◌++◌, Some, None, IfOk, IfSome, IfNone, OnOk};
+ghost use Rattle.std.specs.Io.KnownBytes.{Appends};
 ghost use Rattle.files.specs.Place.{HasRead, IsCsv, record_fields};
 ghost use Rattle.files.specs.Taken.{fault_of, Takes};
+ghost use Rattle.files.specs.Written.{csv_text};
 ghost use Rattle.terminals.specs.Listing.{IsListing, end_fields};
 
-use files::{FaultKind, Fields, FileError, Records};
+use files::{FaultKind, Fields, FileError, NewRecord, RecordWriter, Records};
 use schema::NoMemory;
 use std::alloc::Global;
-use std::io::Read;
+use std::io::{Read, Write};
 
 /// What a record says, in a file whose records are ended by their count.
 pub trait Listed: Drop {
@@ -86,4 +88,32 @@ fn parse<T: Listed, R: Read + Drop>(
         Some(kind) => Err(records.fault(kind)),
         None => Ok(item),
     }
+}
+
+/// What is written as a record, in a file whose records are ended by their count.
+pub trait Told {
+    // The record of the item at that place, from 0, has these fields.
+    ghost is_record: { ℕ → Self → List (List ℕ) → Type 0 };
+
+    /// Adds the fields of the record at that place, from 0.
+    fn put(&self, place: u64, row: &mut NewRecord) -> Result<(), NoMemory>
+        ensures { OnOk result ((fields : List (List ℕ)) × is_record place self.now fields × (row.new ≡ row.old ++ fields)) };
+}
+
+/// Writes the record of each item, and then the end record, and gives the sink back.
+pub fn write<T: Told, W: Write + Drop>(alloc: Global, sink: W, items: &[T]) -> Result<W, FileError>
+    ensures { IfOk result (λ full. (rows : List (List (List ℕ))) × IsListing T.is_record items.now rows × Appends (W.contents sink) (W.contents full) (csv_text rows)) }
+{
+    let mut writer = RecordWriter::new(sink);
+    let mut row = NewRecord::new(alloc);
+    for (place, item) in items.iter().enumerate() {
+        row.clear();
+        item.put(place as u64, &mut row)?;
+        writer.write(&row)?;
+    }
+    row.clear();
+    row.push("END")?;
+    row.push_number(items.len() as u64)?;
+    writer.write(&row)?;
+    writer.finish()
 }

@@ -8,11 +8,11 @@ ghost use Rattle.files.specs.Written.{csv_text};
 ghost use Rattle.terminals.specs.LogRecord.{IsLog, IsLogRecord};
 ghost use Rattle.terminals.specs.RequestFields.{IsRequest};
 
-use crate::listing::Listed;
+use crate::listing::{Listed, Told};
 use crate::{listing, reply, request};
 use commit_log::Entry;
 use csv::ByteRecord;
-use files::{FaultKind, Fields, FileError, NewRecord, RecordWriter, parse_whole};
+use files::{FaultKind, Fields, FileError, NewRecord, parse_whole};
 use requests::Request;
 use schema::NoMemory;
 use std::alloc::Global;
@@ -135,18 +135,15 @@ pub fn log_record(alloc: Global, place: u32, entry: &Entry) -> Result<ByteRecord
 pub fn write_log<W: Write + Drop>(alloc: Global, sink: W, entries: &[Entry]) -> Result<W, FileError>
     ensures { IfOk result (λ full. (rows : List (List (List ℕ))) × IsLog entries.now rows × Appends (W.contents sink) (W.contents full) (csv_text rows)) }
 {
-    let mut writer = RecordWriter::new(sink);
-    let mut row = NewRecord::new(alloc);
-    for (place, entry) in entries.iter().enumerate() {
-        row.clear();
-        put_entry(&mut row, place as u64, entry)?;
-        writer.write(&row)?;
+    listing::write(alloc, sink, entries)
+}
+
+impl Told for Entry {
+    ghost is_record = { IsLogRecord };
+
+    fn put(&self, place: u64, row: &mut NewRecord) -> Result<(), NoMemory> {
+        put_entry(row, place, self)
     }
-    row.clear();
-    row.push("END")?;
-    row.push_number(entries.len() as u64)?;
-    writer.write(&row)?;
-    writer.finish()
 }
 
 // Adds the fields of an entry.

@@ -3,7 +3,7 @@ ghost use Rattle.std.specs.Fmt.{decimal};
 ghost use Rattle.files.specs.Taken.{fault_of, TakesAll, Takes};
 ghost use Rattle.terminals.specs.RequestFields.{IsRequest};
 
-use crate::listing::Listed;
+use crate::listing::{Listed, Told};
 use crate::{delivery, new_order, order_status, payment, stock_level};
 use files::{FaultKind, Fields, NewRecord};
 use requests::Request;
@@ -20,6 +20,14 @@ impl Listed for Request {
         fields: &mut Fields,
     ) -> Result<Option<Request>, NoMemory> {
         take(alloc, fields.count() as u64, letter, fields)
+    }
+}
+
+impl Told for Request {
+    ghost is_record = { λ place. IsRequest };
+
+    fn put(&self, _place: u64, row: &mut NewRecord) -> Result<(), NoMemory> {
+        put(row, self)
     }
 }
 

@@ -1,12 +1,14 @@
 ghost use Rattle.std.specs.Prelude.{◌≡◌, ℕ, List, Some, IfOk};
+ghost use Rattle.std.specs.Io.KnownBytes.{Appends};
 ghost use Rattle.files.specs.Place.{IsCsv};
+ghost use Rattle.files.specs.Written.{csv_text};
 ghost use Rattle.terminals.specs.Script.{IsScript};
 
 use crate::listing;
 use files::FileError;
 use requests::Script;
 use std::alloc::Global;
-use std::io::Read;
+use std::io::{Read, Write};
 
 /// The script that `source` gives.
 ///
@@ -21,4 +23,16 @@ pub fn read_script<R: Read + Drop>(alloc: Global, source: R) -> Result<Script, F
         Some(script) => Ok(script),
         None => Err(FileError::NoMemory),
     }
+}
+
+/// Writes a script: the record of each request, and then the end record. It gives the sink back. Use a
+/// `&mut` to a sink that is needed after a fault too.
+pub fn write_script<W: Write + Drop>(
+    alloc: Global,
+    sink: W,
+    script: &Script,
+) -> Result<W, FileError>
+    ensures { IfOk result (λ full. (rows : List (List (List ℕ))) × IsScript script.now rows × Appends (W.contents sink) (W.contents full) (csv_text rows)) }
+{
+    listing::write(alloc, sink, script.requests())
 }

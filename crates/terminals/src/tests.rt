@@ -17,6 +17,7 @@ mod logs;
 mod order_status;
 mod outputs;
 mod schedules;
+mod scripts;
 
 // The number of the script's fault and its record, or `None` where it is read.
 fn fault_of(alloc: Global, script: &[u8]) -> Result<Option<(u8, u64)>, AllocError> {

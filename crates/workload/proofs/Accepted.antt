@@ -1,0 +1,31 @@
+-- Which requests the check accepts, by their fields.
+use Rattle.std.proofs.Common.{◌≡◌, true, length, refl}
+use Rattle.std.specs.List.{list_all}
+use Rattle.rows.specs.Ranged.{is_between}
+use Rattle.schema.specs.declared.scale.Scale.{Scale}
+use Rattle.schema.specs.Scale.{has_warehouse}
+use Rattle.requests.specs.declared.request.Request.TheVariants.{NewOrder, Payment, OrderStatus, Delivery, StockLevel}
+use Rattle.requests.specs.declared.new_order.NewOrder.{NewOrder as OrderRequest}
+use Rattle.requests.specs.declared.payment.Payment.{Payment as PaymentRequest}
+use Rattle.requests.specs.declared.order_status.OrderStatus.{OrderStatus as StatusRequest}
+use Rattle.requests.specs.declared.delivery.Delivery.{Delivery as DeliveryRequest}
+use Rattle.requests.specs.declared.stock_level.StockLevel.{StockLevel as LevelRequest}
+use Rattle.requests.specs.Check.{IsAccepted}
+
+pub accepted-new_order : (scale : Scale) (n : OrderRequest) → has_warehouse scale n.home.w_id ≡ true → is_between 1 10 n.home.d_id ≡ true → is_between 5 15 (length n.lines) ≡ true
+    → list_all (λ line. is_between 1 10 line.quantity) n.lines ≡ true → list_all (λ line. has_warehouse scale line.supply_w_id) n.lines ≡ true → IsAccepted scale (NewOrder n)
+accepted-new_order scale n warehouse district count quantities suppliers = rw (warehouse, district, count, quantities, suppliers) refl
+
+pub accepted-payment : (scale : Scale) (p : PaymentRequest) → has_warehouse scale p.home.w_id ≡ true → has_warehouse scale p.customer_home.w_id ≡ true
+    → is_between 1 10 p.home.d_id ≡ true → is_between 1 10 p.customer_home.d_id ≡ true → is_between 100 500000 p.amount ≡ true → IsAccepted scale (Payment p)
+accepted-payment scale p warehouse customers district customers_district amount = rw (warehouse, customers, district, customers_district, amount) refl
+
+pub accepted-order_status : (scale : Scale) (o : StatusRequest) → has_warehouse scale o.home.w_id ≡ true → is_between 1 10 o.home.d_id ≡ true → IsAccepted scale (OrderStatus o)
+accepted-order_status scale o warehouse district = rw (warehouse, district) refl
+
+pub accepted-delivery : (scale : Scale) (d : DeliveryRequest) → has_warehouse scale d.w_id ≡ true → is_between 1 10 d.carrier_id ≡ true → IsAccepted scale (Delivery d)
+accepted-delivery scale d warehouse carrier = rw (warehouse, carrier) refl
+
+pub accepted-stock_level : (scale : Scale) (s : LevelRequest) → has_warehouse scale s.home.w_id ≡ true → is_between 1 10 s.home.d_id ≡ true → is_between 10 20 s.threshold ≡ true
+    → IsAccepted scale (StockLevel s)
+accepted-stock_level scale s warehouse district threshold = rw (warehouse, district, threshold) refl

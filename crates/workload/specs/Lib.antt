@@ -1,0 +1,10 @@
+pub mod Limits
+pub mod Kinds
+pub mod Decks
+pub mod Customers
+pub mod Warehouses
+pub mod NewOrders
+pub mod Payments
+pub mod Requests
+pub mod Sessions
+pub mod Within

@@ -1,0 +1,84 @@
+ghost use Rattle.std.specs.Prelude.{◌≡◌, IfOk};
+ghost use Rattle.workload.specs.NewOrders.{item_drawn, line_drawn, lines_drawn, new_order_drawn};
+
+use crate::Terminal;
+use crate::customers::customer_number;
+use crate::warehouses::supplier;
+use number_draws::NumberDraws;
+use requests::{Lines, NewOrder, OrderedLine};
+use schema::{DistrictKey, Moment, NoMemory, Scale};
+use std::alloc::Global;
+
+// The constant of clause 2.1.6 for OL_I_ID.
+const ITEM_CONSTANT: u32 = 4_000;
+
+/// A New-Order of the terminal (clause 2.4.1). One in 100 names an item at its end that is not there, so that
+/// it will be rolled back.
+#[tactic(auto, using(number_draws::proofs::Generators::beyond_twice), unfolding(crate::specs::NewOrders::new_order_drawn))]
+pub(crate) fn new_order(
+    alloc: Global,
+    draws: &mut NumberDraws,
+    terminal: &Terminal,
+    moment: Moment,
+) -> Result<NewOrder, NoMemory>
+    ensures { IfOk result (λ order. (order, draws.new) ≡ new_order_drawn terminal.now moment draws.old) }
+{
+    let home = DistrictKey {
+        w_id: terminal.home.w_id,
+        d_id: draws.random(1, 10),
+    };
+    let c_id = customer_number(draws, terminal.scale);
+    let count = draws.random(5, 15);
+    let rolls_back = draws.random(1, 100) == 1;
+    let lines = lines(alloc, draws, terminal, count, rolls_back)?;
+    Ok(NewOrder {
+        home,
+        c_id,
+        moment,
+        lines,
+    })
+}
+
+// So many lines, of which the last names an item that is not there if the order is to be rolled back.
+fn lines(
+    alloc: Global,
+    draws: &mut NumberDraws,
+    terminal: &Terminal,
+    count: u32,
+    rolls_back: bool,
+) -> Result<Lines<OrderedLine>, NoMemory>
+    ensures { IfOk result (λ lines. (lines, draws.new) ≡ lines_drawn terminal.now rolls_back count draws.old) }
+{
+    let mut lines = Vec::new(alloc);
+    for left in (0..count).rev() {
+        let unused = rolls_back && left == 0;
+        lines.push(line(draws, terminal, unused))?;
+    }
+    Ok(Lines::new(lines))
+}
+
+// A line, of an item that is not there if it is to be unused.
+#[tactic(auto, unfolding(crate::specs::NewOrders::line_drawn))]
+fn line(draws: &mut NumberDraws, terminal: &Terminal, unused: bool) -> OrderedLine
+    ensures { (result, draws.new) ≡ line_drawn terminal.now unused draws.old }
+{
+    let i_id = item(draws, terminal.scale, unused);
+    let supply_w_id = supplier(draws, terminal);
+    OrderedLine {
+        i_id,
+        supply_w_id,
+        quantity: draws.random(1, 10),
+    }
+}
+
+// I_ID of an item, unevenly drawn; the one behind the last, without a draw, if it is to be unused.
+#[tactic(auto, unfolding(crate::specs::NewOrders::item_drawn))]
+fn item(draws: &mut NumberDraws, scale: Scale, unused: bool) -> u32
+    ensures { (result, draws.new) ≡ item_drawn scale unused draws.old }
+{
+    if unused {
+        scale.items + 1
+    } else {
+        draws.nu_rand(8_191, ITEM_CONSTANT, 1, scale.items)
+    }
+}

@@ -1,0 +1,83 @@
+ghost use Rattle.std.specs.Prelude.{◌≡◌, ◌≤◌, ◌^◌, length, IfOk};
+ghost use Rattle.workload.specs.Requests.{moment_at, order_status_drawn, request_drawn, requests_drawn};
+
+use crate::customers::choice;
+use crate::new_order::new_order;
+use crate::payment::payment;
+use crate::{Kind, Terminal};
+use number_draws::NumberDraws;
+use requests::{Delivery, OrderStatus, Request, StockLevel};
+use schema::{DistrictKey, Moment, NoMemory};
+use std::alloc::Global;
+
+// The last second of the year 9999.
+const LAST_SECOND: u64 = 253_402_300_799;
+
+/// A request of each of these kinds, in order, the first of this moment and each other a second later.
+pub(crate) fn draw_requests(
+    alloc: Global,
+    draws: &mut NumberDraws,
+    terminal: &Terminal,
+    now: Moment,
+    kinds: &[Kind],
+) -> Result<Vec<Request>, NoMemory>
+    requires { length kinds.now ≤ 2 ^ 32 }
+    ensures { IfOk result (λ requests. requests.items ≡ requests_drawn terminal.now now 0 kinds.now draws.old) }
+{
+    let mut requests = Vec::new(alloc);
+    for (number, kind) in kinds.iter().enumerate() {
+        let moment = moment_after(now, number as u64);
+        requests.push(request(alloc, draws, terminal, moment, *kind)?)?;
+    }
+    Ok(requests)
+}
+
+// The moment so many seconds later, but none past the year 9999.
+fn moment_after(now: Moment, seconds: u64) -> Moment
+    requires { seconds ≤ 2 ^ 32 }
+    ensures { result ≡ moment_at now seconds }
+{
+    Moment::new((now.seconds() + seconds).min(LAST_SECOND))
+}
+
+// A request of that kind.
+#[tactic(auto, unfolding(crate::specs::Requests::request_drawn))]
+fn request(
+    alloc: Global,
+    draws: &mut NumberDraws,
+    terminal: &Terminal,
+    moment: Moment,
+    kind: Kind,
+) -> Result<Request, NoMemory>
+    ensures { IfOk result (λ request. (request, draws.new) ≡ request_drawn terminal.now moment kind draws.old) }
+{
+    match kind {
+        Kind::NewOrder => Ok(Request::NewOrder(new_order(alloc, draws, terminal, moment)?)),
+        Kind::Payment => Ok(Request::Payment(payment(draws, terminal, moment))),
+        Kind::OrderStatus => Ok(Request::OrderStatus(order_status(draws, terminal))),
+        Kind::Delivery => Ok(Request::Delivery(Delivery {
+            w_id: terminal.home.w_id,
+            carrier_id: draws.random(1, 10),
+            moment,
+        })),
+        Kind::StockLevel => Ok(Request::StockLevel(StockLevel {
+            home: terminal.home,
+            threshold: draws.random(10, 20),
+        })),
+    }
+}
+
+// An Order-Status at the terminal (clause 2.6.1).
+#[tactic(auto, using(number_draws::proofs::Generators::beyond_twice), unfolding(crate::specs::Requests::order_status_drawn))]
+fn order_status(draws: &mut NumberDraws, terminal: &Terminal) -> OrderStatus
+    ensures { (result, draws.new) ≡ order_status_drawn terminal.now draws.old }
+{
+    let home = DistrictKey {
+        w_id: terminal.home.w_id,
+        d_id: draws.random(1, 10),
+    };
+    OrderStatus {
+        home,
+        customer: choice(draws, terminal.scale),
+    }
+}

@@ -1,0 +1,48 @@
+ghost use Rattle.std.specs.Prelude.{◌≡◌, ◌<◌, length, map, IfOk, All};
+ghost use Rattle.requests.specs.Check.{IsAccepted};
+ghost use Rattle.workload.specs.Decks.{AreDealt, cards_of};
+ghost use Rattle.workload.specs.Kinds.{kind_of};
+ghost use Rattle.workload.specs.Sessions.{terminal_of, script_drawn};
+ghost use Rattle.workload.specs.Within.{IsWithin};
+
+use crate::Workload;
+use crate::decks::draw_kinds;
+use crate::request_draws::draw_requests;
+use number_draws::NumberDraws;
+use requests::Script;
+use schema::NoMemory;
+use std::alloc::Global;
+
+// The seeds of the generators are so far apart, which is one more than the greatest seed of a workload.
+const STRIDE: u64 = 4_294_967_296;
+
+/// The script of a session.
+///
+/// Two generators draw it (`number_draws`), one the decks and the other the requests, so that a script of
+/// fewer requests is the beginning of a longer one of the same seed.
+pub fn draw_script(alloc: Global, workload: &Workload, session: u32) -> Result<Script, NoMemory>
+    requires { session < 64 }
+    ensures drawn { IfOk result (λ script. script ≡ script_drawn workload.now session) }
+    ensures count { IfOk result (λ script. length script ≡ workload.now.requests) }
+    ensures accepted { IfOk result (All (IsAccepted workload.now.scale)) }
+    ensures within { IfOk result (All (IsWithin (terminal_of workload.now session))) }
+    ensures mix { IfOk result (λ script. AreDealt (cards_of workload.now.mix) (map kind_of script)) }
+{
+    let terminal = workload.terminal(session);
+    let seed = u64::from(workload.seed);
+    let place = u64::from(session);
+    let mut deck_draws = NumberDraws::new(seed + STRIDE * (2 * place + 1));
+    let kinds = draw_kinds(alloc, &mut deck_draws, workload.mix, workload.requests)?;
+    let mut draws = NumberDraws::new(seed + STRIDE * (2 * place + 2));
+    let requests = draw_requests(
+        alloc,
+        &mut draws,
+        &terminal,
+        workload.start,
+        kinds.as_slice(),
+    )?;
+    match Script::checked_new(requests) {
+        Some(script) => Ok(script),
+        None => unreachable!(),
+    }
+}
