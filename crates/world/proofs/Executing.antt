@@ -1,6 +1,7 @@
 -- What an event at one executor does to all.
 use Rattle.std.proofs.Common.{◌≡◌, ℕ, ◌+◌, ◌<◌, ◌≤◌, zero, suc, List, [], ◌∷◌, ◌++◌, length, refl, sym, ◌∙◌, ap, subst, arith, length-append}
-use Rattle.std.specs.Prelude.{slice_get, slice_index_or, slice_set}
+use Rattle.std.specs.Prelude.{All, slice_get, slice_index_or, slice_set}
+use Rattle.std.proofs.lemmas.List.Elements.{All-head, All-tail}
 use Rattle.std.proofs.lemmas.List.{get_or-set_same, length-set, set-set}
 use Rattle.partitions.specs.Parts.{Shared, shared_of}
 use Rattle.schema.specs.Database.{Database}
@@ -9,6 +10,7 @@ use Rattle.tickets.specs.Claims.{Claiming}
 use Rattle.groups.specs.Groups.{warehouse_of}
 use Rattle.slices.specs.Sliced.{AreOfOneHome, AreSlicesOf}
 use Rattle.transactions.specs.declared.laws.TheConstants.{MOST_ACTIONS}
+use Rattle.history.specs.declared.event.Event.{Event}
 use Rattle.history.specs.declared.event.Event.TheVariants.{Submit, Take, Send}
 use Rattle.history.specs.declared.event.EventAnswer.{EventAnswer}
 use Rattle.history.specs.declared.event.EventAnswer.TheVariants.{Took}
@@ -22,9 +24,10 @@ use Rattle.world.specs.declared.world.Core.{Core}
 use Rattle.world.specs.Flights.{nothing, part_message, part_item}
 use Rattle.world.specs.Sound.{IsSoundWith, IsSoundMessage, IsSoundItem, UnderWay}
 use Rattle.world.specs.Events.{CanSend, CanWork, SendsItem, TakesMessage}
-use Rattle.world.specs.Together.{HasHome, HasHomeIn, IsSound, all_of, exchanging, goes_to, home_of_claims, in_hand, put_back, together}
-use Rattle.world.specs.Worlds.{Advances, Fits, Happens, SendsFirst, SubmitsAt, TakesFirst, begins_at}
+use Rattle.world.specs.Together.{IsOf, HasHome, HasHomeIn, IsSound, all_of, exchanging, goes_to, home_of_claims, in_hand, put_back, together}
+use Rattle.world.specs.Worlds.{Advances, Fits, Happens, SendsFirst, SubmitsAt, TakesFirst, begins_at, TakesItsOwn}
 use Rattle.world.proofs.Framed.{framed, sends_framed, submits_framed, takes_framed}
+use Rattle.world.proofs.Owned.{own_put, sent_own, submitted_own}
 use Rattle.world.proofs.Puts.{fits_in_hand, item_in_hand}
 use Rattle.world.proofs.Apart.{others}
 use Rattle.world.proofs.Ready.{can_send, can_work}
@@ -119,12 +122,13 @@ module _ {J : Type 0} where
           reordered-trans part_item (items ++ parts.outbox) (parts.outbox ++ items) (all_of (slice_set w.outboxes from parts.outbox)) (reordered-swap part_item items parts.outbox)
           (reordered-sym part_item (all_of (slice_set w.outboxes from parts.outbox)) (parts.outbox ++ items) (reordered_own part_item w.outboxes from parts.outbox from_there))
 
-      back_sound : IsSoundWith shared nothing (queued parts ms (items ++ parts.outbox)) → IsSound shared (put_back from to parts w)
-      back_sound s = record {
+      back_sound : IsSoundWith shared nothing (queued parts ms (items ++ parts.outbox)) → All (IsOf w.routing to) parts.inbox → IsSound shared (put_back from to parts w)
+      back_sound s fine = record {
         all = sound_in_order parts ms (all_of (slice_set w.inboxes to parts.inbox)) (items ++ parts.outbox) (all_of (slice_set w.outboxes from parts.outbox)) all_messages all_items shared nothing s;
         routed = h.routed;
         inboxes = length-set w.inboxes to parts.inbox ∙ h.inboxes;
         outboxes = length-set w.outboxes from parts.outbox ∙ h.outboxes;
+        own = own_put w.routing w.inboxes to parts.inbox to_there h.own fine;
         no_inbox = refl;
         no_outbox = refl;
       }
@@ -135,15 +139,16 @@ module _ {J : Type 0} where
 
     -- ---- a submission
 
-    pub submits_at : (session number : ℕ) (asked : Request) (answer : EventAnswer) (parts : Parts J)
+    pub submits_at : (session number : ℕ) (asked : Request) (answer : EventAnswer) (parts : Parts J) → to ≡ begins_at asked w
         → SubmitsAt (slice_get w.parts.desk.sessions.items session) session number asked (in_hand from to w) answer parts
         → IsSound shared (put_back from to parts w) × Advances (together w) (step (Submit session number asked) answer ∷ []) (together (put_back from to parts w))
-    submits_at session number asked answer parts said =
+    submits_at session number asked answer parts begins said =
         let sound = sound_in_order w.parts (all_of w.inboxes) (messages ++ inbox) (all_of w.outboxes) (items ++ outbox) others_first others_before shared nothing h.all in
         let both = submits_framed messages items shared (in_hand from to w) parts sound session number asked answer (slice_get w.parts.desk.sessions.items session) refl said in
         let ms = messages ++ parts.inbox in
         let swap = reordered-swap part_message messages parts.inbox in (
-          back_sound parts ms swap both.0,
+          back_sound parts ms swap both.0
+              (submitted_own w.routing (slice_get w.parts.desk.sessions.items session) to session number asked (in_hand from to w) parts answer begins said (h.own to)),
           λ opening history f.
               back_fits parts ms swap opening (history ++ step (Submit session number asked) answer ∷ [])
               (both.1 opening history (fits_in_order w.parts (all_of w.inboxes) (messages ++ inbox) (all_of w.outboxes) (items ++ outbox) others_first others_before opening history f)),
@@ -180,7 +185,8 @@ module _ {J : Type 0} where
           let same : Reordered part_message (rest ++ messages) (parts.inbox ++ messages) =
           subst (λ (q : List (Message J)). Reordered part_message (rest ++ messages) (q ++ messages)) (sym left)
           (reordered-trans part_message (rest ++ messages) (messages ++ rest) (rest ++ messages) (reordered-swap part_message rest messages) (reordered-swap part_message messages rest)) in (
-            back_sound parts (rest ++ messages) same (takes_sound shared taken_from m (rest ++ messages) next refl framed_said first_sound),
+            back_sound parts (rest ++ messages) same (takes_sound shared taken_from m (rest ++ messages) next refl framed_said first_sound)
+                (subst (λ q. All (IsOf w.routing to) q) (sym left) (All-tail (IsOf w.routing to) m rest (subst (λ q. All (IsOf w.routing to) q) is (h.own to)))),
             λ opening history f.
                 back_fits parts (rest ++ messages) same opening (history ++ step (Take executor) Took ∷ [])
                 (takes_fits taken_from m (rest ++ messages) next refl framed_said executor opening history (fits_first opening history f)),
@@ -213,13 +219,13 @@ module _ {J : Type 0} where
       pub item_room : length rest + (MOST_ACTIONS + 1) ≤ 4096
       item_room = omega (arith, has_room shared (part_item i) (framed messages items mid) item_taken.0, length-append items rest)
 
-      pub sends_at : (parts : Parts J) (answer : EventAnswer) → SendsItem i mid answer parts → (executor : ℕ)
+      pub sends_at : (parts : Parts J) (answer : EventAnswer) → to ≡ goes_to w.routing from i → SendsItem i mid answer parts → (executor : ℕ)
           → IsSound shared (put_back from to parts w) × Advances (together w) (step (Send executor) answer ∷ []) (together (put_back from to parts w))
-      sends_at parts answer said executor =
+      sends_at parts answer goes said executor =
           let sends = sends_framed messages items shared mid parts i answer item_taken.0 item_taken.1 said in
           let ms = messages ++ parts.inbox in
           let swap = reordered-swap part_message messages parts.inbox in (
-            back_sound parts ms swap sends.sound,
+            back_sound parts ms swap sends.sound (sent_own w.routing from to i mid parts answer goes said (h.own to)),
             λ opening history f.
                 back_fits parts ms swap opening (history ++ step (Send executor) answer ∷ [])
                 (sends.fits opening history executor
@@ -256,7 +262,7 @@ module _ {J : Type 0} (shared : Shared) (w : Core J) (h : IsSound shared w) wher
       let there = both_there to below in
       let given = subst (λ (m : Core J). SubmitsAt (slice_get m.parts.desk.sessions.items session) session number asked m.parts answer parts) mid_is said in
       let is : new ≡ put_back to to parts w = new_is ∙ ap (λ (m : Core J). exchanging to to (record m { parts = parts })) mid_is ∙ exchanged_back to to w parts there.0 there.1 h.no_inbox h.no_outbox in
-      let both = submits_at shared w h to to there.0 there.1 session number asked answer parts given in (
+      let both = submits_at shared w h to to there.0 there.1 session number asked answer parts begins given in (
         subst (λ (v : Core J). IsSound shared v) (sym is) both.0,
         (
           subst (λ (v : Core J). Advances (together w) (step (Submit session number asked) answer ∷ []) (together v)) (sym is) both.1,
@@ -321,7 +327,7 @@ module _ {J : Type 0} (shared : Shared) (w : Core J) (h : IsSound shared w) wher
           let given = subst (λ q. SendsItem i (record w.parts { inbox = q; outbox = rest }) answer parts) inbox_is said in
           let is : new ≡ put_back executor to parts w =
           new_is ∙ (λ k. exchanging executor to (record { parts = parts; routing = w.routing; inboxes = inboxes_are k; outboxes = outboxes_are k })) ∙ exchanged_back executor to w parts from_there to_there h.no_inbox h.no_outbox in
-          let both = sends_at shared w h executor to from_there to_there i rest stands_first parts answer given executor in (
+          let both = sends_at shared w h executor to from_there to_there i rest stands_first parts answer to_is given executor in (
             subst (λ (v : Core J). IsSound shared v) (sym is) both.0,
             (
               subst (λ (v : Core J). Advances (together w) (step (Send executor) answer ∷ []) (together v)) (sym is) both.1,
@@ -337,3 +343,10 @@ module _ {J : Type 0} (opening : Database) (w : Core J) (h : IsSound (shared_of 
   can_be_sent =
       subst (λ q. CanSend opening i (record w.parts { inbox = q; outbox = rest })) (sym inbox_is)
       (item_can opening w h executor to (both_there (shared_of opening) w h executor below).0 (both_there (shared_of opening) w h to to_below).1 i rest (sym outbox_is ∙ first))
+
+-- an executor works on messages of its own warehouses alone
+pub takes_its_own : {J : Type 0} (shared : Shared) (event : Event) (w : Core J) → IsSound shared w → TakesItsOwn event w
+takes_its_own shared (Submit session number asked) w h = tt
+takes_its_own shared (Take executor) w h = λ first rest is.
+    All-head (IsOf w.routing executor) first rest (subst (λ q. All (IsOf w.routing executor) q) is (h.own executor))
+takes_its_own shared (Send executor) w h = tt

@@ -21,6 +21,7 @@ pub mod ItemsSent
 pub mod Happened
 pub mod Reordered
 pub mod Framed
+pub mod Owned
 pub mod Executing
 pub mod Quiet
 pub mod Answered

@@ -1,6 +1,6 @@
 -- A world that was just opened.
 use Rattle.std.proofs.Common.{◌≡◌, ℕ, ◌+◌, ◌<◌, zero, suc, List, [], ◌∷◌, Option, Some, None, map, length, get_or, refl, sym, ap, subst, ◌∙◌, cond, arith, option_map}
-use Rattle.std.specs.Prelude.{count_by, replicate, slice_get, sum_by, All}
+use Rattle.std.specs.Prelude.{count_by, replicate, slice_get, slice_index_or, sum_by, All}
 use Rattle.std.proofs.lemmas.List.{get_or-map, length-map, length-replicate}
 use Rattle.std.proofs.lemmas.List.Elements.{All-nil}
 use Rattle.std.proofs.lemmas.List.Sums.{sum_by-cons}
@@ -27,7 +27,7 @@ use Rattle.world.specs.declared.world.Core.{Core}
 use Rattle.world.specs.declared.flight.Message.{Message}
 use Rattle.world.specs.declared.flight.Item.{Item}
 use Rattle.routing.specs.Routes.{Routes}
-use Rattle.world.specs.Together.{IsSound, all_of, together}
+use Rattle.world.specs.Together.{IsOf, IsSound, all_of, together}
 use Rattle.world.specs.Parted.{joined_in}
 use Rattle.world.specs.Flights.{nothing, join, parts, part_message, part_item, part_met}
 use Rattle.world.specs.Openings.{AreNewLanes, IsNew, session_with}
@@ -135,6 +135,11 @@ none_waits : (X : Type 0) (executors : ℕ) → all_of {X = X} (replicate execut
 none_waits X zero = refl
 none_waits X (suc n) = none_waits X n
 
+none_at : (X : Type 0) (executors place : ℕ) → slice_index_or {A = List X} (replicate executors []) place [] ≡ []
+none_at X zero place = refl
+none_at X (suc n) zero = refl
+none_at X (suc n) (suc place) = none_at X n place
+
 module _ {J : Type 0} where
   -- so it is where each executor has empty queues
   pub opened_core : (shared : Shared) (executors : ℕ) (lanes : List (Passing × Seating)) (w : Core J) → AreNewLanes lanes → w.parts.catalog ≡ shared → AreSlicesOf w.parts.catalog w.parts.slices.items
@@ -145,6 +150,7 @@ module _ {J : Type 0} where
     routed = ap (λ (r : Routes). r.warehouses) routing;
     inboxes = ap (λ qs. length qs) inboxes ∙ length-replicate executors [] ∙ sym (ap (λ (r : Routes). r.executors) routing);
     outboxes = ap (λ qs. length qs) outboxes ∙ length-replicate executors [] ∙ sym (ap (λ (r : Routes). r.executors) routing);
+    own = λ executor. subst (λ (q : List (Message J)). All (IsOf w.routing executor) q) (sym (ap (λ (qs : List (List (Message J))). slice_index_or qs executor []) inboxes ∙ none_at (Message J) executors executor)) (All-nil (IsOf w.routing executor));
     no_inbox = inbox;
     no_outbox = outbox;
   }

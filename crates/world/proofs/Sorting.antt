@@ -116,7 +116,7 @@ module _ {J : Type 0} where
       by (Some f) h = gives f h
 
   -- and one thing is so of it as another is
-  carried_both : (reports : List (Report J)) (P Q : Flow J → Type 0) (G : Type 0) → ((f : Flow J) → P f → Q f → G) → CarriesFirst reports P → CarriesFirst reports Q → G
+  pub carried_both : (reports : List (Report J)) (P Q : Flow J → Type 0) (G : Type 0) → ((f : Flow J) → P f → Q f → G) → CarriesFirst reports P → CarriesFirst reports Q → G
   carried_both [] P Q G gives h k = absurd h
   carried_both (r ∷ reports) P Q G gives h k = by r.flow h k
     where

@@ -1,5 +1,5 @@
 -- The executors' queues, in hand and all together; whose each message is; and what a world keeps.
-use Rattle.std.specs.Prelude.{◌≡◌, ◌≤◌, ℕ, List, [], ◌∷◌, length, slice_set, slice_index_or}
+use Rattle.std.specs.Prelude.{◌≡◌, ◌≤◌, ℕ, All, List, [], ◌∷◌, length, slice_set, slice_index_or}
 use Rattle.std.specs.List.{flat_map}
 use Rattle.partitions.specs.Parts.{Shared}
 use Rattle.requests.specs.declared.request.Request.{Request}
@@ -95,13 +95,19 @@ module _ {J : Type 0} where
   abbrev pub together : Core J → Parts J
   together w = record w.parts { inbox = all_of w.inboxes; outbox = all_of w.outboxes }
 
+  -- the message is of a warehouse of this executor
+  abbrev pub IsOf : Routes → ℕ → Message J → Type 0
+  IsOf routing executor message = executor_of routing (home_of_message message) ≡ executor
+
   -- ---- what a world keeps
 
-  -- All that is under way is sound, with the queues as one; each executor has its inbox and its outbox, and no queue is in hand.
+  -- All that is under way is sound, with the queues as one; each executor has its inbox and its outbox, and in its inbox messages
+  -- of its own warehouses alone; and no queue is in hand.
   pub record IsSound (shared : Shared) (w : Core J) : Type 0 where
     pub all : IsSoundWith shared nothing (together w)
     pub routed : w.routing.warehouses ≡ shared.scale.warehouses
     pub inboxes : length w.inboxes ≡ w.routing.executors
     pub outboxes : length w.outboxes ≡ w.routing.executors
+    pub own : (executor : ℕ) → All (IsOf w.routing executor) (slice_index_or w.inboxes executor [])
     pub no_inbox : w.parts.inbox ≡ []
     pub no_outbox : w.parts.outbox ≡ []

@@ -43,7 +43,7 @@ use Rattle.world.specs.Flights.{InFlight}
 use Rattle.world.specs.Parted.{joined_in}
 use Rattle.world.specs.Sound.{IsSessionOf, flight}
 use Rattle.world.specs.Events.{TakesMessage, SendsItem}
-use Rattle.world.specs.Together.{all_of, goes_to, home_of_request, in_hand, put_back, together}
+use Rattle.world.specs.Together.{IsOf, all_of, goes_to, home_of_request, in_hand, put_back, together}
 use Rattle.routing.specs.Routes.{executor_of}
 
 -- ---- the history
@@ -219,6 +219,12 @@ module _ {J : Type 0} where
       CannotSubmit (slice_get w.parts.desk.sessions.items session) asked (in_hand (begins_at asked w) (begins_at asked w) w)
   CannotHappen (Take executor) w = slice_index_or w.inboxes executor [] ≡ []
   CannotHappen (Send executor) w = slice_index_or w.outboxes executor [] ≡ []
+
+  -- An executor works on messages of its own warehouses alone.
+  abbrev pub TakesItsOwn : Event → Core J → Type 0
+  TakesItsOwn (Take executor) w =
+      (first : Message J) (rest : List (Message J)) → slice_index_or w.inboxes executor [] ≡ first ∷ rest → IsOf w.routing executor first
+  TakesItsOwn event w = Unit {0}
 
   -- A submission by one of the 64 sessions is refused with SessionBusy exactly where the session has a transaction without an
   -- answer.

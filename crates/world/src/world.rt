@@ -5,7 +5,7 @@ ghost use Rattle.history.specs.History.{Step, step as one_step};
 ghost use Rattle.world.specs.Openings.{IsGathered};
 ghost use Rattle.world.specs.Sound.{flight};
 ghost use Rattle.world.specs.Together.{together};
-ghost use Rattle.world.specs.Worlds.{Advances, CannotHappen, Fits, HappenInTurn, Happens, IsAtRest, IsBusyExactly, NoneDies, steps_of, tables_now};
+ghost use Rattle.world.specs.Worlds.{Advances, CannotHappen, Fits, HappenInTurn, Happens, IsAtRest, IsBusyExactly, NoneDies, TakesItsOwn, steps_of, tables_now};
 
 use crate::desk::Desk;
 use crate::flight::{Item, Message};
@@ -113,13 +113,14 @@ impl<J: Names> World<J> {
     /// those of a machine that carries out its requests one at a time, in log order, and the tables that
     /// it leaves are the committed ones; each transaction is whole, and stands behind those that were
     /// answered before it was submitted. What the event changes is told exactly, and what can't happen
-    /// is answered `Nothing` and changes nothing. As one transaction is active at a time, no action of it
-    /// dies.
+    /// is answered `Nothing` and changes nothing. An executor works on messages of its own warehouses alone.
+    /// As one transaction is active at a time, no action of it dies.
     pub fn step(&mut self, alloc: Global, event: &Event) -> EventAnswer
         ensures advances { Advances (together self.old) (one_step event.now result ∷ []) (together self.new) }
         ensures happens { Happens event.now self.old result self.new }
         ensures nothing { (result ≡ EventAnswer.Nothing) ↔ CannotHappen event.now self.old }
         ensures busy { IsBusyExactly event.now self.old result }
+        ensures own { TakesItsOwn event.now self.old }
         ensures routing { self.new.routing ≡ self.old.routing }
         ensures alone { (opening : Database) (history : List Step) → Fits opening history (together self.old) → NoneDies event.now self.old self.new }
     {

@@ -4,8 +4,9 @@ use Rattle.schema.specs.Database.{Database}
 use Rattle.history.specs.History.{Step, step}
 use Rattle.world.specs.declared.world.Core.{Core}
 use Rattle.world.specs.Together.{together}
-use Rattle.world.specs.Worlds.{Advances, Fits, Happens, IsBusyExactly, NoneDies}
+use Rattle.world.specs.Worlds.{Advances, Fits, Happens, IsBusyExactly, NoneDies, TakesItsOwn}
 use Rattle.world.proofs.Alone.{none_dies}
+use Rattle.world.proofs.Executing.{takes_its_own}
 use Rattle.world.proofs.Busy.{busy_exactly}
 use Rattle.world.proofs.Answered.{nothing_exactly}
 use Rattle.world.proofs.Schedules.{routing_stays}
@@ -34,3 +35,6 @@ pub returns-clause-routing : goal.returns-clause-routing
 returns-clause-routing g c =
     subst (λ (old : Core g.row.J.Denot). c.happen.new.self.routing ≡ old.routing) c.self.view_is
     (routing_stays c.args.event.now c.self.inside.core c.happen.new.self c.happen.result c.happen.ensures.happens)
+
+pub returns-clause-own : goal.returns-clause-own
+returns-clause-own g c = subst (λ (old : Core g.row.J.Denot). TakesItsOwn c.args.event.now old) c.self.view_is (takes_its_own (shared_of g.J.LogNames.opening) c.args.event.now c.self.inside.core c.self.invariant.0)
