@@ -1,10 +1,11 @@
 """Refuses each allocation of the program in turn: gate/allocations.py PROGRAM
 
 `tpcc run` and `tpcc sim` serve a few requests on a small set, once for each of their allocations, with that one refused.
-Each must end with status 4, or with answers that are all done or refused for want of memory (12) or as died (11); then
-`replay` and `check` of what was written must agree with it. No log that was written in part may pass for a whole one; with a
-whole one all answers are printed, also where `tpcc sim` finds no memory for its tables, which has to be among its runs. The
-first run in which no allocation is left to refuse ends the sweep.
+Each must end with status 4 and `tpcc: no memory`, or with answers that are all done or refused for want of memory (12) or as
+died (11); then `replay` and `check` of what was written must agree with it. A log is there whole or not at all. Where it is
+there all answers are printed, also where `tpcc sim` finds no memory for its tables, which has to be among its runs; where it is
+not no answer is printed, or the log stands whole under its other name. The first run in which no allocation is left to refuse
+ends the sweep.
 """
 
 import os
@@ -28,6 +29,8 @@ ORDERS = [
     f"D,1,7,{MOMENT}",
     "L,1,1,20",
 ]
+# The name under which the log is written.
+OTHER_NAME = "log.csv.tpcc-0"
 AT_ONCE = 4 * (os.cpu_count() or 1)
 
 
@@ -44,14 +47,14 @@ def read(path):
         return file.read()
 
 
-def is_whole(folder):
-    """Whether a whole log was written."""
-    return "\nEND," in read(f"{folder}/log.csv")
+def has_a_log(folder):
+    """Whether there is a log under its own name."""
+    return os.path.exists(f"{folder}/log.csv")
 
 
 def has_kept_its_log(ends):
-    """Whether a run without memory for its tables had its log: they are made before the first record is printed, and printing
-    takes memory too."""
+    """Whether a run without memory for its tables had its log: they are made before the log is written and the first record is
+    printed, which takes memory too."""
     return True in ends and False in ends[ends.index(True) :]
 
 
@@ -89,22 +92,24 @@ class Sweep:
         ran = self.call(folder, *self.words, env={**os.environ, **more})
         wrong = self.fault(folder, ran)
         was_refused = os.path.exists(mark)
-        has_log = is_whole(folder) if ran.returncode == 4 else None
+        has_log = has_a_log(folder) if ran.returncode == 4 else None
         shutil.rmtree(folder)
         return was_refused, has_log, wrong
 
     def fault(self, folder, ran):
         """Returns what is wrong with how a run ended, or None."""
-        if ran.returncode == 4 and ran.stderr in ("tpcc: no memory\n", ""):
-            return self.answered(folder, ran, False) if is_whole(folder) else self.refused(folder)
+        if ran.returncode == 4 and ran.stderr == "tpcc: no memory\n":
+            return self.answered(folder, ran, False) if has_a_log(folder) else self.refused(folder, ran)
         if ran.returncode == 1 and ran.stderr == "tpcc: no thread\n" and self.command == "run":
-            return "a log though no thread was started" if read(f"{folder}/log.csv") else None
+            return "a log though no thread was started" if self.left(folder) else None
         if ran.returncode != 0:
             return f"status {ran.returncode}, {ran.stderr.strip() or 'no message'}"
         return self.answered(folder, ran, self.command == "sim")
 
     def answered(self, folder, ran, has_tables):
         """Returns what is wrong with the answers and the log of a run whose log is whole, or None."""
+        if any(".tpcc-" in name for name in self.left(folder)):
+            return f"left under another name: {self.left(folder)}"
         answers = self.answers(ran.stdout)
         bad = [it for it in answers if it[0] != "done" and it[:2] not in (["refused", "11"], ["refused", "12"])]
         if bad or len(answers) != self.requests:
@@ -118,11 +123,17 @@ class Sweep:
             return [it[3:] for it in records if it[0] == "answered"]
         return [it[2:] for it in records]
 
-    def refused(self, folder):
-        """A log that was cut off, or not begun, must be refused for having no end."""
-        ran = self.call(folder, "replay", self.dataset, "log.csv")
-        is_refused = ran.returncode == 1 and ran.stderr.endswith((": fault 7\n", ": fault 10\n"))
-        return None if is_refused else f"a log that was cut off is not refused: {ran.stdout.strip() or ran.stderr.strip()}"
+    def left(self, folder):
+        """Returns the names of the files that the command has left."""
+        return sorted(set(os.listdir(folder)) - {"refused"})
+
+    def refused(self, folder, ran):
+        """Without a log no answer is printed and nothing is left, or the log stands whole under its other name."""
+        left = self.left(folder)
+        if left == [OTHER_NAME]:
+            told = self.call(folder, "replay", self.dataset, OTHER_NAME)
+            return None if told.returncode == 0 else f"the log that was left is not whole: {told.stdout.strip() or told.stderr.strip()}"
+        return f"no log, but printed {ran.stdout.strip()!r} and left {left}" if left or ran.stdout else None
 
     def replayed(self, folder, done, has_tables):
         """Replays the log; it must be equal, have as many entries as requests were done, and lead to what was written."""

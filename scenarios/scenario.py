@@ -1,13 +1,20 @@
 """A scenario: its files, what came of its commands, and the first difference from what is expected."""
 import difflib
+import os
 import pathlib
+import pty
 import re
+import resource
+import signal
+import subprocess
+import time
 
 HERE = pathlib.Path(__file__).resolve().parent
 TOP = HERE.parent
 
-# How `commands` marks a command whose scripts may be logged in any order.
-ANY_ORDER = "any order: "
+# How `commands` marks a command: its scripts may be logged in any order; or what it meets, which takes a built program.
+MARK = re.compile(r"(any order|no room|closed|room \d+|interrupted|terminal): ")
+SHOWN = {"terminal": "   # on a terminal", "no room": " > /dev/full", "closed": " | true", "interrupted": "   # and Ctrl-C", "room": "   # where files have room for {}"}
 
 
 class Mistake(Exception):
@@ -86,12 +93,17 @@ def read_file(scenario, name):
 
 
 class Run:
-    """One run of the program: its words, whether its scripts may be logged in any order, and what came of it."""
+    """One run of the program: its words, how it is marked, and what came of it."""
 
     def __init__(self, line):
-        self.any_order = line.startswith(ANY_ORDER)
-        self.words = line.removeprefix(ANY_ORDER).split()
+        mark = MARK.match(line)
+        self.mark = mark[1] if mark else ""
+        self.any_order = self.mark == "any order"
+        self.words = [re.sub(r"\\x([0-9a-f]{2})", lambda it: chr(int(it[1], 16)), word) for word in MARK.sub("", line, 1).split()]
         self.printed, self.told, self.status = "", "", "status 0"
+
+    def needs_program(self):
+        return self.mark not in ("", "any order")
 
     def files(self):
         return [word for word in self.words if word.endswith(".csv")]
@@ -99,14 +111,82 @@ class Run:
     def words_in(self, folder):
         return [str(folder / word) if word.endswith(".csv") else word for word in self.words]
 
+    def carry_out(self, program, folder, seconds):
+        """Runs it by a built program."""
+        words = [word.encode("latin-1") for word in [program, *self.words_in(folder)]]
+        more = {"cwd": folder, "stdout": subprocess.PIPE, "stderr": subprocess.PIPE}
+        if self.mark == "no room":
+            more["stdout"] = os.open("/dev/full", os.O_WRONLY)
+        elif self.mark == "closed":
+            read, more["stdout"] = os.pipe()
+            os.close(read)
+        elif self.mark.startswith("room"):
+            room = int(self.mark.split()[1])
+            more["preexec_fn"] = lambda: (signal.signal(signal.SIGXFSZ, signal.SIG_IGN), resource.setrlimit(resource.RLIMIT_FSIZE, (room, room)))
+        elif self.mark == "interrupted":
+            os.mkfifo(folder / "never.csv")
+        elif self.mark == "terminal":
+            master, more["stderr"] = pty.openpty()
+        with subprocess.Popen(words, **more) as ran:
+            if self.mark == "interrupted":
+                self.interrupt(ran, folder)
+            try:
+                printed, told = ran.communicate(timeout=seconds)
+            except subprocess.TimeoutExpired:
+                ran.kill()
+                self.status = f"no end within {seconds} s"
+                return
+        if self.mark in ("no room", "closed"):
+            os.close(more["stdout"])
+        if self.mark == "terminal":
+            os.close(more["stderr"])
+            told = read_terminal(master)
+        self.printed, self.told = (printed or b"").decode("latin-1"), told.decode("latin-1")
+        self.status = f"status {ran.returncode}"
+
+    def interrupt(self, ran, folder):
+        """Has it read from a pipe that gives nothing, until it has made the files that it writes; then comes Ctrl-C."""
+        until, pipe = time.monotonic() + 60, None
+        while pipe is None and ran.poll() is None and time.monotonic() < until:
+            try:
+                pipe = os.open(folder / "never.csv", os.O_WRONLY | os.O_NONBLOCK)
+            except OSError:
+                time.sleep(0.01)
+        while not list(folder.rglob("*.tpcc-*")) and ran.poll() is None and time.monotonic() < until:
+            time.sleep(0.01)
+        ran.send_signal(signal.SIGINT)
+        ran.wait(60)
+        if pipe is not None:
+            os.close(pipe)
+        os.remove(folder / "never.csv")
+
     def transcript(self, folder):
-        """As a shell session. Of the standard error only the messages are told, and not the usage after them."""
+        """As a shell session. Of the standard error only the messages are told, and not the usage after them; `*` stands
+        for what depends on the clock."""
         printed = self.printed.removesuffix("\n").split("\n") if self.printed else []
-        told = [line for line in self.told.split("\n") if line.startswith(("tpcc: ", "error: "))]
+        kept = ("tpcc: ", "error: ", *(["  "] if self.mark == "terminal" else []))
+        told = [line for line in self.told.split("\n") if line.startswith(kept)]
+        told = [re.sub(r"[\d.]*\d(?= (s|requests|New-Orders|us)\b)", "*", line) if line.startswith("tpcc: time: ") else line for line in told]
         lines = printed + ["! " + line for line in told] + [self.status]
         if lines[-1] == "status 0":
             lines.pop()
-        return ["$ tpcc " + " ".join(self.words)] + [line.replace(f"{folder}/", "") for line in lines]
+        shown = SHOWN.get(self.mark.split(" ")[0] if self.mark.startswith("room") else self.mark, "").format(self.mark[5:])
+        words = "".join(it if " " <= it <= "~" else f"\\x{ord(it):02x}" for it in " ".join(self.words))
+        return ["$ tpcc " + words + shown] + [line.replace(f"{folder}/", "") for line in lines]
+
+
+def read_terminal(master):
+    """What was written to the terminal, as lines."""
+    told = b""
+    while True:
+        try:
+            more = os.read(master, 4096)
+        except OSError:
+            more = b""
+        if not more:
+            os.close(master)
+            return told.replace(b"\r\n", b"\n")
+        told += more
 
 
 def commands_of(path):
@@ -123,21 +203,38 @@ class Scenario:
         self.path, self.folder, self.name = path, folder, path.name
         self.runs = commands_of(path)[1]
         folder.mkdir(parents=True)
-        for name in {name for run in self.runs for name in run.files()}:
+        for name in {name for run in self.runs for name in run.files() if not name.startswith("/")}:
             (folder / name).parent.mkdir(parents=True, exist_ok=True)
             lines = read_file(path, name)
             if lines is not None:
                 write_lines(folder / name, lines)
 
+    def found(self):
+        """The files that are in its folder, by their names there."""
+        return sorted(str(path.relative_to(self.folder)) for path in self.folder.rglob("*") if not path.is_dir())
+
     def expected_files(self):
-        """Each file of the folder `expected`, with those that commands write under its name, in whatever folder."""
-        names = {name for run in self.runs for name in run.files() if read_file(self.path, name) is None}
+        """Each file of the folder `expected`, with those that are found under its name, in whatever folder."""
         for path in sorted((self.path / "expected").glob("*")):
-            written = [name for name in sorted(names) if name.split("/")[-1] == path.name.removesuffix(".changes")]
+            if path.suffix == ".absent":
+                continue
+            named = [name for run in self.runs for name in run.files() if read_file(self.path, name) is None]
+            wanted = path.name.removesuffix(".changes")
+            written = sorted({name for name in [*named, *self.found()] if name.split("/")[-1] == wanted})
             if not written:
-                raise Mistake(f"expected/{path.name}: no command names such a file")
+                raise Mistake(f"expected/{path.name}: no command names or leaves such a file")
             for name in written:
                 yield path, self.folder / name
+
+    def compare_names(self):
+        """Raises the first file that is there and should not be."""
+        absent = [path.name.removesuffix(".absent") for path in (self.path / "expected").glob("*.absent")]
+        named = {name for run in self.runs for name in run.files()} | {path.name for path in (self.path / "expected").glob("*")}
+        for name in self.found():
+            if name.split("/")[-1] in absent:
+                raise Mistake(f"{name} is there, and should not be")
+            if name not in named and name.split("/")[-1] not in named:
+                raise Mistake(f"{name} was left there")
 
     def compare(self):
         """Raises the first difference."""
@@ -152,6 +249,7 @@ class Scenario:
             wanted = read_file(self.path, f"expected/{path.name.removesuffix('.changes')}")
             name = f"{written.relative_to(self.folder)} (expected/{path.name})"
             differ(name, wanted, [(line, False) for line in lines_of(written)])
+        self.compare_names()
 
     def accept(self):
         """Writes what came as what is expected: the transcript, and the files that are there in `expected`."""

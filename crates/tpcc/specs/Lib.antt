@@ -1,2 +1,5 @@
 pub mod Status
 pub mod Settings
+pub mod OtherName
+pub mod Shelf
+pub mod Tally

@@ -1,7 +1,7 @@
 -- Settings within their limits.
 use Rattle.std.specs.Prelude.{◌≤◌, length}
 use Rattle.tpcc.specs.declared.settings.Settings.{Settings}
-use Rattle.tpcc.specs.declared.settings.Settings.TheVariants.{Run, Sim, Populate, Check, Replay}
+use Rattle.tpcc.specs.declared.settings.Settings.TheVariants.{Run, Sim, Populate, Check, Replay, Text}
 use Rattle.tpcc.specs.declared.settings.run.RunSettings.{RunSettings}
 use Rattle.tpcc.specs.declared.settings.sim.SimSettings.{SimSettings}
 
@@ -20,3 +20,4 @@ IsWithinLimits (Sim sim) = HasExecutors sim
 IsWithinLimits (Populate populate) = Unit {0}
 IsWithinLimits (Check check) = Unit {0}
 IsWithinLimits (Replay replay) = Unit {0}
+IsWithinLimits (Text text) = Unit {0}

@@ -1,4 +1,5 @@
 use crate::command_fault::CommandFault;
+use crate::report::Report;
 use crate::settings::CheckSettings;
 use crate::status::Status;
 use crate::streams::{print_lines, read_tables};
@@ -14,9 +15,8 @@ const FRESH: usize = 10;
 /// meets it, and gives the exit status.
 ///
 /// On `found` comes `1 ok` or `1 broken`, and so on to 12, where 11 is `11 skipped` unless the dataset is
-/// said to be fresh. Why a check ended early is told on `errors`, as `tpcc: PATH: row R: fault N` or
-/// `tpcc: no memory`.
-pub fn check_over<D: Read + Drop, A: Write, E: Write>(
+/// said to be fresh. Why a check ended early is told to `errors`: a fault of the file, or no memory.
+pub fn check_over<D: Read + Drop, A: Write, E: Report>(
     alloc: Global,
     settings: &CheckSettings,
     data: D,
@@ -26,7 +26,7 @@ pub fn check_over<D: Read + Drop, A: Write, E: Write>(
     match check(alloc, settings, data, found) {
         Ok(true) => Status::Success,
         Ok(false) => Status::NotConsistent,
-        Err(fault) => fault.report(errors),
+        Err(fault) => errors.report(fault),
     }
 }
 

@@ -1,12 +1,12 @@
 ghost use Rattle.tpcc.specs.declared.command_fault.CommandFault.TheVariants.{NoMemory};
 ghost use Rattle.std.specs.Prelude.{◌≡◌};
 
+use crate::escaped::Escaped;
 use crate::status::Status;
 use engine::ServeFault;
 use files::{FaultKind, FileError, FileFault};
 use std::alloc::{AllocError, AllocFailed};
 use std::fmt;
-use std::io::Write;
 
 /// Why a command ended early.
 #[derive(Clone, Copy, Debug, PartialEq, Eq)]
@@ -49,9 +49,8 @@ impl<'a> CommandFault<'a> {
         }
     }
 
-    /// Tells of the fault, and gives the exit status. That it can't be told changes nothing.
-    pub fn report<W: Write>(self, errors: &mut W) -> Status {
-        let _ = writeln!(errors, "tpcc: {self}");
+    /// How the program ends after it.
+    pub fn status(self) -> Status {
         match self {
             CommandFault::NoMemory => Status::NoMemory,
             CommandFault::File { .. } | CommandFault::NoThread | CommandFault::NotIdle => {
@@ -66,7 +65,10 @@ impl fmt::Display for CommandFault<'_> {
     fn fmt<W: fmt::Write>(&self, f: &mut fmt::Formatter<W>) -> fmt::Result {
         match self {
             CommandFault::NoMemory => f.write_str("no memory"),
-            CommandFault::File { path, fault } => write!(f, "{path}: {fault}"),
+            CommandFault::File { path, fault } => {
+                let path = Escaped(path);
+                write!(f, "{path}: {fault}")
+            }
             CommandFault::NotConsistent(number) => write!(f, "not consistent: {number}"),
             CommandFault::NoThread => f.write_str("no thread"),
             CommandFault::NotIdle => f.write_str("not idle"),

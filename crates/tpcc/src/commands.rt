@@ -1,9 +1,13 @@
 ghost use Rattle.tpcc.specs.Settings.{IsWithinLimits};
 
+use crate::progress::NotingWriter;
+use crate::report::{Report, Teller};
 use crate::settings::Settings;
 use crate::status::Status;
-use std::io::{Stderr, Stdout};
-use std::rt::Files;
+use crate::streams::STANDARD_OUTPUT;
+use crate::trouble::Trouble;
+use std::io::{Stderr, Stdout, Write};
+use std::rt::{Clock, Files};
 use std::sync::Wait;
 use std::thread::Threads;
 
@@ -16,7 +20,7 @@ mod sim;
 /// Carries out on files what the settings ask for, and gives the exit status. Files that are read are
 /// opened first, in the order of their reading, and then those that are written are made: what can't be
 /// opened or made is found before anything is read.
-pub fn carry_out<R: Files + AllocGlobal + Threads + Wait + Sync>(
+pub fn carry_out<R: Files + AllocGlobal + Clock + Threads + Wait + Sync>(
     rt: &R,
     stdout: Stdout,
     stderr: Stderr,
@@ -30,5 +34,23 @@ pub fn carry_out<R: Files + AllocGlobal + Threads + Wait + Sync>(
         Settings::Populate(populate) => populate::carry_out(rt, stderr, populate),
         Settings::Check(check) => check::carry_out(rt, stdout, stderr, check),
         Settings::Replay(replay) => replay::carry_out(rt, stdout, stderr, replay),
+        Settings::Text(text) => print_text(rt, stdout, stderr, text.as_str()),
+    }
+}
+
+// Prints the text that was asked for.
+fn print_text<R: Files + AllocGlobal>(
+    rt: &R,
+    stdout: Stdout,
+    stderr: Stderr,
+    text: &str,
+) -> Status {
+    let trouble = Trouble::new();
+    match NotingWriter::new(stdout, &trouble).write_all(text.as_bytes()) {
+        Ok(()) => Status::Success,
+        Err(error) => {
+            let fault = trouble.not_opened(STANDARD_OUTPUT, &error);
+            Teller::new(rt, stderr, false, false, &trouble).report(fault)
+        }
     }
 }

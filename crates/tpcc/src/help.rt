@@ -1,6 +1,10 @@
+// The date of the newest changes, and the toolchain. No build can know the commit that it is of.
+pub const VERSION: &str = "2026-11-24, made by rattle-kit-13b logic dac8208d650f15bf";
+
 // What is told after the list of commands by `tpcc --help`.
 pub const PROGRAM: &str = "\
-`tpcc COMMAND --help` tells what a command reads, prints and writes, and its limits.
+`tpcc COMMAND --help` tells what a command reads, prints and writes, and its limits. `tpcc help` and
+`tpcc help COMMAND` print such a text on the standard output, with status 0.
 
 Files are CSV without a header row, as docs/FORMATS.md tells. Units and ranges:
   money      whole cents, -10^15 to 10^15; the amount of a payment 100 to 500,000
@@ -13,7 +17,7 @@ Exit statuses, with what is told on the standard error:
   0  all went well
   1  `tpcc: PATH: row R: fault N`: a file has a fault, or can't be opened, made, read or written
      `tpcc: no thread`, `tpcc: not idle`
-  2  the words of the command line are wrong, or ask for help
+  2  the words of the command line are wrong, or --help asks for help
   3  `tpcc: not consistent: N`: the dataset breaks condition N
      without a word there: `check` found a condition broken, or `replay` a log that differs
   4  `tpcc: no memory`

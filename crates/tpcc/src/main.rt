@@ -3,37 +3,53 @@
 
 mod check;
 mod command_fault;
+mod command_line;
 mod commands;
+mod escaped;
 mod help;
+mod latencies;
+mod meaning;
 mod opening;
+mod other_name;
+mod output;
 mod populate;
 mod progress;
 mod replay;
+mod report;
 mod run;
 mod settings;
+mod shelf;
 mod sim;
 mod status;
+mod stopwatch;
 mod streams;
+mod summary;
+mod tally;
+mod trouble;
 mod usage;
+mod watch;
 
+use crate::command_line::words_of;
 use crate::settings::read_words;
 use crate::status::Status;
-use std::env;
+use crate::usage::UsageFault;
 use std::process::ExitCode;
 
 fn main(rt: HostRuntime) -> ExitCode {
-    let alloc = rt.alloc();
-    let Ok(words) = env::args(&rt).and_then(|args| Ok(args.collect::<Vec<String>>(alloc)?)) else {
-        return ExitCode::from(Status::NoMemory.code());
-    };
-    let status = match read_words(alloc, words.as_slice()) {
-        Ok(settings) => commands::carry_out(&rt, rt.stdout(), rt.stderr(), &settings),
-        Err(fault) => {
-            let _ = rt.eprint(&fault);
-            fault.status()
-        }
+    let status = match words_of(&rt) {
+        Ok(words) => match read_words(rt.alloc(), words.as_slice()) {
+            Ok(settings) => commands::carry_out(&rt, rt.stdout(), rt.stderr(), &settings),
+            Err(fault) => told(&rt, fault),
+        },
+        Err(fault) => told(&rt, fault),
     };
     ExitCode::from(status.code())
+}
+
+// Tells of a mistake in the words, and gives the exit status.
+fn told(rt: &impl Eprint, fault: UsageFault) -> Status {
+    let _ = rt.eprint(&fault);
+    fault.status()
 }
 
 #[cfg(test)]

@@ -1,42 +1,52 @@
 //! Files that commands read and write.
 
 use crate::command_fault::CommandFault;
-use crate::progress::ProgressReader;
-use std::io::{ErrorKind, IsTerminal, Stderr};
+use crate::output::{NewFile, make};
+use crate::progress::{Meter, ProgressReader};
+use crate::trouble::Trouble;
+use std::fs;
+use std::io::{IsTerminal, Stderr};
 use std::rt::Files;
-use std::{fs, io};
 
-/// Opens a file, of whose reading it is told where the standard error is a terminal.
-pub fn open_watched<'a, R: Files>(
-    rt: &R,
-    path: &'a str,
-    stderr: Stderr,
-) -> Result<ProgressReader<'a, R::File, Stderr>, CommandFault<'a>> {
-    let file = opened(path, fs::open(rt, path))?;
-    let terminal = if stderr.is_terminal() {
-        Some(stderr)
-    } else {
-        None
-    };
-    Ok(ProgressReader::new(path, file, terminal))
+/// Opens and makes files, of whose reading and writing it is told on a terminal.
+#[derive(Drop)]
+pub struct Opener<'a, R> {
+    pub rt: &'a R,
+    /// None where there is no terminal, or nothing is to be told.
+    pub terminal: Option<Stderr>,
+    pub trouble: &'a Trouble,
 }
 
-/// Makes the file that is to be written, if there is to be one.
-pub fn made<'a, R: Files>(
-    rt: &R,
-    path: Option<&'a str>,
-) -> Result<Option<R::File>, CommandFault<'a>> {
-    match path {
-        Some(path) => Ok(Some(opened(path, fs::create(rt, path))?)),
-        None => Ok(None),
+/// A file that is read, of which it is told on a terminal.
+pub type Watched<'a, F> = ProgressReader<'a, F, Stderr>;
+
+impl<'a, R: Files + AllocGlobal> Opener<'a, R> {
+    /// Files of `rt`, of which is told on the standard error where that is a terminal, unless `quiet`.
+    pub fn new(rt: &'a R, stderr: Stderr, quiet: bool, trouble: &'a Trouble) -> Self {
+        let terminal = if !quiet && stderr.is_terminal() {
+            Some(stderr)
+        } else {
+            None
+        };
+        Opener {
+            rt,
+            terminal,
+            trouble,
+        }
     }
-}
 
-/// The file, or the fault of a file that can't be opened or made.
-pub fn opened<'a, F>(path: &'a str, file: io::Result<F>) -> Result<F, CommandFault<'a>> {
-    match file {
-        Ok(file) => Ok(file),
-        Err(error) if error.kind() == ErrorKind::OutOfMemory => Err(CommandFault::NoMemory),
-        Err(_) => Err(CommandFault::not_opened(path)),
+    /// Opens a file that is read.
+    pub fn open(&self, path: &'a str) -> Result<Watched<'a, R::File>, CommandFault<'a>> {
+        let file = self.trouble.opened(path, fs::open(self.rt, path))?;
+        let meter = Meter::new(path, "read", self.terminal);
+        Ok(ProgressReader::new(file, meter, self.trouble))
+    }
+
+    /// Makes the file that is written, if there is to be one.
+    pub fn make(&self, path: Option<&'a str>) -> Result<Option<NewFile<'a, R>>, CommandFault<'a>> {
+        match path {
+            Some(path) => Ok(Some(make(self.rt, path, self.terminal, self.trouble)?)),
+            None => Ok(None),
+        }
     }
 }

@@ -1,30 +1,43 @@
+ghost use Rattle.std.specs.Prelude.{◌≡◌, OnErr};
+
 use crate::command_fault::CommandFault;
+use crate::report::Report;
 use crate::settings::PopulateSettings;
+use crate::shelf::Shelf;
 use crate::status::Status;
 use crate::streams::write_tables;
 use population::populate;
 use std::alloc::Global;
 use std::io::Write;
 
-/// Makes the dataset that the benchmark begins with, writes it to `file`, and gives the exit status. Why
-/// it ended early is told on `errors`, as `tpcc: PATH: row R: fault N` or `tpcc: no memory`.
-pub fn populate_over<T: Write + Drop, E: Write>(
+/// Makes the dataset that the benchmark begins with, writes it to `file`, which gets its name on `shelf`,
+/// and gives the exit status. Why it ended early is told to `errors`: a fault of the file, or no memory.
+pub fn populate_over<T: Write + Drop, N: Shelf<T>, E: Report>(
     alloc: Global,
     settings: &PopulateSettings,
     file: T,
+    shelf: &mut N,
     errors: &mut E,
 ) -> Status {
-    match make(alloc, settings, file) {
+    match make(alloc, settings, file, shelf, errors) {
         Ok(()) => Status::Success,
-        Err(fault) => fault.report(errors),
+        Err(fault) => errors.report(fault),
     }
 }
 
-fn make<'a, T: Write + Drop>(
+// Where it ends early the tables have not got their name.
+fn make<'a, T: Write + Drop, N: Shelf<T>, E: Report>(
     alloc: Global,
     settings: &PopulateSettings<'a>,
     file: T,
-) -> Result<(), CommandFault<'a>> {
+    shelf: &mut N,
+    errors: &mut E,
+) -> Result<(), CommandFault<'a>>
+    ensures { OnErr result (N.named shelf.new ≡ N.named shelf.old) }
+{
+    let scale = settings.scale;
+    let customers = scale.warehouses as usize * 10 * scale.customers as usize;
+    errors.begin("making", customers, "customers, and what belongs to them");
     let tables = populate(alloc, settings.scale, settings.seed, settings.now)?;
-    write_tables(alloc, Some(settings.file), Some(file), &tables)
+    write_tables(alloc, Some(settings.file), Some(file), &tables, shelf)
 }

@@ -1,58 +1,127 @@
+use crate::escaped::Escaped;
+use crate::trouble::Trouble;
 use std::io;
 use std::io::{Read, Write};
 
 // It is told of each so many bytes.
 const STRIDE: u64 = 16_000_000;
 
-/// A reader that tells on a terminal how much of a large file was read.
+/// Tells on a terminal how much of a large file was read or written.
 #[derive(Drop)]
-pub struct ProgressReader<'a, R, W> {
+pub struct Meter<'a, W> {
     path: &'a str,
-    source: R,
+    // What is done with the file: `read` or `written`.
+    done: &'static str,
     // Where it is told, if anywhere.
     terminal: Option<W>,
-    read: u64,
-    // How much was read when it was told last.
+    bytes: u64,
+    // How many bytes there were when it was told last.
     told: u64,
 }
 
-impl<'a, R: Read + Drop, W: Write + Drop> ProgressReader<'a, R, W> {
-    /// Reads `source`, the file of that path, and tells of it on `terminal`.
-    pub fn new(path: &'a str, source: R, terminal: Option<W>) -> Self {
-        ProgressReader {
+impl<'a, W: Write + Drop> Meter<'a, W> {
+    /// Of the file of that path, of which is told on `terminal` how much was `done`.
+    pub fn new(path: &'a str, done: &'static str, terminal: Option<W>) -> Self {
+        Meter {
             path,
-            source,
+            done,
             terminal,
-            read: 0,
+            bytes: 0,
             told: 0,
         }
     }
 
-    // Counts the bytes, and tells of them where it is time. That it can't be told is no fault of the
-    // reading.
-    fn count(&mut self, bytes: u64) {
-        self.read = self.read.saturating_add(bytes);
+    /// Counts bytes, and tells of them where it is time. That it can't be told is no fault.
+    pub fn count(&mut self, bytes: u64) {
+        self.bytes = self.bytes.saturating_add(bytes);
+        if self.bytes.saturating_sub(self.told) >= STRIDE {
+            self.tell("");
+            self.told = self.bytes;
+        }
+    }
+
+    /// Ends the line, if there is one.
+    pub fn end(&mut self) {
+        if self.told > 0 {
+            self.tell("\n");
+            self.told = 0;
+            self.bytes = 0;
+        }
+    }
+
+    fn tell(&mut self, end: &str) {
         let Some(terminal) = &mut self.terminal else {
             return;
         };
-        let path = self.path;
-        let megabytes = self.read / 1_000_000;
-        if self.read.saturating_sub(self.told) >= STRIDE {
-            let _ = write!(terminal, "\rtpcc: {path}: {megabytes} MB read");
-            self.told = self.read;
-        }
-        if bytes == 0 && self.told > 0 {
-            let _ = writeln!(terminal, "\rtpcc: {path}: {megabytes} MB read");
-            self.told = 0;
-            self.read = 0;
+        let path = Escaped(self.path);
+        let megabytes = self.bytes / 1_000_000;
+        let done = self.done;
+        let _ = write!(terminal, "\rtpcc: {path}: {megabytes} MB {done}{end}");
+    }
+}
+
+/// A reader of whose reading it is told on a terminal, and what the system says of it noted.
+#[derive(Drop)]
+pub struct ProgressReader<'a, R, W> {
+    source: R,
+    meter: Meter<'a, W>,
+    trouble: &'a Trouble,
+}
+
+impl<'a, R: Read + Drop, W: Write + Drop> ProgressReader<'a, R, W> {
+    pub fn new(source: R, meter: Meter<'a, W>, trouble: &'a Trouble) -> Self {
+        ProgressReader {
+            source,
+            meter,
+            trouble,
         }
     }
 }
 
 impl<R: Read + Drop, W: Write + Drop> Read for ProgressReader<'_, R, W> {
     fn read(&mut self, buf: &mut [u8]) -> io::Result<usize> {
-        let count = self.source.read(buf)?;
-        self.count(count as u64);
-        Ok(count)
+        match self.source.read(buf) {
+            Ok(0) => {
+                self.meter.end();
+                Ok(0)
+            }
+            Ok(count) => {
+                self.meter.count(count as u64);
+                Ok(count)
+            }
+            Err(error) => {
+                self.trouble.note(&error);
+                Err(error)
+            }
+        }
+    }
+}
+
+/// A writer that is kept, of which what the system says is noted.
+#[derive(Drop)]
+pub struct NotingWriter<'a, W> {
+    sink: W,
+    trouble: &'a Trouble,
+}
+
+impl<'a, W: Write + Drop> NotingWriter<'a, W> {
+    pub fn new(sink: W, trouble: &'a Trouble) -> Self {
+        NotingWriter { sink, trouble }
+    }
+}
+
+impl<W: Write + Drop> Write for NotingWriter<'_, W> {
+    fn write(&mut self, buf: &[u8]) -> io::Result<usize> {
+        match self.sink.write(buf) {
+            Ok(count) => Ok(count),
+            Err(error) => {
+                self.trouble.note(&error);
+                Err(error)
+            }
+        }
+    }
+
+    fn flush(&mut self) -> io::Result<()> {
+        self.sink.flush()
     }
 }

@@ -4,6 +4,7 @@ ghost use Rattle.tpcc.specs.Settings.{IsWithinLimits};
 use crate::help;
 use crate::usage::UsageFault;
 use clap::Command;
+use clap::error::ErrorKind;
 use std::alloc::{AllocError, Global};
 
 mod arguments;
@@ -27,6 +28,8 @@ pub enum Settings<'a> {
     Populate(PopulateSettings<'a>),
     Check(CheckSettings<'a>),
     Replay(ReplaySettings<'a>),
+    /// A text that was asked for, of help or the version. It ends with a line feed.
+    Text(String),
 }
 
 /// The settings that the words of the command line ask for, of which the first is the program's name.
@@ -34,7 +37,19 @@ pub enum Settings<'a> {
 pub fn read_words<'a>(alloc: Global, words: &'a [String]) -> Result<Settings<'a>, UsageFault>
     ensures { IfOk result IsWithinLimits }
 {
-    let matches = program(alloc)?.try_get_matches_from(words)?;
+    if let Some(asked) = words.get(1) {
+        if asked.as_str() == "help" && words.len() <= 3 {
+            let command = words.get(2).map_or("--help", |word| word.as_str());
+            return Ok(Settings::Text(help_text(alloc, command)?));
+        }
+    }
+    let matches = match program(alloc)?.try_get_matches_from(words) {
+        Ok(matches) => matches,
+        Err(error) if error.kind() == ErrorKind::DisplayVersion => {
+            return Ok(Settings::Text(error.to_string(alloc)?));
+        }
+        Err(error) => return Err(UsageFault::from(error)),
+    };
     match matches.subcommand() {
         Some(("sim", sim)) => Ok(Settings::Sim(sim::read(sim)?)),
         Some(("populate", populate)) => Ok(Settings::Populate(populate::read(populate)?)),
@@ -45,6 +60,33 @@ pub fn read_words<'a>(alloc: Global, words: &'a [String]) -> Result<Settings<'a>
     }
 }
 
+// The text of help of that command.
+fn help_text(alloc: Global, command: &str) -> Result<String, UsageFault> {
+    let words = help_words(alloc, command)?;
+    text_of(alloc, words.as_slice())
+}
+
+// The text of help that the words ask for.
+fn text_of<'a>(alloc: Global, words: &'a [String]) -> Result<String, UsageFault> {
+    let matches = program(alloc)?.try_get_matches_from(words);
+    let Some(error) = matches.err() else {
+        return Err(UsageFault::NoCommand);
+    };
+    if error.kind() == ErrorKind::DisplayHelp {
+        return Ok(error.to_string(alloc)?);
+    }
+    Err(UsageFault::from(error))
+}
+
+// The words that ask for help of that command.
+fn help_words(alloc: Global, command: &str) -> Result<Vec<String>, AllocError> {
+    let mut words = Vec::new(alloc);
+    words.push(String::from_str(alloc, "tpcc")?)?;
+    words.push(String::from_str(alloc, command)?)?;
+    words.push(String::from_str(alloc, "--help")?)?;
+    Ok(words)
+}
+
 // The command line.
 fn program<'a>(alloc: Global) -> Result<Command<'a>, AllocError> {
     Command::new(alloc, "tpcc")
@@ -52,6 +94,7 @@ fn program<'a>(alloc: Global) -> Result<Command<'a>, AllocError> {
         .subcommand_required(true)
         .arg_required_else_help(true)
         .disable_help_subcommand(true)
+        .version(help::VERSION)
         .after_help(help::PROGRAM)
         .subcommand(populate::command(alloc)?)?
         .subcommand(check::command(alloc)?)?

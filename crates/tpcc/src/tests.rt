@@ -4,4 +4,5 @@ use std::alloc::{AllocError, Global};
 use std::test::Fail;
 
 mod reading;
+mod telling;
 mod words;

@@ -10,10 +10,18 @@ use std::fmt;
 pub enum UsageFault {
     /// The words are not understood, or ask for help.
     Words(Error),
+    /// The word at this place, from 1 after the program's name, is no text in UTF-8. It is shown with its
+    /// other bytes as numbers.
+    NotText {
+        place: usize,
+        shown: String,
+    },
     /// The words name no command.
     NoCommand,
     /// There are not 1 to 64 scripts.
     ScriptCount,
+    /// Two files that are to be written have one path.
+    SameOutput,
     /// What stands for this option is no number, or none in its limits.
     Number {
         option: &'static str,
@@ -41,8 +49,14 @@ impl fmt::Display for UsageFault {
                 ErrorKind::OutOfMemory => f.write_str("tpcc: no memory\n"),
                 _ => write!(f, "{error}"),
             },
+            UsageFault::NotText { place, shown } => {
+                writeln!(f, "error: argument {place} is not UTF-8: {shown}")
+            }
             UsageFault::NoCommand => f.write_str("error: no command: try `tpcc --help`\n"),
             UsageFault::ScriptCount => f.write_str("error: `tpcc run` takes 1 to 64 scripts\n"),
+            UsageFault::SameOutput => {
+                f.write_str("error: --log and --tables name the same file\n")
+            }
             UsageFault::Number { option, low, high } => {
                 writeln!(f, "error: {option} takes a number from {low} to {high}")
             }

@@ -1,19 +1,31 @@
 use crate::check::check_over;
-use crate::opening::open_watched;
+use crate::opening::Opener;
+use crate::progress::NotingWriter;
+use crate::report::{Report, Teller};
 use crate::settings::CheckSettings;
 use crate::status::Status;
+use crate::trouble::Trouble;
 use std::io::{Stderr, Stdout};
 use std::rt::Files;
 
 /// Opens the files of the command, carries it out, and gives the exit status.
 pub fn carry_out<R: Files + AllocGlobal>(
     rt: &R,
-    mut stdout: Stdout,
-    mut stderr: Stderr,
+    stdout: Stdout,
+    stderr: Stderr,
     settings: &CheckSettings,
 ) -> Status {
-    match open_watched(rt, settings.data, stderr) {
-        Ok(data) => check_over(rt.alloc(), settings, data, &mut stdout, &mut stderr),
-        Err(fault) => fault.report(&mut stderr),
+    let trouble = Trouble::new();
+    let mut teller = Teller::new(rt, stderr, settings.quiet, false, &trouble);
+    let opener = Opener::new(rt, stderr, settings.quiet, &trouble);
+    match opener.open(settings.data) {
+        Ok(data) => check_over(
+            rt.alloc(),
+            settings,
+            data,
+            &mut NotingWriter::new(stdout, &trouble),
+            &mut teller,
+        ),
+        Err(fault) => teller.report(fault),
     }
 }

@@ -1,19 +1,24 @@
-use crate::opening::opened;
+use crate::opening::Opener;
+use crate::output::{Folders, make};
 use crate::populate::populate_over;
+use crate::report::{Report, Teller};
 use crate::settings::PopulateSettings;
 use crate::status::Status;
-use std::fs;
+use crate::trouble::Trouble;
 use std::io::Stderr;
 use std::rt::Files;
 
 /// Opens the files of the command, carries it out, and gives the exit status.
 pub fn carry_out<R: Files + AllocGlobal>(
     rt: &R,
-    mut stderr: Stderr,
+    stderr: Stderr,
     settings: &PopulateSettings,
 ) -> Status {
-    match opened(settings.file, fs::create(rt, settings.file)) {
-        Ok(file) => populate_over(rt.alloc(), settings, file, &mut stderr),
-        Err(fault) => fault.report(&mut stderr),
+    let trouble = Trouble::new();
+    let mut teller = Teller::new(rt, stderr, settings.quiet, false, &trouble);
+    let opener = Opener::new(rt, stderr, settings.quiet, &trouble);
+    match make(rt, settings.file, opener.terminal, &trouble) {
+        Ok(file) => populate_over(rt.alloc(), settings, file, &mut Folders, &mut teller),
+        Err(fault) => teller.report(fault),
     }
 }

@@ -1,50 +1,56 @@
 use crate::command_fault::CommandFault;
-use crate::opening::{made, open_watched};
-use crate::progress::ProgressReader;
+use crate::opening::{Opener, Watched};
+use crate::output::{Folders, NewFile};
+use crate::progress::NotingWriter;
 use crate::replay::replay_over;
+use crate::report::{Report, Teller};
 use crate::settings::ReplaySettings;
 use crate::status::Status;
+use crate::trouble::Trouble;
 use std::io::{Stderr, Stdout};
-use std::rt::Files;
+use std::rt::{Clock, Files};
 
 /// Opens the files of the command, carries it out, and gives the exit status.
-pub fn carry_out<R: Files + AllocGlobal>(
+pub fn carry_out<R: Files + AllocGlobal + Clock>(
     rt: &R,
-    mut stdout: Stdout,
-    mut stderr: Stderr,
+    stdout: Stdout,
+    stderr: Stderr,
     settings: &ReplaySettings,
 ) -> Status {
-    match ReplayFiles::open(rt, settings, stderr) {
+    let trouble = Trouble::new();
+    let mut teller = Teller::new(rt, stderr, settings.quiet, settings.summary, &trouble);
+    let opener = Opener::new(rt, stderr, settings.quiet, &trouble);
+    match ReplayFiles::open(&opener, settings) {
         Ok(ReplayFiles { data, log, tables }) => replay_over(
+            rt,
             rt.alloc(),
             settings,
             data,
             log,
-            &mut stdout,
+            &mut NotingWriter::new(stdout, &trouble),
             tables,
-            &mut stderr,
+            &mut Folders,
+            &mut teller,
         ),
-        Err(fault) => fault.report(&mut stderr),
+        Err(fault) => teller.report(fault),
     }
 }
 
-// The files of a replay: those that are read, told of on a terminal, and the one that is written.
-#[derive(Drop)]
-struct ReplayFiles<'a, F> {
-    data: ProgressReader<'a, F, Stderr>,
-    log: ProgressReader<'a, F, Stderr>,
-    tables: Option<F>,
+// The files of a replay: those that are read, and the one that is written.
+struct ReplayFiles<'a, R: Files> {
+    data: Watched<'a, R::File>,
+    log: Watched<'a, R::File>,
+    tables: Option<NewFile<'a, R>>,
 }
 
-impl<'a, F: Drop> ReplayFiles<'a, F> {
-    fn open<R: Files<File = F> + AllocGlobal>(
-        rt: &R,
+impl<'a, R: Files + AllocGlobal> ReplayFiles<'a, R> {
+    fn open(
+        opener: &Opener<'a, R>,
         settings: &ReplaySettings<'a>,
-        stderr: Stderr,
-    ) -> Result<ReplayFiles<'a, F>, CommandFault<'a>> {
-        let data = open_watched(rt, settings.data, stderr)?;
-        let log = open_watched(rt, settings.log, stderr)?;
-        let tables = made(rt, settings.tables)?;
+    ) -> Result<ReplayFiles<'a, R>, CommandFault<'a>> {
+        let data = opener.open(settings.data)?;
+        let log = opener.open(settings.log)?;
+        let tables = opener.make(settings.tables)?;
         Ok(ReplayFiles { data, log, tables })
     }
 }

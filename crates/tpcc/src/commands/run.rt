@@ -2,26 +2,33 @@ ghost use Rattle.std.specs.Prelude.{◌≡◌, length, IfOk};
 ghost use Rattle.tpcc.specs.Settings.{HasSessions};
 
 use crate::command_fault::CommandFault;
-use crate::opening::{made, open_watched};
-use crate::progress::ProgressReader;
+use crate::opening::{Opener, Watched};
+use crate::output::{Folders, NewFile};
+use crate::progress::NotingWriter;
+use crate::report::{Report, Teller};
 use crate::run::run_over;
 use crate::settings::RunSettings;
 use crate::status::Status;
+use crate::trouble::Trouble;
+use crate::watch::Watch;
 use std::io::{Stderr, Stdout};
-use std::rt::Files;
+use std::rt::{Clock, Files};
 use std::sync::Wait;
 use std::thread::Threads;
 
 /// Opens the files of the command, carries it out, and gives the exit status.
-pub fn carry_out<R: Files + AllocGlobal + Threads + Wait + Sync>(
+pub fn carry_out<R: Files + AllocGlobal + Clock + Threads + Wait + Sync>(
     rt: &R,
-    mut stdout: Stdout,
-    mut stderr: Stderr,
+    stdout: Stdout,
+    stderr: Stderr,
     settings: &RunSettings,
 ) -> Status
     requires { HasSessions settings.now }
 {
-    match RunFiles::open(rt, settings, stderr) {
+    let trouble = Trouble::new();
+    let mut teller = Teller::new(rt, stderr, settings.quiet, settings.summary, &trouble);
+    let opener = Opener::new(rt, stderr, settings.quiet, &trouble);
+    match RunFiles::open(&opener, settings) {
         Ok(
             RunFiles {
                 data,
@@ -34,36 +41,36 @@ pub fn carry_out<R: Files + AllocGlobal + Threads + Wait + Sync>(
             settings,
             data,
             scripts.as_mut_slice(),
-            &mut stdout,
+            &mut NotingWriter::new(stdout, &trouble),
             log,
-            &mut stderr,
+            &mut Folders,
+            Watch::new(rt, rt.alloc(), opener.terminal, teller.sums_up()),
+            &mut teller,
         ),
-        Err(fault) => fault.report(&mut stderr),
+        Err(fault) => teller.report(fault),
     }
 }
 
-// The files of a run: those that are read, told of on a terminal, and the one that is written.
-#[derive(Drop)]
-struct RunFiles<'a, F> {
-    data: ProgressReader<'a, F, Stderr>,
-    scripts: Vec<ProgressReader<'a, F, Stderr>>,
-    log: Option<F>,
+// The files of a run: those that are read, and the one that is written.
+struct RunFiles<'a, R: Files> {
+    data: Watched<'a, R::File>,
+    scripts: Vec<Watched<'a, R::File>>,
+    log: Option<NewFile<'a, R>>,
 }
 
-impl<'a, F: Drop> RunFiles<'a, F> {
-    fn open<R: Files<File = F> + AllocGlobal>(
-        rt: &R,
-        settings: &RunSettings<'a>,
-        stderr: Stderr,
-    ) -> Result<RunFiles<'a, F>, CommandFault<'a>>
+impl<'a, R: Files + AllocGlobal> RunFiles<'a, R> {
+    fn open(
+        opener: &Opener<'a, R>,
+        settings: &'a RunSettings<'a>,
+    ) -> Result<RunFiles<'a, R>, CommandFault<'a>>
         ensures { IfOk result (λ files. length files.scripts.items ≡ length settings.now.scripts.items) }
     {
-        let data = open_watched(rt, settings.data, stderr)?;
-        let mut scripts = Vec::new(rt.alloc());
+        let data = opener.open(settings.data)?;
+        let mut scripts = Vec::new(opener.rt.alloc());
         for path in &settings.scripts {
-            scripts.push(open_watched(rt, path, stderr)?)?;
+            scripts.push(opener.open(path)?)?;
         }
-        let log = made(rt, settings.log)?;
+        let log = opener.make(settings.log)?;
         Ok(RunFiles { data, scripts, log })
     }
 }

@@ -1,24 +1,30 @@
 ghost use Rattle.tpcc.specs.Settings.{HasExecutors};
 
 use crate::command_fault::CommandFault;
-use crate::opening::{made, open_watched};
-use crate::progress::ProgressReader;
+use crate::opening::{Opener, Watched};
+use crate::output::{Folders, NewFile};
+use crate::progress::NotingWriter;
+use crate::report::{Report, Teller};
 use crate::settings::SimSettings;
 use crate::sim::sim_over;
 use crate::status::Status;
+use crate::trouble::Trouble;
 use std::io::{Stderr, Stdout};
 use std::rt::Files;
 
 /// Opens the files of the command, carries it out, and gives the exit status.
 pub fn carry_out<R: Files + AllocGlobal>(
     rt: &R,
-    mut stdout: Stdout,
-    mut stderr: Stderr,
+    stdout: Stdout,
+    stderr: Stderr,
     settings: &SimSettings,
 ) -> Status
     requires { HasExecutors settings.now }
 {
-    match SimFiles::open(rt, settings, stderr) {
+    let trouble = Trouble::new();
+    let mut teller = Teller::new(rt, stderr, settings.quiet, false, &trouble);
+    let opener = Opener::new(rt, stderr, settings.quiet, &trouble);
+    match SimFiles::open(&opener, settings) {
         Ok(
             SimFiles {
                 data,
@@ -31,34 +37,33 @@ pub fn carry_out<R: Files + AllocGlobal>(
             settings,
             data,
             schedule,
-            &mut stdout,
+            &mut NotingWriter::new(stdout, &trouble),
             log,
             tables,
-            &mut stderr,
+            &mut Folders,
+            &mut teller,
         ),
-        Err(fault) => fault.report(&mut stderr),
+        Err(fault) => teller.report(fault),
     }
 }
 
-// The files of a simulation: those that are read, told of on a terminal, and those that are written.
-#[derive(Drop)]
-struct SimFiles<'a, F> {
-    data: ProgressReader<'a, F, Stderr>,
-    schedule: ProgressReader<'a, F, Stderr>,
-    log: Option<F>,
-    tables: Option<F>,
+// The files of a simulation: those that are read, and those that are written.
+struct SimFiles<'a, R: Files> {
+    data: Watched<'a, R::File>,
+    schedule: Watched<'a, R::File>,
+    log: Option<NewFile<'a, R>>,
+    tables: Option<NewFile<'a, R>>,
 }
 
-impl<'a, F: Drop> SimFiles<'a, F> {
-    fn open<R: Files<File = F> + AllocGlobal>(
-        rt: &R,
+impl<'a, R: Files + AllocGlobal> SimFiles<'a, R> {
+    fn open(
+        opener: &Opener<'a, R>,
         settings: &SimSettings<'a>,
-        stderr: Stderr,
-    ) -> Result<SimFiles<'a, F>, CommandFault<'a>> {
-        let data = open_watched(rt, settings.data, stderr)?;
-        let schedule = open_watched(rt, settings.schedule, stderr)?;
-        let log = made(rt, settings.log)?;
-        let tables = made(rt, settings.tables)?;
+    ) -> Result<SimFiles<'a, R>, CommandFault<'a>> {
+        let data = opener.open(settings.data)?;
+        let schedule = opener.open(settings.schedule)?;
+        let log = opener.make(settings.log)?;
+        let tables = opener.make(settings.tables)?;
         Ok(SimFiles {
             data,
             schedule,

@@ -2,7 +2,7 @@
 ghost use Rattle.std.specs.Prelude.{◌≡◌, ◌≤◌, IfOk, None, Ok};
 
 use crate::usage::UsageFault;
-use clap::Arg;
+use clap::{Arg, ArgAction};
 use files::{parse_moment, parse_whole};
 use schema::Moment;
 use std::alloc::Global;
@@ -20,6 +20,22 @@ pub fn log<'a>(alloc: Global) -> Arg<'a> {
         .long("log")
         .value_name("FILE")
         .help("Where the log of what was carried out is written")
+}
+
+/// The option that has summed up what was done.
+pub fn summary<'a>(alloc: Global) -> Arg<'a> {
+    Arg::new(alloc, "summary")
+        .long("summary")
+        .help("Tells on the standard error what it came to, as on a terminal in any case")
+        .action(ArgAction::SetTrue)
+}
+
+/// The option that leaves out what is told of the work.
+pub fn quiet<'a>(alloc: Global) -> Arg<'a> {
+    Arg::new(alloc, "quiet")
+        .long("quiet")
+        .help("Leaves out what is told on a terminal of progress, and any summary")
+        .action(ArgAction::SetTrue)
 }
 
 /// An option that is a number.

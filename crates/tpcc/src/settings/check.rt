@@ -1,4 +1,4 @@
-use crate::settings::arguments::data;
+use crate::settings::arguments::{data, quiet};
 use clap::{Arg, ArgAction, ArgMatches, Command};
 use std::alloc::{AllocError, Global};
 
@@ -7,6 +7,8 @@ use std::alloc::{AllocError, Global};
 pub struct CheckSettings<'a> {
     pub data: &'a str,
     pub fresh: bool,
+    /// Whether nothing is to be told but the result and faults.
+    pub quiet: bool,
 }
 
 /// What the words of `tpcc check` ask for.
@@ -14,6 +16,7 @@ pub fn read<'a>(matches: &ArgMatches<'a>) -> CheckSettings<'a> {
     CheckSettings {
         data: matches.get_str("DATA").unwrap_or(""),
         fresh: matches.get_flag("fresh"),
+        quiet: matches.get_flag("quiet"),
     }
 }
 
@@ -27,7 +30,8 @@ pub fn command<'a>(alloc: Global) -> Result<Command<'a>, AllocError> {
         .about("Tells of each of the twelve conditions of consistency whether the dataset meets it")
         .after_help(HELP)
         .arg(data(alloc))?
-        .arg(fresh)
+        .arg(fresh)?
+        .arg(quiet(alloc))
 }
 
 // What is told after the arguments by `tpcc check --help`.

@@ -1,4 +1,4 @@
-use crate::settings::arguments::{counted, moment, number};
+use crate::settings::arguments::{counted, moment, number, quiet};
 use crate::usage::UsageFault;
 use clap::{Arg, ArgMatches, Command};
 use schema::{Moment, Scale};
@@ -12,6 +12,8 @@ pub struct PopulateSettings<'a> {
     pub seed: u32,
     /// The moment of everything that has one.
     pub now: Moment,
+    /// Whether nothing is to be told but the result and faults.
+    pub quiet: bool,
 }
 
 /// What the words of `tpcc populate` ask for.
@@ -27,6 +29,7 @@ pub fn read<'a>(matches: &ArgMatches<'a>) -> Result<PopulateSettings<'a>, UsageF
         scale,
         seed: number(matches.get_str("seed"), 1, 0, u32::MAX, "--seed")?,
         now: moment(matches.get_str("now"))?,
+        quiet: matches.get_flag("quiet"),
     })
 }
 
@@ -63,7 +66,8 @@ pub fn command<'a>(alloc: Global) -> Result<Command<'a>, AllocError> {
             Arg::new(alloc, "now").long("now").value_name("MOMENT").help(
                 "The date and time of all rows; 2024-01-01T00:00:00 by default",
             ),
-        )
+        )?
+        .arg(quiet(alloc))
 }
 
 // What is told after the arguments by `tpcc populate --help`.

@@ -1,4 +1,4 @@
-use crate::settings::arguments::data;
+use crate::settings::arguments::{data, quiet, summary};
 use clap::{Arg, ArgMatches, Command};
 use std::alloc::{AllocError, Global};
 
@@ -8,6 +8,10 @@ pub struct ReplaySettings<'a> {
     pub data: &'a str,
     pub log: &'a str,
     pub tables: Option<&'a str>,
+    /// Whether it is to be summed up what was done.
+    pub summary: bool,
+    /// Whether nothing is to be told but the result and faults.
+    pub quiet: bool,
 }
 
 /// What the words of `tpcc replay` ask for.
@@ -16,6 +20,8 @@ pub fn read<'a>(matches: &ArgMatches<'a>) -> ReplaySettings<'a> {
         data: matches.get_str("DATA").unwrap_or(""),
         log: matches.get_str("LOG").unwrap_or(""),
         tables: matches.get_str("tables"),
+        summary: matches.get_flag("summary"),
+        quiet: matches.get_flag("quiet"),
     }
 }
 
@@ -33,12 +39,14 @@ pub fn command<'a>(alloc: Global) -> Result<Command<'a>, AllocError> {
         .after_help(HELP)
         .arg(data(alloc))?
         .arg(entries)?
-        .arg(tables)
+        .arg(tables)?
+        .arg(summary(alloc))?
+        .arg(quiet(alloc))
 }
 
 // What is told after the arguments by `tpcc replay --help`.
 const HELP: &str = "\
 Prints `equal N`, with the number of entries, or `differs P`, with the first place, from 0, whose request is
-refused by its check or whose reply is another.
+refused by its check or whose reply is another. FILE may be DATA: it gets its name once it is whole.
 
 Exit statuses: 0 equal, 1 a fault of a file, 2 the words are wrong, 3 differs, 4 no memory";

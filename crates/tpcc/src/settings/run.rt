@@ -1,7 +1,7 @@
 ghost use Rattle.std.specs.Prelude.{IfOk};
 ghost use Rattle.tpcc.specs.Settings.{HasSessions};
 
-use crate::settings::arguments::{data, log};
+use crate::settings::arguments::{data, log, quiet, summary};
 use crate::usage::UsageFault;
 use clap::{Arg, ArgAction, ArgMatches, Command};
 use engine::MOST_SESSIONS;
@@ -14,6 +14,10 @@ pub struct RunSettings<'a> {
     /// 1 to 64. Script s, from 0, is session s.
     pub scripts: Vec<&'a str>,
     pub log: Option<&'a str>,
+    /// Whether it is to be summed up what was done.
+    pub summary: bool,
+    /// Whether nothing is to be told but the result and faults.
+    pub quiet: bool,
 }
 
 /// What the words of `tpcc run` ask for.
@@ -28,6 +32,8 @@ pub fn read<'a>(alloc: Global, matches: &ArgMatches<'a>) -> Result<RunSettings<'
         data: matches.get_str("DATA").unwrap_or(""),
         scripts: scripts.to_vec(alloc)?,
         log: matches.get_str("log"),
+        summary: matches.get_flag("summary"),
+        quiet: matches.get_flag("quiet"),
     })
 }
 
@@ -43,7 +49,9 @@ pub fn command<'a>(alloc: Global) -> Result<Command<'a>, AllocError> {
         .after_help(HELP)
         .arg(data(alloc))?
         .arg(scripts)?
-        .arg(log(alloc))
+        .arg(log(alloc))?
+        .arg(summary(alloc))?
+        .arg(quiet(alloc))
 }
 
 // What is told after the arguments by `tpcc run --help`.
@@ -52,7 +60,10 @@ The first SCRIPT is session 0, the next session 1, and so on. They are served at
 order of its requests, numbered from 0. Prints a record for each request:
   session,number,done,place,..     it stands in the log at this place, from 0; then the reply
   session,number,refused,code,..   it is not in the log, and changed nothing
-Amounts and balances are in cents, discounts in ten-thousandths.
+Amounts and balances are in cents, discounts in ten-thousandths. A customer is `#` and a number; without `#`
+it is a last name, and where nobody has it the request is rolled back, as X,nocustomer.
+
+The log gets its name once all answers are printed. What had the name stays as it was until then.
 
 Exit statuses: 0 all were answered, 1 a fault of a file or no thread, 2 the words are wrong,
 3 the dataset is not consistent, 4 no memory";

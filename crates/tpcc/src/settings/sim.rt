@@ -1,7 +1,8 @@
 ghost use Rattle.std.specs.Prelude.{IfOk};
 ghost use Rattle.tpcc.specs.Settings.{HasExecutors};
 
-use crate::settings::arguments::{counted, data, log, number};
+use crate::other_name::are_one;
+use crate::settings::arguments::{counted, data, log, number, quiet};
 use crate::usage::UsageFault;
 use clap::{Arg, ArgMatches, Command};
 use std::alloc::{AllocError, Global};
@@ -15,18 +16,28 @@ pub struct SimSettings<'a> {
     pub executors: u32,
     pub log: Option<&'a str>,
     pub tables: Option<&'a str>,
+    /// Whether nothing is to be told but the result and faults.
+    pub quiet: bool,
 }
 
 /// What the words of `tpcc sim` ask for.
 pub fn read<'a>(matches: &ArgMatches<'a>) -> Result<SimSettings<'a>, UsageFault>
     ensures { IfOk result HasExecutors }
 {
+    let log = matches.get_str("log");
+    let tables = matches.get_str("tables");
+    if let (Some(log), Some(tables)) = (log, tables) {
+        if are_one(log, tables) {
+            return Err(UsageFault::SameOutput);
+        }
+    }
     Ok(SimSettings {
         data: matches.get_str("DATA").unwrap_or(""),
         schedule: matches.get_str("SCHEDULE").unwrap_or(""),
         executors: number(matches.get_str("executors"), 2, 1, 16, "--executors")?,
-        log: matches.get_str("log"),
-        tables: matches.get_str("tables"),
+        log,
+        tables,
+        quiet: matches.get_flag("quiet"),
     })
 }
 
@@ -51,7 +62,8 @@ pub fn command<'a>(alloc: Global) -> Result<Command<'a>, AllocError> {
         .arg(schedule)?
         .arg(executors)?
         .arg(log(alloc))?
-        .arg(tables)
+        .arg(tables)?
+        .arg(quiet(alloc))
 }
 
 // What is told after the arguments by `tpcc sim --help`.

@@ -1,5 +1,6 @@
 use super::*;
-use crate::progress::ProgressReader;
+use crate::progress::{Meter, ProgressReader};
+use crate::trouble::Trouble;
 use std::io::Read;
 
 // A reader of 40 megabytes is told of after every 16, and at its end.
@@ -9,7 +10,9 @@ fn a_large_file_is_told_of(rt: HostRuntime) -> Result<(), Fail> {
     let bytes = vec![in alloc; 0u8; 40_000_000]?;
     let mut room = vec![in alloc; 0u8; 8_000_000]?;
     let mut told = Vec::new(alloc);
-    let mut source = ProgressReader::new("data", bytes.as_slice(), Some(&mut told));
+    let trouble = Trouble::new();
+    let meter = Meter::new("data", "read", Some(&mut told));
+    let mut source = ProgressReader::new(bytes.as_slice(), meter, &trouble);
     for _ in 0..6 {
         source.read(room.as_mut_slice()).ok().ok_or("a read")?;
     }

@@ -9,7 +9,7 @@ fn fault_text(alloc: Global, words: &[&str]) -> Result<Option<String>, AllocErro
     }
 }
 
-fn all_words(alloc: Global, words: &[&str]) -> Result<Vec<String>, AllocError> {
+pub fn all_words(alloc: Global, words: &[&str]) -> Result<Vec<String>, AllocError> {
     let mut all = Vec::new(alloc);
     all.push(String::from_str(alloc, "tpcc")?)?;
     for word in words {

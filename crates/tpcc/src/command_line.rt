@@ -1,0 +1,50 @@
+use crate::usage::UsageFault;
+use std::alloc::{AllocError, Global};
+use std::env;
+use std::env::{Env, FillError};
+use std::io::ErrorKind;
+
+// The longest argument that is shown where it is no text.
+const MOST_SHOWN: usize = 4096;
+
+/// The words of the command line, of which the first is the program's name.
+pub fn words_of<R: Env + AllocGlobal>(rt: &R) -> Result<Vec<String>, UsageFault> {
+    match env::args(rt) {
+        Ok(words) => Ok(words.collect::<Vec<String>>(rt.alloc())?),
+        Err(error) if error.kind() == ErrorKind::OutOfMemory => Err(UsageFault::from(AllocError)),
+        Err(_) => Err(first_that_is_no_text(rt)?),
+    }
+}
+
+// The fault of the first word that is no text.
+fn first_that_is_no_text<R: Env + AllocGlobal>(rt: &R) -> Result<UsageFault, AllocError> {
+    let mut room = [0u8; MOST_SHOWN];
+    for place in 0..usize::MAX {
+        match rt.arg(place, &mut room) {
+            Ok(length) => {
+                let bytes = &room[..length];
+                if str::from_utf8(bytes).is_err() {
+                    let shown = shown(rt.alloc(), bytes)?;
+                    return Ok(UsageFault::NotText { place, shown });
+                }
+            }
+            Err(FillError::TooLong) => {}
+            Err(FillError::NotPresent) => break,
+        }
+    }
+    let shown = String::from_str(rt.alloc(), "it is too long to be shown")?;
+    Ok(UsageFault::NotText { place: 0, shown })
+}
+
+// The bytes as they can be shown: each that is no printable ASCII by its number, as `\xff`.
+fn shown(alloc: Global, bytes: &[u8]) -> Result<String, AllocError> {
+    let mut text = String::new(alloc);
+    for byte in bytes {
+        if (32..127).contains(byte) {
+            text.push(char::from(*byte))?;
+        } else {
+            write!(text, "\\x{byte:02x}")?;
+        }
+    }
+    Ok(text)
+}

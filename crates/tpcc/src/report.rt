@@ -1,0 +1,85 @@
+use crate::command_fault::CommandFault;
+use crate::meaning::tell_meaning;
+use crate::status::Status;
+use crate::summary::{Summary, tell_summary};
+use crate::trouble::Trouble;
+use std::io::{IsTerminal, Stderr, Write};
+use std::rt::Files;
+
+/// Who is told what a command does, what it came to, or why it ended early.
+pub trait Report {
+    /// Tells of the fault, and gives the exit status. That it can't be told changes nothing.
+    fn report(&mut self, fault: CommandFault<'_>) -> Status;
+
+    /// Tells that work begins on so many of these, where that may take a while.
+    fn begin(&mut self, doing: &'static str, count: usize, of: &'static str);
+
+    /// Whether it is to be summed up what was done.
+    fn sums_up(&self) -> bool;
+
+    /// Tells what was done.
+    fn sum_up(&mut self, summary: &Summary);
+}
+
+// Of fewer it is not told that work on them begins.
+const MANY: usize = 100_000;
+
+/// Tells on the standard error: a line that other programs can read and, on a terminal, what it means.
+#[derive(Clone, Copy, Drop)]
+pub struct Teller<'a, R> {
+    rt: &'a R,
+    stderr: Stderr,
+    // Where it is told that work begins, if anywhere.
+    terminal: Option<Stderr>,
+    sums_up: bool,
+    trouble: &'a Trouble,
+}
+
+impl<'a, R: Files + AllocGlobal> Teller<'a, R> {
+    /// Tells on the standard error; of the work only where that is a terminal, and not if it is to be
+    /// `quiet`; and then also what it came to, as where `summary` asks for it.
+    pub fn new(
+        rt: &'a R,
+        stderr: Stderr,
+        quiet: bool,
+        summary: bool,
+        trouble: &'a Trouble,
+    ) -> Self {
+        let is_shown = !quiet && stderr.is_terminal();
+        Teller {
+            rt,
+            stderr,
+            terminal: if is_shown { Some(stderr) } else { None },
+            sums_up: is_shown || (summary && !quiet),
+            trouble,
+        }
+    }
+}
+
+impl<R: Files + AllocGlobal> Report for Teller<'_, R> {
+    fn report(&mut self, fault: CommandFault<'_>) -> Status {
+        let _ = writeln!(self.stderr, "tpcc: {fault}");
+        if self.stderr.is_terminal() {
+            tell_meaning(self.rt, &mut self.stderr, fault, self.trouble);
+        }
+        fault.status()
+    }
+
+    fn begin(&mut self, doing: &'static str, count: usize, of: &'static str) {
+        if let Some(terminal) = &mut self.terminal {
+            if count >= MANY {
+                let _ = writeln!(terminal, "tpcc: {doing} {count} {of}");
+            }
+        }
+    }
+
+    fn sums_up(&self) -> bool {
+        self.sums_up
+    }
+
+    fn sum_up(&mut self, summary: &Summary) {
+        if self.sums_up {
+            tell_summary(&mut self.stderr, summary);
+        }
+    }
+}

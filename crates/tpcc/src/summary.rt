@@ -1,0 +1,106 @@
+//! What a run or a replay came to, told in lines on the standard error.
+
+use crate::latencies::within;
+use crate::tally::{ENDS, KINDS, Tally};
+use std::fmt;
+use std::io::Write;
+
+/// What is summed up.
+#[derive(Clone, Copy, Debug)]
+pub struct Summary<'a> {
+    pub tally: &'a Tally,
+    /// How long it took to serve or to replay, in nanoseconds.
+    pub served_for: u64,
+    /// How long each request took, from the least on, if that is known.
+    pub times: &'a [u64],
+}
+
+/// Tells it. That it can't be told changes nothing.
+pub fn tell_summary<W: Write>(sink: &mut W, summary: &Summary) {
+    let tally = summary.tally;
+    let count = tally.len();
+    let _ = writeln!(sink, "tpcc: summary: {count} requests");
+    for kind in 0..KINDS {
+        let _ = writeln!(sink, "tpcc: summary: {}", OfKind { tally, kind });
+    }
+    let time = Seconds(summary.served_for);
+    let all = a_minute(count, summary.served_for);
+    let orders = a_minute(tally.count(0, 0), summary.served_for);
+    let _ = writeln!(
+        sink,
+        "tpcc: time: {time} s without reading and writing: {all} requests a minute, {orders} New-Orders done a minute"
+    );
+    if !summary.times.is_empty() {
+        let half = Microseconds(within(summary.times, 50));
+        let most = Microseconds(within(summary.times, 90));
+        let nearly = Microseconds(within(summary.times, 99));
+        let longest = Microseconds(within(summary.times, 100));
+        let _ = writeln!(
+            sink,
+            "tpcc: time: answered within {half} us 50 in 100, {most} us 90 in 100, {nearly} us 99 in 100, {longest} us all"
+        );
+    }
+    let _ = writeln!(
+        sink,
+        "tpcc: summary: no audited tpmC: nobody keys or thinks, no terminals are between, and nothing is durable (TPC-C 5.11, clauses 5.2.5, 4.2 and 3.5)"
+    );
+}
+
+// How many in a minute, where so many came in so many nanoseconds.
+fn a_minute(count: usize, nanoseconds: u64) -> u128 {
+    count as u128 * 60_000_000_000 / u128::from(nanoseconds.max(1))
+}
+
+// How the requests of a kind ended.
+#[derive(Clone, Copy, Debug)]
+struct OfKind<'a> {
+    tally: &'a Tally,
+    kind: u8,
+}
+
+impl fmt::Display for OfKind<'_> {
+    fn fmt<W: fmt::Write>(&self, f: &mut fmt::Formatter<W>) -> fmt::Result {
+        let word = match self.kind {
+            0 => "New-Order",
+            1 => "Payment",
+            2 => "Order-Status",
+            3 => "Delivery",
+            _ => "Stock-Level",
+        };
+        let done = self.tally.count(self.kind, 0);
+        let rolled_back = self.tally.count(self.kind, 1);
+        write!(f, "{word}: {done} done, {rolled_back} rolled back")?;
+        for end in 2..ENDS {
+            let refused = self.tally.count(self.kind, end);
+            if refused > 0 {
+                let number = end - 1;
+                write!(f, ", {refused} refused with {number}")?;
+            }
+        }
+        Ok(())
+    }
+}
+
+// Nanoseconds, told in seconds.
+#[derive(Clone, Copy, Debug)]
+struct Seconds(u64);
+
+impl fmt::Display for Seconds {
+    fn fmt<W: fmt::Write>(&self, f: &mut fmt::Formatter<W>) -> fmt::Result {
+        let seconds = self.0 / 1_000_000_000;
+        let rest = self.0 / 1_000 % 1_000_000;
+        write!(f, "{seconds}.{rest:06}")
+    }
+}
+
+// Nanoseconds, told in microseconds.
+#[derive(Clone, Copy, Debug)]
+struct Microseconds(u64);
+
+impl fmt::Display for Microseconds {
+    fn fmt<W: fmt::Write>(&self, f: &mut fmt::Formatter<W>) -> fmt::Result {
+        let microseconds = self.0 / 1_000;
+        let rest = self.0 % 1_000 / 100;
+        write!(f, "{microseconds}.{rest}")
+    }
+}

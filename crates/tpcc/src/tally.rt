@@ -1,0 +1,155 @@
+ghost use Rattle.std.specs.Prelude.{◌≡◌, ◌<◌, ◌==◌, ◌++◌, ◌&&◌, [], IfOk, OnOk, map, count_by};
+ghost use Rattle.std.specs.List.{zip};
+ghost use Rattle.tpcc.specs.Tally.{kind_number, reply_number, answer_number};
+
+use commit_log::Entry;
+use requests::{Answer, Reply, Request};
+use schema::NoMemory;
+use std::alloc::Global;
+
+/// How many kinds of requests there are.
+pub const KINDS: u8 = 5;
+
+/// How many ends: done, rolled back, and refused by each number from 1 to 14.
+pub const ENDS: u8 = 16;
+
+/// Of what kind each request was that is counted, and how it ended.
+#[derive(Debug, Drop)]
+pub struct Tally {
+    kinds: Vec<u8>,
+    ends: Vec<u8>,
+}
+
+impl Tally {
+    /// Of no requests yet.
+    pub fn new(alloc: Global) -> Tally
+        ensures { (result.kinds.items ≡ []) × (result.ends.items ≡ []) }
+    {
+        Tally {
+            kinds: Vec::new(alloc),
+            ends: Vec::new(alloc),
+        }
+    }
+
+    /// Of requests that were answered so, one after the other.
+    pub fn of_answers(
+        alloc: Global,
+        requests: &[Request],
+        answers: &[Answer],
+    ) -> Result<Tally, NoMemory>
+        ensures kinds { IfOk result (λ tally. tally.kinds.items ≡ map kind_number requests.now) }
+        ensures ends { IfOk result (λ tally. tally.ends.items ≡ map answer_number answers.now) }
+    {
+        Ok(Tally {
+            kinds: kinds_of(alloc, requests)?,
+            ends: ends_of(alloc, answers)?,
+        })
+    }
+
+    /// Of the entries of a log, none of which was refused.
+    pub fn of_entries(alloc: Global, entries: &[Entry]) -> Result<Tally, NoMemory>
+        ensures kinds { IfOk result (λ tally. tally.kinds.items ≡ map (λ entry. kind_number entry.request) entries.now) }
+        ensures ends { IfOk result (λ tally. tally.ends.items ≡ map (λ entry. reply_number entry.reply) entries.now) }
+    {
+        Ok(Tally {
+            kinds: entry_kinds_of(alloc, entries)?,
+            ends: entry_ends_of(alloc, entries)?,
+        })
+    }
+
+    /// Counts what another has counted too.
+    pub fn add(&mut self, other: &Tally) -> Result<(), NoMemory>
+        ensures kinds { OnOk result (self.new.kinds.items ≡ self.old.kinds.items ++ other.now.kinds.items) }
+        ensures ends { OnOk result (self.new.ends.items ≡ self.old.ends.items ++ other.now.ends.items) }
+    {
+        self.kinds.extend_from_slice(other.kinds.as_slice())?;
+        self.ends.extend_from_slice(other.ends.as_slice())
+    }
+
+    /// How many requests were counted.
+    pub fn len(&self) -> usize {
+        self.ends.len()
+    }
+
+    /// How many requests of that kind, from 0, ended so: 0 done, 1 rolled back, and one more than the
+    /// number for a refusal.
+    pub fn count(&self, kind: u8, end: u8) -> usize
+        ensures { result ≡ count_by (λ it. (it.0 == kind) && (it.1 == end)) (zip self.now.kinds.items self.now.ends.items) }
+    {
+        self.kinds
+            .iter()
+            .zip(self.ends.iter())
+            .filter(|it| *it.0 == kind && *it.1 == end)
+            .count()
+    }
+}
+
+fn kinds_of(alloc: Global, requests: &[Request]) -> Result<Vec<u8>, NoMemory>
+    ensures { IfOk result (λ kinds. kinds.items ≡ map kind_number requests.now) }
+{
+    requests.iter().map(|it| kind_number(it)).collect(alloc)
+}
+
+fn ends_of(alloc: Global, answers: &[Answer]) -> Result<Vec<u8>, NoMemory>
+    ensures { IfOk result (λ ends. ends.items ≡ map answer_number answers.now) }
+{
+    let mut ends = Vec::with_capacity(alloc, answers.len())?;
+    for answer in answers {
+        ends.push(answer_number(answer))?;
+    }
+    Ok(ends)
+}
+
+fn entry_kinds_of(alloc: Global, entries: &[Entry]) -> Result<Vec<u8>, NoMemory>
+    ensures { IfOk result (λ kinds. kinds.items ≡ map (λ entry. kind_number entry.request) entries.now) }
+{
+    let mut kinds = Vec::with_capacity(alloc, entries.len())?;
+    for entry in entries {
+        kinds.push(kind_number(&entry.request))?;
+    }
+    Ok(kinds)
+}
+
+fn entry_ends_of(alloc: Global, entries: &[Entry]) -> Result<Vec<u8>, NoMemory>
+    ensures { IfOk result (λ ends. ends.items ≡ map (λ entry. reply_number entry.reply) entries.now) }
+{
+    let mut ends = Vec::with_capacity(alloc, entries.len())?;
+    for entry in entries {
+        ends.push(reply_number(&entry.reply))?;
+    }
+    Ok(ends)
+}
+
+fn kind_number(request: &Request) -> u8
+    ensures kind { result ≡ kind_number request.now }
+    ensures few { result < KINDS }
+{
+    match request {
+        Request::NewOrder(_) => 0,
+        Request::Payment(_) => 1,
+        Request::OrderStatus(_) => 2,
+        Request::Delivery(_) => 3,
+        Request::StockLevel(_) => 4,
+    }
+}
+
+#[tactic(auto, unfolding(crate::specs::Tally::answer_number))]
+fn answer_number(answer: &Answer) -> u8
+    ensures end { result ≡ answer_number answer.now }
+    ensures few { result < ENDS }
+{
+    match answer {
+        Answer::Done { reply, .. } => reply_number(reply),
+        Answer::Refused(refusal) => 1 + refusal.number(),
+    }
+}
+
+fn reply_number(reply: &Reply) -> u8
+    ensures end { result ≡ reply_number reply.now }
+    ensures few { result < 2 }
+{
+    match reply {
+        Reply::Done(_) => 0,
+        Reply::RolledBack(_) => 1,
+    }
+}

@@ -1,0 +1,134 @@
+use crate::latencies::Latencies;
+use crate::stopwatch::Stopwatch;
+use engine::Gate;
+use requests::{Request, Script};
+use schema::NoMemory;
+use std::alloc::Global;
+use std::io::{Stderr, Write};
+use std::rt::Clock;
+use std::sync::atomic::{AtomicU64, Ordering};
+
+// It is told of the serving each so many nanoseconds.
+const STRIDE: u64 = 1_000_000_000;
+
+/// Looks on while scripts are served: how many requests were answered, and how long each took from when
+/// it was asked for. It holds nobody up, and looks at no clock where nothing is to be told.
+#[derive(Drop)]
+pub struct Watch<'a, R> {
+    // Where it is told of the serving, if anywhere.
+    terminal: Option<Stderr>,
+    // Whether times are kept.
+    is_timed: bool,
+    // What all moments are counted from, in nanoseconds, if a clock is looked at.
+    stopwatch: Option<Stopwatch<'a, R>>,
+    // When the first request was asked, and when the last one was answered; 0 before.
+    first: AtomicU64,
+    last: AtomicU64,
+    answered: AtomicU64,
+    told: AtomicU64,
+    latencies: Latencies,
+}
+
+impl<'a, R: Clock> Watch<'a, R> {
+    /// A watch that tells on `terminal`, and keeps times if they are wanted.
+    pub fn new(rt: &'a R, alloc: Global, terminal: Option<Stderr>, is_timed: bool) -> Self {
+        let stopwatch = if is_timed || terminal.is_some() {
+            Some(Stopwatch::start(rt))
+        } else {
+            None
+        };
+        Watch {
+            terminal,
+            is_timed,
+            stopwatch,
+            first: AtomicU64::new(0),
+            last: AtomicU64::new(0),
+            answered: AtomicU64::new(0),
+            told: AtomicU64::new(0),
+            latencies: Latencies::new(alloc),
+        }
+    }
+
+    /// Makes room for the times of all requests, if times are kept.
+    pub fn prepare(&mut self, alloc: Global, scripts: &[Script]) -> Result<(), NoMemory> {
+        if self.is_timed {
+            self.latencies = Latencies::of_scripts(alloc, scripts)?;
+        }
+        Ok(())
+    }
+
+    /// How many nanoseconds passed from when the first request was asked up to when the last was answered.
+    pub fn served_for(&self) -> u64 {
+        let last = self.last.load(Ordering::SeqCst);
+        last.saturating_sub(self.first.load(Ordering::SeqCst))
+    }
+
+    /// The times of the requests that passed, in nanoseconds, from the least on.
+    pub fn sorted_times(&self, alloc: Global) -> Result<Vec<u64>, NoMemory> {
+        self.latencies.sorted(alloc)
+    }
+
+    /// Ends the line that was told of the serving, if there is one.
+    pub fn end(&self) {
+        if self.told.load(Ordering::SeqCst) > 0 {
+            self.tell("\n");
+        }
+    }
+
+    // The moment, if there is a clock and it is looked at. It is not 0.
+    fn now(&self) -> Option<u64> {
+        let Some(stopwatch) = &self.stopwatch else {
+            return None;
+        };
+        Some(stopwatch.nanoseconds()?.max(1))
+    }
+
+    // Tells of the serving, once in a second, whichever thread comes by.
+    fn tell_in_time(&self, now: u64) {
+        let told = self.told.load(Ordering::SeqCst);
+        if now.saturating_sub(told) < STRIDE {
+            return;
+        }
+        let mine = self
+            .told
+            .compare_exchange(told, now, Ordering::SeqCst, Ordering::SeqCst);
+        if mine.is_ok() {
+            self.tell("");
+        }
+    }
+
+    fn tell(&self, end: &str) {
+        let Some(mut terminal) = self.terminal else {
+            return;
+        };
+        let answered = self.answered.load(Ordering::SeqCst);
+        let nanoseconds = u128::from(self.served_for().max(1));
+        let each_second = u128::from(answered) * 1_000_000_000 / nanoseconds;
+        let _ = write!(
+            terminal,
+            "\rtpcc: {answered} requests answered, {each_second} a second{end}"
+        );
+    }
+}
+
+impl<R: Clock> Gate for Watch<'_, R> {
+    fn commit(&self, session: u32, number: u32, _request: &Request) {
+        if let Some(now) = self.now() {
+            if self.first.load(Ordering::SeqCst) == 0 {
+                let _ = self
+                    .first
+                    .compare_exchange(0, now, Ordering::SeqCst, Ordering::SeqCst);
+            }
+            self.latencies.begin(session, number, now);
+        }
+    }
+
+    fn answered(&self, session: u32, number: u32, _request: &Request) {
+        if let Some(now) = self.now() {
+            self.latencies.end(session, number, now);
+            self.last.store(now, Ordering::SeqCst);
+            self.answered.fetch_add(1, Ordering::SeqCst);
+            self.tell_in_time(now);
+        }
+    }
+}
