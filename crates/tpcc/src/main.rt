@@ -10,6 +10,7 @@ mod populate;
 mod progress;
 mod replay;
 mod run;
+mod script;
 mod settings;
 mod sim;
 mod status;

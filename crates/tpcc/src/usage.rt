@@ -14,6 +14,14 @@ pub enum UsageFault {
     NoCommand,
     /// There are not 1 to 64 scripts.
     ScriptCount,
+    /// There are not 1 to 64 files for scripts.
+    FileCount,
+    /// Two files for scripts have one path.
+    SameFile,
+    /// What stands for a mix is none.
+    Mix,
+    /// Whether other warehouses take part is told by another word.
+    Remote,
     /// There is not one executor.
     ExecutorCount,
     /// What stands for this option is no number, or none in its limits.
@@ -45,6 +53,12 @@ impl fmt::Display for UsageFault {
             },
             UsageFault::NoCommand => f.write_str("error: no command: try `tpcc --help`\n"),
             UsageFault::ScriptCount => f.write_str("error: `tpcc run` takes 1 to 64 scripts\n"),
+            UsageFault::FileCount => f.write_str("error: `tpcc script` takes 1 to 64 files\n"),
+            UsageFault::SameFile => f.write_str("error: two scripts have the same file\n"),
+            UsageFault::Mix => f.write_str(
+                "error: --mix takes cards of kinds, 0 to 1000 of each and one at least, as N=45,P=43,O=4,D=4,L=4\n",
+            ),
+            UsageFault::Remote => f.write_str("error: --remote takes on or off\n"),
             UsageFault::ExecutorCount => f.write_str("error: `tpcc sim` takes 1 executor\n"),
             UsageFault::Number { option, low, high } => {
                 writeln!(f, "error: {option} takes a number from {low} to {high}")
