@@ -1,8 +1,9 @@
 -- Settings within their limits.
 use Rattle.std.specs.Prelude.{◌≤◌, length}
 use Rattle.tpcc.specs.declared.settings.Settings.{Settings}
-use Rattle.tpcc.specs.declared.settings.Settings.TheVariants.{Run, Sim, Populate, Check, Replay, Text}
+use Rattle.tpcc.specs.declared.settings.Settings.TheVariants.{Run, Sim, Populate, Script, Check, Replay, Text}
 use Rattle.tpcc.specs.declared.settings.run.RunSettings.{RunSettings}
+use Rattle.tpcc.specs.declared.settings.script.ScriptSettings.{ScriptSettings}
 use Rattle.tpcc.specs.declared.settings.sim.SimSettings.{SimSettings}
 
 -- a run has 1 to 64 scripts, one for each session
@@ -13,11 +14,16 @@ HasSessions run = (1 ≤ length run.scripts.items) × (length run.scripts.items 
 abbrev pub HasExecutors : SimSettings → Type 0
 HasExecutors sim = (1 ≤ sim.executors) × (sim.executors ≤ 16)
 
--- a run has its sessions, and a simulation its executors; of the others nothing is asked here
+-- there are 1 to 64 files for scripts, one for each session
+abbrev pub HasFiles : ScriptSettings → Type 0
+HasFiles script = (1 ≤ length script.files.items) × (length script.files.items ≤ 64)
+
+-- a run has its sessions, a simulation its executors, and scripts that are made their files; of the others nothing is asked here
 abbrev pub IsWithinLimits : Settings → Type 0
 IsWithinLimits (Run run) = HasSessions run
 IsWithinLimits (Sim sim) = HasExecutors sim
 IsWithinLimits (Populate populate) = Unit {0}
+IsWithinLimits (Script script) = HasFiles script
 IsWithinLimits (Check check) = Unit {0}
 IsWithinLimits (Replay replay) = Unit {0}
 IsWithinLimits (Text text) = Unit {0}

@@ -16,6 +16,8 @@ pub enum CommandFault<'a> {
     File { path: &'a str, fault: FileFault },
     /// The tables of the dataset break this condition of consistency, the least of those that they break.
     NotConsistent(u8),
+    /// The dataset has no warehouse of this number.
+    NoWarehouse(u32),
     /// A thread could not be started.
     NoThread,
     /// The tables were asked for while a transaction was active.
@@ -56,6 +58,7 @@ impl<'a> CommandFault<'a> {
             CommandFault::File { .. } | CommandFault::NoThread | CommandFault::NotIdle => {
                 Status::Failed
             }
+            CommandFault::NoWarehouse(_) => Status::Usage,
             CommandFault::NotConsistent(_) => Status::NotConsistent,
         }
     }
@@ -70,6 +73,7 @@ impl fmt::Display for CommandFault<'_> {
                 write!(f, "{path}: {fault}")
             }
             CommandFault::NotConsistent(number) => write!(f, "not consistent: {number}"),
+            CommandFault::NoWarehouse(number) => write!(f, "no warehouse: {number}"),
             CommandFault::NoThread => f.write_str("no thread"),
             CommandFault::NotIdle => f.write_str("not idle"),
         }

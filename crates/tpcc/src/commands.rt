@@ -15,6 +15,7 @@ mod check;
 mod populate;
 mod replay;
 mod run;
+mod script;
 mod sim;
 
 /// Carries out on files what the settings ask for, and gives the exit status. Files that are read are
@@ -32,6 +33,7 @@ pub fn carry_out<R: Files + AllocGlobal + Clock + Threads + Wait + Sync>(
         Settings::Run(run) => run::carry_out(rt, stdout, stderr, run),
         Settings::Sim(sim) => sim::carry_out(rt, stdout, stderr, sim),
         Settings::Populate(populate) => populate::carry_out(rt, stderr, populate),
+        Settings::Script(script) => script::carry_out(rt, stderr, script),
         Settings::Check(check) => check::carry_out(rt, stdout, stderr, check),
         Settings::Replay(replay) => replay::carry_out(rt, stdout, stderr, replay),
         Settings::Text(text) => print_text(rt, stdout, stderr, text.as_str()),

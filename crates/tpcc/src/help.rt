@@ -18,6 +18,7 @@ Exit statuses, with what is told on the standard error:
   1  `tpcc: PATH: row R: fault N`: a file has a fault, or can't be opened, made, read or written
      `tpcc: no thread`, `tpcc: not idle`
   2  the words of the command line are wrong, or --help asks for help
+     `tpcc: no warehouse: W`: `script --home` names one that the dataset has not
   3  `tpcc: not consistent: N`: the dataset breaks condition N
      without a word there: `check` found a condition broken, or `replay` a log that differs
   4  `tpcc: no memory`

@@ -17,6 +17,7 @@ mod progress;
 mod replay;
 mod report;
 mod run;
+mod script;
 mod settings;
 mod shelf;
 mod sim;

@@ -9,15 +9,18 @@ use std::alloc::{AllocError, Global};
 
 mod arguments;
 mod check;
+mod mix;
 mod populate;
 mod replay;
 mod run;
+mod script;
 mod sim;
 
 pub use check::CheckSettings;
 pub use populate::PopulateSettings;
 pub use replay::ReplaySettings;
 pub use run::RunSettings;
+pub use script::ScriptSettings;
 pub use sim::SimSettings;
 
 /// What the program was asked to do.
@@ -26,6 +29,7 @@ pub enum Settings<'a> {
     Run(RunSettings<'a>),
     Sim(SimSettings<'a>),
     Populate(PopulateSettings<'a>),
+    Script(ScriptSettings<'a>),
     Check(CheckSettings<'a>),
     Replay(ReplaySettings<'a>),
     /// A text that was asked for, of help or the version. It ends with a line feed.
@@ -53,6 +57,7 @@ pub fn read_words<'a>(alloc: Global, words: &'a [String]) -> Result<Settings<'a>
     match matches.subcommand() {
         Some(("sim", sim)) => Ok(Settings::Sim(sim::read(sim)?)),
         Some(("populate", populate)) => Ok(Settings::Populate(populate::read(populate)?)),
+        Some(("script", script)) => Ok(Settings::Script(script::read(alloc, script)?)),
         Some(("check", check)) => Ok(Settings::Check(check::read(check))),
         Some(("replay", replay)) => Ok(Settings::Replay(replay::read(replay))),
         Some((_, run)) => Ok(Settings::Run(run::read(alloc, run)?)),
@@ -97,6 +102,7 @@ fn program<'a>(alloc: Global) -> Result<Command<'a>, AllocError> {
         .version(help::VERSION)
         .after_help(help::PROGRAM)
         .subcommand(populate::command(alloc)?)?
+        .subcommand(script::command(alloc)?)?
         .subcommand(check::command(alloc)?)?
         .subcommand(run::command(alloc)?)?
         .subcommand(replay::command(alloc)?)?

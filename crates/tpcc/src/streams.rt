@@ -3,6 +3,7 @@ ghost use Rattle.std.specs.Prelude.{◌≡◌, ℕ, List, Option, IfOk, IsOk, On
 ghost use Rattle.std.specs.Io.KnownBytes.{Appends};
 ghost use Rattle.files.specs.Written.{csv_text};
 ghost use Rattle.terminals.specs.LogRecord.{IsLog};
+ghost use Rattle.terminals.specs.Script.{IsScript};
 ghost use Rattle.dataset.specs.Records.{AreRecords};
 ghost use Rattle.tpcc.specs.Shelf.{Shelves};
 
@@ -10,11 +11,12 @@ use crate::command_fault::CommandFault;
 use crate::shelf::Shelf;
 use commit_log::Entry;
 use files::{FileError, NewRecord, RecordWriter};
+use requests::Script;
 use schema::Tables;
 use std::alloc::Global;
 use std::fmt::Display;
 use std::io::{Read, Write};
-use terminals::write_log;
+use terminals::{write_log, write_script};
 
 /// How the standard output is named in a fault.
 pub const STANDARD_OUTPUT: &str = "standard output";
@@ -94,6 +96,27 @@ fn name_tables<'a, T: Write + Drop, N: Shelf<T>>(
     ensures err { OnErr result (N.named shelf.new ≡ N.named shelf.old) }
 {
     match dataset::write(alloc, sink, tables) {
+        Ok(whole) => {
+            let whole = settled(path, whole, shelf)?;
+            named(path, whole, shelf)
+        }
+        Err(error) => Err(CommandFault::of_file(path, error)),
+    }
+}
+
+/// Writes the script and gives the file its name, all of which is on the disk then. After an error it has
+/// not got it.
+pub fn write_requests<'a, T: Write + Drop, N: Shelf<T>>(
+    alloc: Global,
+    path: &'a str,
+    sink: T,
+    script: &Script,
+    shelf: &mut N,
+) -> Result<(), CommandFault<'a>>
+    ensures ok { OnOk result ((rows : List (List (List ℕ))) × (text : Option (List ℕ)) × IsScript script.now rows × Appends (T.contents sink) text (csv_text rows) × Shelves (N.named shelf.old) (N.named shelf.new) text) }
+    ensures err { OnErr result (N.named shelf.new ≡ N.named shelf.old) }
+{
+    match write_script(alloc, sink, script) {
         Ok(whole) => {
             let whole = settled(path, whole, shelf)?;
             named(path, whole, shelf)

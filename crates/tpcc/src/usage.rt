@@ -22,6 +22,14 @@ pub enum UsageFault {
     ScriptCount,
     /// Two files that are to be written have one path.
     SameOutput,
+    /// There are not 1 to 64 files for scripts.
+    FileCount,
+    /// Two files for scripts have one path.
+    SameFile,
+    /// What stands for a mix is none.
+    Mix,
+    /// Whether other warehouses take part is told by another word.
+    Remote,
     /// What stands for this option is no number, or none in its limits.
     Number {
         option: &'static str,
@@ -57,6 +65,12 @@ impl fmt::Display for UsageFault {
             UsageFault::SameOutput => {
                 f.write_str("error: --log and --tables name the same file\n")
             }
+            UsageFault::FileCount => f.write_str("error: `tpcc script` takes 1 to 64 files\n"),
+            UsageFault::SameFile => f.write_str("error: two scripts have the same file\n"),
+            UsageFault::Mix => f.write_str(
+                "error: --mix takes cards of kinds, 0 to 1000 of each and one at least, as N=45,P=43,O=4,D=4,L=4\n",
+            ),
+            UsageFault::Remote => f.write_str("error: --remote takes on or off\n"),
             UsageFault::Number { option, low, high } => {
                 writeln!(f, "error: {option} takes a number from {low} to {high}")
             }

@@ -1,4 +1,5 @@
 use super::*;
+use workload::Mix;
 
 // The text of the fault that the words have, which begin after the program's name.
 fn fault_text(alloc: Global, words: &[&str]) -> Result<Option<String>, AllocError> {
@@ -137,6 +138,101 @@ fn a_population_has_its_scale(rt: HostRuntime) -> Result<(), Fail> {
 }
 
 #[test]
+fn scripts_have_their_files_and_what_they_are_drawn_for(rt: HostRuntime) -> Result<(), Fail> {
+    let alloc = rt.alloc();
+    let words = all_words(alloc, &["script", "data", "one", "two"])?;
+    let Settings::Script(script) = read_words(alloc, words.as_slice())? else {
+        panic!(rt; "scripts");
+    };
+    assert_eq!(rt; script.data, "data");
+    assert_eq!(rt; script.files.as_slice(), ["one", "two"].as_slice());
+    assert_eq!(rt;
+        (script.requests, script.seed, script.home, script.remote),
+        (1_000, 1, None, true)
+    );
+    assert_eq!(rt; Some(script.mix), Mix::checked_new(45, 43, 4, 4, 4));
+    assert_eq!(rt; script.start.seconds(), 1_704_067_200);
+    let words = [
+        "script",
+        "data",
+        "one",
+        "--requests=16777216",
+        "--seed=0",
+        "--home",
+        "64",
+        "--remote=off",
+        "--mix",
+        "L=0,D=1000,N=2",
+        "--now=1970-01-01T00:00:00",
+    ];
+    let words = all_words(alloc, &words)?;
+    let Settings::Script(script) = read_words(alloc, words.as_slice())? else {
+        panic!(rt; "scripts");
+    };
+    assert_eq!(rt; (script.requests, script.seed), (16_777_216, 0));
+    assert_eq!(rt; (script.home, script.remote), (Some(64), false));
+    assert_eq!(rt; Some(script.mix), Mix::checked_new(2, 0, 0, 1_000, 0));
+    assert_eq!(rt; script.start.seconds(), 0);
+    Ok(())
+}
+
+#[test]
+fn mistakes_in_the_words_of_scripts_are_told(rt: HostRuntime) -> Result<(), Fail> {
+    let alloc = rt.alloc();
+    for list in [
+        "",
+        "N",
+        "N=",
+        "=1",
+        "Q=1",
+        "n=1",
+        "N=1,",
+        ",N=1",
+        "N=1,N=1",
+        "N=1001",
+        "N=01",
+        "N=+1",
+        "N=-1",
+        "N=0",
+        "N=0,P=0,O=0,D=0,L=0",
+        "N=1 ,P=1",
+        "N=1;P=1",
+        "N=1=1",
+    ] {
+        let text = fault_text(alloc, &["script", "data", "one", "--mix", list])?.ok_or("a fault")?;
+        assert!(rt;
+            text.as_str()
+                .starts_with("error: --mix takes cards of kinds"),
+            "{list}: {text}"
+        );
+    }
+    for (words, told) in [
+        (["--remote", "yes"], "error: --remote takes on or off\n"),
+        (
+            ["--home", "0"],
+            "error: --home takes a number from 1 to 64\n",
+        ),
+        (
+            ["--home", "65"],
+            "error: --home takes a number from 1 to 64\n",
+        ),
+        (
+            ["--requests", "16777217"],
+            "error: --requests takes a number from 0 to 16777216\n",
+        ),
+        (["two", "one"], "error: two scripts have the same file\n"),
+    ] {
+        let text = fault_text(alloc, &["script", "data", "one", words[0], words[1]])?;
+        assert_eq!(rt; text.ok_or("a fault")?.as_str(), told);
+    }
+    let mut words = ["script"; 67];
+    words[0] = "script";
+    let text = fault_text(alloc, &words)?.ok_or("a fault")?;
+    assert_eq!(rt; text.as_str(), "error: `tpcc script` takes 1 to 64 files\n");
+    Ok(())
+}
+
+#[test]
 fn a_check_and_a_replay_have_their_files(rt: HostRuntime) -> Result<(), Fail> {
     for fresh in [false, true] {
         let words: &[&str] = if fresh {
@@ -237,6 +333,7 @@ fn every_help_tells_the_exit_statuses(rt: HostRuntime) -> Result<(), Fail> {
     for words in [
         ["--help"].as_slice(),
         ["populate", "--help"].as_slice(),
+        ["script", "--help"].as_slice(),
         ["check", "--help"].as_slice(),
         ["run", "--help"].as_slice(),
         ["replay", "--help"].as_slice(),

@@ -1,0 +1,59 @@
+ghost use Rattle.std.specs.Prelude.{◌≡◌, length, IfOk};
+ghost use Rattle.tpcc.specs.Settings.{HasFiles};
+
+use crate::command_fault::CommandFault;
+use crate::opening::{Opener, Watched};
+use crate::output::{Folders, NewFile, make};
+use crate::report::{Report, Teller};
+use crate::script::script_over;
+use crate::settings::ScriptSettings;
+use crate::status::Status;
+use crate::trouble::Trouble;
+use std::io::Stderr;
+use std::rt::Files;
+
+/// Opens the files of the command, carries it out, and gives the exit status.
+pub fn carry_out<R: Files + AllocGlobal>(
+    rt: &R,
+    stderr: Stderr,
+    settings: &ScriptSettings,
+) -> Status
+    requires { HasFiles settings.now }
+{
+    let trouble = Trouble::new();
+    let mut teller = Teller::new(rt, stderr, settings.quiet, false, &trouble);
+    let opener = Opener::new(rt, stderr, settings.quiet, &trouble);
+    match ScriptFiles::open(&opener, settings) {
+        Ok(ScriptFiles { data, scripts }) => script_over(
+            rt.alloc(),
+            settings,
+            data,
+            scripts,
+            &mut Folders,
+            &mut teller,
+        ),
+        Err(fault) => teller.report(fault),
+    }
+}
+
+// The files of the command: the one that is read, told of on a terminal, and those that are written.
+struct ScriptFiles<'a, R: Files> {
+    data: Watched<'a, R::File>,
+    scripts: Vec<NewFile<'a, R>>,
+}
+
+impl<'a, R: Files + AllocGlobal> ScriptFiles<'a, R> {
+    fn open(
+        opener: &Opener<'a, R>,
+        settings: &'a ScriptSettings<'a>,
+    ) -> Result<ScriptFiles<'a, R>, CommandFault<'a>>
+        ensures { IfOk result (λ files. length files.scripts.items ≡ length settings.now.files.items) }
+    {
+        let data = opener.open(settings.data)?;
+        let mut scripts = Vec::new(opener.rt.alloc());
+        for path in &settings.files {
+            scripts.push(make(opener.rt, path, opener.terminal, opener.trouble)?)?;
+        }
+        Ok(ScriptFiles { data, scripts })
+    }
+}

@@ -1,0 +1,153 @@
+ghost use Rattle.std.specs.Prelude.{IfOk};
+ghost use Rattle.tpcc.specs.Settings.{HasFiles};
+
+use crate::other_name::are_one;
+use crate::settings::arguments::{counted, data, moment, number, quiet};
+use crate::settings::mix::mix;
+use crate::usage::UsageFault;
+use clap::{Arg, ArgAction, ArgMatches, Command};
+use engine::MOST_SESSIONS;
+use schema::Moment;
+use std::alloc::{AllocError, Global};
+use workload::Mix;
+
+/// What `tpcc script` was asked to do: paths of files, and what the scripts are drawn for.
+#[derive(Debug, Drop)]
+pub struct ScriptSettings<'a> {
+    pub data: &'a str,
+    /// 1 to 64, of different paths. File s, from 0, gets the script of session s.
+    pub files: Vec<&'a str>,
+    /// How many requests each script has.
+    pub requests: u32,
+    pub seed: u32,
+    pub mix: Mix,
+    /// The home warehouse of all sessions, 1 to 64; each has its own where there is none.
+    pub home: Option<u32>,
+    /// Whether other warehouses take part.
+    pub remote: bool,
+    /// The moment of each script's first request.
+    pub start: Moment,
+    /// Whether nothing is to be told but faults.
+    pub quiet: bool,
+}
+
+/// What the words of `tpcc script` ask for.
+pub fn read<'a>(alloc: Global, matches: &ArgMatches<'a>) -> Result<ScriptSettings<'a>, UsageFault>
+    ensures { IfOk result HasFiles }
+{
+    let files = matches.get_strs("FILE").unwrap_or(&[]);
+    if !(1..=MOST_SESSIONS).contains(&files.len()) {
+        return Err(UsageFault::FileCount);
+    }
+    if has_twice(files) {
+        return Err(UsageFault::SameFile);
+    }
+    Ok(ScriptSettings {
+        data: matches.get_str("DATA").unwrap_or(""),
+        files: files.to_vec(alloc)?,
+        requests: number(
+            matches.get_str("requests"),
+            1_000,
+            0,
+            16_777_216,
+            "--requests",
+        )?,
+        seed: number(matches.get_str("seed"), 1, 0, u32::MAX, "--seed")?,
+        mix: mix(matches.get_str("mix"))?,
+        home: home(matches.get_str("home"))?,
+        remote: remote(matches.get_str("remote"))?,
+        start: moment(matches.get_str("now"))?,
+        quiet: matches.get_flag("quiet"),
+    })
+}
+
+// Whether a path is there twice.
+fn has_twice(files: &[&str]) -> bool {
+    for (place, file) in files.iter().enumerate() {
+        for earlier in &files[..place] {
+            if are_one(earlier, file) {
+                return true;
+            }
+        }
+    }
+    false
+}
+
+// The home warehouse that an option asks for.
+fn home(words: Option<&str>) -> Result<Option<u32>, UsageFault> {
+    match words {
+        None => Ok(None),
+        words => Ok(Some(number(words, 1, 1, 64, "--home")?)),
+    }
+}
+
+// Whether other warehouses take part, which they do where no option tells.
+fn remote(words: Option<&str>) -> Result<bool, UsageFault> {
+    match words {
+        None | Some("on") => Ok(true),
+        Some("off") => Ok(false),
+        Some(_) => Err(UsageFault::Remote),
+    }
+}
+
+/// The command and its options.
+pub fn command<'a>(alloc: Global) -> Result<Command<'a>, AllocError> {
+    let files = Arg::new(alloc, "FILE")
+        .help("Where the scripts are written, one for each session, at most 64")
+        .required(true)
+        .num_args(1..)
+        .action(ArgAction::Append);
+    Command::new(alloc, "script")
+        .about(
+            "Makes scripts of requests as the benchmark's terminals would, after clauses 2.4 to 2.8",
+        )
+        .after_help(HELP)
+        .arg(data(alloc))?
+        .arg(files)?
+        .arg(counted(
+            alloc,
+            "requests",
+            "How many requests each script has, 0 to 16,777,216; 1,000 by default",
+        ))?
+        .arg(counted(
+            alloc,
+            "seed",
+            "The seed of all draws, 0 to 4,294,967,295; 1 by default",
+        ))?
+        .arg(
+            Arg::new(alloc, "mix").long("mix").value_name("LIST").help(
+                "How many cards of each kind a deck has; N=45,P=43,O=4,D=4,L=4 by default",
+            ),
+        )?
+        .arg(
+            Arg::new(alloc, "home").long("home").value_name("W").help(
+                "The home warehouse of all sessions; each has its own by default",
+            ),
+        )?
+        .arg(
+            Arg::new(alloc, "remote")
+                .long("remote")
+                .value_name("WORD")
+                .help("Whether other warehouses take part, on or off; on by default"),
+        )?
+        .arg(
+            Arg::new(alloc, "now").long("now").value_name("MOMENT").help(
+                "The date and time of each first request; 2024-01-01T00:00:00 by default",
+            ),
+        )?
+        .arg(quiet(alloc))
+}
+
+// What is told after the arguments by `tpcc script --help`.
+const HELP: &str = "\
+Of DATA the header is read, which tells the scale, and nothing behind it. The first FILE is session 0's, the
+next session 1's, and so on, as `tpcc run DATA FILE..` takes them. Session s is at home in warehouse s + 1, and
+again from the first on behind the last. Each request comes a second after the one before. The same words and
+the same scale give the same bytes; docs/FORMATS.md tells each draw. Prints nothing.
+
+The kinds of a script are dealt from a shuffled deck of cards, and again from the deck shuffled anew: N a
+New-Order, P a payment, O an Order-Status, D a Delivery, L a Stock-Level. A kind has 0 to 1,000 cards, none if it
+is left out of LIST, and one is there at least.
+
+Exit statuses: 0 the scripts are written, 1 a fault of a file, 2 the words are wrong, or `tpcc: no warehouse: W`:
+DATA has fewer warehouses than --home names, 4 no memory";
