@@ -34,6 +34,10 @@ pub fn tell_meaning<R: Files + AllocGlobal, W: Write>(
             sink,
             "the condition of TPC-C 5.11, clause 3.3.2: `tpcc check` tells of all that are broken",
         ),
+        CommandFault::NoWarehouse(_) => tell(
+            sink,
+            "the dataset's first record tells how many warehouses there are: its third field",
+        ),
         CommandFault::File { path, fault } if fault.kind == FaultKind::Io => {
             tell_trouble(sink, path, trouble);
         }
