@@ -12,6 +12,9 @@ import time
 HERE = pathlib.Path(__file__).resolve().parent
 TOP = HERE.parent
 
+# How the words of a command end that are files.
+FILES = (".csv", ".svg")
+
 # How `commands` marks a command: its scripts may be logged in any order; or what it meets, which takes a built program.
 MARK = re.compile(r"(any order|no room|closed|room \d+|interrupted|terminal): ")
 SHOWN = {"terminal": "   # on a terminal", "no room": " > /dev/full", "closed": " | true", "interrupted": "   # and Ctrl-C", "room": "   # where files have room for {}"}
@@ -106,10 +109,10 @@ class Run:
         return self.mark not in ("", "any order")
 
     def files(self):
-        return [word for word in self.words if word.endswith(".csv")]
+        return [word for word in self.words if word.endswith(FILES)]
 
     def words_in(self, folder):
-        return [str(folder / word) if word.endswith(".csv") else word for word in self.words]
+        return [str(folder / word) if word.endswith(FILES) else word for word in self.words]
 
     def carry_out(self, program, folder, seconds):
         """Runs it by a built program."""

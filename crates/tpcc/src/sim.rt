@@ -5,7 +5,12 @@ use crate::report::Report;
 use crate::settings::SimSettings;
 use crate::shelf::Shelf;
 use crate::status::Status;
-use crate::streams::{STANDARD_OUTPUT, name_printed, read_tables, write_entries, write_tables};
+use crate::streams::{
+    STANDARD_OUTPUT, finished, name_printed, read_tables, write_entries, write_tables,
+};
+use history::{Output, Scheduled};
+use picture::write_picture;
+use schema::Scale;
 use std::alloc::Global;
 use std::io::{Read, Write};
 use terminals::{read_schedule, write_outputs};
@@ -15,10 +20,11 @@ use world::{GatherFault, OpenFault, simulate};
 ///
 /// `data` is read first, and then the schedule; the first fault decides, and then nothing was run. The log
 /// is written to `log` and is on the disk first; then what is printed of the schedule goes to `told`, one
-/// record for each event; then the log gets its name on `shelf`, and then the tables are written to
-/// `tables` and get theirs. There are none while a transaction is active, or where there is no memory for
-/// them, which is no fault where none are asked for. Why a simulation ended early is told to `errors`: a
-/// fault of a file, tables that are not consistent, a transaction that is active, or no memory.
+/// record for each event; then the log gets its name on `shelf`, then the picture of what was printed is
+/// written to `picture` and gets its name, and so do the tables. There are none while a transaction is
+/// active, or where there is no memory for them, which is no fault where none are asked for. Why a
+/// simulation ended early is told to `errors`: a fault of a file, tables that are not consistent, a
+/// transaction that is active, or no memory.
 pub fn sim_over<D: Read + Drop, S: Read + Drop, A: Write, F: Write + Drop, N: Shelf<F>, E: Report>(
     alloc: Global,
     settings: &SimSettings,
@@ -26,6 +32,7 @@ pub fn sim_over<D: Read + Drop, S: Read + Drop, A: Write, F: Write + Drop, N: Sh
     schedule: S,
     told: &mut A,
     log: Option<F>,
+    picture: Option<F>,
     tables: Option<F>,
     shelf: &mut N,
     errors: &mut E,
@@ -33,7 +40,7 @@ pub fn sim_over<D: Read + Drop, S: Read + Drop, A: Write, F: Write + Drop, N: Sh
     requires { HasExecutors settings.now }
 {
     match sim(
-        alloc, settings, data, schedule, told, log, tables, shelf, errors,
+        alloc, settings, data, schedule, told, log, picture, tables, shelf, errors,
     ) {
         Ok(()) => Status::Success,
         Err(fault) => errors.report(fault),
@@ -47,6 +54,7 @@ fn sim<'a, D: Read + Drop, S: Read + Drop, A: Write, F: Write + Drop, N: Shelf<F
     schedule: S,
     told: &mut A,
     log: Option<F>,
+    picture: Option<F>,
     tables: Option<F>,
     shelf: &mut N,
     errors: &mut E,
@@ -54,6 +62,7 @@ fn sim<'a, D: Read + Drop, S: Read + Drop, A: Write, F: Write + Drop, N: Shelf<F
     requires { HasExecutors settings.now }
 {
     let opening = read_tables(alloc, settings.data, data)?;
+    let scale = opening.scale();
     let schedule = match read_schedule(alloc, schedule) {
         Ok(schedule) => schedule,
         Err(error) => return Err(CommandFault::of_file(settings.schedule, error)),
@@ -71,10 +80,40 @@ fn sim<'a, D: Read + Drop, S: Read + Drop, A: Write, F: Write + Drop, N: Shelf<F
         Err(error) => Err(CommandFault::of_file(STANDARD_OUTPUT, error)),
     };
     name_printed(printed, log, shelf)?;
+    draw(
+        alloc,
+        settings,
+        picture,
+        schedule.as_slice(),
+        simulation.outputs.as_slice(),
+        &scale,
+        shelf,
+    )?;
     match &simulation.tables {
         Ok(last) => write_tables(alloc, settings.tables, tables, last, shelf),
         Err(_) if tables.is_none() => Ok(()),
         Err(GatherFault::NotIdle) => Err(CommandFault::NotIdle),
         Err(GatherFault::NoMemory) => Err(CommandFault::NoMemory),
+    }
+}
+
+// Draws the picture of the schedule, if there is to be one, and gives it its name.
+fn draw<'a, F: Write + Drop, N: Shelf<F>>(
+    alloc: Global,
+    settings: &SimSettings<'a>,
+    picture: Option<F>,
+    schedule: &[Scheduled],
+    outputs: &[Output],
+    scale: &Scale,
+    shelf: &mut N,
+) -> Result<(), CommandFault<'a>>
+    requires { HasExecutors settings.now }
+{
+    let (Some(path), Some(sink)) = (settings.picture, picture) else {
+        return Ok(());
+    };
+    match write_picture(alloc, sink, schedule, outputs, scale, settings.executors) {
+        Ok(whole) => finished(path, whole, shelf),
+        Err(error) => Err(CommandFault::of_file(path, error)),
     }
 }

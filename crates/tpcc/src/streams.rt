@@ -96,10 +96,7 @@ fn name_tables<'a, T: Write + Drop, N: Shelf<T>>(
     ensures err { OnErr result (N.named shelf.new ≡ N.named shelf.old) }
 {
     match dataset::write(alloc, sink, tables) {
-        Ok(whole) => {
-            let whole = settled(path, whole, shelf)?;
-            named(path, whole, shelf)
-        }
+        Ok(whole) => finished(path, whole, shelf),
         Err(error) => Err(CommandFault::of_file(path, error)),
     }
 }
@@ -117,10 +114,7 @@ pub fn write_requests<'a, T: Write + Drop, N: Shelf<T>>(
     ensures err { OnErr result (N.named shelf.new ≡ N.named shelf.old) }
 {
     match write_script(alloc, sink, script) {
-        Ok(whole) => {
-            let whole = settled(path, whole, shelf)?;
-            named(path, whole, shelf)
-        }
+        Ok(whole) => finished(path, whole, shelf),
         Err(error) => Err(CommandFault::of_file(path, error)),
     }
 }
@@ -138,6 +132,19 @@ fn settled<'a, F: Write + Drop, N: Shelf<F>>(
         Ok(()) => Ok(file),
         Err(_) => Err(CommandFault::not_opened(path)),
     }
+}
+
+/// Gives the file its name, all of which is on the disk then. After an error it has not got it.
+pub fn finished<'a, F: Write + Drop, N: Shelf<F>>(
+    path: &'a str,
+    file: F,
+    shelf: &mut N,
+) -> Result<(), CommandFault<'a>>
+    ensures ok { OnOk result (Shelves (N.named shelf.old) (N.named shelf.new) (F.contents file)) }
+    ensures err { OnErr result (N.named shelf.new ≡ N.named shelf.old) }
+{
+    let whole = settled(path, file, shelf)?;
+    named(path, whole, shelf)
 }
 
 // Gives the file its name.

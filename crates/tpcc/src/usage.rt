@@ -63,7 +63,7 @@ impl fmt::Display for UsageFault {
             UsageFault::NoCommand => f.write_str("error: no command: try `tpcc --help`\n"),
             UsageFault::ScriptCount => f.write_str("error: `tpcc run` takes 1 to 64 scripts\n"),
             UsageFault::SameOutput => {
-                f.write_str("error: --log and --tables name the same file\n")
+                f.write_str("error: two files that are to be written have one path\n")
             }
             UsageFault::FileCount => f.write_str("error: `tpcc script` takes 1 to 64 files\n"),
             UsageFault::SameFile => f.write_str("error: two scripts have the same file\n"),

@@ -30,6 +30,7 @@ pub fn carry_out<R: Files + AllocGlobal>(
                 data,
                 schedule,
                 log,
+                picture,
                 tables,
             },
         ) => sim_over(
@@ -39,6 +40,7 @@ pub fn carry_out<R: Files + AllocGlobal>(
             schedule,
             &mut NotingWriter::new(stdout, &trouble),
             log,
+            picture,
             tables,
             &mut Folders,
             &mut teller,
@@ -52,6 +54,7 @@ struct SimFiles<'a, R: Files> {
     data: Watched<'a, R::File>,
     schedule: Watched<'a, R::File>,
     log: Option<NewFile<'a, R>>,
+    picture: Option<NewFile<'a, R>>,
     tables: Option<NewFile<'a, R>>,
 }
 
@@ -63,11 +66,13 @@ impl<'a, R: Files + AllocGlobal> SimFiles<'a, R> {
         let data = opener.open(settings.data)?;
         let schedule = opener.open(settings.schedule)?;
         let log = opener.make(settings.log)?;
+        let picture = opener.make(settings.picture)?;
         let tables = opener.make(settings.tables)?;
         Ok(SimFiles {
             data,
             schedule,
             log,
+            picture,
             tables,
         })
     }

@@ -15,6 +15,7 @@ pub struct SimSettings<'a> {
     /// 1 to 16.
     pub executors: u32,
     pub log: Option<&'a str>,
+    pub picture: Option<&'a str>,
     pub tables: Option<&'a str>,
     /// Whether nothing is to be told but the result and faults.
     pub quiet: bool,
@@ -25,20 +26,28 @@ pub fn read<'a>(matches: &ArgMatches<'a>) -> Result<SimSettings<'a>, UsageFault>
     ensures { IfOk result HasExecutors }
 {
     let log = matches.get_str("log");
+    let picture = matches.get_str("picture");
     let tables = matches.get_str("tables");
-    if let (Some(log), Some(tables)) = (log, tables) {
-        if are_one(log, tables) {
-            return Err(UsageFault::SameOutput);
-        }
+    if same(log, picture) || same(log, tables) || same(picture, tables) {
+        return Err(UsageFault::SameOutput);
     }
     Ok(SimSettings {
         data: matches.get_str("DATA").unwrap_or(""),
         schedule: matches.get_str("SCHEDULE").unwrap_or(""),
         executors: number(matches.get_str("executors"), 2, 1, 16, "--executors")?,
         log,
+        picture,
         tables,
         quiet: matches.get_flag("quiet"),
     })
+}
+
+// Whether both are to be written, under one path.
+fn same(one: Option<&str>, other: Option<&str>) -> bool {
+    match (one, other) {
+        (Some(one), Some(other)) => are_one(one, other),
+        _ => false,
+    }
 }
 
 /// The command and its options.
@@ -51,6 +60,10 @@ pub fn command<'a>(alloc: Global) -> Result<Command<'a>, AllocError> {
         "executors",
         "How many executors there are, 1 to 16; 2 by default",
     );
+    let picture = Arg::new(alloc, "picture")
+        .long("picture")
+        .value_name("FILE")
+        .help("Where a picture of the schedule is written, as SVG");
     let tables = Arg::new(alloc, "tables")
         .long("tables")
         .value_name("FILE")
@@ -62,6 +75,7 @@ pub fn command<'a>(alloc: Global) -> Result<Command<'a>, AllocError> {
         .arg(schedule)?
         .arg(executors)?
         .arg(log(alloc))?
+        .arg(picture)?
         .arg(tables)?
         .arg(quiet(alloc))
 }

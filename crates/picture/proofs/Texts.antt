@@ -1,0 +1,32 @@
+-- Texts, one after the other.
+use Rattle.std.proofs.Common.{◌≡◌, ◌+◌, ◌<◌, ℕ, List, [], ◌∷◌, ◌++◌, length, take, get_or, Option, Some, None, sym, ap, ◌∙◌, append_assoc}
+use Rattle.std.proofs.lemmas.List.{append-nil, take_more}
+use Rattle.std.specs.Io.KnownBytes.{Appends}
+use Rattle.picture.specs.Drawing.{texts}
+
+pub texts-push : {T : Type 0} (text : T → List ℕ) (before : List T) (one : T) → texts text (before ++ (one ∷ [])) ≡ texts text before ++ text one
+unfolding texts
+texts-push text [] one = append-nil (text one)
+texts-push text (first ∷ before) one =
+    ap (λ l. text first ++ l) (texts-push text before one) ∙ sym (append_assoc (text first) (texts text before) (text one))
+
+-- nothing is written at first
+pub appends-none : {T : Type 0} (text : T → List ℕ) (sink : Option (List ℕ)) → Appends sink sink (texts text [])
+unfolding texts
+appends-none text None = tt
+appends-none text (Some bytes) = sym (append-nil bytes)
+
+-- one text after another
+pub appends-after : (sink old new : Option (List ℕ)) (first second : List ℕ) → Appends sink old first → Appends old new second → Appends sink new (first ++ second)
+appends-after None old new first second before one = tt
+appends-after (Some bytes) None new first second before one = absurd before
+appends-after (Some bytes) (Some more) None first second before one = absurd one
+appends-after (Some bytes) (Some more) (Some all) first second before one =
+    one ∙ ap (λ l. l ++ second) before ∙ append_assoc bytes first second
+
+-- the texts of one more
+pub texts-more : {T : Type 0} (text : T → List ℕ) (xs : List T) (i : ℕ) (x : T) → i < length xs → x ≡ get_or xs i x
+    → texts text (take (i + 1) xs) ≡ texts text (take i xs) ++ text x
+texts-more {T} text xs i x there e =
+    let all : take (i + 1) xs ≡ take i xs ++ (x ∷ []) = take_more xs i x there ∙ ap (λ (a : T). take i xs ++ (a ∷ [])) (sym e) in
+    ap (λ (l : List T). texts text l) all ∙ texts-push text (take i xs) x

@@ -1,0 +1,92 @@
+-- The words of a picture.
+use Rattle.std.specs.Prelude.{ℕ, true, false, List, ◌++◌, codes}
+use Rattle.std.specs.Fmt.{decimal}
+use Rattle.requests.specs.Group.{group_text}
+use Rattle.requests.specs.Refusal.{refusal_number}
+use Rattle.requests.specs.declared.refusal.Refusal.{Refusal}
+use Rattle.requests.specs.declared.refusal.Refusal.TheVariants.{Died}
+use Rattle.picture.specs.declared.row.Kind.{Kind}
+use Rattle.picture.specs.declared.row.Kind.TheVariants.{NewOrder, Payment, OrderStatus, Delivery, StockLevel}
+use Rattle.picture.specs.declared.row.Deed.{Deed as AnyDeed}
+use Rattle.picture.specs.declared.row.Deed.TheVariants.{Submit, Take, Send}
+use Rattle.picture.specs.declared.row.Told.{Told as AnyTold}
+use Rattle.picture.specs.declared.row.Told.TheVariants as told
+use Rattle.picture.specs.declared.phrase.Heading.{Heading as AnyHeading}
+use Rattle.picture.specs.declared.phrase.Heading.TheVariants as heading
+use Rattle.picture.specs.declared.phrase.Phrase.{Phrase}
+use Rattle.picture.specs.declared.phrase.Phrase.TheVariants.{Heading, Number, Deed, Rounds, Told, Place, One, Two, Start, Act, Report, Commit, Reply, Settle, Undo, Ended, Unknown, NotShown}
+
+-- what stands over a lane or a column
+abbrev pub heading_text : AnyHeading → List ℕ
+heading_text heading.Event = codes "event"
+heading_text heading.Scheduled = codes "scheduled"
+heading_text heading.Session = codes "session"
+heading_text heading.Executor = codes "executor"
+heading_text heading.Claims = codes "claims"
+heading_text heading.Takes = codes "takes"
+heading_text heading.Sends = codes "sends"
+heading_text heading.Log = codes "log"
+heading_text heading.Told = codes "told"
+heading_text heading.TakenOrSent = codes "taken or sent"
+
+-- the letter of a kind
+abbrev pub kind_text : Kind → List ℕ
+kind_text NewOrder = codes "N"
+kind_text Payment = codes "P"
+kind_text OrderStatus = codes "O"
+kind_text Delivery = codes "D"
+kind_text StockLevel = codes "L"
+
+-- what was scheduled, as schedules spell it, but of a submission only whose it is and of which kind
+abbrev pub deed_text : AnyDeed → List ℕ
+deed_text (Submit session number kind) = codes "S," ++ (decimal session ++ (codes "," ++ (decimal number ++ (codes "," ++ kind_text kind))))
+deed_text (Take executor) = codes "T," ++ decimal executor
+deed_text (Send executor) = codes "X," ++ decimal executor
+
+-- an answer: of which session, to its request of which number, and what follows
+abbrev pub answered_text : ℕ → ℕ → List ℕ → List ℕ
+answered_text session number rest = codes "answered," ++ (decimal session ++ (codes "," ++ (decimal number ++ rest)))
+
+-- why it was refused: the number of the refusal, and of a death the group and its holder's age
+abbrev pub refusal_text : Refusal → List ℕ
+refusal_text (Died group holder) = codes "11," ++ (group_text group ++ (codes "," ++ decimal holder))
+refusal_text refusal = decimal (refusal_number refusal)
+
+-- what is told, as it is printed, but of what was done only its place, and X where it was rolled back
+abbrev pub told_text : AnyTold → List ℕ
+told_text (told.Accepted age) = codes "accepted," ++ decimal age
+told_text told.Took = codes "took"
+told_text told.Sent = codes "sent"
+told_text told.Full = codes "full"
+told_text (told.Logged place) = codes "logged," ++ decimal place
+told_text (told.Done session number place false) = answered_text session number (codes ",done," ++ decimal place)
+told_text (told.Done session number place true) = answered_text session number (codes ",done," ++ (decimal place ++ codes ",X"))
+told_text (told.Refused session number refusal) = answered_text session number (codes ",refused," ++ refusal_text refusal)
+told_text told.Nothing = codes "nothing"
+told_text told.Quiet = codes "quiet"
+told_text told.Limit = codes "limit"
+
+-- the action in this place of the transaction of this age, after a word
+abbrev pub action_text : List ℕ → ℕ → ℕ → List ℕ
+action_text word place age = word ++ (decimal place ++ (codes " of " ++ decimal age))
+
+-- what words say
+abbrev pub phrase_text : Phrase → List ℕ
+phrase_text (Heading h) = heading_text h
+phrase_text (Number number) = decimal number
+phrase_text (Deed deed) = deed_text deed
+phrase_text Rounds = codes "R"
+phrase_text (Told t) = told_text t
+phrase_text (Place place) = decimal place
+phrase_text (One group) = group_text group
+phrase_text (Two first second) = group_text first ++ (codes " " ++ group_text second)
+phrase_text (Start age) = codes "Start of " ++ decimal age
+phrase_text (Act place age) = action_text (codes "Act ") place age
+phrase_text (Report place age) = action_text (codes "Report ") place age
+phrase_text (Commit age) = codes "Commit of " ++ decimal age
+phrase_text (Reply age) = codes "Reply of " ++ decimal age
+phrase_text (Settle place age) = action_text (codes "Settle ") place age
+phrase_text (Undo place age) = action_text (codes "Undo ") place age
+phrase_text (Ended place age) = action_text (codes "End ") place age
+phrase_text Unknown = codes "not known from here on"
+phrase_text NotShown = codes "rounds, whose events are not shown"

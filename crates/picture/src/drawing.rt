@@ -1,0 +1,160 @@
+//! A picture is written.
+ghost use Rattle.std.specs.Prelude.{◌≡◌, ◌≤◌, ℕ, List, [], IfOk, IfSome, OnOk, Some};
+ghost use Rattle.std.specs.Io.KnownBytes.{Appends};
+ghost use Rattle.picture.specs.declared.asides.Aside.{Aside as AnyAside};
+ghost use Rattle.picture.specs.Drawing.{picture_text, texts};
+ghost use Rattle.picture.specs.Lanes.{sessions_from};
+ghost use Rattle.picture.specs.Rows as spec;
+
+use crate::asides::Aside;
+use crate::course::put_course;
+use crate::lanes::{Lanes, height, lanes_of, rows_end};
+use crate::phrase::{Heading, Phrase};
+use crate::row::rows_of;
+use crate::row_marks::marks_of;
+use crate::sheet::{Ground, Legend, Sheet};
+use files::{FaultKind, FileError, FileFault};
+use history::{Output, Scheduled};
+use routing::Routing;
+use schema::{NoMemory, Scale};
+use std::alloc::Global;
+use std::fmt::Display;
+use std::io::Write;
+
+/// Writes the picture of a schedule of which this is told, as SVG, and gives the sink back. Use a `&mut` to a sink
+/// that is needed after a fault too. So many executors have the warehouses of the scale. A failure of the sink is the
+/// fault `Io` at record 1.
+pub fn write_picture<W: Write + Drop>(
+    alloc: Global,
+    sink: W,
+    schedule: &[Scheduled],
+    outputs: &[Output],
+    scale: &Scale,
+    executors: u32,
+) -> Result<W, FileError>
+    requires { 1 ≤ executors }
+    ensures { IfOk result (λ full. (asides : List AnyAside) × Appends (W.contents sink) (W.contents full)
+        (picture_text (sessions_from [] schedule.now) executors (spec.rows_of 1 schedule.now outputs.now) asides)) }
+{
+    let rows = rows_of(alloc, schedule, outputs)?;
+    let lanes = lanes_of(alloc, schedule, executors)?;
+    let heads = heads_of(alloc, &lanes, rows.len())?;
+    let asides = put_course(
+        alloc,
+        heads,
+        &lanes,
+        Routing::opening(scale, executors),
+        schedule,
+        rows.as_slice(),
+    )?;
+    let marks = marks_of(alloc, &lanes, rows.as_slice())?;
+    let width = lanes.width();
+    let height = height(rows.len());
+    let bottom = rows_end(rows.len());
+    let mut sink = sink;
+    let mut line = String::new(alloc);
+    draw(&mut sink, &mut line, &Sheet { width, height })?;
+    draw(&mut sink, &mut line, &ground(false, 0, width, height))?;
+    draw(&mut sink, &mut line, &ground(true, 74, width, bottom))?;
+    draw_all(&mut sink, &mut line, asides.as_slice())?;
+    draw_all(&mut sink, &mut line, marks.as_slice())?;
+    draw(&mut sink, &mut line, &Legend { top: bottom + 24 })?;
+    Ok(sink)
+}
+
+fn ground(striped: bool, top: u128, width: u128, bottom: u128) -> Ground
+    ensures { result ≡ record { striped = striped; top = top; width = width; bottom = bottom } }
+{
+    Ground {
+        striped,
+        top,
+        width,
+        bottom,
+    }
+}
+
+// Writes the texts of signs, one after the other.
+fn draw_all<W: Write, D: Display>(
+    sink: &mut W,
+    line: &mut String,
+    signs: &[D],
+) -> Result<(), FileError>
+    ensures { OnOk result ((text : D → List ℕ) → ((sign : D) → D.output sign ≡ Some (text sign))
+        → Appends (W.contents sink.old) (W.contents sink.new) (texts text signs.now)) }
+{
+    for sign in signs {
+        draw(sink, line, sign)?;
+    }
+    Ok(())
+}
+
+// Writes the text of a sign.
+fn draw<W: Write, D: Display>(sink: &mut W, line: &mut String, sign: &D) -> Result<(), FileError>
+    ensures { OnOk result (IfSome (D.output sign.now) (Appends (W.contents sink.old) (W.contents sink.new))) }
+{
+    line.clear();
+    if write!(line, "{sign}").is_err() {
+        return Err(FileError::NoMemory);
+    }
+    match sink.write_all(line.as_bytes()) {
+        Ok(()) => Ok(()),
+        Err(_) => Err(FileError::File(FileFault {
+            kind: FaultKind::Io,
+            record: 1,
+        })),
+    }
+}
+
+// The heads and the lines of the lanes, through so many rows.
+fn heads_of(alloc: Global, lanes: &Lanes, rows: usize) -> Result<Vec<Aside>, NoMemory> {
+    let mut heads = Vec::new(alloc);
+    for (x, heading) in [
+        (24, Heading::Event),
+        (88, Heading::Scheduled),
+        (lanes.log(), Heading::Log),
+        (lanes.named() + 46, Heading::TakenOrSent),
+        (lanes.told() + 14, Heading::Told),
+    ] {
+        put_head(&mut heads, x, 62, heading)?;
+    }
+    for session in lanes.sessions.iter() {
+        let x = lanes.session(*session);
+        put_head(&mut heads, x, 46, Heading::Session)?;
+        put_count(&mut heads, x, 62, u64::from(*session))?;
+        put_line(&mut heads, false, x, rows)?;
+    }
+    for executor in 0..lanes.executors {
+        let x = lanes.takes(executor);
+        put_head(&mut heads, x, 30, Heading::Executor)?;
+        put_count(&mut heads, x, 46, u64::from(executor))?;
+        put_head(
+            &mut heads,
+            lanes.executor(executor) + 32,
+            62,
+            Heading::Claims,
+        )?;
+        put_head(&mut heads, x, 62, Heading::Takes)?;
+        put_line(&mut heads, false, x, rows)?;
+        put_head(&mut heads, lanes.sends(executor), 62, Heading::Sends)?;
+        put_line(&mut heads, true, lanes.sends(executor), rows)?;
+    }
+    put_line(&mut heads, false, lanes.log(), rows)?;
+    Ok(heads)
+}
+
+fn put_head(heads: &mut Vec<Aside>, x: u128, y: u128, heading: Heading) -> Result<(), NoMemory> {
+    let phrase = Phrase::Heading(heading);
+    heads.push(Aside::Head { x, y, phrase })?;
+    Ok(())
+}
+
+fn put_count(heads: &mut Vec<Aside>, x: u128, y: u128, count: u64) -> Result<(), NoMemory> {
+    let phrase = Phrase::Number(count);
+    heads.push(Aside::Head { x, y, phrase })?;
+    Ok(())
+}
+
+fn put_line(heads: &mut Vec<Aside>, sends: bool, x: u128, rows: usize) -> Result<(), NoMemory> {
+    heads.push(Aside::Lane { sends, x, rows })?;
+    Ok(())
+}

@@ -1,0 +1,23 @@
+//! A picture of a schedule, as SVG: time goes down, one row for each event, with a lane for each session that
+//! submits, for each executor, and for the log.
+//!
+//! A row shows what was scheduled, and what is told of it. The arrows between rows show which event put what another
+//! took or sent; they are followed by the rules of the core's messages, from the schedule and from what is told, as far
+//! as these determine it.
+#![tactic(auto)]
+
+mod asides;
+mod course;
+mod drawing;
+mod graph;
+mod lanes;
+mod marks;
+mod phrase;
+mod row;
+mod row_marks;
+mod sheet;
+
+pub use drawing::write_picture;
+
+#[cfg(test)]
+mod tests;

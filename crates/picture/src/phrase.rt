@@ -1,0 +1,185 @@
+//! The words of a picture.
+use crate::row::{Deed, Kind, Told};
+use requests::{Group, Refusal};
+use std::fmt;
+
+/// What words say.
+#[derive(Clone, Copy)]
+pub enum Phrase {
+    Heading(Heading),
+    /// The number of an item of the schedule.
+    Number(u64),
+    /// What was scheduled, as far as it is shown.
+    Deed(Deed),
+    /// Rounds, as they are scheduled.
+    Rounds,
+    /// What is told, as far as it is shown.
+    Told(Told),
+    /// A place of the log.
+    Place(u32),
+    /// The groups of a claim.
+    One(Group),
+    Two(Group, Group),
+    /// What was taken or sent, for the transaction of this age.
+    Start { age: u64 },
+    Act { place: usize, age: u64 },
+    Report { place: usize, age: u64 },
+    Commit { age: u64 },
+    Reply { age: u64 },
+    Settle { place: usize, age: u64 },
+    Undo { place: usize, age: u64 },
+    Ended { place: usize, age: u64 },
+    /// From here on it isn't known what is taken and sent.
+    Unknown,
+    /// What happens in rounds is not shown.
+    NotShown,
+}
+
+/// What stands over a lane or a column.
+#[derive(Clone, Copy)]
+pub enum Heading {
+    Event,
+    Scheduled,
+    Session,
+    Executor,
+    Claims,
+    Takes,
+    Sends,
+    Log,
+    Told,
+    TakenOrSent,
+}
+
+impl fmt::Display for Heading {
+    ghost use Rattle.std.specs.Prelude.{Some};
+    ghost use Rattle.picture.specs.Phrases.{heading_text};
+
+    ghost output = { λ heading. Some (heading_text heading) };
+
+    fn fmt<W: fmt::Write>(&self, f: &mut fmt::Formatter<W>) -> fmt::Result {
+        match self {
+            Heading::Event => write!(f, "event"),
+            Heading::Scheduled => write!(f, "scheduled"),
+            Heading::Session => write!(f, "session"),
+            Heading::Executor => write!(f, "executor"),
+            Heading::Claims => write!(f, "claims"),
+            Heading::Takes => write!(f, "takes"),
+            Heading::Sends => write!(f, "sends"),
+            Heading::Log => write!(f, "log"),
+            Heading::Told => write!(f, "told"),
+            Heading::TakenOrSent => write!(f, "taken or sent"),
+        }
+    }
+}
+
+impl fmt::Display for Kind {
+    ghost use Rattle.std.specs.Prelude.{Some};
+    ghost use Rattle.picture.specs.Phrases.{kind_text};
+
+    ghost output = { λ kind. Some (kind_text kind) };
+
+    fn fmt<W: fmt::Write>(&self, f: &mut fmt::Formatter<W>) -> fmt::Result {
+        match self {
+            Kind::NewOrder => write!(f, "N"),
+            Kind::Payment => write!(f, "P"),
+            Kind::OrderStatus => write!(f, "O"),
+            Kind::Delivery => write!(f, "D"),
+            Kind::StockLevel => write!(f, "L"),
+        }
+    }
+}
+
+impl fmt::Display for Deed {
+    ghost use Rattle.std.specs.Prelude.{Some};
+    ghost use Rattle.picture.specs.Phrases.{deed_text};
+
+    ghost output = { λ deed. Some (deed_text deed) };
+
+    fn fmt<W: fmt::Write>(&self, f: &mut fmt::Formatter<W>) -> fmt::Result {
+        match *self {
+            Deed::Submit {
+                session,
+                number,
+                kind,
+            } => write!(f, "S,{session},{number},{kind}"),
+            Deed::Take { executor } => write!(f, "T,{executor}"),
+            Deed::Send { executor } => write!(f, "X,{executor}"),
+        }
+    }
+}
+
+impl fmt::Display for Told {
+    ghost use Rattle.std.specs.Prelude.{Some};
+    ghost use Rattle.picture.specs.Phrases.{told_text};
+
+    ghost output = { λ told. Some (told_text told) };
+
+    fn fmt<W: fmt::Write>(&self, f: &mut fmt::Formatter<W>) -> fmt::Result {
+        match *self {
+            Told::Accepted { age } => write!(f, "accepted,{age}"),
+            Told::Took => write!(f, "took"),
+            Told::Sent => write!(f, "sent"),
+            Told::Full => write!(f, "full"),
+            Told::Logged { place } => write!(f, "logged,{place}"),
+            Told::Done {
+                session,
+                number,
+                place,
+                rolled_back: false,
+            } => write!(f, "answered,{session},{number},done,{place}"),
+            Told::Done {
+                session,
+                number,
+                place,
+                rolled_back: true,
+            } => write!(f, "answered,{session},{number},done,{place},X"),
+            Told::Refused {
+                session,
+                number,
+                refusal: Refusal::Died { group, holder },
+            } => write!(f, "answered,{session},{number},refused,11,{group},{holder}"),
+            Told::Refused {
+                session,
+                number,
+                refusal,
+            } => write!(
+                f,
+                "answered,{session},{number},refused,{}",
+                refusal.number()
+            ),
+            Told::Nothing => write!(f, "nothing"),
+            Told::Quiet => write!(f, "quiet"),
+            Told::Limit => write!(f, "limit"),
+        }
+    }
+}
+
+impl fmt::Display for Phrase {
+    ghost use Rattle.std.specs.Prelude.{Some};
+    ghost use Rattle.picture.specs.Phrases.{phrase_text};
+
+    ghost output = { λ phrase. Some (phrase_text phrase) };
+
+    fn fmt<W: fmt::Write>(&self, f: &mut fmt::Formatter<W>) -> fmt::Result {
+        match *self {
+            Phrase::Heading(heading) => write!(f, "{heading}"),
+            Phrase::Number(number) => write!(f, "{number}"),
+            Phrase::Deed(deed) => write!(f, "{deed}"),
+            Phrase::Rounds => write!(f, "R"),
+            Phrase::Told(told) => write!(f, "{told}"),
+            Phrase::Place(place) => write!(f, "{place}"),
+            Phrase::One(group) => write!(f, "{group}"),
+            Phrase::Two(first, second) => write!(f, "{first} {second}"),
+            Phrase::Start { age } => write!(f, "Start of {age}"),
+            Phrase::Act { place, age } => write!(f, "Act {place} of {age}"),
+            Phrase::Report { place, age } => write!(f, "Report {place} of {age}"),
+            Phrase::Commit { age } => write!(f, "Commit of {age}"),
+            Phrase::Reply { age } => write!(f, "Reply of {age}"),
+            Phrase::Settle { place, age } => write!(f, "Settle {place} of {age}"),
+            Phrase::Undo { place, age } => write!(f, "Undo {place} of {age}"),
+            Phrase::Ended { place, age } => write!(f, "End {place} of {age}"),
+            Phrase::Unknown => write!(f, "not known from here on"),
+            Phrase::NotShown => write!(f, "rounds, whose events are not shown"),
+        }
+    }
+}

@@ -1,0 +1,209 @@
+//! The rows of a picture: what was scheduled, and what is told of it.
+ghost use Rattle.std.specs.Prelude.{◌≡◌, ◌++◌, IfOk, OnOk};
+ghost use Rattle.picture.specs.Rows as spec;
+
+use history::{Event, EventAnswer, Output, Scheduled};
+use requests::{Answer, Refusal, Reply, Request};
+use schema::NoMemory;
+use std::alloc::Global;
+
+/// The kind of a request, by its letter.
+#[derive(Clone, Copy)]
+pub enum Kind {
+    NewOrder,
+    Payment,
+    OrderStatus,
+    Delivery,
+    StockLevel,
+}
+
+/// What an event does.
+#[derive(Clone, Copy)]
+pub enum Deed {
+    Submit {
+        session: u32,
+        number: u32,
+        kind: Kind,
+    },
+    Take {
+        executor: u32,
+    },
+    Send {
+        executor: u32,
+    },
+}
+
+/// What is told.
+#[derive(Clone, Copy)]
+pub enum Told {
+    Accepted {
+        age: u64,
+    },
+    Took,
+    Sent,
+    Full,
+    Logged {
+        place: u32,
+    },
+    Done {
+        session: u32,
+        number: u32,
+        place: u32,
+        rolled_back: bool,
+    },
+    Refused {
+        session: u32,
+        number: u32,
+        refusal: Refusal,
+    },
+    Nothing,
+    Quiet,
+    Limit,
+}
+
+/// A row of the picture.
+#[derive(Clone, Copy)]
+pub enum Row {
+    /// One event. The first item of a schedule has the number 1.
+    Event { number: u64, deed: Deed, told: Told },
+    /// Rounds begin. Their events are not shown.
+    Rounds { number: u64 },
+    /// What is told of rounds.
+    InRounds { told: Told },
+}
+
+/// The rows of a schedule of which this is told, in order.
+pub fn rows_of(
+    alloc: Global,
+    schedule: &[Scheduled],
+    outputs: &[Output],
+) -> Result<Vec<Row>, NoMemory>
+    ensures { IfOk result (λ rows. rows.items ≡ spec.rows_of 1 schedule.now outputs.now) }
+{
+    let mut rows = Vec::new(alloc);
+    let mut left = outputs;
+    for (index, item) in schedule.iter().enumerate() {
+        let number = index as u64 + 1;
+        match item {
+            Scheduled::Event(event) => {
+                let Some((first, others)) = left.split_first() else {
+                    break;
+                };
+                rows.push(event_row(number, event, first))?;
+                left = others;
+            }
+            Scheduled::Rounds => {
+                rows.push(Row::Rounds { number })?;
+                left = put_rounds(&mut rows, left)?;
+            }
+        }
+    }
+    Ok(rows)
+}
+
+// The row of an event.
+fn event_row(number: u64, event: &Event, output: &Output) -> Row
+    ensures { result ≡ spec.event_row number event.now output.now }
+{
+    Row::Event {
+        number,
+        deed: deed_of(event),
+        told: told_of(output),
+    }
+}
+
+// Adds what is told of rounds, up to their end, and gives what is told later.
+fn put_rounds<'a>(rows: &mut Vec<Row>, outputs: &'a [Output]) -> Result<&'a [Output], NoMemory>
+    ensures rows { OnOk result (rows.new.items ≡ rows.old.items ++ spec.rows_in_rounds outputs.now) }
+    ensures later { IfOk result (λ later. later.now ≡ spec.after_rounds outputs.now) }
+{
+    for (index, output) in outputs.iter().enumerate() {
+        rows.push(Row::InRounds {
+            told: told_of(output),
+        })?;
+        if !matches!(output, Output::Event(_)) {
+            return Ok(&outputs[index + 1..]);
+        }
+    }
+    Ok(&outputs[outputs.len()..])
+}
+
+fn deed_of(event: &Event) -> Deed
+    ensures { result ≡ spec.deed_of event.now }
+{
+    match event {
+        Event::Submit {
+            session,
+            number,
+            request,
+        } => Deed::Submit {
+            session: *session,
+            number: *number,
+            kind: kind_of(request),
+        },
+        Event::Take { executor } => Deed::Take {
+            executor: *executor,
+        },
+        Event::Send { executor } => Deed::Send {
+            executor: *executor,
+        },
+    }
+}
+
+fn kind_of(request: &Request) -> Kind
+    ensures { result ≡ spec.kind_of request.now }
+{
+    match request {
+        Request::NewOrder(_) => Kind::NewOrder,
+        Request::Payment(_) => Kind::Payment,
+        Request::OrderStatus(_) => Kind::OrderStatus,
+        Request::Delivery(_) => Kind::Delivery,
+        Request::StockLevel(_) => Kind::StockLevel,
+    }
+}
+
+fn told_of(output: &Output) -> Told
+    ensures { result ≡ spec.told_of output.now }
+{
+    match output {
+        Output::Event(answer) => told_of_event(answer),
+        Output::Quiet => Told::Quiet,
+        Output::Limit => Told::Limit,
+    }
+}
+
+fn told_of_event(answer: &EventAnswer) -> Told
+    ensures { result ≡ spec.told_of_event answer.now }
+{
+    match answer {
+        EventAnswer::Accepted { age } => Told::Accepted { age: *age },
+        EventAnswer::Took => Told::Took,
+        EventAnswer::Sent => Told::Sent,
+        EventAnswer::Full => Told::Full,
+        EventAnswer::Logged { place } => Told::Logged { place: *place },
+        EventAnswer::Answered {
+            session,
+            number,
+            answer,
+        } => told_of_answer(*session, *number, answer),
+        EventAnswer::Nothing => Told::Nothing,
+    }
+}
+
+fn told_of_answer(session: u32, number: u32, answer: &Answer) -> Told
+    ensures { result ≡ spec.told_of_answer session number answer.now }
+{
+    match answer {
+        Answer::Done { place, reply } => Told::Done {
+            session,
+            number,
+            place: *place,
+            rolled_back: matches!(reply, Reply::RolledBack(_)),
+        },
+        Answer::Refused(refusal) => Told::Refused {
+            session,
+            number,
+            refusal: *refusal,
+        },
+    }
+}

@@ -1,0 +1,173 @@
+//! The marks of a row.
+ghost use Rattle.std.specs.Prelude.{◌≡◌, ◌++◌, [], ◌∷◌, length, OnOk, IfOk};
+ghost use Rattle.picture.specs.Marks as spec;
+
+use crate::lanes::Lanes;
+use crate::marks::{Mark, Style};
+use crate::phrase::Phrase;
+use crate::row::{Deed, Row, Told};
+use schema::NoMemory;
+use std::alloc::Global;
+
+/// The marks of rows, one row after the other.
+pub fn marks_of(alloc: Global, lanes: &Lanes, rows: &[Row]) -> Result<Vec<Mark>, NoMemory>
+    ensures { IfOk result (λ marks. marks.items ≡ spec.all_marks lanes.now.sessions.items lanes.now.executors 0 rows.now) }
+{
+    let mut marks = Vec::new(alloc);
+    for (at, row) in rows.iter().enumerate() {
+        put_row(&mut marks, lanes, at, *row)?;
+    }
+    Ok(marks)
+}
+
+// Adds the marks of the row at that place.
+fn put_row(marks: &mut Vec<Mark>, lanes: &Lanes, at: usize, row: Row) -> Result<(), NoMemory>
+    ensures { OnOk result (marks.new.items ≡ marks.old.items ++ spec.row_marks lanes.now.sessions.items lanes.now.executors at row) }
+{
+    match row {
+        Row::Event { number, deed, told } => {
+            put_number(marks, at, number, Phrase::Deed(deed))?;
+            marks.push(words(Style::Plain, lanes.told(), at, Phrase::Told(told)))?;
+            put_event(marks, lanes, at, deed, told)
+        }
+        Row::Rounds { number } => {
+            put_number(marks, at, number, Phrase::Rounds)?;
+            marks.push(words(Style::Dim, lanes.told(), at, Phrase::NotShown))?;
+            Ok(())
+        }
+        Row::InRounds { told } => {
+            marks.push(words(Style::Plain, lanes.told(), at, Phrase::Told(told)))?;
+            put_told(marks, lanes, at, told)
+        }
+    }
+}
+
+fn words(style: Style, x: u128, at: usize, phrase: Phrase) -> Mark
+    ensures { result ≡ Mark.Words style x at phrase }
+{
+    Mark::Words {
+        style,
+        x,
+        at,
+        phrase,
+    }
+}
+
+fn spot(style: Style, x: u128, at: usize) -> Mark
+    ensures { result ≡ Mark.Spot style x at }
+{
+    Mark::Spot { style, x, at }
+}
+
+// Adds the number of an item of the schedule, and what it says.
+fn put_number(
+    marks: &mut Vec<Mark>,
+    at: usize,
+    number: u64,
+    scheduled: Phrase,
+) -> Result<(), NoMemory>
+    ensures { OnOk result (marks.new.items ≡ marks.old.items ++ Mark.Words Style.Number 40 at (Phrase.Number number) ∷ Mark.Words Style.Plain 52 at scheduled ∷ []) }
+{
+    marks.push(words(Style::Number, 40, at, Phrase::Number(number)))?;
+    marks.push(words(Style::Plain, 52, at, scheduled))?;
+    Ok(())
+}
+
+// Adds what an event has in its row beside its words.
+fn put_event(
+    marks: &mut Vec<Mark>,
+    lanes: &Lanes,
+    at: usize,
+    deed: Deed,
+    told: Told,
+) -> Result<(), NoMemory>
+    ensures { OnOk result (marks.new.items ≡ marks.old.items ++ spec.event_signs lanes.now.sessions.items lanes.now.executors at deed told) }
+{
+    match deed {
+        Deed::Submit { session, .. } => {
+            marks.push(submission(lanes.session(session), at, told))?
+        }
+        Deed::Take { executor } => {
+            marks.push(step_spot(Style::Take, lanes.takes(executor), at, told))?
+        }
+        Deed::Send { executor } => {
+            let line = lanes.sends(executor);
+            put_arrow(marks, lanes, line, at, told)?;
+            put_told(marks, lanes, at, told)?;
+            marks.push(step_spot(Style::Send, line, at, told))?
+        }
+    }
+    Ok(())
+}
+
+fn submission(x: u128, at: usize, told: Told) -> Mark
+    ensures { result ≡ spec.submission x at told }
+{
+    match told {
+        Told::Accepted { .. } => spot(Style::Take, x, at),
+        Told::Refused { .. } => spot(Style::Refused, x, at),
+        _ => spot(Style::Nothing, x, at),
+    }
+}
+
+fn step_spot(style: Style, x: u128, at: usize, told: Told) -> Mark
+    ensures { result ≡ spec.step_spot style x at told }
+{
+    match told {
+        Told::Nothing => spot(Style::Nothing, x, at),
+        _ => spot(style, x, at),
+    }
+}
+
+// Adds the signs of what is logged or answered.
+fn put_told(marks: &mut Vec<Mark>, lanes: &Lanes, at: usize, told: Told) -> Result<(), NoMemory>
+    ensures { OnOk result (marks.new.items ≡ marks.old.items ++ spec.told_signs lanes.now.sessions.items lanes.now.executors at told) }
+{
+    match told {
+        Told::Logged { place } => {
+            let style = Style::Done;
+            let left = lanes.log_left();
+            let right = lanes.log_right();
+            marks.push(Mark::Square {
+                style,
+                left,
+                right,
+                at,
+            })?;
+            marks.push(words(Style::Middle, lanes.log(), at, Phrase::Place(place)))?;
+        }
+        Told::Done { session, .. } => {
+            marks.push(spot(Style::Done, lanes.session(session), at))?;
+        }
+        Told::Refused { session, .. } => {
+            marks.push(spot(Style::Refused, lanes.session(session), at))?;
+        }
+        _ => {}
+    }
+    Ok(())
+}
+
+// Adds an arrow to what is logged or answered, from the line of what was sent.
+fn put_arrow(
+    marks: &mut Vec<Mark>,
+    lanes: &Lanes,
+    from: u128,
+    at: usize,
+    told: Told,
+) -> Result<(), NoMemory>
+    ensures { OnOk result (marks.new.items ≡ marks.old.items ++ spec.told_arrow lanes.now.sessions.items lanes.now.executors from at told) }
+{
+    let (style, to) = match told {
+        Told::Logged { .. } => (Style::Done, lanes.log_left()),
+        Told::Done { session, .. } => (Style::Done, lanes.session(session)),
+        Told::Refused { session, .. } => (Style::Refused, lanes.session(session)),
+        _ => return Ok(()),
+    };
+    marks.push(Mark::Across {
+        style,
+        from,
+        to,
+        at,
+    })?;
+    Ok(())
+}
