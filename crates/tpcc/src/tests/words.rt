@@ -47,6 +47,8 @@ fn a_simulation_has_its_files(rt: HostRuntime) -> Result<(), Fail> {
         "schedule",
         "--log",
         "log",
+        "--picture",
+        "picture",
     ];
     let words = all_words(rt.alloc(), &words)?;
     let Settings::Sim(sim) = read_words(rt.alloc(), words.as_slice())? else {
@@ -54,12 +56,13 @@ fn a_simulation_has_its_files(rt: HostRuntime) -> Result<(), Fail> {
     };
     assert_eq!(rt; (sim.data, sim.schedule), ("data", "schedule"));
     assert_eq!(rt; (sim.log, sim.tables), (Some("log"), Some("tables")));
+    assert_eq!(rt; sim.picture, Some("picture"));
     assert_eq!(rt; sim.executors, 1);
     let words = all_words(rt.alloc(), &["sim", "data", "schedule"])?;
     let Settings::Sim(sim) = read_words(rt.alloc(), words.as_slice())? else {
         panic!(rt; "a simulation");
     };
-    assert_eq!(rt; (sim.log, sim.tables), (None, None));
+    assert_eq!(rt; (sim.log, sim.picture, sim.tables), (None, None, None));
     assert_eq!(rt; sim.executors, 2);
     Ok(())
 }
