@@ -6,7 +6,7 @@ use crate::escaped::Escaped;
 use crate::trouble::Trouble;
 use csv::{ByteRecord, ReaderBuilder};
 use files::{FaultKind, FileFault};
-use std::io::{BufReader, Write};
+use std::io::{BufReader, Read, Seek, SeekFrom, Write};
 use std::rt::Files;
 use std::{fs, io};
 
@@ -99,9 +99,31 @@ fn tell_place<R: Files + AllocGlobal, W: Write>(
     let Some(position) = row.position() else {
         return Ok(());
     };
-    let line = position.line();
+    let blank = blank_lines_at(rt, path, position.byte())?;
+    let line = position.line().saturating_add(blank);
     write!(sink, "  line {line}: ")?;
     tell_fields(sink, &row)
+}
+
+// How many lines end from that byte on before something else comes: the place of a record is told from
+// before the blank lines that are passed over.
+fn blank_lines_at<R: Files + AllocGlobal>(rt: &R, path: &str, byte: u64) -> io::Result<u64> {
+    let mut file = fs::open(rt, path)?;
+    file.seek(SeekFrom::Start(byte))?;
+    let mut source = BufReader::new(rt.alloc(), file)?;
+    let mut found = 0u64;
+    let mut next = [0u8; 1];
+    for _ in 0..u64::MAX {
+        if source.read(&mut next)? == 0 {
+            break;
+        }
+        match next[0] {
+            b'\n' => found = found.saturating_add(1),
+            b'\r' => {}
+            _ => break,
+        }
+    }
+    Ok(found)
 }
 
 // Tells the first fields of a record.

@@ -22,7 +22,7 @@ pub trait Report {
 }
 
 // Of fewer it is not told that work on them begins.
-const MANY: usize = 100_000;
+const MANY: usize = 20_000;
 
 /// Tells on the standard error: a line that other programs can read and, on a terminal, what it means.
 #[derive(Clone, Copy, Drop)]
