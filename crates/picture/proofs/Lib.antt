@@ -1,2 +1,2 @@
-mod Drawn
+mod Parts
 mod Texts

@@ -1,5 +1,6 @@
 //! The flow graphs, as far as a picture needs them: the actions of a request, where each is done, and which groups it
 //! claims.
+use crate::phrase::Phrase;
 use requests::{Group, Request};
 use schema::{DistrictKey, NoMemory};
 use std::alloc::Global;
@@ -65,6 +66,14 @@ fn shared(phase: u32, warehouse: u32, group: Group) -> Action {
 }
 
 impl Action {
+    /// The groups that it claims, in words.
+    pub fn groups(self) -> Phrase {
+        match self.second {
+            Some(second) => Phrase::Two(self.group, second),
+            None => Phrase::One(self.group),
+        }
+    }
+
     /// Whether one of the two would have to wait for the other, or die.
     pub fn conflicts(self, other: Action) -> bool {
         let same = other.claims(self.group) || self.second.is_some_and(|group| other.claims(group));

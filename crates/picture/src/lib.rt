@@ -9,6 +9,7 @@
 mod asides;
 mod course;
 mod drawing;
+mod drawn;
 mod graph;
 mod lanes;
 mod marks;
@@ -16,6 +17,8 @@ mod phrase;
 mod row;
 mod row_marks;
 mod sheet;
+mod steps;
+mod under_way;
 
 pub use drawing::write_picture;
 

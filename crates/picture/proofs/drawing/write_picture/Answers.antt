@@ -6,7 +6,7 @@ use Rattle.picture.specs.Marks.{mark_text, all_marks}
 use Rattle.picture.specs.Lanes.{width, height, rows_end, sessions_from}
 use Rattle.picture.specs.Sheet.{ground_text}
 use Rattle.picture.specs.Rows.{rows_of}
-use Rattle.picture.proofs.Drawn.{picture-drawn}
+use Rattle.picture.proofs.Parts.{picture-drawn}
 use Rattle.picture.proofs.drawing.write_picture.Goals as goal
 
 pub returns : goal.returns

@@ -1,0 +1,108 @@
+//! What is drawn of a course.
+use crate::asides::Aside;
+use crate::course::Course;
+use crate::phrase::Phrase;
+use crate::under_way::{Item, Ran};
+use schema::NoMemory;
+
+impl<'a> Course<'a> {
+    /// Draws an arrow from where the item was put.
+    pub fn draw_hop(
+        &mut self,
+        executor: u32,
+        sent: bool,
+        item: Item,
+        to_x: u128,
+        at: usize,
+    ) -> Result<(), NoMemory> {
+        let Some(more) = between(item.at, at) else {
+            return Ok(());
+        };
+        let from = item.at;
+        let from_x = item.line;
+        let side = self.lanes.side(executor);
+        self.asides.push(if from_x == to_x {
+            Aside::Bend {
+                x: to_x,
+                side,
+                from,
+                more,
+            }
+        } else {
+            Aside::Hop {
+                sent,
+                from_x,
+                to_x,
+                from,
+                more,
+            }
+        })?;
+        Ok(())
+    }
+
+    /// Draws how long an action has held its claims, up to a row, and frees their slot.
+    pub fn draw_claim(&mut self, flow: usize, place: usize, to: usize) -> Result<(), NoMemory> {
+        let Some(flow) = self.flows.get_mut(flow) else {
+            return Ok(());
+        };
+        let (Some(action), Some(held)) = (flow.actions.get(place), flow.ran.get_mut(place)) else {
+            return Ok(());
+        };
+        let Some(Ran { at, executor, slot }) = held.take() else {
+            return Ok(());
+        };
+        if let Some(one) = self.executors.get_mut(executor as usize) {
+            one.free_slot(slot);
+        }
+        let Some(more) = between(at, to) else {
+            return Ok(());
+        };
+        let shared = action.shared;
+        let groups = action.groups();
+        let (left, x, right) = self.lanes.slot(executor, slot);
+        self.asides.push(Aside::Claim {
+            shared,
+            left,
+            right,
+            from: at,
+            more,
+        })?;
+        self.asides.push(Aside::Groups { x, at, groups })?;
+        Ok(())
+    }
+
+    /// Draws the claims that are still held, of what is logged: whether others are is not told.
+    pub fn draw_held(&mut self, to: usize) -> Result<(), NoMemory> {
+        for flow in 0..self.flows.len() {
+            let places = match self.flows.get(flow) {
+                Some(one) if one.logged => one.ran.len(),
+                _ => 0,
+            };
+            for place in 0..places {
+                self.draw_claim(flow, place, to)?;
+            }
+        }
+        Ok(())
+    }
+
+    /// Names what is taken or sent in a row.
+    pub fn draw_item(&mut self, at: usize, item: Item) -> Result<(), NoMemory> {
+        let phrase = match self.flows.get(item.flow) {
+            Some(flow) => flow.name(item.content),
+            None => Phrase::Unknown,
+        };
+        self.draw_name(at, phrase)
+    }
+
+    /// Says something of what is taken or sent in a row.
+    pub fn draw_name(&mut self, at: usize, phrase: Phrase) -> Result<(), NoMemory> {
+        let x = self.lanes.named();
+        self.asides.push(Aside::Named { x, at, phrase })?;
+        Ok(())
+    }
+}
+
+// How many rows there are between two; `None` where the second is not further down.
+fn between(from: usize, to: usize) -> Option<usize> {
+    to.checked_sub(from)?.checked_sub(1)
+}
