@@ -14,7 +14,8 @@ pub fn other_name(alloc: Global, path: &str, number: u32) -> Result<String, NoMe
     format!(in alloc; "{path}.tpcc-{number}")
 }
 
-/// Whether the two paths are one, whatever they lead to: `log.csv` and `./log.csv` are.
+/// Whether the two paths are one, whatever they lead to: `a/./log.csv` and `a//log.csv` are, and
+/// `./log.csv` and `log.csv` are not, as to `std::path`.
 pub fn are_one(one: &str, other: &str) -> bool
     ensures { result ≡ is_eq (path_cmp one.now other.now) }
 {

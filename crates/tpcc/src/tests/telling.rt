@@ -52,7 +52,8 @@ fn two_outputs_have_two_paths(rt: HostRuntime) -> Result<(), Fail> {
     let alloc = rt.alloc();
     for (tables, is_same) in [
         ("log", true),
-        ("./log", true),
+        ("log/.", true),
+        ("./log", false),
         ("a/../log", false),
         ("tables", false),
     ] {
