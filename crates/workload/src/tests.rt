@@ -231,17 +231,21 @@ fn a_shorter_script_is_the_beginning_of_a_longer_one(rt: HostRuntime) -> Result<
 
 #[test]
 fn sessions_have_their_terminals(rt: HostRuntime) {
-    let mut workload = workload(scale(&rt, 3, 1, 1), standard(&rt), 1, 1);
+    let scale = scale(&rt, 3, 1, 1);
+    let everywhere = workload(scale, standard(&rt), 1, 1);
     for (session, w_id, d_id) in [(0, 1, 1), (2, 3, 1), (3, 1, 2), (29, 3, 10), (30, 1, 1)] {
-        assert_eq!(rt; workload.terminal(session).home, DistrictKey { w_id, d_id });
+        assert_eq!(rt;
+            everywhere.terminal(session).home,
+            DistrictKey { w_id, d_id }
+        );
     }
-    workload.home = None;
+    assert!(rt; scale.has_warehouse(2));
     let at_home = Workload {
-        scale: workload.scale,
+        scale,
         home: Some(2),
         remote: true,
-        mix: workload.mix,
-        start: workload.start,
+        mix: everywhere.mix,
+        start: everywhere.start,
         seed: 1,
         requests: 1,
     };
