@@ -1,10 +1,11 @@
--- An index of latest orders as an order is put into tables that need not be consistent.
-use Rattle.std.proofs.Common.{◌≡◌, ℕ, ◌<◌, ◌≤◌, max, ◌&&◌, ◌==◌, Bool, true, false, cond, List, [], ◌∷◌, length, get_or, slice_get, slice_set, Option, Some, None, IfSome, refl, sym, ap, ◌∙◌, arith}
+-- An index of latest orders as an order is put into tables that need not be consistent, or taken away.
+use Rattle.std.proofs.Common.{◌≡◌, ℕ, ◌<◌, ◌≤◌, max, ◌&&◌, ◌==◌, true, false, cond, List, [], ◌∷◌, length, get_or, slice_get, slice_set, Option, Some, None, IfSome, refl, sym, ap, ◌∙◌, arith}
 use Rattle.std.specs.Option.{option_map_or}
 use Rattle.std.specs.declared.cmp.Ordering.TheVariants.{Less, Equal, Greater}
 use Rattle.std.specs.Ordering.{is_eq}
 use Rattle.std.specs.FinMap as map
-use Rattle.std.specs.FinMap.{entries, get-entries, entries-insert}
+use Rattle.std.specs.Cmp.{eq_by_cmp_equiv}
+use Rattle.std.specs.FinMap.{entries, get-entries, entries-insert, get-remove}
 use Rattle.std.specs.FinMap.Entries.{find, put, by_order}
 use Rattle.std.proofs.lemmas.List.{get_or-set_same, get_or-set_other, length-set}
 use Rattle.std.proofs.lemmas.Option.{slice_get-get_or, slice_get_within}
@@ -14,11 +15,12 @@ use Rattle.rows.specs.declared.records.Order.{Order}
 use Rattle.rows.specs.Keys.{order_cmp}
 use Rattle.schema.specs.Database.{Database, customer_of_order}
 use Rattle.schema.proofs.KeyOrders.{orders_total, orders_exact}
+use Rattle.schema.proofs.TableWrites.{put_row_same, put_row_twice}
 use Rattle.partitions.specs.Slots.{Slots, AreApart, customer_slot_by}
 use Rattle.indexes.specs.LatestOrder.{is_order_by}
 use Rattle.indexes.specs.LatestIndex.{FitsLatestBy, raised, with_latest}
-use Rattle.indexes.specs.LatestLaws.{RaisedOrderFits, ReplacedOrderFits}
-use Rattle.indexes.proofs.Latest.{most, most-cons, most-insert, counted, most-put-again, passed_over, by_its_customer, own_order, apart}
+use Rattle.indexes.specs.LatestLaws.{RaisedOrderFits, ReplacedOrderFits, RemovedOrderFits}
+use Rattle.indexes.proofs.Latest.{most, most-cons, most-insert, counted, most-put-again, passed_over, by_its_customer, apart}
 
 -- what one order more, or one put again, adds to a customer's number
 abbrev grown : CustomerKey → OrderKey → Order → ℕ → ℕ
@@ -122,31 +124,48 @@ pub raised_fits : RaisedOrderFits
 raised_fits slot index t key row districts_apart fits alike c place at =
     grown_fits slot index t key row districts_apart fits c place at _ (grows t key row (map.get t.orders key) refl alike c)
 
+-- one customer is looked through, and the index has what each other's number is to be
+looked_through : (slot : Slots) (customers : ℕ) (index : List ℕ) (key : OrderKey) (old : Order) (all : List (OrderKey × Order)) → AreApart slot
+    → (c : CustomerKey) (place : ℕ) → customer_slot_by slot customers c ≡ Some place → place < length index
+    → (is_order_by c (key, old) ≡ false → slice_get index place ≡ Some (most c all))
+    → slice_get (with_latest slot customers index (customer_of_order key old) (most (customer_of_order key old) all)) place ≡ Some (most c all)
+looked_through slot customers index key old all districts_apart c place at below others =
+    let loser = customer_of_order key old in
+    elim (is_order_by c (key, old)) as (λ b. is_order_by c (key, old) ≡ b → slice_get (with_latest slot customers index loser (most loser all)) place ≡ Some (most c all)) [
+      | true ↦ λ e.
+          let same : loser ≡ c = by_its_customer c key old e in
+          let there : customer_slot_by slot customers loser ≡ Some place = ap (customer_slot_by slot customers) same ∙ at in
+          ap (λ r. slice_get (option_map_or (λ s. slice_set index s (most loser all)) r index) place) there
+          ∙ slice_get-get_or (slice_set index place (most loser all)) place 0 (let l : place < length (slice_set index place (most loser all)) = omega (arith, length-set index place (most loser all)) in l)
+          ∙ ap Some (get_or-set_same index place (most loser all) 0 below ∙ ap (λ k. most k all) same)
+      | false ↦ λ e.
+          elim (customer_slot_by slot customers loser) as (λ r. customer_slot_by slot customers loser ≡ r → slice_get (option_map_or (λ s. slice_set index s (most loser all)) r index) place ≡ Some (most c all)) [
+            | None ↦ λ at_loser. others e
+            | Some s ↦ λ at_loser.
+                let other : place ≡ s → ⊥ = λ h. apart slot customers districts_apart c key old place e at (at_loser ∙ ap Some (sym h)) in
+                slice_get-get_or (slice_set index s (most loser all)) place 0 (let l : place < length (slice_set index s (most loser all)) = omega (arith, length-set index s (most loser all)) in l)
+                ∙ ap Some (get_or-set_other index s place (most loser all) 0 other) ∙ sym (slice_get-get_or index place 0 below) ∙ others e
+          ] refl
+    ] refl
+
 -- the customer whose order was replaced is looked through, and each other's number grows
 pub replaced_fits : ReplacedOrderFits
 replaced_fits slot index t key old row districts_apart fits found c place at =
-    let all = entries (map.insert t.orders key row) in
     let new = raised_index slot t.scale.customers index key row in
-    let loser = customer_of_order key old in
-    let was = fits c place at in
-    let below : place < length index = slice_get_within index place _ was in
+    let below : place < length index = slice_get_within index place _ (fits c place at) in
     let long : place < length new = omega (arith, raised-length slot t.scale.customers index key row) in
-    elim (is_order_by c (key, old)) as (λ b. is_order_by c (key, old) ≡ b → slice_get (with_latest slot t.scale.customers new loser (most loser all)) place ≡ Some (most c all)) [
-      | true ↦ λ e.
-          let same : loser ≡ c = by_its_customer c key old e in
-          let there : customer_slot_by slot t.scale.customers loser ≡ Some place = ap (customer_slot_by slot t.scale.customers) same ∙ at in
-          ap (λ r. slice_get (option_map_or (λ s. slice_set new s (most loser all)) r new) place) there
-          ∙ slice_get-get_or (slice_set new place (most loser all)) place 0 (let l : place < length (slice_set new place (most loser all)) = omega (arith, length-set new place (most loser all)) in l)
-          ∙ ap Some (get_or-set_same new place (most loser all) 0 long ∙ ap (λ k. most k all) same)
-      | false ↦ λ e.
-          let there : find order_cmp key (entries t.orders) ≡ Some old = sym (get-entries t.orders key) ∙ found in
-          let fit = grown_fits slot index t key row districts_apart fits c place at (most c all)
-          (ap (most c) (entries-insert orders_total t.orders key row) ∙ put_over c key old row (entries t.orders) there e) in
-          elim (customer_slot_by slot t.scale.customers loser) as (λ r. customer_slot_by slot t.scale.customers loser ≡ r → slice_get (option_map_or (λ s. slice_set new s (most loser all)) r new) place ≡ Some (most c all)) [
-            | None ↦ λ at_loser. fit
-            | Some s ↦ λ at_loser.
-                let other : place ≡ s → ⊥ = λ h. apart slot t.scale.customers districts_apart c key old place e at (at_loser ∙ ap Some (sym h)) in
-                slice_get-get_or (slice_set new s (most loser all)) place 0 (let l : place < length (slice_set new s (most loser all)) = omega (arith, length-set new s (most loser all)) in l)
-                ∙ ap Some (get_or-set_other new s place (most loser all) 0 other) ∙ sym (slice_get-get_or new place 0 long) ∙ fit
-          ] refl
-    ] refl
+    let there : find order_cmp key (entries t.orders) ≡ Some old = sym (get-entries t.orders key) ∙ found in
+    looked_through slot t.scale.customers new key old (entries (map.insert t.orders key row)) districts_apart c place at long
+    (λ e. grown_fits slot index t key row districts_apart fits c place at (most c (entries (map.insert t.orders key row)))
+    (ap (most c) (entries-insert orders_total t.orders key row) ∙ put_over c key old row (entries t.orders) there e))
+
+-- the customer whose order was taken away is looked through, and each other's number stays: with the order again, it would
+-- be that of before
+pub removed_fits : RemovedOrderFits
+removed_fits slot index t key old districts_apart fits found c place at =
+    let left = map.remove t.orders key in
+    let was = fits c place at in
+    let none : map.get left key ≡ None = get-remove orders_total t.orders key key ∙ ap (λ b. cond b None (map.get t.orders key)) ((eq_by_cmp_equiv orders_total).refl key) in
+    let again : map.insert left key old ≡ t.orders = put_row_twice orders_total orders_exact t.orders key None (Some old) ∙ put_row_same orders_total orders_exact t.orders key (Some old) found in
+    looked_through slot t.scale.customers index key old (entries left) districts_apart c place at (slice_get_within index place _ was)
+    (λ e. was ∙ ap Some (ap (λ m. most c (entries m)) (sym again) ∙ most-insert (record t { orders = left }) key old none c ∙ ap (λ b. cond b (max key.o_id (most c (entries left))) (most c (entries left))) e))

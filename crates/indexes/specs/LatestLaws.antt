@@ -31,6 +31,14 @@ ReplacedOrderFits = (slot : Slots) (index : List ℕ) (t : Database) (key : Orde
     (customer_of_order key old) (greatest (order_numbers (map.insert t.orders key row) (customer_of_order key old))))
     (record t { orders = map.insert t.orders key row })
 
+-- an order that is taken away is forgotten once its customer's orders are looked through
+abbrev pub RemovedOrderFits : Type 0
+RemovedOrderFits = (slot : Slots) (index : List ℕ) (t : Database) (key : OrderKey) (old : Order) → AreApart slot → FitsLatestBy slot index t
+    → map.get t.orders key ≡ Some old
+    → FitsLatestBy slot
+    (with_latest slot t.scale.customers index (customer_of_order key old) (greatest (order_numbers (map.remove t.orders key) (customer_of_order key old))))
+    (record t { orders = map.remove t.orders key })
+
 -- what is put back as it was leaves no trace
 abbrev pub TakenBackIsAsBefore : Type 0
 TakenBackIsAsBefore = (slot : Slots) (customers : ℕ) (index : List ℕ) (customer : CustomerKey) (number : ℕ)

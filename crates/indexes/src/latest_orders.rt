@@ -89,8 +89,8 @@ impl LatestOrders {
     }
 
     /// Looks through all orders that are here for the customer's, and notes the largest number, 0 where there is none:
-    /// for an order that was put in place of that customer's (`replaced_order_fits`), which is so in no consistent
-    /// tables. A customer whose row is not here changes nothing.
+    /// for an order that was taken away from that customer (`removed_order_fits`), or another that was put in its place
+    /// (`replaced_order_fits`), which is so in no consistent tables. A customer whose row is not here changes nothing.
     pub fn look_through<T: Rows>(&mut self, rows: &T, customer: CustomerKey)
         ensures { self.new ≡ with_latest (T.slot rows.now) (T.tables rows.now).scale.customers self.old customer
             (greatest (order_numbers (T.tables rows.now).orders customer)) }

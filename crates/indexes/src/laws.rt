@@ -1,6 +1,6 @@
 //! Laws of the look-ups: functions that do nothing, and are proved.
 ghost use Rattle.indexes.specs.NameLaws.{MiddleIsOne, MiddleIsThere, SameNamesFit, PutKeepsNames};
-ghost use Rattle.indexes.specs.LatestLaws.{NotedOrderFits, PutOrderFits, RaisedOrderFits, ReplacedOrderFits, TakenBackIsAsBefore};
+ghost use Rattle.indexes.specs.LatestLaws.{NotedOrderFits, PutOrderFits, RaisedOrderFits, RemovedOrderFits, ReplacedOrderFits, TakenBackIsAsBefore};
 
 /// At most one customer of a district is the middle one of those with a last name.
 pub fn middle_is_one()
@@ -39,6 +39,11 @@ pub fn raised_order_fits()
 /// too.
 pub fn replaced_order_fits()
     ensures { ReplacedOrderFits }
+{}
+
+/// In any tables: where an order is taken away, its customer's orders are looked through.
+pub fn removed_order_fits()
+    ensures { RemovedOrderFits }
 {}
 
 /// Where the number that stood there is put back, the index is as it was before the order was noted.

@@ -11,7 +11,7 @@ use Rattle.rows.specs.Keys.{line_cmp}
 use Rattle.rows.specs.declared.keys.DistrictKey.{DistrictKey}
 use Rattle.rows.specs.declared.keys.OrderLineKey.{OrderLineKey}
 use Rattle.rows.specs.declared.records.OrderLine.{OrderLine}
-use Rattle.schema.specs.Database.{Database, IsWithinScale, is_line_number, rows_where}
+use Rattle.schema.specs.Database.{Database, LinesNumbered, is_line_number, rows_where}
 use Rattle.schema.specs.OrderRows.{is_in_span}
 use Rattle.schema.proofs.EachRows.{EachRow-table}
 use Rattle.schema.proofs.KeyOrders.{lines_total, lines_exact}
@@ -110,10 +110,10 @@ module _ (home : DistrictKey) (from to : ℕ) where
       ] refl
 
 -- the 20 orders before the next one
-pub few_lines : (t : Database) → IsWithinScale t → (home : DistrictKey) (next : ℕ) → length (rows_where (is_in_span home (next - 20) next) t.lines) ≤ 300
-few_lines t h home next =
+pub few_lines : (t : Database) → LinesNumbered t → (home : DistrictKey) (next : ℕ) → length (rows_where (is_in_span home (next - 20) next) t.lines) ≤ 300
+few_lines t are_numbered home next =
     let from = next - 20 in
-    let small : IsTrue (numbered home from next (entries t.lines)) = (EachRow-table lines_total lines_exact (λ key _. is_line_number key.number) t.lines).1 h.lines_numbered in
+    let small : IsTrue (numbered home from next (entries t.lines)) = (EachRow-table lines_total lines_exact (λ key _. is_line_number key.number) t.lines).1 are_numbered in
     let few : length (rows_where (is_in_span home (next - 20) next) t.lines) + (from * 15 + 1) ≤ next * 15 + 1 =
     few_from home from next (entries t.lines) (entries_sorted t.lines) small (from * 15 + 1) (omega arith) (all_from home from next (entries t.lines) small) in
     omega arith

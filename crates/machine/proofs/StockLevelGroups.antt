@@ -52,7 +52,7 @@ module _ (home : DistrictKey) (next : ℕ) where
       ∙ ap (map (λ (line : OrderLineKey × OrderLine). line.1.i_id))
       (filter-part (λ (line : OrderLineKey × OrderLine). is_of_district home (order_of_line line.0)) (λ line. nat_le (next - 20) line.0.o_id && nat_lt line.0.o_id next) (table.entries lines))
 
-  same_items : (s t : Database) → content s own ≡ content t own → recent_items s home next ≡ recent_items t home next
+  pub same_items : (s t : Database) → content s own ≡ content t own → recent_items s home next ≡ recent_items t home next
   same_items s t alike = sym (items_of_group s.lines) ∙ ap (λ rows. items_in (lines_of_content rows s.lines)) alike ∙ items_of_group t.lines
 
 -- ---- the stock of a warehouse
@@ -95,7 +95,7 @@ module _ (w_id : ℕ) where
           ∙ ap length (sym (ap (filter low) (entries-where stocks_total stocks_exact stocks of_warehouse)
           ∙ filter-part (λ (row : StockKey × Stock). of_warehouse row.0) (λ row. nat_lt row.1.quantity threshold && is_one_of items row.0.i_id) (table.entries stocks)))
 
-      same_low : low_stock s w_id threshold items ≡ low_stock t w_id threshold items
+      pub same_low : low_stock s w_id threshold items ≡ low_stock t w_id threshold items
       same_low =
           low_of_warehouse s.stocks ∙ ap (λ stocks. length (filter low (table.entries stocks))) same_stocks ∙ sym (low_of_warehouse t.stocks)
 

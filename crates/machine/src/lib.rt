@@ -22,7 +22,9 @@ pub use laws::{
     transaction_reads_its_groups,
 };
 pub use new_order::{district_ordered, new_order_reply, order_row};
-pub use new_order_lines::{line_row, line_shown, quantity_after, stock_taken};
+pub use new_order_lines::{
+    LinePlaced, line_row, line_shown, place_line, quantity_after, stock_taken,
+};
 pub use order_status::{latest_shown, status_reply};
 pub use payment::{
     customer_paid, district_paid, history_row, payment_reply, payment_row, warehouse_paid,

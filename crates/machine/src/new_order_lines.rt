@@ -6,6 +6,7 @@ ghost use Rattle.rows.specs.Ranged.{is_between};
 ghost use Rattle.machine.specs.NewOrder as spec;
 ghost use Rattle.machine.specs.NewOrderLines.{AreQuantities, IsOrderWithin, columns, line_placed, lines_placed};
 
+use partitions::Rows;
 use requests::{NewOrder, NewOrderLine, OrderedLine};
 use schema::{
     DistrictKey, Item, LineAmount, LineQuantity, NoMemory, OrderLine, Stock, StockKey,
@@ -24,10 +25,10 @@ pub(crate) struct LinesPlaced {
 /// What a line of an order leaves: its row of ORDER-LINE, what is shown of it, and its row of STOCK once all
 /// lines of the order were taken from that.
 #[derive(Drop)]
-struct LinePlaced {
-    row: OrderLine,
-    shown: NewOrderLine,
-    stock: Stock,
+pub struct LinePlaced {
+    pub row: OrderLine,
+    pub shown: NewOrderLine,
+    pub stock: Stock,
 }
 
 /// By how much lines raise the counters of the row of STOCK that supplies them.
@@ -81,9 +82,10 @@ pub(crate) fn place_lines(
     }))
 }
 
-// What the line of that number leaves.
-fn place_line(
-    tables: &Tables,
+/// What the line of that number leaves, by the rows of all tables or of the warehouse that supplies it; `None` where
+/// its item or its row of STOCK isn't there, or a counter would leave its range. The rows stay as they are.
+pub fn place_line<T: Rows>(
+    rows: &T,
     order: &NewOrder,
     number: usize,
     line: OrderedLine,
@@ -93,14 +95,14 @@ fn place_line(
     requires some { 1 ≤ line.quantity }
     requires few { line.quantity ≤ 10 }
     requires number { number ≤ length order.now.lines }
-    ensures { IfOk result (λ r. r ≡ line_placed tables.now order.now number line) }
+    ensures { IfOk result (λ r. r ≡ line_placed (T.tables rows.now) order.now number line) }
 {
     let lines = order.lines.as_slice();
     let key = stock_key(line);
-    let Some(item) = tables.item(line.i_id) else {
+    let Some(item) = rows.item(line.i_id) else {
         return Ok(None);
     };
-    let Some(stock) = tables.stock(key) else {
+    let Some(stock) = rows.stock(key) else {
         return Ok(None);
     };
     let Some(taken) = stock_taken(order.home.w_id, stock, key, lines)? else {

@@ -2,6 +2,7 @@ ghost use Rattle.std.specs.Prelude.{◌≡◌, ◌≤◌, count_by, length, IfOk
 ghost use Rattle.std.specs.FinMap as table;
 ghost use Rattle.machine.specs.StockLevel as spec;
 
+use partitions::Rows;
 use requests::{StockLevel, StockLevelReply};
 use schema::{DistrictKey, NoMemory, StockKey, Tables};
 use std::alloc::Global;
@@ -29,19 +30,17 @@ pub fn stock_level_reply(
 
 /// The item of each line of the district's 20 orders before this number, by O_ID and then by OL_NUMBER: 300 at most. Want
 /// of memory leaves nothing behind.
-pub fn recent_items(
+pub fn recent_items<T: Rows>(
     alloc: Global,
-    tables: &Tables,
+    rows: &T,
     home: DistrictKey,
     next: u32,
 ) -> Result<Vec<u32>, NoMemory>
-    ensures value { IfOk result (λ items. items.items ≡ spec.recent_items tables.now home next) }
+    ensures value { IfOk result (λ items. items.items ≡ spec.recent_items (T.tables rows.now) home next) }
     ensures few { IfOk result (λ items. length items.items ≤ 300) }
 {
-    // Within the scale no order has more than 15 lines.
-    let _ = tables.scale();
     let mut items = Vec::with_capacity(alloc, MOST_LINES)?;
-    for (_, row) in tables.lines_of_span(home, next.saturating_sub(20), next) {
+    for (_, row) in rows.lines_of_span(home, next.saturating_sub(20), next) {
         items.push(row.i_id)?;
     }
     Ok(items)
@@ -49,23 +48,23 @@ pub fn recent_items(
 
 /// How many of these items the warehouse has less of than the threshold, each counted once, however often it is named. It
 /// takes no memory.
-pub fn low_stock(tables: &Tables, warehouse: u32, threshold: u32, items: Vec<u32>) -> usize
-    ensures value { result ≡ spec.low_stock tables.now warehouse threshold items.items }
+pub fn low_stock<T: Rows>(rows: &T, warehouse: u32, threshold: u32, items: Vec<u32>) -> usize
+    ensures value { result ≡ spec.low_stock (T.tables rows.now) warehouse threshold items.items }
     ensures few { result ≤ length items.items }
 {
     let mut items = items;
     items.sort_unstable();
     items.dedup();
-    count_short(tables, warehouse, threshold, &items)
+    count_short(rows, warehouse, threshold, &items)
 }
 
 // How many of these items the warehouse has less of than the threshold, each as often as it is named.
-fn count_short(tables: &Tables, warehouse: u32, threshold: u32, items: &[u32]) -> usize
-    ensures { result ≡ count_by (spec.is_short tables.now warehouse threshold) items.now }
+fn count_short<T: Rows>(rows: &T, warehouse: u32, threshold: u32, items: &[u32]) -> usize
+    ensures { result ≡ count_by (spec.is_short (T.tables rows.now) warehouse threshold) items.now }
 {
     let mut count = 0;
     for &item in items {
-        if is_short(tables, warehouse, threshold, item) {
+        if is_short(rows, warehouse, threshold, item) {
             count += 1;
         }
     }
@@ -73,14 +72,14 @@ fn count_short(tables: &Tables, warehouse: u32, threshold: u32, items: &[u32]) -
 }
 
 // Whether the warehouse has less of the item than the threshold.
-fn is_short(tables: &Tables, warehouse: u32, threshold: u32, item: u32) -> bool
-    ensures { result ≡ spec.is_short tables.now warehouse threshold item }
+fn is_short<T: Rows>(rows: &T, warehouse: u32, threshold: u32, item: u32) -> bool
+    ensures { result ≡ spec.is_short (T.tables rows.now) warehouse threshold item }
 {
     let key = StockKey {
         w_id: warehouse,
         i_id: item,
     };
-    match tables.stock(key) {
+    match rows.stock(key) {
         Some(row) => row.quantity.get() < threshold,
         None => false,
     }

@@ -4,17 +4,18 @@ use Rattle.std.specs.Option.{option_map}
 use Rattle.std.specs.Ordering.{eq_by_cmp, nat_cmp}
 use Rattle.std.proofs.lemmas.Bool.Decides.{nat_tests}
 use Rattle.rows.specs.declared.keys.DistrictKey.{DistrictKey}
+use Rattle.rows.specs.declared.keys.StockKey.{StockKey}
 use Rattle.rows.specs.declared.keys.CustomerKey.{CustomerKey}
-use Rattle.rows.specs.Keys.{district_cmp, customer_cmp, district_of_customer}
+use Rattle.rows.specs.Keys.{district_cmp, stock_cmp, customer_cmp, district_of_customer}
 use Rattle.rows.specs.Ranged.{is_between}
 use Rattle.schema.specs.declared.scale.Scale.{Scale}
 use Rattle.schema.specs.Dense.{place}
-use Rattle.schema.specs.Scale.{district_key, customer_key}
+use Rattle.schema.specs.Scale.{district_key, stock_key, customer_key}
 use Rattle.schema.proofs.Places.{place-grid, length-grid}
 use Rattle.schema.proofs.ScalePlaces.{same_number, in_turn, district_splits, customer_splits}
-use Rattle.partitions.specs.Parts.{is_of, has_district_of}
-use Rattle.partitions.specs.Partitions.{district_keys_of, customer_keys_of}
-use Rattle.partitions.specs.Slots.{customer_slot_by, home_slot}
+use Rattle.partitions.specs.Parts.{is_of, has_district_of, has_stock_of}
+use Rattle.partitions.specs.Partitions.{district_keys_of, stock_keys_of, customer_keys_of}
+use Rattle.partitions.specs.Slots.{customer_slot_by, home_slot, home_stock_slot}
 
 -- the warehouse stands alone
 pub warehouse_place : (home q : ℕ) → place (eq_by_cmp nat_cmp q) (home ∷ []) ≡ cond (is_of home q) (Some 0) None
@@ -32,6 +33,14 @@ district_place home q =
     ∙ in_turn (is_between 1 10 q.d_id) (is_of home q.w_id) 0 (q.d_id - 1) 10
     ∙ ap (λ n. cond (has_district_of home q) (Some n) None) (let e : 0 * 10 + (q.d_id - 1) ≡ q.d_id - 1 = omega arith in e)
 
+-- a key of STOCK is told as a district's is: by the warehouse, and then by the number
+pub stock_place : (scale : Scale) (home : ℕ) (q : StockKey) → place (eq_by_cmp stock_cmp q) (stock_keys_of scale home) ≡ home_stock_slot scale home q
+stock_place scale home q =
+    place-grid (eq_by_cmp stock_cmp q) (eq_by_cmp nat_cmp q.w_id) stock_key q.i_id scale.items (home ∷ []) (district_splits (district_key q.w_id q.i_id))
+    ∙ ap (λ r. cond (is_between 1 scale.items q.i_id) (option_map (λ p. p * scale.items + (q.i_id - 1)) r) None) (warehouse_place home q.w_id)
+    ∙ in_turn (is_between 1 scale.items q.i_id) (is_of home q.w_id) 0 (q.i_id - 1) scale.items
+    ∙ ap (λ n. cond (has_stock_of scale home q) (Some n) None) (let e : 0 * scale.items + (q.i_id - 1) ≡ q.i_id - 1 = omega arith in e)
+
 pub customer_place : (scale : Scale) (home : ℕ) (q : CustomerKey)
     → place (eq_by_cmp customer_cmp q) (customer_keys_of scale home) ≡ customer_slot_by (home_slot home) scale.customers q
 customer_place scale home q =
@@ -43,6 +52,10 @@ customer_place scale home q =
 
 pub length-district_keys_of : (home : ℕ) → length (district_keys_of home) ≡ 10
 length-district_keys_of home = length-grid district_key 10 (home ∷ [])
+
+pub length-stock_keys_of : (scale : Scale) (home : ℕ) → length (stock_keys_of scale home) ≡ scale.items
+length-stock_keys_of scale home =
+    length-grid stock_key scale.items (home ∷ []) ∙ (let e : 1 * scale.items ≡ scale.items = omega arith in e)
 
 pub length-customer_keys_of : (scale : Scale) (home : ℕ) → length (customer_keys_of scale home) ≡ 10 * scale.customers
 length-customer_keys_of scale home =

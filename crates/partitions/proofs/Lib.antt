@@ -15,3 +15,4 @@ pub mod HomePlaces
 pub mod HomeSlots
 pub mod HomeReads
 pub mod HomeWrites
+pub mod HomeOrders

@@ -1,14 +1,16 @@
--- Where the rows of districts and of customers stand, among those that are here.
+-- Where the rows of districts, of stock and of customers stand, among those that are here.
 use Rattle.std.specs.Prelude.{◌≡◌, ℕ, ◌+◌, ◌-◌, ◌*◌, ◌<◌, ◌≤◌, Option, Some, None, is_some, if◌then◌else◌}
 use Rattle.std.specs.Option.{option_map}
 use Rattle.std.specs.FinMap as map
 use Rattle.rows.specs.Keys.{district_of_customer}
 use Rattle.rows.specs.Ranged.{is_between}
 use Rattle.rows.specs.declared.keys.DistrictKey.{DistrictKey}
+use Rattle.rows.specs.declared.keys.StockKey.{StockKey}
 use Rattle.rows.specs.declared.keys.CustomerKey.{CustomerKey}
+use Rattle.schema.specs.declared.scale.Scale.{Scale}
 use Rattle.schema.specs.Database.{Database, customer_of_order, OrdersNumbered}
 use Rattle.schema.specs.EachRow.{EachRow}
-use Rattle.partitions.specs.Parts.{has_district_of}
+use Rattle.partitions.specs.Parts.{has_district_of, has_stock_of}
 
 -- the place of a district among those whose rows are here, in the order of their keys
 abbrev pub Slots : Type 0
@@ -36,3 +38,7 @@ pub record AreRows (slot : Slots) (districts : ℕ) (t : Database) : Type 0 wher
 -- the places of the ten districts of one warehouse
 abbrev pub home_slot : ℕ → Slots
 home_slot home key = if has_district_of home key then Some (key.d_id - 1) else None
+
+-- the place of the warehouse's stock of an item of the scale
+abbrev pub home_stock_slot : Scale → ℕ → StockKey → Option ℕ
+home_stock_slot scale home key = if has_stock_of scale home key then Some (key.i_id - 1) else None

@@ -1,4 +1,6 @@
 ghost use Rattle.std.specs.Prelude.{◌≡◌, IfOk};
+ghost use Rattle.std.specs.Option.{option_copied};
+ghost use Rattle.std.specs.FinMap as map;
 
 use schema::{Item, NoMemory, Scale};
 use std::alloc::Global;
@@ -42,6 +44,13 @@ impl Catalog {
         ensures { result ≡ self.now.scale }
     {
         self.scale
+    }
+
+    /// The row of the item, `None` where there is none.
+    pub(crate) fn item(&self, i_id: u32) -> Option<&Item>
+        ensures { option_copied result ≡ map.get self.now.items i_id }
+    {
+        self.items.get(self.scale.item_slot(i_id)?)
     }
 
     /// The same catalog for another partition, which takes no copy of the items. An error changes nothing.

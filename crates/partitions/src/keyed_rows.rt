@@ -3,13 +3,17 @@ ghost use Rattle.std.specs.Option.{option_copied};
 ghost use Rattle.std.specs.FinMap as map;
 ghost use Rattle.std.specs.List.{slice_get};
 ghost use Rattle.schema.specs.Scale.{customer_key};
-ghost use Rattle.schema.specs.Database.{rows_where, is_of_order};
+ghost use Rattle.schema.specs.Database.{rows_where, is_of_order, LinesNumbered};
+ghost use Rattle.schema.specs.OrderRows.{is_in_span};
 ghost use Rattle.partitions.specs.Slots.{AreRows};
 
-use schema::{Customer, CustomerKey, DistrictKey, Lines, Order, OrderKey, Orders, Scale};
+use schema::{
+    Customer, CustomerKey, DistrictKey, Item, Lines, Order, OrderKey, Orders, Scale, Stock,
+    StockKey,
+};
 
-/// Rows of customers, orders and lines that are asked for by their keys: those of all tables, or of a part of
-/// them.
+/// Rows of items, stock, customers, orders and lines that are asked for by their keys: those of all tables, or
+/// of a part of them.
 pub trait Rows {
     ghost use Rattle.std.specs.Prelude.{ℕ};
     ghost use Rattle.schema.specs.Database.{Database};
@@ -40,6 +44,14 @@ pub trait Rows {
     fn district_slot(&self, home: DistrictKey) -> Option<usize>
         ensures { result ≡ slot self.now home };
 
+    /// The row of the item, `None` where there is none.
+    fn item(&self, i_id: u32) -> Option<&Item>
+        ensures { option_copied result ≡ map.get (tables self.now).items i_id };
+
+    /// The row of the warehouse's stock of an item, `None` where there is none here.
+    fn stock(&self, key: StockKey) -> Option<&Stock>
+        ensures { option_copied result ≡ map.get (tables self.now).stocks key };
+
     /// The customers of a district, by C_ID from 1; `None` where its rows are not here.
     fn customers_of(&self, home: DistrictKey) -> Option<&[Customer]>
         ensures district { is_some result ≡ is_some (slot self.now home) }
@@ -61,5 +73,12 @@ pub trait Rows {
     /// The lines of the order, by OL_NUMBER.
     fn lines_of(&self, order: OrderKey) -> Lines<'_>
         ensures rows { result ≡ rows_where (is_of_order order) (tables self.now).lines }
+        ensures fits { length result < 2 ^ 63 };
+
+    /// The lines of the district's orders numbered from `from` up to, but without, `to`, by O_ID and then by
+    /// OL_NUMBER, which is 1 to 15.
+    fn lines_of_span(&self, home: DistrictKey, from: u32, to: u32) -> Lines<'_>
+        ensures rows { result ≡ rows_where (is_in_span home from to) (tables self.now).lines }
+        ensures numbered { LinesNumbered (tables self.now) }
         ensures fits { length result < 2 ^ 63 };
 }

@@ -1,17 +1,19 @@
-ghost use Rattle.std.specs.Prelude.{◌≡◌, ◌+◌, ◌^◌, ◌<◌, ℕ, length, IsTrue, is_some, IfSome, IfOk, OnOk, OnErr};
+ghost use Rattle.std.specs.Prelude.{◌≡◌, ◌+◌, ◌^◌, ◌<◌, ◌≤◌, ℕ, length, IsTrue, is_some, IfSome, IfOk, OnOk, OnErr};
 ghost use Rattle.std.specs.Option.{option_copied};
 ghost use Rattle.std.specs.FinMap as map;
-ghost use Rattle.std.specs.List.{slice_get};
+ghost use Rattle.std.specs.List.{list_all, slice_get};
 ghost use Rattle.schema.specs.Scale.{has_customer, customer_key};
-ghost use Rattle.schema.specs.Database.{with_payment, without_payment, rows_where, is_of_order};
+ghost use Rattle.schema.specs.Database.{customer_of_order, is_order_id, with_payment, without_payment, rows_where, is_of_order};
+ghost use Rattle.schema.specs.OrderRows.{StoodThere, is_in_span, is_line_within, line_key, with_order, without_order};
 ghost use Rattle.partitions.specs.Parts.{IsPart, has_district_of};
-ghost use Rattle.partitions.specs.Slots.{customer_slot_by, home_slot};
+ghost use Rattle.partitions.specs.Slots.{customer_slot_by, home_slot, home_stock_slot};
 
 use crate::Catalog;
 use crate::home_rows::HomeRows;
 use schema::{
-    Customer, CustomerKey, District, DistrictKey, Entries, History, Lines, NoMemory, Order,
-    OrderKey, OrderLineKey, Orders, Scale, Warehouse,
+    Customer, CustomerKey, District, DistrictKey, Entries, History, Item, Lines, NoMemory, Order,
+    OrderKey, OrderLine, OrderLineKey, Orders, Replaced, Scale, Stock, StockKey, Warehouse,
+    add_order_rows, lines_in_span, take_back_order_rows,
 };
 use std::marker::Model;
 use std::mem;
@@ -75,6 +77,13 @@ impl Partition {
         self.catalog.scale()
     }
 
+    /// The row of the item, `None` where there is none.
+    pub fn item(&self, i_id: u32) -> Option<&Item>
+        ensures { option_copied result ≡ map.get self.now.tables.items i_id }
+    {
+        self.catalog.item(i_id)
+    }
+
     /// The row of the warehouse; `None` for other warehouses. So for the other tables.
     pub fn warehouse(&self, w_id: u32) -> Option<&Warehouse>
         ensures { option_copied result ≡ map.get self.now.tables.warehouses w_id }
@@ -90,6 +99,12 @@ impl Partition {
         ensures { option_copied result ≡ map.get self.now.tables.districts key }
     {
         self.rows.districts.get(self.slot_of_district(key)?)
+    }
+
+    pub fn stock(&self, key: StockKey) -> Option<&Stock>
+        ensures { option_copied result ≡ map.get self.now.tables.stocks key }
+    {
+        self.rows.stocks.get(self.slot_of_stock(key)?)
     }
 
     pub fn customer(&self, key: CustomerKey) -> Option<&Customer>
@@ -131,6 +146,15 @@ impl Partition {
         Entries::of_map(self.rows.lines.range(first..=last))
     }
 
+    /// The lines of the district's orders numbered from `from` up to, but without, `to`, by O_ID and then by
+    /// OL_NUMBER.
+    pub fn lines_of_span(&self, home: DistrictKey, from: u32, to: u32) -> Lines<'_>
+        ensures rows { result ≡ rows_where (is_in_span home from to) self.now.tables.lines }
+        ensures fits { length result < 2 ^ 63 }
+    {
+        lines_in_span(&self.rows.lines, home, from, to)
+    }
+
     /// The customers of the district, by C_ID from 1; `None` where it is none of the warehouse's.
     pub fn customers_of(&self, home: DistrictKey) -> Option<&[Customer]>
         ensures district { is_some result ≡ has_district_of self.now.home home }
@@ -143,7 +167,7 @@ impl Partition {
             .get(slot * customers..(slot + 1) * customers)
     }
 
-    /// Puts a row in place of the warehouse's, and gives that. So for the next two tables.
+    /// Puts a row in place of the warehouse's, and gives that. So for the next three tables.
     pub fn replace_warehouse(&mut self, w_id: u32, row: Warehouse) -> Option<Warehouse>
         requires { IsTrue (map.contains_key self.old.tables.warehouses w_id) }
         ensures tables { self.new ≡ record self.old { tables = record self.old.tables { warehouses = map.insert self.old.tables.warehouses w_id row } } }
@@ -163,6 +187,15 @@ impl Partition {
     {
         let slot = self.slot_of_district(key)?;
         Some(mem::replace(&mut self.rows.districts[slot], row))
+    }
+
+    pub fn replace_stock(&mut self, key: StockKey, row: Stock) -> Option<Stock>
+        requires { IsTrue (map.contains_key self.old.tables.stocks key) }
+        ensures tables { self.new ≡ record self.old { tables = record self.old.tables { stocks = map.insert self.old.tables.stocks key row } } }
+        ensures was { result ≡ map.get self.old.tables.stocks key }
+    {
+        let slot = self.slot_of_stock(key)?;
+        Some(mem::replace(&mut self.rows.stocks[slot], row))
     }
 
     pub fn replace_customer(&mut self, key: CustomerKey, row: Customer) -> Option<Customer>
@@ -198,12 +231,69 @@ impl Partition {
         }
     }
 
+    /// Adds an order of one of the warehouse's districts, its row of NEW-ORDER and its lines, which are numbered from
+    /// 1 (clause 2.4.2.2), and gives what stood in their places. Want of memory changes nothing.
+    pub fn add_order(
+        &mut self,
+        key: OrderKey,
+        order: Order,
+        lines: Vec<OrderLine>,
+    ) -> Result<Replaced, NoMemory>
+        requires home { key.w_id ≡ self.old.home }
+        requires number { IsTrue (is_order_id key.o_id) }
+        requires customer { IsTrue (has_customer self.old.tables.scale (customer_of_order key order)) }
+        requires few { length lines.items ≤ 15 }
+        requires lines { IsTrue (list_all (is_line_within self.old.tables.scale) lines.items) }
+        ensures ok { OnOk result (self.new ≡ record self.old { tables = with_order self.old.tables key order lines.items }) }
+        ensures replaced { IfOk result (StoodThere self.old.tables key (length lines.items)) }
+        ensures err { OnErr result (self.new ≡ self.old) }
+    {
+        add_order_rows(
+            &mut self.rows.orders,
+            &mut self.rows.new_orders,
+            &mut self.rows.lines,
+            key,
+            order,
+            lines,
+        )
+    }
+
+    /// Takes an order back that was added: puts back what stood in the places of its rows, or nothing where nothing
+    /// stood. It takes no memory.
+    pub fn take_back_order(&mut self, key: OrderKey, replaced: Replaced)
+        requires few { length replaced.lines.items ≤ 15 }
+        requires order { IsTrue (map.contains_key self.old.tables.orders key) }
+        requires new_order { IsTrue (map.contains_key self.old.tables.new_orders key) }
+        requires lines { (n : ℕ) → n < length replaced.lines.items → IsTrue (map.contains_key self.old.tables.lines (line_key key (1 + n))) }
+        requires within { IsPart (record self.old { tables = without_order self.old.tables key replaced }) }
+        ensures { self.new ≡ record self.old { tables = without_order self.old.tables key replaced } }
+    {
+        take_back_order_rows(
+            &mut self.rows.orders,
+            &mut self.rows.new_orders,
+            &mut self.rows.lines,
+            key,
+            replaced,
+        );
+    }
+
     /// The place of the district's row among the warehouse's, from 0; `None` where it is none of the warehouse's.
     pub(crate) fn slot_of_district(&self, key: DistrictKey) -> Option<usize>
         ensures { result ≡ home_slot self.now.home key }
     {
         if key.w_id == self.home && (1..=10).contains(&key.d_id) {
             Some(key.d_id as usize - 1)
+        } else {
+            None
+        }
+    }
+
+    // The place of the row of the warehouse's stock of an item, likewise.
+    fn slot_of_stock(&self, key: StockKey) -> Option<usize>
+        ensures { result ≡ home_stock_slot self.now.tables.scale self.now.home key }
+    {
+        if key.w_id == self.home && self.scale().has_item(key.i_id) {
+            Some(key.i_id as usize - 1)
         } else {
             None
         }

@@ -1,5 +1,8 @@
 use crate::{Partition, Rows};
-use schema::{Customer, CustomerKey, DistrictKey, Lines, Order, OrderKey, Orders, Scale};
+use schema::{
+    Customer, CustomerKey, DistrictKey, Item, Lines, Order, OrderKey, Orders, Scale, Stock,
+    StockKey,
+};
 
 /// The rows of one warehouse: of its ten districts.
 impl Rows for Partition {
@@ -30,6 +33,14 @@ impl Rows for Partition {
         self.slot_of_district(home)
     }
 
+    fn item(&self, i_id: u32) -> Option<&Item> {
+        Partition::item(self, i_id)
+    }
+
+    fn stock(&self, key: StockKey) -> Option<&Stock> {
+        Partition::stock(self, key)
+    }
+
     fn customers_of(&self, home: DistrictKey) -> Option<&[Customer]> {
         Partition::customers_of(self, home)
     }
@@ -48,5 +59,11 @@ impl Rows for Partition {
 
     fn lines_of(&self, order: OrderKey) -> Lines<'_> {
         Partition::lines_of(self, order)
+    }
+
+    fn lines_of_span(&self, home: DistrictKey, from: u32, to: u32) -> Lines<'_> {
+        // The lines of a part are numbered.
+        let _ = self.home();
+        Partition::lines_of_span(self, home, from, to)
     }
 }

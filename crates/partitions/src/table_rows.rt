@@ -1,5 +1,8 @@
 use crate::Rows;
-use schema::{Customer, CustomerKey, DistrictKey, Lines, Order, OrderKey, Orders, Scale, Tables};
+use schema::{
+    Customer, CustomerKey, DistrictKey, Item, Lines, Order, OrderKey, Orders, Scale, Stock,
+    StockKey, Tables,
+};
 
 impl Rows for Tables {
     ghost use Rattle.std.specs.Prelude.{◌*◌};
@@ -30,6 +33,14 @@ impl Rows for Tables {
         self.scale().district_slot(home)
     }
 
+    fn item(&self, i_id: u32) -> Option<&Item> {
+        self.item(i_id)
+    }
+
+    fn stock(&self, key: StockKey) -> Option<&Stock> {
+        self.stock(key)
+    }
+
     fn customers_of(&self, home: DistrictKey) -> Option<&[Customer]> {
         self.customers_of(home)
     }
@@ -48,5 +59,11 @@ impl Rows for Tables {
 
     fn lines_of(&self, order: OrderKey) -> Lines<'_> {
         self.lines_of(order)
+    }
+
+    fn lines_of_span(&self, home: DistrictKey, from: u32, to: u32) -> Lines<'_> {
+        // Within the scale lines are numbered.
+        let _ = self.scale();
+        self.lines_of_span(home, from, to)
     }
 }

@@ -159,7 +159,7 @@ impl<'a> Course<'a> {
         if self.may_wait(actions.as_slice()) {
             return Ok(false);
         }
-        let home = self.routing.route(first.warehouse);
+        let home = self.routing.route(first.warehouse());
         let item = Item {
             content: Content::Start,
             flow: self.flows.len(),

@@ -57,7 +57,7 @@ impl<'a> Course<'a> {
         let Some(more) = between(at, to) else {
             return Ok(());
         };
-        let shared = action.shared;
+        let shared = action.is_shared();
         let groups = action.groups();
         let (left, x, right) = self.lanes.slot(executor, slot);
         self.asides.push(Aside::Claim {

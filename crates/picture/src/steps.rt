@@ -142,7 +142,7 @@ impl<'a> Course<'a> {
                 let Some(action) = flow.actions.get(place) else {
                     return Ok(false);
                 };
-                let to = self.routing.route(action.warehouse);
+                let to = self.routing.route(action.warehouse());
                 self.put_in(to, item)
             }
             (Content::Report(_), Told::Sent) => {

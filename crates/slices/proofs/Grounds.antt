@@ -47,7 +47,7 @@ one_ground p q grounds place ground next change are here own changes is = record
           place = h.place;
           left = h.left ∙ sym (changes.contents.elsewhere g.ticket_box.group differ);
           back = h.back;
-          kept = h.kept;
+          kept = subst (λ (s : Scale). AreKept s g.ticket_box.group g.undo g.ticket_box.left) (sym changes.scale) h.kept;
           idle = h.idle;
         }
 
@@ -88,7 +88,8 @@ stepped p q place ground next kept change own step exclusive box undo =
       place = own.place;
       left = refl;
       back = own.back ∙ ap (all_put_back_in ground.undo) again ∙ sym (all_put_back_in-more ground.undo kept left);
-      kept = AreKept-more b.group ground.undo kept left step.own step.can (subst (AreKept b.group ground.undo) again own.kept);
+      kept = AreKept-more q.tables.scale b.group ground.undo kept left step.own step.can
+          (subst (λ (s : Scale). AreKept s b.group ground.undo (put_back_in kept left)) (sym step.changes.scale) (subst (AreKept p.tables.scale b.group ground.undo) again own.kept));
       idle = λ shared. let no : Shared ≡ Exclusive = sym shared ∙ exclusive in cc;
     } in
     subst (λ x. P x next.undo) (sym box) (subst (P (with_left b left)) (sym undo) h)

@@ -1,4 +1,6 @@
 pub mod Steps
+pub mod Orders
+pub mod LatestNoted
 pub mod Seen
 pub mod Homes
 pub mod Grounds

@@ -63,7 +63,7 @@ module _ (p : Part) (boxes : List Boxed) (grounds : List Grounded) (are : AreHom
     place = is.place;
     left = ap (λ b. b.left) is.has;
     back = ap (λ b. b.back) is.has ∙ sym (ap (λ b. b.left) is.has) ∙ sym (ap (λ undo. all_put_back_in undo ground.ticket_box.left) none);
-    kept = subst (λ undo. AreKept ground.ticket_box.group undo ground.ticket_box.left) (sym none) tt;
+    kept = subst (λ undo. AreKept p.tables.scale ground.ticket_box.group undo ground.ticket_box.left) (sym none) tt;
     idle = λ _. none;
   }
 

@@ -10,20 +10,23 @@ use Rattle.std.specs.FinMap.{FinMap, get-insert, same_map, IsAntisymmetric, nat_
 use Rattle.std.proofs.Math.Seq.{take-append_seam}
 use Rattle.std.proofs.lemmas.List.Elements.{All-head, All-tail}
 use Rattle.rows.specs.declared.keys.DistrictKey.{DistrictKey}
+use Rattle.rows.specs.declared.keys.StockKey.{StockKey}
 use Rattle.rows.specs.declared.keys.CustomerKey.{CustomerKey}
 use Rattle.rows.specs.declared.records.Warehouse as warehouse
 use Rattle.rows.specs.declared.records.District as district
+use Rattle.rows.specs.declared.records.Stock as stock
 use Rattle.rows.specs.declared.records.Customer as customer
 use Rattle.rows.specs.declared.records.History as payment
+use Rattle.schema.specs.declared.scale.Scale.{Scale}
 use Rattle.schema.specs.Database.{Database, list_at, with_payment, without_last, without_payment}
-use Rattle.schema.proofs.KeyOrders.{districts_total, districts_exact, customers_total, customers_exact}
+use Rattle.schema.proofs.KeyOrders.{districts_total, districts_exact, stocks_total, stocks_exact, customers_total, customers_exact}
 use Rattle.indexes.specs.NameOrder.{last_of, first_of}
 use Rattle.partitions.specs.Parts.{Part}
 use Rattle.requests.specs.declared.group.Group.{Group}
-use Rattle.groups.specs.Groups.{group_of_warehouse, group_of_district, group_of_customer, group_of_history}
+use Rattle.groups.specs.Groups.{group_of_warehouse, group_of_district, group_of_customer, group_of_history, group_of_stock}
 use Rattle.groups.specs.Content.{Content, content, rows_of}
-use Rattle.groups.specs.Content.Content.{OfWarehouse, OfDistrict, OfCustomers, OfHistory}
-use Rattle.groups.specs.Laws.{ChangesOneGroup, with_warehouse, with_district, with_customer}
+use Rattle.groups.specs.Content.Content.{OfWarehouse, OfDistrict, OfCustomers, OfHistory, OfStock}
+use Rattle.groups.specs.Laws.{ChangesOneGroup, with_warehouse, with_district, with_customer, with_stock}
 use Rattle.groups.proofs.Parts.{get-insert_here}
 use Rattle.groups.proofs.RowsInGroups.{each_row_stands_in_one_group}
 use Rattle.groups.proofs.RowsPut.{each_put_changes_one_group}
@@ -37,7 +40,7 @@ All-last P (first ∷ xs) x all = All-last P xs x (All-tail P first (xs ++ x ∷
 
 -- ---- one group changes
 
-changes_to : (group : Group) (change : Content → Content) (p q : Part) (t : Database) → q ≡ record p { tables = t } → ChangesOneGroup group change p.tables t → t.scale ≡ p.tables.scale → t.items ≡ p.tables.items
+pub changes_to : (group : Group) (change : Content → Content) (p q : Part) (t : Database) → q ≡ record p { tables = t } → ChangesOneGroup group change p.tables t → t.scale ≡ p.tables.scale → t.items ≡ p.tables.items
     → ChangesGroup group change p q
 changes_to group change p q t is contents scale items = subst (ChangesGroup group change p) (sym is) (record { contents = contents; home = refl; scale = scale; items = items })
 
@@ -52,6 +55,10 @@ module _ (p q : Part) where
   pub district_changes : (key : DistrictKey) (row : district.District) → q ≡ record p { tables = record p.tables { districts = map.insert p.tables.districts key row } }
       → ChangesGroup (group_of_district key) (with_district row) p q
   district_changes key row is = changes_to (group_of_district key) (with_district row) p q _ is ((each_put_changes_one_group p.tables).districts key row) refl refl
+
+  pub stock_changes : (key : StockKey) (row : stock.Stock) → q ≡ record p { tables = record p.tables { stocks = map.insert p.tables.stocks key row } }
+      → ChangesGroup (group_of_stock key) (with_stock key row) p q
+  stock_changes key row is = changes_to (group_of_stock key) (with_stock key row) p q _ is ((each_put_changes_one_group p.tables).stocks key row) refl refl
 
   pub customer_changes : (key : CustomerKey) (row : customer.Customer) → q ≡ record p { tables = record p.tables { customers = map.insert p.tables.customers key row } }
       → ChangesGroup (group_of_customer key) (with_customer key row) p q
@@ -75,41 +82,41 @@ pub all_put_back_in-more : (undo : List Kept) (kept : Kept) (c : Content) → al
 all_put_back_in-more [] kept c = refl
 all_put_back_in-more (first ∷ undo) kept c = ap (put_back_in first) (all_put_back_in-more undo kept c)
 
-pub AreKept-more : (group : Group) (undo : List Kept) (kept : Kept) (c : Content) → group_of_kept kept ≡ group → CanPutBack kept c → AreKept group undo (put_back_in kept c) → AreKept group (undo ++ kept ∷ []) c
-AreKept-more group [] kept c own can are = (own, can, tt)
-AreKept-more group (first ∷ undo) kept c own can are =
-    (are.0, subst (CanPutBack first) (sym (all_put_back_in-more undo kept c)) are.1, AreKept-more group undo kept c own can are.2)
+pub AreKept-more : (scale : Scale) (group : Group) (undo : List Kept) (kept : Kept) (c : Content) → group_of_kept kept ≡ group → CanPutBack scale kept c → AreKept scale group undo (put_back_in kept c) → AreKept scale group (undo ++ kept ∷ []) c
+AreKept-more scale group [] kept c own can are = (own, can, tt)
+AreKept-more scale group (first ∷ undo) kept c own can are =
+    (are.0, subst (CanPutBack scale first) (sym (all_put_back_in-more undo kept c)) are.1, AreKept-more scale group undo kept c own can are.2)
 
-pub AreKept-last : (group : Group) (undo : List Kept) (kept : Kept) (c : Content) → AreKept group (undo ++ kept ∷ []) c → (group_of_kept kept ≡ group) × CanPutBack kept c × AreKept group undo (put_back_in kept c)
-AreKept-last group [] kept c are = are
-AreKept-last group (first ∷ undo) kept c are =
-    let rest = AreKept-last group undo kept c are.2 in
-    (rest.0, rest.1, (are.0, subst (CanPutBack first) (all_put_back_in-more undo kept c) are.1, rest.2))
+pub AreKept-last : (scale : Scale) (group : Group) (undo : List Kept) (kept : Kept) (c : Content) → AreKept scale group (undo ++ kept ∷ []) c → (group_of_kept kept ≡ group) × CanPutBack scale kept c × AreKept scale group undo (put_back_in kept c)
+AreKept-last scale group [] kept c are = are
+AreKept-last scale group (first ∷ undo) kept c are =
+    let rest = AreKept-last scale group undo kept c are.2 in
+    (rest.0, rest.1, (are.0, subst (CanPutBack scale first) (all_put_back_in-more undo kept c) are.1, rest.2))
 
 -- what is left of all the steps of a group that were kept with the first rows, and what that makes of the group
 pub record AreLeft (group : Group) (all : List Kept) (first : Part) (undo : List Kept) (p : Part) : Type 0 where
-  pub kept : AreKept group undo (content p.tables group)
+  pub kept : AreKept p.tables.scale group undo (content p.tables group)
   pub makes : all_put_back_in undo (content p.tables group) ≡ all_put_back_in all (content first.tables group)
   pub changes : ChangesGroup group (λ _. content p.tables group) first p
 
-pub all_left : (group : Group) (all : List Kept) (p : Part) → AreKept group all (content p.tables group) → AreLeft group all p all p
+pub all_left : (group : Group) (all : List Kept) (p : Part) → AreKept p.tables.scale group all (content p.tables group) → AreLeft group all p all p
 all_left group all p are = record { kept = are; makes = refl; changes = record { contents = record { here = refl; elsewhere = λ _ _. refl }; home = refl; scale = refl; items = refl } }
 
 -- the last step can be taken back
-pub last_can : (group : Group) (all : List Kept) (first : Part) (undo rest : List Kept) (kept : Kept) (p : Part) → AreLeft group all first undo p → undo ≡ rest ++ kept ∷ [] → CanPutBack kept (content p.tables (group_of_kept kept))
+pub last_can : (group : Group) (all : List Kept) (first : Part) (undo rest : List Kept) (kept : Kept) (p : Part) → AreLeft group all first undo p → undo ≡ rest ++ kept ∷ [] → CanPutBack p.tables.scale kept (content p.tables (group_of_kept kept))
 last_can group all first undo rest kept p left is =
-    let last = AreKept-last group rest kept (content p.tables group) (subst (λ u. AreKept group u (content p.tables group)) is left.kept) in
-    subst (λ (g : Group). CanPutBack kept (content p.tables g)) (sym last.0) last.1
+    let last = AreKept-last p.tables.scale group rest kept (content p.tables group) (subst (λ u. AreKept p.tables.scale group u (content p.tables group)) is left.kept) in
+    subst (λ (g : Group). CanPutBack p.tables.scale kept (content p.tables g)) (sym last.0) last.1
 
 pub one_fewer : (group : Group) (all : List Kept) (first : Part) (undo rest : List Kept) (kept : Kept) (p q : Part) → AreLeft group all first undo p → undo ≡ rest ++ kept ∷ [] → ChangesGroup (group_of_kept kept) (put_back_in kept) p q
     → AreLeft group all first rest q
 one_fewer group all first undo rest kept p q left is change =
     let had : Content = content p.tables group in
-    let last = AreKept-last group rest kept had (subst (λ u. AreKept group u had) is left.kept) in
+    let last = AreKept-last p.tables.scale group rest kept had (subst (λ u. AreKept p.tables.scale group u had) is left.kept) in
     let own : ChangesGroup group (put_back_in kept) p q = subst (λ (g : Group). ChangesGroup g (put_back_in kept) p q) last.0 change in
     let has : put_back_in kept had ≡ content q.tables group = sym own.contents.here in
     record {
-      kept = subst (AreKept group rest) has last.2;
+      kept = subst (λ (s : Scale). AreKept s group rest (content q.tables group)) (sym own.scale) (subst (AreKept p.tables.scale group rest) has last.2);
       makes = ap (all_put_back_in rest) (sym has) ∙ sym (all_put_back_in-more rest kept had) ∙ sym (ap (λ u. all_put_back_in u had) is) ∙ left.makes;
       changes = record {
         contents = record { here = refl; elsewhere = λ other apart. own.contents.elsewhere other apart ∙ left.changes.contents.elsewhere other apart };
@@ -170,6 +177,20 @@ module _ (p q : Part) where
         own = refl;
         can = ap is_some (((each_row_stands_in_one_group q.tables).districts key).0 ∙ has);
         back = ap OfDistrict (sym was);
+      }
+
+  pub stock_step : (key : StockKey) (old row : stock.Stock) → map.get p.tables.stocks key ≡ Some old → q ≡ record p { tables = record p.tables { stocks = map.insert p.tables.stocks key row } }
+      → IsStep (group_of_stock key) (with_stock key row) (k.Stock key old) p q
+  stock_step key old row was is =
+      let changes = stock_changes p q key row is in
+      let has : map.get q.tables.stocks key ≡ Some row = ap (λ (r : Part). map.get r.tables.stocks key) is ∙ get-insert_here stocks_total stocks_exact p.tables.stocks key row in
+      let group = group_of_stock key in
+      record {
+        changes = changes;
+        own = refl;
+        can = ap is_some (((each_row_stands_in_one_group q.tables).stocks key).0 ∙ has);
+        back = ap (with_stock key old) changes.contents.here
+            ∙ ap OfStock (restored stocks_total stocks_exact (rows_of group_of_stock group p.tables.stocks) key old row (((each_row_stands_in_one_group p.tables).stocks key).0 ∙ was));
       }
 
   pub customer_step : (key : CustomerKey) (old row : customer.Customer) → map.get p.tables.customers key ≡ Some old → AreNamesAt p.tables key row

@@ -39,7 +39,7 @@ pub record IsGroundOf (rows : Part) (number : ℕ) (ground : Grounded) : Type 0 
   pub place : place_in_warehouse ground.ticket_box.group ≡ number
   pub left : ground.ticket_box.left ≡ content rows.tables ground.ticket_box.group
   pub back : ground.ticket_box.back ≡ all_put_back_in ground.undo ground.ticket_box.left
-  pub kept : AreKept ground.ticket_box.group ground.undo ground.ticket_box.left
+  pub kept : AreKept rows.tables.scale ground.ticket_box.group ground.undo ground.ticket_box.left
   pub idle : ground.ticket_box.mode ≡ Shared → ground.undo ≡ []
 
 -- there is a ground for each group of the warehouse, at its place

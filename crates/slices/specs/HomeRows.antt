@@ -4,15 +4,19 @@ use Rattle.std.specs.Prelude.{IsTrue}
 use Rattle.std.specs.FinMap as map
 use Rattle.std.proofs.lemmas.Bool.Decides.{nat_tests}
 use Rattle.rows.specs.declared.keys.DistrictKey.{DistrictKey}
+use Rattle.rows.specs.declared.keys.StockKey.{StockKey}
 use Rattle.rows.specs.declared.keys.CustomerKey.{CustomerKey}
 use Rattle.schema.specs.declared.scale.Scale.{Scale}
-use Rattle.partitions.specs.Parts.{Part, IsPart, is_of, has_district_of, has_customer_of}
+use Rattle.partitions.specs.Parts.{Part, IsPart, is_of, has_district_of, has_stock_of, has_customer_of}
 
 home_told : (home w_id : ℕ) → IsTrue (is_of home w_id) → w_id ≡ home
 home_told home w_id is = grind (arith, nat_tests)
 
 home_told_by_district : (home : ℕ) (key : DistrictKey) → IsTrue (has_district_of home key) → key.w_id ≡ home
 home_told_by_district home key is = grind (arith, nat_tests)
+
+home_told_by_stock : (scale : Scale) (home : ℕ) (key : StockKey) → IsTrue (has_stock_of scale home key) → key.w_id ≡ home
+home_told_by_stock scale home key is = grind (arith, nat_tests)
 
 home_told_by_customer : (scale : Scale) (home : ℕ) (key : CustomerKey) → IsTrue (has_customer_of scale home key) → key.w_id ≡ home
 home_told_by_customer scale home key is = grind (arith, nat_tests)
@@ -22,6 +26,9 @@ home_of_warehouse p is w_id there = home_told p.home w_id (sym (is.warehouses w_
 
 pub home_of_district : (p : Part) → IsPart p → (key : DistrictKey) → IsTrue (map.contains_key p.tables.districts key) → key.w_id ≡ p.home
 home_of_district p is key there = home_told_by_district p.home key (sym (is.districts key) ∙ there)
+
+pub home_of_stock : (p : Part) → IsPart p → (key : StockKey) → IsTrue (map.contains_key p.tables.stocks key) → key.w_id ≡ p.home
+home_of_stock p is key there = home_told_by_stock p.tables.scale p.home key (sym (is.stocks key) ∙ there)
 
 pub home_of_customer : (p : Part) → IsPart p → (key : CustomerKey) → IsTrue (map.contains_key p.tables.customers key) → key.w_id ≡ p.home
 home_of_customer p is key there = home_told_by_customer p.tables.scale p.home key (sym (is.customers key) ∙ there)

@@ -1,20 +1,30 @@
 -- Steps in a group, and what taking them back makes of what the group has. What is asked of a step that is to be taken back
--- speaks of what its own group has, and of nothing else.
-use Rattle.std.specs.Prelude.{◌≡◌, List, [], ◌∷◌, ◌++◌, Option, Some, is_some, IsTrue, unwrap_or}
-use Rattle.std.specs.FinMap as map
+-- speaks of what its own group has, and of the scale, and of nothing else.
+use Rattle.std.specs.Prelude.{◌≡◌, ℕ, ◌+◌, ◌<◌, ◌≤◌, Bool, List, [], ◌∷◌, ◌++◌, length, map, Option, Some, is_some, IsTrue, unwrap_or}
+use Rattle.std.specs.List.{list_all}
+use Rattle.std.specs.FinMap as table
+use Rattle.rows.specs.Keys.{order_of_line}
 use Rattle.rows.specs.declared.keys.CustomerKey.{CustomerKey}
+use Rattle.rows.specs.declared.keys.OrderKey.{OrderKey}
 use Rattle.rows.specs.declared.records.Customer as customer
+use Rattle.rows.specs.declared.records.Order as order
+use Rattle.rows.specs.declared.records.OrderLine.{OrderLine}
 use Rattle.rows.specs.declared.records.History.{History}
-use Rattle.schema.specs.Database.{Database, without_last}
+use Rattle.schema.specs.declared.scale.Scale.{Scale}
+use Rattle.schema.specs.declared.order_rows.Replaced.{Replaced}
+use Rattle.schema.specs.MapRows.{put_row}
+use Rattle.schema.specs.Scale.{has_item, has_warehouse, has_customer}
+use Rattle.schema.specs.Database.{Database, without_last, customer_of_order, is_order_id, is_line_number}
+use Rattle.schema.specs.OrderRows.{is_line_within, line_key, put_lines}
 use Rattle.partitions.specs.Parts.{Part}
 use Rattle.indexes.specs.NameOrder.{last_of, first_of}
 use Rattle.requests.specs.declared.group.Group.{Group}
-use Rattle.groups.specs.Groups.{group_of_warehouse, group_of_district, group_of_customer, group_of_history}
+use Rattle.groups.specs.Groups.{group_of_warehouse, group_of_district, group_of_customer, group_of_order, group_of_history, group_of_stock}
 use Rattle.groups.specs.Content.{Content, content}
-use Rattle.groups.specs.Content.Content.{OfHistory}
-use Rattle.groups.specs.Laws.{ChangesOneGroup, warehouse_in, district_in, customer_in, history_in, with_warehouse, with_district, with_customer}
+use Rattle.groups.specs.Content.Content.{OfOrders, OfHistory}
+use Rattle.groups.specs.Laws.{ChangesOneGroup, warehouse_in, district_in, customer_in, order_in, new_order_in, line_in, history_in, stock_in, with_warehouse, with_district, with_customer, with_stock}
 use Rattle.slices.specs.declared.kept.Kept.{Kept}
-use Rattle.slices.specs.declared.kept.Kept.TheVariants.{Warehouse, District, Customer, NoPayment}
+use Rattle.slices.specs.declared.kept.Kept.TheVariants.{Warehouse, District, Stock, Customer, NoPayment, Order}
 
 -- what a district's list has with one payment more at its end
 abbrev pub with_payment_more : History → Content → Content
@@ -26,13 +36,59 @@ abbrev pub with_payment_fewer : Content → Content
 with_payment_fewer (OfHistory rows) = OfHistory (Some (without_last (unwrap_or rows [])))
 with_payment_fewer other = other
 
+-- what a district's orders have with one order more, which is new: its row, its row of NEW-ORDER, and its lines
+abbrev pub with_order_more : OrderKey → order.Order → List OrderLine → Content → Content
+with_order_more key row rows (OfOrders orders new_orders lines) =
+    OfOrders (table.insert orders key row) (table.insert new_orders key (record {})) (put_lines key 1 (map Some rows) lines)
+with_order_more key row rows other = other
+
+-- and with what stood in its places put back, or with nothing there where nothing stood
+abbrev pub with_order_back : OrderKey → Replaced → Content → Content
+with_order_back key replaced (OfOrders orders new_orders lines) =
+    OfOrders (put_row orders key replaced.order) (put_row new_orders key replaced.new_order) (put_lines key 1 replaced.lines.items lines)
+with_order_back key replaced other = other
+
 -- these are the C_LAST and the C_FIRST of the row
 abbrev pub AreNamesOf : Option customer.Customer → customer.Customer → Type 0
 AreNamesOf there row = (last_of there ≡ row.last) × (first_of there ≡ row.first)
 
 -- the customer of that key has the C_LAST and the C_FIRST of this row
 abbrev pub AreNamesAt : Database → CustomerKey → customer.Customer → Type 0
-AreNamesAt t key row = AreNamesOf (map.get t.customers key) row
+AreNamesAt t key row = AreNamesOf (table.get t.customers key) row
+
+-- What is asked of an order that is added to a warehouse's rows: it is of the warehouse, with a number in its range and a
+-- customer of the scale, and its lines are 15 at most, of items and of suppliers of the scale.
+pub record IsOrderFor (p : Part) (key : OrderKey) (row : order.Order) (rows : List OrderLine) : Type 0 where
+  pub home : key.w_id ≡ p.home
+  pub number : IsTrue (is_order_id key.o_id)
+  pub customer : IsTrue (has_customer p.tables.scale (customer_of_order key row))
+  pub few : length rows ≤ 15
+  pub lines : IsTrue (list_all (is_line_within p.tables.scale) rows)
+
+-- each row of a table that the group has, by its content, passes the test
+abbrev pub EachIn : {K X : Type 0} → (Group → Content → K → Option X) → Group → Content → (K → X → Bool) → Type 0
+EachIn {K} {X} found group content test = (key : K) (row : X) → found group content key ≡ Some row → IsTrue (test key row)
+
+-- The orders that a group has keep the rules of the scale: each is numbered in its range, and of a customer of the scale; each
+-- row of NEW-ORDER and each line has its row of ORDER; and each line is numbered in its range, of an item of the scale, and
+-- supplied by a warehouse of the scale.
+pub record AreOrdersWithin (scale : Scale) (group : Group) (content : Content) : Type 0 where
+  pub orders_numbered : EachIn order_in group content (λ key _. is_order_id key.o_id)
+  pub orders_have_customers : EachIn order_in group content (λ key row. has_customer scale (customer_of_order key row))
+  pub new_orders_have_orders : EachIn new_order_in group content (λ key _. is_some (order_in group content key))
+  pub lines_have_orders : EachIn line_in group content (λ key _. is_some (order_in group content (order_of_line key)))
+  pub lines_numbered : EachIn line_in group content (λ key _. is_line_number key.number)
+  pub lines_have_items : EachIn line_in group content (λ _ row. has_item scale row.i_id)
+  pub lines_have_suppliers : EachIn line_in group content (λ _ row. has_warehouse scale row.supply_w_id)
+
+-- The rows of an order are there, of so many lines as stood in the places of its own; and with what stood there put back the
+-- group's orders keep the rules of the scale.
+pub record CanTakeBackOrder (scale : Scale) (key : OrderKey) (replaced : Replaced) (content : Content) : Type 0 where
+  pub few : length replaced.lines.items ≤ 15
+  pub order : IsTrue (is_some (order_in (group_of_order key) content key))
+  pub new_order : IsTrue (is_some (new_order_in (group_of_order key) content key))
+  pub lines : (n : ℕ) → n < length replaced.lines.items → IsTrue (is_some (line_in (group_of_order key) content (line_key key (1 + n))))
+  pub within : AreOrdersWithin scale (group_of_order key) (with_order_back key replaced content)
 
 -- What one group has changes so. The warehouse, the scale, the items and what all other groups have stay.
 pub record ChangesGroup (group : Group) (change : Content → Content) (old new : Part) : Type 0 where
@@ -47,31 +103,37 @@ pub record ChangesGroup (group : Group) (change : Content → Content) (old new 
 abbrev pub group_of_kept : Kept → Group
 group_of_kept (Warehouse w_id row) = group_of_warehouse w_id
 group_of_kept (District key row) = group_of_district key
+group_of_kept (Stock key row) = group_of_stock key
 group_of_kept (Customer key row) = group_of_customer key
 group_of_kept (NoPayment key) = group_of_history key
+group_of_kept (Order key replaced) = group_of_order key
 
 -- What is asked of what the group has: a row stands at the key, a customer's with the names of the row that comes back; or
--- there is a list.
-abbrev pub CanPutBack : Kept → Content → Type 0
-CanPutBack (Warehouse w_id row) content = IsTrue (is_some (warehouse_in (group_of_warehouse w_id) content w_id))
-CanPutBack (District key row) content = IsTrue (is_some (district_in (group_of_district key) content key))
-CanPutBack (Customer key row) content =
+-- there is a list; or the rows of the order are there, and without them the rules of the scale are kept.
+abbrev pub CanPutBack : Scale → Kept → Content → Type 0
+CanPutBack scale (Warehouse w_id row) content = IsTrue (is_some (warehouse_in (group_of_warehouse w_id) content w_id))
+CanPutBack scale (District key row) content = IsTrue (is_some (district_in (group_of_district key) content key))
+CanPutBack scale (Stock key row) content = IsTrue (is_some (stock_in (group_of_stock key) content key))
+CanPutBack scale (Customer key row) content =
     IsTrue (is_some (customer_in (group_of_customer key) content key)) × AreNamesOf (customer_in (group_of_customer key) content key) row
-CanPutBack (NoPayment key) content = IsTrue (is_some (history_in (group_of_history key) content key))
+CanPutBack scale (NoPayment key) content = IsTrue (is_some (history_in (group_of_history key) content key))
+CanPutBack scale (Order key replaced) content = CanTakeBackOrder scale key replaced content
 
 -- what the group has once the step is taken back
 abbrev pub put_back_in : Kept → Content → Content
 put_back_in (Warehouse w_id row) content = with_warehouse row content
 put_back_in (District key row) content = with_district row content
+put_back_in (Stock key row) content = with_stock key row content
 put_back_in (Customer key row) content = with_customer key row content
 put_back_in (NoPayment key) content = with_payment_fewer content
+put_back_in (Order key replaced) content = with_order_back key replaced content
 
 -- A step in a group, with what takes it back: it changes what that group has, and once it is taken back the group has what
 -- it had.
 pub record IsStep (group : Group) (change : Content → Content) (kept : Kept) (old new : Part) : Type 0 where
   pub changes : ChangesGroup group change old new
   pub own : group_of_kept kept ≡ group
-  pub can : CanPutBack kept (content new.tables group)
+  pub can : CanPutBack new.tables.scale kept (content new.tables group)
   pub back : put_back_in kept (content new.tables group) ≡ content old.tables group
 
 -- ---- all steps, the last one first
@@ -82,6 +144,7 @@ all_put_back_in [] content = content
 all_put_back_in (kept ∷ undo) content = put_back_in kept (all_put_back_in undo content)
 
 -- each step was one in the group, and can be taken back once those after it are
-abbrev pub AreKept : Group → List Kept → Content → Type 0
-AreKept group [] content = Unit {0}
-AreKept group (kept ∷ undo) content = (group_of_kept kept ≡ group) × CanPutBack kept (all_put_back_in undo content) × AreKept group undo content
+abbrev pub AreKept : Scale → Group → List Kept → Content → Type 0
+AreKept scale group [] content = Unit {0}
+AreKept scale group (kept ∷ undo) content =
+    (group_of_kept kept ≡ group) × CanPutBack scale kept (all_put_back_in undo content) × AreKept scale group undo content

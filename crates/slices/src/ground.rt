@@ -150,7 +150,7 @@ impl<J: GroupNames> Ground<J> {
     pub(crate) fn undo(&mut self, claim: &mut Claim<J>, rows: &mut IndexedRows)
         requires group { claim.old.group ≡ self.old.ticket_box.group }
         requires exclusive { claim.old.mode ≡ Exclusive }
-        requires kept { AreKept self.old.ticket_box.group self.old.undo (content rows.old.tables self.old.ticket_box.group) }
+        requires kept { AreKept rows.old.tables.scale self.old.ticket_box.group self.old.undo (content rows.old.tables self.old.ticket_box.group) }
         ensures back { claim.old.back ≡ self.old.ticket_box.back }
         ensures out { self.old.ticket_box.mode ≡ Exclusive }
         ensures claim { claim.new ≡ leaving claim.old claim.old.back }

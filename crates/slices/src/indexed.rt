@@ -1,17 +1,24 @@
 //! The rows of one warehouse, with the indexes over them.
-ghost use Rattle.std.specs.Prelude.{◌≡◌, IsTrue, IfOk, OnOk, OnErr, Some};
+ghost use Rattle.std.specs.Prelude.{◌≡◌, ◌+◌, ◌<◌, ◌≤◌, ℕ, length, IsTrue, IfOk, OnOk, OnErr, Option, Some};
+ghost use Rattle.std.specs.Option.{option_copied, option_map};
 ghost use Rattle.std.specs.FinMap as map;
-ghost use Rattle.schema.specs.Database.{with_payment, without_payment};
+ghost use Rattle.rows.specs.declared.records.Order as order;
+ghost use Rattle.schema.specs.Database.{Database, with_payment, without_payment};
+ghost use Rattle.schema.specs.OrderRows.{StoodThere, line_key, with_order, without_order};
 ghost use Rattle.schema.specs.Scale.{has_customer};
 ghost use Rattle.partitions.specs.Parts.{IsPart};
 ghost use Rattle.partitions.specs.Slots.{home_slot};
 ghost use Rattle.indexes.specs.LatestIndex.{FitsLatestBy};
 ghost use Rattle.indexes.specs.NameOrder.{FitsNamesBy};
-ghost use Rattle.slices.specs.Undo.{AreNamesAt};
+ghost use Rattle.slices.specs.Fitting.{IsOrderChanged};
+ghost use Rattle.slices.specs.Undo.{AreNamesAt, IsOrderFor};
 
 use indexes::{LatestOrders, NameIndex};
-use partitions::Partition;
-use schema::{Customer, CustomerKey, District, DistrictKey, History, NoMemory, Warehouse};
+use partitions::{Partition, Rows};
+use schema::{
+    Customer, CustomerKey, District, DistrictKey, History, NoMemory, Order, OrderKey, OrderLine,
+    Replaced, Stock, StockKey, Warehouse,
+};
 use std::alloc::Global;
 use std::marker::Model;
 
@@ -83,7 +90,7 @@ impl IndexedRows {
         &self.latest
     }
 
-    /// Puts a row in place of the warehouse's, and gives that. So for the next two tables.
+    /// Puts a row in place of the warehouse's, and gives that. So for the next three tables.
     pub(crate) fn replace_warehouse(&mut self, w_id: u32, row: Warehouse) -> Warehouse
         requires { IsTrue (map.contains_key self.old.tables.warehouses w_id) }
         ensures tables { self.new ≡ record self.old { tables = record self.old.tables { warehouses = map.insert self.old.tables.warehouses w_id row } } }
@@ -98,6 +105,14 @@ impl IndexedRows {
         ensures was { map.get self.old.tables.districts key ≡ Some result }
     {
         self.partition.replace_district(key, row).unwrap()
+    }
+
+    pub(crate) fn replace_stock(&mut self, key: StockKey, row: Stock) -> Stock
+        requires { IsTrue (map.contains_key self.old.tables.stocks key) }
+        ensures tables { self.new ≡ record self.old { tables = record self.old.tables { stocks = map.insert self.old.tables.stocks key row } } }
+        ensures was { map.get self.old.tables.stocks key ≡ Some result }
+    {
+        self.partition.replace_stock(key, row).unwrap()
     }
 
     /// The row has the names of the one that stands there.
@@ -129,5 +144,82 @@ impl IndexedRows {
         // Each district that has a list has a row.
         let _ = self.partition.home();
         self.partition.pop_history(key);
+    }
+
+    /// Adds an order with all its rows, which is its customer's latest if no later one is there, and gives what
+    /// stood in their places. An error changes nothing.
+    pub(crate) fn add_order(
+        &mut self,
+        key: OrderKey,
+        order: Order,
+        lines: Vec<OrderLine>,
+    ) -> Result<Replaced, NoMemory>
+        requires { IsOrderFor self.old key order lines.items }
+        ensures ok { OnOk result (self.new ≡ record self.old { tables = with_order self.old.tables key order lines.items }) }
+        ensures replaced { IfOk result (StoodThere self.old.tables key (length lines.items)) }
+        ensures err { OnErr result (self.new ≡ self.old) }
+    {
+        let now = Some(order.c_id);
+        let replaced = self.partition.add_order(key, order, lines)?;
+        let was = number_of_customer(replaced.order.as_ref());
+        note_latest(&self.partition, &mut self.latest, key, was, now);
+        Ok(replaced)
+    }
+
+    /// Takes an order back: what stood in the places of its rows is there again, or nothing where nothing stood. It
+    /// takes no memory.
+    pub(crate) fn take_back_order(&mut self, key: OrderKey, replaced: Replaced)
+        requires few { length replaced.lines.items ≤ 15 }
+        requires order { IsTrue (map.contains_key self.old.tables.orders key) }
+        requires new_order { IsTrue (map.contains_key self.old.tables.new_orders key) }
+        requires lines { (n : ℕ) → n < length replaced.lines.items → IsTrue (map.contains_key self.old.tables.lines (line_key key (1 + n))) }
+        requires within { IsPart (record self.old { tables = without_order self.old.tables key replaced }) }
+        ensures { self.new ≡ record self.old { tables = without_order self.old.tables key replaced } }
+    {
+        let was = number_of_customer(self.partition.order(key));
+        let now = number_of_customer(replaced.order.as_ref());
+        self.partition.take_back_order(key, replaced);
+        note_latest(&self.partition, &mut self.latest, key, was, now);
+    }
+}
+
+// Notes who has which latest order, once the order at the key is another than it was, or none, or where none was. The
+// C_IDs are those of the order that stood there, and of the one that stands there now. In consistent tables no order
+// stands where one is added, and so only the customer of an order that is taken back is looked through.
+fn note_latest(
+    rows: &Partition,
+    latest: &mut LatestOrders,
+    key: OrderKey,
+    was: Option<u32>,
+    now: Option<u32>,
+)
+    ensures { (before : Database) (row : Option order.Order) → IsOrderChanged before rows.now.tables key row was now
+        → FitsLatestBy (home_slot rows.now.home) latest.old before → FitsLatestBy (home_slot rows.now.home) latest.new rows.now.tables }
+{
+    // For its contract: no two districts have one place.
+    Rows::scale(rows);
+    if let Some(c_id) = now {
+        latest.raise_order(rows, customer_of(key, c_id), key.o_id);
+    }
+    if let Some(c_id) = was {
+        latest.look_through(rows, customer_of(key, c_id));
+    }
+}
+
+// The C_ID of the order's customer, where there is an order.
+fn number_of_customer(order: Option<&Order>) -> Option<u32>
+    ensures { result ≡ option_map (λ row. row.c_id) (option_copied order.entry) }
+{
+    Some(order?.c_id)
+}
+
+// The customer with that C_ID in the order's district.
+fn customer_of(order: OrderKey, c_id: u32) -> CustomerKey
+    ensures { result ≡ record { w_id = order.w_id; d_id = order.d_id; c_id = c_id } }
+{
+    CustomerKey {
+        w_id: order.w_id,
+        d_id: order.d_id,
+        c_id,
     }
 }

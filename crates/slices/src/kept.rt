@@ -5,23 +5,28 @@ ghost use Rattle.groups.specs.Content.{content};
 ghost use Rattle.slices.specs.Undo as spec;
 
 use crate::indexed::IndexedRows;
-use schema::{Customer, CustomerKey, District, DistrictKey, Warehouse};
+use schema::{
+    Customer, CustomerKey, District, DistrictKey, OrderKey, Replaced, Stock, StockKey, Warehouse,
+};
 
 /// What takes one step back.
 #[derive(Drop)]
 pub(crate) enum Kept {
-    /// The warehouse's row, as it was before the step. So for the next two.
+    /// The warehouse's row, as it was before the step. So for the next three.
     Warehouse(u32, Warehouse),
     District(DistrictKey, District),
+    Stock(StockKey, Stock),
     Customer(CustomerKey, Customer),
     /// The step added a payment to the district's list.
     NoPayment(DistrictKey),
+    /// The step added an order, and this stood in the places of its rows.
+    Order(OrderKey, Replaced),
 }
 
 impl Kept {
     /// Takes the step back.
     pub(crate) fn put_back(self, rows: &mut IndexedRows)
-        requires { spec.CanPutBack self (content rows.old.tables (spec.group_of_kept self)) }
+        requires { spec.CanPutBack rows.old.tables.scale self (content rows.old.tables (spec.group_of_kept self)) }
         ensures { spec.ChangesGroup (spec.group_of_kept self) (spec.put_back_in self) rows.old rows.new }
     {
         match self {
@@ -31,18 +36,26 @@ impl Kept {
             Kept::District(key, row) => {
                 rows.replace_district(key, row);
             }
+            Kept::Stock(key, row) => {
+                rows.replace_stock(key, row);
+            }
             Kept::Customer(key, row) => {
                 rows.replace_customer(key, row);
             }
             Kept::NoPayment(key) => rows.pop_history(key),
+            Kept::Order(key, replaced) => {
+                // The rows that are here are the warehouse's.
+                let _ = rows.partition();
+                rows.take_back_order(key, replaced);
+            }
         }
     }
 }
 
 /// Takes all steps of a group back, the last one first. None is left.
 pub(crate) fn put_all_back(undo: &mut Vec<Kept>, rows: &mut IndexedRows)
-    requires { (group : AnyGroup) × spec.AreKept group undo.old.items (content rows.old.tables group) }
-    ensures rows { (group : AnyGroup) → spec.AreKept group undo.old.items (content rows.old.tables group) → spec.ChangesGroup group (spec.all_put_back_in undo.old.items) rows.old rows.new }
+    requires { (group : AnyGroup) × spec.AreKept rows.old.tables.scale group undo.old.items (content rows.old.tables group) }
+    ensures rows { (group : AnyGroup) → spec.AreKept rows.old.tables.scale group undo.old.items (content rows.old.tables group) → spec.ChangesGroup group (spec.all_put_back_in undo.old.items) rows.old rows.new }
     ensures none { undo.new.items ≡ [] }
 {
     while let Some(kept) = undo.pop() {

@@ -2,16 +2,20 @@
 ghost use Rattle.std.specs.Prelude.{◌≡◌, IsTrue};
 ghost use Rattle.std.specs.FinMap as map;
 ghost use Rattle.schema.specs.Database.{with_payment};
+ghost use Rattle.schema.specs.OrderRows.{with_order};
 ghost use Rattle.schema.specs.Scale.{has_customer};
-ghost use Rattle.groups.specs.Groups.{group_of_warehouse, group_of_district, group_of_customer, group_of_history};
-ghost use Rattle.groups.specs.Laws.{with_warehouse, with_district, with_customer};
-ghost use Rattle.slices.specs.Undo.{AreNamesAt, with_payment_more};
-ghost use Rattle.slices.specs.HomeRows.{home_of_warehouse, home_of_district, home_of_customer};
+ghost use Rattle.groups.specs.Groups.{group_of_warehouse, group_of_district, group_of_customer, group_of_order, group_of_history, group_of_stock};
+ghost use Rattle.groups.specs.Laws.{with_warehouse, with_district, with_customer, with_stock};
+ghost use Rattle.slices.specs.Undo.{AreNamesAt, IsOrderFor, with_order_more, with_payment_more};
+ghost use Rattle.slices.specs.HomeRows.{home_of_warehouse, home_of_district, home_of_stock, home_of_customer};
 
 use crate::indexed::IndexedRows;
 use crate::kept::Kept;
 use crate::step::Step;
-use schema::{Customer, CustomerKey, District, DistrictKey, History, NoMemory, Warehouse};
+use schema::{
+    Customer, CustomerKey, District, DistrictKey, History, NoMemory, Order, OrderKey, OrderLine,
+    Stock, StockKey, Warehouse,
+};
 
 /// A row takes the place of the warehouse's.
 #[derive(Drop)]
@@ -61,6 +65,30 @@ impl Step for PutDistrict {
     }
 }
 
+/// A row takes the place of the one of STOCK.
+#[derive(Drop)]
+pub(crate) struct PutStock {
+    pub(crate) key: StockKey,
+    pub(crate) row: Stock,
+}
+
+impl Step for PutStock {
+    ghost group = { λ step. group_of_stock step.key };
+
+    ghost changed = { λ step. with_stock step.key step.row };
+
+    ghost done = { λ step t. record t { stocks = map.insert t.stocks step.key step.row } };
+
+    ghost is_possible = { λ step p. IsTrue (map.contains_key p.tables.stocks step.key) };
+
+    ghost at_home = { λ step p is can. home_of_stock p is step.key can };
+
+    fn run(self, rows: &mut IndexedRows) -> Result<Kept, NoMemory> {
+        let old = rows.replace_stock(self.key, self.row);
+        Ok(Kept::Stock(self.key, old))
+    }
+}
+
 /// A row takes the place of the customer's, whose names it has.
 #[derive(Drop)]
 pub(crate) struct PutCustomer {
@@ -106,5 +134,30 @@ impl Step for AddPayment {
     fn run(self, rows: &mut IndexedRows) -> Result<Kept, NoMemory> {
         rows.push_history(self.key, self.row)?;
         Ok(Kept::NoPayment(self.key))
+    }
+}
+
+/// An order comes with all its rows.
+#[derive(Drop)]
+pub(crate) struct AddOrder {
+    pub(crate) key: OrderKey,
+    pub(crate) order: Order,
+    pub(crate) lines: Vec<OrderLine>,
+}
+
+impl Step for AddOrder {
+    ghost group = { λ step. group_of_order step.key };
+
+    ghost changed = { λ step. with_order_more step.key step.order step.lines.items };
+
+    ghost done = { λ step t. with_order t step.key step.order step.lines.items };
+
+    ghost is_possible = { λ step p. IsOrderFor p step.key step.order step.lines.items };
+
+    ghost at_home = { λ step p is can. can.home };
+
+    fn run(self, rows: &mut IndexedRows) -> Result<Kept, NoMemory> {
+        let replaced = rows.add_order(self.key, self.order, self.lines)?;
+        Ok(Kept::Order(self.key, replaced))
     }
 }

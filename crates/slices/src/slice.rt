@@ -1,6 +1,8 @@
-ghost use Rattle.std.specs.Prelude.{◌≡◌, ◌≢◌, ◌<◌, ◌≤◌, [], ◌∷◌, IsTrue, IfOk, IfErr, OnOk, OnErr};
+ghost use Rattle.std.specs.Prelude.{◌≡◌, ◌≢◌, ◌<◌, ◌≤◌, ◌%◌, [], ◌∷◌, length, IsTrue, IfOk, IfErr, OnOk, OnErr};
+ghost use Rattle.std.specs.List.{list_all};
 ghost use Rattle.std.specs.FinMap as map;
-ghost use Rattle.schema.specs.Database.{with_payment};
+ghost use Rattle.schema.specs.Database.{customer_of_order, is_order_id, with_payment};
+ghost use Rattle.schema.specs.OrderRows.{is_line_within, with_order};
 ghost use Rattle.schema.specs.Scale.{has_customer};
 ghost use Rattle.partitions.specs.Parts.{IsPart};
 ghost use Rattle.partitions.specs.Slots.{home_slot};
@@ -9,24 +11,27 @@ ghost use Rattle.requests.specs.declared.group.Group.TheVariants as group;
 ghost use Rattle.groups.specs.declared.wishes.Mode.TheVariants.{Shared, Exclusive};
 ghost use Rattle.groups.specs.Content.{content};
 ghost use Rattle.groups.specs.Groups.{warehouse_of};
-ghost use Rattle.groups.specs.Laws.{ChangesOneGroup, with_warehouse, with_district, with_customer};
+ghost use Rattle.groups.specs.Laws.{ChangesOneGroup, with_warehouse, with_district, with_customer, with_stock};
 ghost use Rattle.indexes.specs.LatestIndex.{FitsLatestBy};
 ghost use Rattle.indexes.specs.NameOrder.{FitsNamesBy};
 ghost use Rattle.tickets.specs.Claims.{fresh, leaving};
 ghost use Rattle.tickets.specs.Places.{IsGroupOf, place_in_warehouse};
 ghost use Rattle.slices.specs.Openings.{AreHomeBoxesOf};
 ghost use Rattle.slices.specs.Sliced.{at_rest, lending, part_in, standing, taking_back, IsClaimAt, SliceKeeps};
-ghost use Rattle.slices.specs.Undo.{with_payment_more, AreNamesAt};
+ghost use Rattle.slices.specs.Undo.{with_order_more, with_payment_more, AreNamesAt};
 
 use crate::changes::ContentOf;
 use crate::ground::{Ground, Held};
 use crate::indexed::IndexedRows;
-use crate::row_steps::{AddPayment, PutCustomer, PutDistrict, PutWarehouse};
+use crate::row_steps::{AddOrder, AddPayment, PutCustomer, PutDistrict, PutStock, PutWarehouse};
 use crate::step::Step;
 use indexes::{LatestOrders, NameIndex};
 use partitions::Partition;
 use requests::Group;
-use schema::{Customer, CustomerKey, District, DistrictKey, History, NoMemory, Warehouse};
+use schema::{
+    Customer, CustomerKey, District, DistrictKey, History, NoMemory, Order, OrderKey, OrderLine,
+    Stock, StockKey, Warehouse,
+};
 use std::alloc::Global;
 use std::marker::Model;
 use tickets::{Claim, GROUPS_PER_WAREHOUSE, GroupNames, TicketBox, place_of};
@@ -158,7 +163,7 @@ impl<J: GroupNames> Slice<J> {
     }
 
     /// Puts a row in place of the warehouse's, under an exclusive claim on it. Want of memory changes
-    /// nothing. So for the next three.
+    /// nothing. So for the next five.
     pub fn put_warehouse(
         &mut self,
         claim: &mut Claim<J>,
@@ -191,6 +196,23 @@ impl<J: GroupNames> Slice<J> {
         ensures err { OnErr result ((self.new ≡ self.old) × (claim.new ≡ claim.old)) }
     {
         self.put(claim, PutDistrict { key, row })
+    }
+
+    pub fn put_stock(
+        &mut self,
+        claim: &mut Claim<J>,
+        key: StockKey,
+        row: Stock,
+    ) -> Result<(), NoMemory>
+        requires group { claim.old.group ≡ group.Stock key.w_id (key.i_id % 64) }
+        requires exclusive { claim.old.mode ≡ Exclusive }
+        requires there { IsTrue (map.contains_key self.old.tables.stocks key) }
+        ensures claim { OnOk result (claim.new ≡ leaving claim.old (with_stock key row claim.old.left)) }
+        ensures kept { OnOk result (SliceKeeps (claim.old ∷ []) self.old (claim.new ∷ []) self.new) }
+        ensures rows { OnOk result (self.new ≡ record self.old { tables = record self.old.tables { stocks = map.insert self.old.tables.stocks key row } }) }
+        ensures err { OnErr result ((self.new ≡ self.old) × (claim.new ≡ claim.old)) }
+    {
+        self.put(claim, PutStock { key, row })
     }
 
     /// The row has the names of the one that stands there.
@@ -230,6 +252,30 @@ impl<J: GroupNames> Slice<J> {
         ensures err { OnErr result ((self.new ≡ self.old) × (claim.new ≡ claim.old)) }
     {
         self.put(claim, AddPayment { key, row })
+    }
+
+    /// Adds an order, its row of NEW-ORDER and its lines, which are numbered from 1 (clause 2.4.2.2), under an
+    /// exclusive claim on the district's orders. All of it is one step.
+    pub fn add_order(
+        &mut self,
+        claim: &mut Claim<J>,
+        key: OrderKey,
+        order: Order,
+        lines: Vec<OrderLine>,
+    ) -> Result<(), NoMemory>
+        requires group { claim.old.group ≡ group.Orders key.w_id key.d_id }
+        requires home { IsClaimAt self.old.home claim.old }
+        requires exclusive { claim.old.mode ≡ Exclusive }
+        requires number { IsTrue (is_order_id key.o_id) }
+        requires customer { IsTrue (has_customer self.old.tables.scale (customer_of_order key order)) }
+        requires few { length lines.items ≤ 15 }
+        requires lines { IsTrue (list_all (is_line_within self.old.tables.scale) lines.items) }
+        ensures claim { OnOk result (claim.new ≡ leaving claim.old (with_order_more key order lines.items claim.old.left)) }
+        ensures kept { OnOk result (SliceKeeps (claim.old ∷ []) self.old (claim.new ∷ []) self.new) }
+        ensures rows { OnOk result (self.new ≡ record self.old { tables = with_order self.old.tables key order lines.items }) }
+        ensures err { OnErr result ((self.new ≡ self.old) × (claim.new ≡ claim.old)) }
+    {
+        self.put(claim, AddOrder { key, order, lines })
     }
 
     // Does a step in a group of the warehouse, under an exclusive claim on it, and keeps what takes it back. Want of

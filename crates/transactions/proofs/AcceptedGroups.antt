@@ -51,7 +51,7 @@ all_firsts P (group ∷ groups) all =
 
 -- ---- New-Order
 
-all_supplies : (scale : Scale) (lines : List OrderedLine) → list_all (λ (line : OrderedLine). has_warehouse scale line.supply_w_id) lines ≡ true
+pub all_supplies : (scale : Scale) (lines : List OrderedLine) → list_all (λ (line : OrderedLine). has_warehouse scale line.supply_w_id) lines ≡ true
     → All (IsGroupOf scale.warehouses) (map group_of_supply lines)
 all_supplies scale [] is = All-nil (IsGroupOf scale.warehouses)
 all_supplies scale (line ∷ lines) is =

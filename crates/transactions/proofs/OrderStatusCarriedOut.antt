@@ -49,7 +49,7 @@ shown_customers_are_at_home o key customer customers found =
 
 -- ---- a shared claim changes nothing
 
-shared_settles : (group : Group) (has : Content) (claim : Claiming) → claim.mode ≡ Shared → has ≡ content_after group has claim
+pub shared_settles : (group : Group) (has : Content) (claim : Claiming) → claim.mode ≡ Shared → has ≡ content_after group has claim
 shared_settles group has claim shared =
     each (is_same claim.group group)
     ∙ sym (ap (λ (mode : Mode). cond (is_same claim.group group) (committed_by mode claim.left has) has) shared)

@@ -26,10 +26,10 @@ module _
     (t : Database) (own : Group) (was now : Claiming)
     (on : IsSharedOn own was) (left : was.left ≡ content t was.group) (untouched : was.mode ≡ Shared → was.left ≡ was.told) (same : now ≡ was)
   where
-    on_still : IsSharedOn own now
+    pub on_still : IsSharedOn own now
     on_still = record { group = ap (λ (k : Claiming). k.group) same ∙ on.group; mode = ap (λ (k : Claiming). k.mode) same ∙ on.mode }
 
-    told_here : now.told ≡ content t own
+    pub told_here : now.told ≡ content t own
     told_here = ap (λ (k : Claiming). k.told) same ∙ sym (untouched on.mode) ∙ left ∙ ap (content t) on.group
 
 -- the customer

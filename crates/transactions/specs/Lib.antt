@@ -3,6 +3,11 @@ pub mod Payment
 pub mod PaymentLaws
 pub mod OrderStatus
 pub mod OrderStatusLaws
+pub mod NewOrder
+pub mod NewOrderLaws
+pub mod NewOrderStock
+pub mod StockLevel
+pub mod StockLevelLaws
 pub mod Works
 pub mod Progresses
 pub mod Acting

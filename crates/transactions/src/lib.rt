@@ -14,9 +14,12 @@
 
 mod acting;
 mod laws;
+mod listed;
+pub mod new_order;
 pub mod order_status;
 pub mod payment;
 mod progress;
+pub mod stock_level;
 mod work;
 
 pub use acting::{Ran, act, settle, undo};
@@ -26,5 +29,6 @@ pub use laws::{
     rolled_back_claims_can_be_undone, transactions_have_few_actions, works_are_at_warehouses,
     works_are_done_at_home, works_claim_at_home, works_have_their_groups, works_have_wishes,
 };
+pub use listed::Listed;
 pub use progress::{Gathered, Progress, has_graph};
 pub use work::{Found, Work, run};

@@ -7,7 +7,7 @@ ghost use Rattle.transactions.specs.Granted.{IsAsked};
 ghost use Rattle.transactions.specs.Progresses.{FollowsFrom, HasFound, IsReached, has_graph, works_of};
 
 use crate::work::{Found, Work};
-use crate::{order_status, payment};
+use crate::{new_order, order_status, payment, stock_level};
 use requests::{Fault, Reply, Request};
 use schema::NoMemory;
 use std::alloc::Global;
@@ -15,8 +15,10 @@ use std::alloc::Global;
 /// How far a transaction has come: its phase, with what that was given.
 #[derive(Drop)]
 pub enum Progress {
+    NewOrder(new_order::Progress),
     Payment(payment::Progress),
     OrderStatus(order_status::Progress),
+    StockLevel(stock_level::Progress),
 }
 
 /// What becomes of a transaction, by all that the actions of a phase found.
@@ -35,8 +37,11 @@ pub fn has_graph(request: &Request) -> bool
     ensures { result ≡ has_graph request.now }
 {
     match request {
-        Request::Payment(_) | Request::OrderStatus(_) => true,
-        Request::NewOrder(_) | Request::Delivery(_) | Request::StockLevel(_) => false,
+        Request::NewOrder(_)
+        | Request::Payment(_)
+        | Request::OrderStatus(_)
+        | Request::StockLevel(_) => true,
+        Request::Delivery(_) => false,
     }
 }
 
@@ -47,11 +52,15 @@ impl Progress {
         ensures { (shared : Shared) (asked : AnyRequest) (held : List (List Claiming)) → IsAsked shared asked request held → IsReached shared asked result held }
     {
         match request {
+            Request::NewOrder(order) => { Progress::NewOrder(new_order::Progress::ReadRows(order)) }
             Request::Payment(payment) => Progress::Payment(payment::Progress::PayRows(payment)),
             Request::OrderStatus(asked) => {
                 Progress::OrderStatus(order_status::Progress::ReadCustomer(asked))
             }
-            Request::NewOrder(_) | Request::Delivery(_) | Request::StockLevel(_) => unreachable!(),
+            Request::StockLevel(asked) => {
+                Progress::StockLevel(stock_level::Progress::ReadNext(asked))
+            }
+            Request::Delivery(_) => unreachable!(),
         }
     }
 
@@ -60,8 +69,10 @@ impl Progress {
         ensures { IfOk result (λ works. works.items ≡ works_of self.now) }
     {
         match self {
+            Progress::NewOrder(progress) => progress.works(alloc),
             Progress::Payment(progress) => progress.works(alloc),
             Progress::OrderStatus(progress) => progress.works(alloc),
+            Progress::StockLevel(progress) => progress.works(alloc),
         }
     }
 
@@ -71,8 +82,10 @@ impl Progress {
         ensures { IfOk result (λ gathered. FollowsFrom self found.items gathered) }
     {
         match self {
+            Progress::NewOrder(progress) => progress.gather(alloc, found),
             Progress::Payment(progress) => progress.gather(alloc, found),
             Progress::OrderStatus(progress) => progress.gather(alloc, found),
+            Progress::StockLevel(progress) => progress.gather(alloc, found),
         }
     }
 }

@@ -5,7 +5,7 @@ ghost use Rattle.slices.specs.Sliced.{SliceKeeps};
 ghost use Rattle.transactions.specs.Granted.{AreGrantedFor, AreLeft};
 ghost use Rattle.transactions.specs.Works.{CanDo, HasDone, home_of, wishes_of};
 
-use crate::{order_status, payment};
+use crate::{new_order, order_status, payment, stock_level};
 use groups::Wish;
 use schema::NoMemory;
 use slices::Slice;
@@ -15,15 +15,19 @@ use tickets::{Claim, GroupNames};
 /// What an action does, with all that it needs for it.
 #[derive(Drop)]
 pub enum Work {
+    NewOrder(new_order::Work),
     Payment(payment::Work),
     OrderStatus(order_status::Work),
+    StockLevel(stock_level::Work),
 }
 
 /// What an action found.
 #[derive(Drop)]
 pub enum Found {
+    NewOrder(new_order::Found),
     Payment(payment::Found),
     OrderStatus(order_status::Found),
+    StockLevel(stock_level::Found),
 }
 
 impl Work {
@@ -32,8 +36,10 @@ impl Work {
         ensures { result ≡ home_of self.now }
     {
         match self {
+            Work::NewOrder(work) => work.home(),
             Work::Payment(work) => work.home(),
             Work::OrderStatus(work) => work.home(),
+            Work::StockLevel(work) => work.home(),
         }
     }
 
@@ -42,8 +48,10 @@ impl Work {
         ensures { result ≡ length (wishes_of self.now) }
     {
         match self {
+            Work::NewOrder(work) => work.wish_count(),
             Work::Payment(work) => work.wish_count(),
             Work::OrderStatus(work) => work.wish_count(),
+            Work::StockLevel(work) => work.wish_count(),
         }
     }
 
@@ -53,8 +61,10 @@ impl Work {
         ensures { result ≡ slice_get (wishes_of self.now) number }
     {
         match self {
+            Work::NewOrder(work) => work.wish(number),
             Work::Payment(work) => work.wish(number),
             Work::OrderStatus(work) => work.wish(number),
+            Work::StockLevel(work) => work.wish(number),
         }
     }
 }
@@ -76,7 +86,9 @@ pub fn run<J: GroupNames>(
     ensures err { OnErr result ((slice.new ≡ slice.old) × (claims.new ≡ claims.old)) }
 {
     match work {
+        Work::NewOrder(work) => Ok(Found::NewOrder(work.run(alloc, slice, claims)?)),
         Work::Payment(work) => Ok(Found::Payment(work.run(slice, claims)?)),
         Work::OrderStatus(work) => Ok(Found::OrderStatus(work.run(alloc, slice, claims)?)),
+        Work::StockLevel(work) => Ok(Found::StockLevel(work.run(alloc, slice, claims)?)),
     }
 }

@@ -12,10 +12,10 @@ abbrev items_of : List (OrderLineKey × OrderLine) → List ℕ
 items_of rows = map (λ line. line.1.i_id) rows
 
 pub returns-clause-few : goal.returns-clause-few
-returns-clause-few c =
-    let t = c.args.tables.now in
+returns-clause-few g c =
+    let t = g.T.Rows.tables c.args.rows.now in
     let all : c.loop-row.items.items ≡ spec.recent_items t c.args.home c.args.next =
     sym (append-nil c.loop-row.items.items) ∙ ap (λ rows. c.loop-row.items.items ++ items_of rows) (sym c.in-None.ensures.steps.0) ∙ c.loop-row.invariant in
     let many = ap length all ∙ length-map (rows_where (is_in_span c.args.home (c.args.next - 20) c.args.next) t.lines) (λ (line : OrderLineKey × OrderLine). line.1.i_id) in
-    let few = few_lines t c.scale.ensures.within c.args.home c.args.next in
+    let few = few_lines t c.lines_of_span-row-items.ensures.numbered c.args.home c.args.next in
     omega (arith, many, few)

@@ -1,4 +1,4 @@
-use Rattle.std.proofs.Common.{◌≡◌, [], ◌∷◌, set, ap, subst, sym, ◌∙◌}
+use Rattle.std.proofs.Common.{[], ◌∷◌, set, ap, subst, sym, ◌∙◌}
 use Rattle.groups.specs.Laws.{ChangesOneGroup}
 use Rattle.slices.specs.Grounds.{sliced}
 use Rattle.slices.specs.Sliced.{Sliced, SliceKeeps}

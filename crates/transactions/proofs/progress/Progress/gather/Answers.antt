@@ -5,7 +5,10 @@ use Rattle.transactions.specs.Progresses.{FollowsFrom, HasFound}
 use Rattle.transactions.proofs.progress.Progress.gather.Goals as goal
 
 pub gather-requires : goal.gather-requires
-gather-requires c = subst (λ (p : Progress). HasFound p c.args.found.items) c.in-Payment.is c.requires
+gather-requires c = subst (λ (p : Progress). HasFound p c.args.found.items) c.in-NewOrder.is c.requires
 
-pub returns-in-Payment : goal.returns-in-Payment
-returns-in-Payment c = subst (λ (p : Progress). IfOk c.gather.result (λ (g : Gathered). FollowsFrom p c.args.found.items g)) (sym c.in-Payment.is) c.gather.ensures
+pub returns-in-NewOrder : goal.returns-in-NewOrder
+returns-in-NewOrder c = subst (λ (p : Progress). IfOk c.gather.result (λ (g : Gathered). FollowsFrom p c.args.found.items g)) (sym c.in-NewOrder.is) c.gather.ensures
+
+pub gather-requires-in-Payment : goal.gather-requires-in-Payment
+gather-requires-in-Payment c = subst (λ (p : Progress). HasFound p c.args.found.items) c.in-Payment.is c.requires

@@ -1,0 +1,145 @@
+-- A Stock-Level (clause 2.8.2.2): what its actions find, said of their claims alone, what they tell as committed; and its
+-- phases.
+use Rattle.std.specs.Prelude.{◌≡◌, ℕ, List, [], ◌∷◌, map}
+use Rattle.std.specs.List.{range_with_len}
+use Rattle.std.specs.FinMap as table
+use Rattle.rows.specs.declared.keys.DistrictKey.{DistrictKey}
+use Rattle.schema.specs.Database.{Database}
+use Rattle.partitions.specs.Parts.{Shared}
+use Rattle.requests.specs.declared.group.Group.{Group}
+use Rattle.requests.specs.declared.group.Group.TheVariants as g
+use Rattle.requests.specs.declared.request.Request.{Request}
+use Rattle.requests.specs.declared.request.Request.TheVariants as request
+use Rattle.requests.specs.declared.stock_level.StockLevel.{StockLevel}
+use Rattle.requests.specs.declared.stock_level.StockLevelReply.{StockLevelReply}
+use Rattle.requests.specs.Check.{IsAccepted}
+use Rattle.groups.specs.Content.{content}
+use Rattle.groups.specs.declared.wishes.Wish.{Wish}
+use Rattle.groups.specs.Footprint.{shared as sharing}
+use Rattle.tickets.specs.Claims.{Claiming}
+use Rattle.tickets.specs.Committed.{Tells}
+use Rattle.machine.specs.StockLevel.{next_order, recent_items, low_stock}
+use Rattle.transactions.specs.declared.stock_level.Work.{Work}
+use Rattle.transactions.specs.declared.stock_level.Work.TheVariants.{ReadNext, ReadItems, CountLow}
+use Rattle.transactions.specs.declared.stock_level.Found.{Found}
+use Rattle.transactions.specs.declared.stock_level.Found.TheVariants as found
+use Rattle.transactions.specs.declared.stock_level.Progress.{Progress}
+use Rattle.transactions.specs.declared.stock_level.Progress.TheVariants as at
+use Rattle.transactions.specs.declared.work.Work.{Work as AnyWork}
+use Rattle.transactions.specs.declared.work.Work.TheVariants as any_work
+use Rattle.transactions.specs.declared.work.Found.{Found as AnyFound}
+use Rattle.transactions.specs.declared.work.Found.TheVariants as any_found
+use Rattle.transactions.specs.Granted.{IsAsked, IsSharedOn}
+
+-- ---- the district
+
+-- The number of the district's next order was found: that of every tables that have in the group what the claim tells.
+pub record IsNextFound (home : DistrictKey) (next : ℕ) (district : Claiming) : Type 0 where
+  pub claim : IsSharedOn (g.District home.w_id home.d_id) district
+  pub shown : (t : Database) → content t district.group ≡ district.told → next ≡ next_order (table.get t.districts home)
+
+-- ---- the lines of its last orders
+
+-- the item of each line of the district's 20 orders before this number was found, likewise
+pub record AreItemsFound (home : DistrictKey) (next : ℕ) (items : List ℕ) (orders : Claiming) : Type 0 where
+  pub claim : IsSharedOn (g.Orders home.w_id home.d_id) orders
+  pub shown : (t : Database) → content t orders.group ≡ orders.told → items ≡ recent_items t home next
+
+-- ---- the stock
+
+-- the groups of all stock of a warehouse
+abbrev pub stock_of : ℕ → List Group
+stock_of w_id = map (λ residue. g.Stock w_id residue) (range_with_len 0 64)
+
+-- these are shared claims on these groups, one on each in turn
+abbrev pub AreSharedOn : List Group → List Claiming → Type 0
+AreSharedOn [] [] = Unit {0}
+AreSharedOn (group ∷ groups) (claim ∷ claims) = IsSharedOn group claim × AreSharedOn groups claims
+AreSharedOn groups claims = ⊥
+
+-- how many of these items are low was found: as many as in every tables that have in the groups what the claims tell
+pub record IsLowFound (s : StockLevel) (items : List ℕ) (count : ℕ) (stock : List Claiming) : Type 0 where
+  pub claims : AreSharedOn (stock_of s.home.w_id) stock
+  pub shown : (t : Database) → Tells (content t) stock → count ≡ low_stock t s.home.w_id s.threshold items
+
+-- ---- the actions
+
+-- the warehouse at which the work is done
+abbrev pub home_of : Work → ℕ
+home_of (ReadNext s) = s.home.w_id
+home_of (ReadItems s next) = s.home.w_id
+home_of (CountLow s items) = s.home.w_id
+
+-- the groups that an action claims for its work, and how
+abbrev pub wishes_of : Work → List Wish
+wishes_of (ReadNext s) = sharing (g.District s.home.w_id s.home.d_id) ∷ []
+wishes_of (ReadItems s next) = sharing (g.Orders s.home.w_id s.home.d_id) ∷ []
+wishes_of (CountLow s items) = map (λ residue. sharing (g.Stock s.home.w_id residue)) (range_with_len 0 64)
+
+-- What the work needs: it is of a Stock-Level that the check accepts.
+abbrev pub CanDo : Shared → Work → Type 0
+CanDo shared (ReadNext s) = IsAccepted shared.scale (request.StockLevel s)
+CanDo shared (ReadItems s next) = IsAccepted shared.scale (request.StockLevel s)
+CanDo shared (CountLow s items) = IsAccepted shared.scale (request.StockLevel s)
+
+-- The work found this, and was done under these claims.
+abbrev pub HasDone : Shared → Work → Found → List Claiming → Type 0
+HasDone shared (ReadNext s) one claims =
+    (next : ℕ) × (district : Claiming) × (one ≡ found.Next next) × (claims ≡ district ∷ []) × IsNextFound s.home next district
+HasDone shared (ReadItems s next) one claims =
+    (items : List ℕ) × (orders : Claiming) × (one ≡ found.Items items) × (claims ≡ orders ∷ []) × AreItemsFound s.home next items orders
+HasDone shared (CountLow s items) one claims =
+    (count : ℕ) × (one ≡ found.Low count) × IsLowFound s items count claims
+
+-- ---- the phases
+
+-- the number of the district's next order was read under this claim
+pub record IsNextRead (shared : Shared) (asked : Request) (s : StockLevel) (next : ℕ) (held : List (List Claiming)) : Type 0 where
+  pub is : asked ≡ request.StockLevel s
+  pub accepted : IsAccepted shared.scale asked
+  pub district : Claiming
+  pub claims : held ≡ (district ∷ []) ∷ []
+  pub read : IsNextFound s.home next district
+
+-- and then the items of the district's last 20 orders, under this one
+pub record AreItemsRead (shared : Shared) (asked : Request) (s : StockLevel) (items : List ℕ) (held : List (List Claiming)) : Type 0 where
+  pub is : asked ≡ request.StockLevel s
+  pub accepted : IsAccepted shared.scale asked
+  pub next : ℕ
+  pub district : Claiming
+  pub orders : Claiming
+  pub claims : held ≡ (district ∷ []) ∷ (orders ∷ []) ∷ []
+  pub next_read : IsNextFound s.home next district
+  pub read : AreItemsFound s.home next items orders
+
+-- what is known of how far a Stock-Level has come, beside the claims of each action of the phases before
+abbrev pub IsReached : Shared → Request → Progress → List (List Claiming) → Type 0
+IsReached shared asked (at.ReadNext s) held = IsAsked shared asked (request.StockLevel s) held
+IsReached shared asked (at.ReadItems s next) held = IsNextRead shared asked s next held
+IsReached shared asked (at.CountLow s items) held = AreItemsRead shared asked s items held
+
+-- what the action of its phase does: the district is read, then the lines of its last orders, then the stock
+abbrev pub work_of : Progress → Work
+work_of (at.ReadNext s) = ReadNext s
+work_of (at.ReadItems s next) = ReadItems s next
+work_of (at.CountLow s items) = CountLow s items
+
+-- that is the phase's one action
+abbrev pub works_of : Progress → List AnyWork
+works_of progress = any_work.StockLevel (work_of progress) ∷ []
+
+-- what the actions of the three phases found
+abbrev pub IsNextOf : List AnyFound → Type 0
+IsNextOf items = (next : ℕ) × (items ≡ any_found.StockLevel (found.Next next) ∷ [])
+
+-- the second
+abbrev pub AreItemsOf : List AnyFound → Type 0
+AreItemsOf items = (lines : List ℕ) × (items ≡ any_found.StockLevel (found.Items lines) ∷ [])
+
+-- the third
+abbrev pub IsLowOf : List AnyFound → Type 0
+IsLowOf items = (count : ℕ) × (items ≡ any_found.StockLevel (found.Low count) ∷ [])
+
+-- what is replied (clause 2.8.3.3)
+abbrev pub reply_counted : ℕ → StockLevelReply
+reply_counted count = record { count = count }

@@ -1,0 +1,129 @@
+//! A New-Order (clause 2.4): what its actions do and find, its phases, and its law. Its district gives it a
+//! number and its customer is shown; then each group of stock that supplies its lines sells them, all at the
+//! same time; and then it is added (clause 2.4.2.2).
+ghost use Rattle.transactions.specs.NewOrderLaws.{NewOrdersAreCarriedOut, NewOrdersOfNobodyAreCarriedOut, PlacedOrdersAreKnown, RolledBackNewOrdersAreCarriedOut};
+
+mod deciding;
+mod home_rows;
+mod phases;
+mod stock;
+mod work;
+
+use crate::listed::Listed;
+use amounts::Rate;
+pub use home_rows::{add_order, show_orderer, take_number};
+pub use phases::Progress;
+use requests::{Group, NewOrder, NewOrderLine, NewOrderReply};
+use schema::{Credit, Order, OrderKey, OrderLine, Text};
+pub use stock::take_stock;
+pub use work::{Found, Work};
+
+/// What a New-Order finds of its home warehouse and district.
+#[derive(Clone, Debug, PartialEq, Eq, Drop)]
+pub enum HomeFound {
+    /// One of the two isn't there.
+    Missing,
+    /// Both are there. Where the district has a next number, it has it now.
+    Shown(HomeShown),
+}
+
+/// What New-Order shows of its home warehouse and district (clause 2.4.3.3).
+#[derive(Clone, Copy, Debug, PartialEq, Eq)]
+pub struct HomeShown {
+    pub warehouse_tax: Rate,
+    pub district_tax: Rate,
+    /// The number that the order gets: 1 to 10,000,000.
+    pub o_id: u32,
+    /// Whether D_NEXT_O_ID can grow. Where not, no order can have the number.
+    pub has_next: bool,
+}
+
+/// What a New-Order finds of its customer.
+#[derive(Clone, Debug, PartialEq, Eq, Drop)]
+pub enum OrdererFound {
+    /// The district has no such customer.
+    Missing,
+    Shown(Orderer),
+}
+
+/// What New-Order shows of its customer (clause 2.4.3.3).
+#[derive(Clone, Debug, PartialEq, Eq, Drop)]
+pub struct Orderer {
+    pub last: Text<16>,
+    pub credit: Credit,
+    pub discount: Rate,
+}
+
+/// What a New-Order finds of the lines that one group of stock supplies.
+#[derive(Drop)]
+pub enum StockTaken {
+    /// There is no such item as one of them orders, and nothing is done.
+    NoItem,
+    /// A counter of a row of STOCK would leave its range, and nothing is done.
+    OutOfRange,
+    /// They are taken from the stock.
+    Taken(Listed<LineSold>),
+}
+
+/// A line of an order that was taken from the stock.
+#[derive(Drop)]
+pub struct LineSold {
+    /// OL_NUMBER: 1 to 15.
+    pub number: usize,
+    /// The row of ORDER-LINE that is to be added.
+    pub row: OrderLine,
+    /// What is shown of it.
+    pub shown: NewOrderLine,
+}
+
+/// An order that has its number, and whose customer was shown.
+#[derive(Drop)]
+pub struct OrderBegun {
+    pub order: NewOrder,
+    pub home: HomeShown,
+    pub orderer: Orderer,
+    /// The groups that supply its lines, each once, by its first line: the first, and the others.
+    pub first: Group,
+    pub others: Listed<Group>,
+}
+
+/// The rows of an order that is to be added.
+#[derive(Clone, Debug, Drop)]
+pub struct OrderRows {
+    pub key: OrderKey,
+    pub row: Order,
+    /// By OL_NUMBER.
+    pub lines: Listed<OrderLine>,
+}
+
+/// An order that has its number, and whose lines were sold.
+#[derive(Drop)]
+pub struct OrderPlaced {
+    /// The rows that are to be added.
+    pub rows: OrderRows,
+    /// What it will reply.
+    pub reply: NewOrderReply,
+}
+
+/// Where each action did its part, the New-Order is carried out as the machine does it: the reply is the
+/// machine's, and the claims leave what the machine leaves.
+pub fn new_orders_are_carried_out()
+    ensures { NewOrdersAreCarriedOut }
+{}
+
+/// Where its home warehouse, its district or its customer isn't there, the machine rolls the New-Order back, with
+/// that fault.
+pub fn new_orders_of_nobody_are_carried_out()
+    ensures { NewOrdersOfNobodyAreCarriedOut }
+{}
+
+/// Where what was found of the stock calls for it, the machine rolls the New-Order back, with the same fault.
+pub fn rolled_back_new_orders_are_carried_out()
+    ensures { RolledBackNewOrdersAreCarriedOut }
+{}
+
+/// The order that is added is one that the tables can have: its number, its customer and its lines are of the
+/// scale.
+pub fn placed_orders_are_known()
+    ensures { PlacedOrdersAreKnown }
+{}
