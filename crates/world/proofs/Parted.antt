@@ -49,10 +49,10 @@ module _ (shared : Shared) (slices : List Sliced) (are : AreSlicesOf shared slic
   next : (home - 1) + 1 ≡ home
   next = omega (arith, first)
 
-  here : IsPartAt shared (home - 1) (part_in slice)
+  pub here : IsPartAt shared (home - 1) (part_in slice)
   here = subst (λ (s : Sliced). IsPartAt shared (home - 1) (part_in s)) (sym is) (are.each (home - 1) slice inside)
 
-  shared_is : shared_of slice.tables ≡ shared
+  pub shared_is : shared_of slice.tables ≡ shared
   shared_is = λ i. record { scale = here.scale i; items = here.items i }
 
   -- what it keeps, all keep

@@ -8,7 +8,7 @@ use Rattle.schema.specs.Database.{Database}
 use Rattle.tickets.specs.Claims.{Claiming}
 use Rattle.transactions.specs.Works.{HaveAllDone}
 use Rattle.transactions.specs.declared.work.Work.{Work}
-use Rattle.transactions.specs.Progresses.{works_of}
+use Rattle.transactions.specs.Progresses.{IsReached, works_of}
 use Rattle.transactions.specs.declared.laws.TheConstants.{MOST_ACTIONS}
 use Rattle.transactions.proofs.Reached.{few_actions, some_actions}
 use Rattle.world.specs.declared.flight.Flow.{Flow}
@@ -44,11 +44,11 @@ module _ {J : Type 0} where
   -- ---- a report
 
   -- where all actions of a phase have reported, the first has the transaction with it
-  can_meet : (shared : Shared) (u : UnderWay) (works : List Work) (reports : List (Report J)) → works ≡ works_of u.progress → 1 ≤ length works → length u.held + length works ≤ MOST_ACTIONS
+  can_meet : (shared : Shared) (u : UnderWay) (works : List Work) (reports : List (Report J)) → works ≡ works_of u.progress → IsReached shared u.request u.progress u.held → 1 ≤ length works → length u.held + length works ≤ MOST_ACTIONS
       → length reports ≡ length works → HaveReported shared u 0 works reports → CanMeet reports
-  can_meet shared u works [] are some few many h = absurd (omega (arith, some, many))
-  can_meet shared u [] (r ∷ reports) are some few many h = absurd h
-  can_meet shared u (work ∷ works) (r ∷ reports) are some few many h =
+  can_meet shared u works [] are reached some few many h = absurd (omega (arith, some, many))
+  can_meet shared u [] (r ∷ reports) are reached some few many h = absurd h
+  can_meet shared u (work ∷ works) (r ∷ reports) are reached some few many h =
       let all = r ∷ reports in
       let carried = is_carried shared u r.flow h.0.0 in
       let same = carried.1.1 in
@@ -56,6 +56,10 @@ module _ {J : Type 0} where
         room = omega (arith, ap (λ (held : List (List Claiming)). length held) same.held, few, many);
         done = λ none. (
           shared,
+          u.request,
+          u.held,
+          held_in all,
+          subst (λ p. IsReached shared u.request p u.held) (sym same.progress) reached,
           subst (λ ws. HaveAllDone shared ws (found_in all) (held_in all)) (are ∙ ap works_of (sym same.progress)) (all_done shared u 0 (work ∷ works) all h none),
         );
       } in
@@ -73,7 +77,7 @@ module _ {J : Type 0} where
       let meets : (reports : List (Report J)) → map Some reports ≡ slice_set slots (r.place - first) (Some r) → CanMeet reports = λ reports all.
       let many : length reports ≡ length (works_of u.progress) =
       sym (length-map reports Some) ∙ ap (λ (l : List (Option (Report J))). length l) all ∙ length-set slots (r.place - first) (Some r) ∙ phase.many in
-      can_meet shared u (works_of u.progress) reports refl (some_actions u.progress) (few_actions shared u.request u.progress u.held phase.reached) many
+      can_meet shared u (works_of u.progress) reports refl phase.reached (some_actions u.progress) (few_actions shared u.request u.progress u.held phase.reached) many
       (phase_reported shared u first (r.place - first) slots r reports phase s place all) in
       (first, (slots, (at.1.1.0, (at.1.1.1.0, (at.1.1.1.1, meets)))))
 

@@ -5,25 +5,34 @@ use Rattle.requests.specs.declared.refusal.Refusal.{Refusal}
 use Rattle.requests.specs.declared.refusal.Refusal.TheVariants as refusal
 use Rattle.tickets.specs.Claims.{Claiming}
 use Rattle.transactions.specs.Works.{HaveAllDone}
+use Rattle.transactions.specs.declared.progress.Progress.{Progress}
 use Rattle.transactions.specs.declared.progress.Gathered.{Gathered}
 use Rattle.transactions.specs.declared.progress.Gathered.TheVariants.{Next, Finish, RollBack}
 use Rattle.transactions.specs.declared.work.Found.{Found}
 use Rattle.transactions.specs.declared.acting.Ran.{Ran}
 use Rattle.transactions.specs.declared.acting.Ran.TheVariants as ran
-use Rattle.transactions.specs.Progresses.{HasFound, works_of}
+use Rattle.transactions.specs.Progresses.{FollowsFrom, works_of}
 use Rattle.transactions.specs.declared.laws.TheConstants.{MOST_ACTIONS}
 use Rattle.world.specs.declared.desk.Active.{Active}
 use Rattle.world.specs.declared.flight.Flow.{Flow}
 use Rattle.world.specs.declared.flight.Report.{Report}
 use Rattle.world.specs.declared.world.Parts.{Parts}
 use Rattle.world.specs.Following.{CarriesFirst, IfCarried, found_by, found_in, held_by, held_in, holding, refusal_of, refused, refused_by, releasing, with_active}
-use Rattle.world.specs.Events.{CanMeet, CanMeetFor, GathersInto, MeetsAs, MeetsUnless, goes_on}
+use Rattle.world.specs.Events.{CanMeet, CanMeetFor, GathersInto, HasMet, MeetsAs, MeetsUnless, goes_on}
+use Rattle.transactions.proofs.Reached.{few_actions}
 use Rattle.world.proofs.Reported.{one_holds, stays_refused}
 
 -- where nothing is told nothing is left
 pub none_left : {X : Type 0} (results : List X) (told : Option X) → told ≡ None → (IsSome told ↔ (0 < length results)) → results ≡ []
 none_left [] told none some = refl
 none_left {X} (x ∷ results) told none some = let there : IsSome {T = X} None = subst (λ (o : Option X). IsSome o) none (some.1 (omega arith)) in absurd (cc)
+
+-- the actions of the phase that follows are few
+pub next_few : (progress next : Progress) (found : List Found) → HasMet progress found → FollowsFrom progress found (Next next) → length (works_of next) ≤ MOST_ACTIONS
+next_few progress next found met follows =
+    let held = met.2 in
+    let claims = met.3 in
+    omega (arith, few_actions met.0 met.1 next (held ++ claims) (follows met.0 met.1 held claims met.4 met.5))
 
 module _ {J : Type 0} where
   -- who isn't refused now wasn't before
@@ -140,18 +149,13 @@ module _ {J : Type 0} where
 
   -- where it isn't refused, its actions have done their work
   pub sorted_done : (reports : List (Report J)) (last : Flow J) (start : Option Refusal) (found : List Found) → CanMeet reports → IsSorted reports last → refusal_of start reports ≡ None → found ≡ found_in reports
-      → HasFound last.progress found
+      → HasMet last.progress found
   sorted_done reports last start found can sorted none is_found =
       let from_none : refusal_of None reports ≡ None = ap (λ o. refusal_of o reports) (sym (not_refused start reports none)) ∙ none in
       carried_both reports (CanMeetFor reports) (λ f. last ≡ record f { transaction = holding f.transaction (held_in reports) })
-      (HasFound last.progress found)
+      (HasMet last.progress found)
       (λ f meets is.
-      let done = meets.done from_none in (
-        done.0,
-        held_in reports,
-        subst (λ fs. HaveAllDone done.0 (works_of last.progress) fs (held_in reports)) (sym is_found)
-            (subst (λ (x : Flow J). HaveAllDone done.0 (works_of x.progress) (found_in reports) (held_in reports)) (sym is) done.1),
-      )) can sorted
+      subst (λ fs. HasMet last.progress fs) (sym is_found) (subst (λ (x : Flow J). HasMet x.progress (found_in reports)) (sym is) (meets.done from_none))) can sorted
 
   -- want of memory is answered only where no one died
   memory_last : (reports : List (Report J))

@@ -4,13 +4,14 @@ use Rattle.std.specs.List.{slice_get}
 use Rattle.std.specs.declared.alloc.Global.{Global}
 use Rattle.partitions.specs.Parts.{Shared, shared_of}
 use Rattle.schema.specs.Database.{Database}
+use Rattle.requests.specs.declared.request.Request.{Request}
 use Rattle.requests.specs.declared.reply.Reply.TheVariants as reply
 use Rattle.requests.specs.declared.answer.Answer.TheVariants.{Done, Refused}
 use Rattle.requests.specs.declared.refusal.Refusal.{Refusal}
 use Rattle.requests.specs.declared.refusal.Refusal.TheVariants as refusal
 use Rattle.requests.specs.Check.{IsAccepted}
 use Rattle.requests.specs.Replies.{ShowsLines}
-use Rattle.tickets.specs.Claims.{all_claims}
+use Rattle.tickets.specs.Claims.{Claiming, all_claims}
 use Rattle.commit_log.specs.declared.entry.Entry.{Entry}
 use Rattle.commit_log.specs.declared.log_book.AppendFault.{AppendFault}
 use Rattle.commit_log.specs.declared.log_book.AppendFault.TheVariants as fault
@@ -22,7 +23,7 @@ use Rattle.history.specs.declared.event.EventAnswer.TheVariants.{Sent, Full, Log
 use Rattle.slices.specs.Sliced.{AreSlicesOf, Joined, Sliced, SlicesKeep, joined}
 use Rattle.transactions.specs.Acting.{dies_on}
 use Rattle.transactions.specs.Works.{HaveAllDone, CanDo, HasDone, wishes_of}
-use Rattle.transactions.specs.Progresses.{FollowsFrom, works_of}
+use Rattle.transactions.specs.Progresses.{FollowsFrom, IsReached, works_of}
 use Rattle.transactions.specs.declared.laws.TheConstants.{MOST_ACTIONS}
 use Rattle.transactions.specs.declared.progress.Gathered.{Gathered}
 use Rattle.transactions.specs.declared.progress.Gathered.TheVariants.{Next, Finish, RollBack}
@@ -53,6 +54,12 @@ use Rattle.world.specs.Sound.{IsSoundMessage, IsSoundItem, UnderWay}
 abbrev pub why_refused : AppendFault → Refusal
 why_refused fault.NoMemory = refusal.NoMemory
 why_refused fault.LogFull = refusal.LogFull
+
+-- A request has come so far, and the actions of its phase have done their work, and found this.
+abbrev pub HasMet : Progress → List Found → Type 0
+HasMet progress found =
+    (shared : Shared) × (asked : Request) × (held : List (List Claiming)) × (claims : List (List Claiming))
+    × IsReached shared asked progress held × HaveAllDone shared (works_of progress) found claims
 
 module _ {J : Type 0} where
   -- ---- a message is worked on
@@ -132,7 +139,7 @@ module _ {J : Type 0} where
   -- what is asked of them
   pub record CanMeetFor (reports : List (Report J)) (flow : Flow J) : Type 0 where
     pub room : length flow.transaction.held + length reports ≤ MOST_ACTIONS
-    pub done : refusal_of None reports ≡ None → (shared : Shared) × HaveAllDone shared (works_of flow.progress) (found_in reports) (held_in reports)
+    pub done : refusal_of None reports ≡ None → HasMet flow.progress (found_in reports)
 
   -- what is asked of the reports of a phase, by the transaction that the first of them carries
   abbrev pub CanMeet : List (Report J) → Type 0

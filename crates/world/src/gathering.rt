@@ -1,9 +1,8 @@
 //! All actions of a phase have reported: what they found is gathered, and what follows is done.
 ghost use Rattle.std.specs.Prelude.{◌≡◌, ◌≤◌, ◌+◌, ◌++◌, [], length, vec_capacity, None, Some};
-ghost use Rattle.transactions.specs.Progresses.{HasFound};
 ghost use Rattle.world.specs.Following as spec;
 ghost use Rattle.world.specs.Following.{CarriesFirst, found_in, held_in, holding, refusal_of};
-ghost use Rattle.world.specs.Events.{CanMeet, GathersInto, MeetsAs};
+ghost use Rattle.world.specs.Events.{CanMeet, GathersInto, HasMet, MeetsAs};
 
 use crate::beginning::Phase;
 use crate::desk::Active;
@@ -50,7 +49,7 @@ impl<J: Names> Parts<J> {
     )
         requires room { length self.old.outbox + (MOST_ACTIONS + 1) ≤ 4096 }
         requires held { length transaction.held ≤ MOST_ACTIONS }
-        requires done { HasFound progress found.items }
+        requires done { HasMet progress found.items }
         ensures { GathersInto progress found.items transaction self.old self.new }
     {
         let Ok(gathered) = progress.gather(alloc, found) else {
