@@ -5,13 +5,18 @@ proves every crate and its tests from nothing, has the prover refuse every must-
 run. Last, all scenarios are run by the program that was proved, and each of its allocations is refused in turn. The last line
 is `rt ci`'s: N passed, 0 failed. The exit status is 0 where all is well.
 
-What `rt ci` passed before on this machine, of the same files over the same libraries, it does not do again; with --anew it
-does. With --record the run writes what it cost into docs/COSTS.md, under NAME.
+Where the toolchain's `rt ci` keeps what it passed before on this machine, it does not do that again, of the same files over the
+same libraries; with --anew it does. Where it keeps nothing it does all in every run, and --anew asks for nothing more. (It keeps
+something where `rt help` names --anew.)
+
+What the run has cost so far, and its ten most costly parts, is told every 20 minutes and as it ends, also where it is ended
+early, by Ctrl-C or SIGTERM. With --record a run that came to its end writes its costs into docs/COSTS.md, under NAME.
 """
 
 import argparse
 import os
 import re
+import signal
 import subprocess
 import sys
 import time
@@ -55,17 +60,32 @@ class Progress:
                 say(", ".join(f"{name} of {self.done[name]} of {of} crates" for name, (_, of) in self.parts.items()))
 
 
+def words_for(anew):
+    """Returns the words that follow `rt ci`: --anew where all is to be done, and this toolchain's `rt ci` would else leave
+    out what it keeps."""
+    told = subprocess.run(["rt", "help"], stdin=subprocess.DEVNULL, capture_output=True, text=True, errors="replace", check=False)
+    keeps = "--anew" in told.stdout + told.stderr
+    if anew and not keeps:
+        say("this toolchain's rt ci keeps nothing of earlier runs, and does all without --anew")
+    return ["--anew"] if anew and keeps else []
+
+
 def prove(words):
     """Runs `rt ci`, and returns how many passed and failed."""
     progress, verdict = Progress(), (0, 1)
     with subprocess.Popen(["rt", "ci", *words], cwd=ROOT, stdout=subprocess.PIPE, text=True, errors="replace") as ran:
-        for line in ran.stdout:
-            found = VERDICT.fullmatch(line.strip())
-            if found:
-                verdict = int(found[1]), int(found[2])
-                continue
-            print(line, end="", flush=True)
-            progress.look(line)
+        try:
+            for line in ran.stdout:
+                found = VERDICT.fullmatch(line.strip())
+                if found:
+                    verdict = int(found[1]), int(found[2])
+                    continue
+                print(line, end="", flush=True)
+                progress.look(line)
+        except KeyboardInterrupt:
+            # The provers that it started end with it.
+            ran.terminate()
+            raise
     return verdict if ran.returncode == 0 else (verdict[0], max(verdict[1], 1))
 
 
@@ -83,7 +103,7 @@ def run(anew):
     if not passes("part 1 of 4: the examples by a program that is built without its proofs", "scenarios/run", *examples):
         return 0, 1
     say("part 2 of 4: every crate and its tests proved from nothing; every must-fail edit; the tests")
-    passed, failed = prove(["--anew"] if anew else [])
+    passed, failed = prove(words_for(anew))
     if not failed:
         failed += not passes("part 3 of 4: all scenarios by the program that was proved", "scenarios/run", "--program", PROGRAM)
         failed += not passes("part 4 of 4: each allocation of that program refused in turn", "gate/allocations.py", PROGRAM)
@@ -98,13 +118,17 @@ def commit():
 
 def main():
     words = argparse.ArgumentParser(prog="gate.sh", description=__doc__, formatter_class=argparse.RawDescriptionHelpFormatter)
-    words.add_argument("--anew", action="store_true", help="prove and try also what passed before on this machine")
+    words.add_argument("--anew", action="store_true", help="do also what the toolchain keeps of earlier runs on this machine")
     words.add_argument("--record", metavar="NAME", help="write the costs of this run into docs/COSTS.md under this name")
     words = words.parse_args()
-    with Costs() as costs:
-        passed, failed = run(words.anew)
+    signal.signal(signal.SIGTERM, signal.default_int_handler)
+    try:
+        with Costs(say) as costs:
+            passed, failed = run(words.anew)
+    except KeyboardInterrupt:
+        say("ended early, and nothing is passed")
+        return 130
     verdict = f"{passed} passed, {failed} failed"
-    costs.tell(say)
     if words.record:
         record(f"{ROOT}/docs/COSTS.md", words.record, costs, commit(), verdict)
     print(verdict)
