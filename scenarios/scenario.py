@@ -189,7 +189,7 @@ class Run:
     def row(self, folder):
         """Of a run for a record of a list, what came of it in one line."""
         lines = [line.replace(f"{folder}/", "").replace(f" {self.number}/", " ") for line in self.outcome()]
-        return [f"{self.record}   -> {' / '.join(lines)}"]
+        return [f"{self.record}   -> {' / '.join(lines)}".rstrip()]
 
     def transcript(self, folder):
         """As a shell session; of a command that is run for each record of a list, the words and then a line for each."""
@@ -205,7 +205,8 @@ class Run:
         told, and not the usage after them; `*` stands for what depends on the clock."""
         printed = self.printed.removesuffix("\n").split("\n") if self.printed else []
         kept = ("tpcc: ", "error: ", *(["  "] if self.mark == "terminal" else []))
-        told = [line for line in re.split("[\r\n]", self.told) if line.startswith(kept)]
+        told = re.sub(r"\r([^\r\n]* MB (read|written))(?=[\r\n])", r"\1\n", self.told)
+        told = [line for line in told.split("\n") if line.startswith(kept)]
         told = [re.sub(r"[\d.]*\d(?= (s|requests|New-Orders|us)\b)", "*", line) if line.startswith("tpcc: time: ") else line for line in told]
         lines = printed + ["! " + line for line in told] + [self.status]
         if lines[-1] == "status 0":
