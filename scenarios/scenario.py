@@ -15,8 +15,12 @@ TOP = HERE.parent
 # How the words of a command end that are files.
 FILES = (".csv", ".svg")
 
-# How `commands` marks a command: its scripts may be logged in any order; or what it meets, which takes a built program.
-MARK = re.compile(r"(any order|no room|closed|room \d+|interrupted|terminal): ")
+# How `commands` marks a command: its scripts may be logged in any order; or it is run once for each record of a list; or
+# what it meets, which takes a built program.
+MARK = re.compile(r"(any order|each of \S+|no room|closed|room \d+|interrupted|terminal): ")
+
+# What stands for the record in the files of a command that is run for each record of a list.
+RECORD = "{record}"
 SHOWN = {"terminal": "   # on a terminal", "no room": " > /dev/full", "closed": " | true", "interrupted": "   # and Ctrl-C", "room": "   # where files have room for {}"}
 
 
@@ -96,17 +100,20 @@ def read_file(scenario, name):
 
 
 class Run:
-    """One run of the program: its words, how it is marked, and what came of it."""
+    """One run of the program: its words, how it is marked, and what came of it; where it is one of several that are run
+    for each record of a list, that record and its number."""
 
-    def __init__(self, line):
+    def __init__(self, line, record=None, number=0):
         mark = MARK.match(line)
         self.mark = mark[1] if mark else ""
         self.any_order = self.mark == "any order"
-        self.words = [re.sub(r"\\x([0-9a-f]{2})", lambda it: chr(int(it[1], 16)), word) for word in MARK.sub("", line, 1).split()]
+        self.line = MARK.sub("", line, 1)
+        self.words = [bytes_shown(word) for word in self.line.split()]
+        self.record, self.number = record, number
         self.printed, self.told, self.status = "", "", "status 0"
 
     def needs_program(self):
-        return self.mark not in ("", "any order")
+        return self.mark not in ("", "any order") and self.record is None
 
     def files(self):
         return [word for word in self.words if word.endswith(FILES)]
@@ -163,19 +170,53 @@ class Run:
             os.close(pipe)
         os.remove(folder / "never.csv")
 
+    def take_files(self, scenario, folder):
+        """Copies the files of the scenario that its words name. The record of the run takes its place in the words, and in
+        the files, which are then in a folder of the run's number."""
+        for place, name in enumerate(self.words):
+            if self.record is not None and RECORD in name:
+                self.words[place] = name.replace(RECORD, bytes_shown(self.record))
+            if not name.endswith(FILES) or name.startswith("/"):
+                continue
+            lines = read_file(scenario, name)
+            if self.record is not None and any(RECORD in line for line in lines or []):
+                lines = [line.replace(RECORD, bytes_shown(self.record)) for line in lines]
+                self.words[place] = name = f"{self.number}/{name}"
+            (folder / name).parent.mkdir(parents=True, exist_ok=True)
+            if lines is not None:
+                write_lines(folder / name, lines)
+
+    def row(self, folder):
+        """Of a run for a record of a list, what came of it in one line."""
+        lines = [line.replace(f"{folder}/", "").replace(f" {self.number}/", " ") for line in self.outcome()]
+        return [f"{self.record}   -> {' / '.join(lines)}".rstrip()]
+
     def transcript(self, folder):
-        """As a shell session. Of the standard error only the messages are told, and not the usage after them; `*` stands
-        for what depends on the clock."""
+        """As a shell session; of a command that is run for each record of a list, the words and then a line for each."""
+        if self.record is not None:
+            head = [f"$ tpcc {self.line}   # with {self.mark}"] if self.number == 1 else []
+            return head + self.row(folder)
+        shown = SHOWN.get(self.mark.split(" ")[0] if self.mark.startswith("room") else self.mark, "").format(self.mark[5:])
+        words = "".join(it if " " <= it <= "~" else f"\\x{ord(it):02x}" for it in " ".join(self.words))
+        return ["$ tpcc " + words + shown] + [line.replace(f"{folder}/", "") for line in self.outcome()]
+
+    def outcome(self):
+        """What was printed, the messages, and the status, where it isn't 0. Of the standard error only the messages are
+        told, and not the usage after them; `*` stands for what depends on the clock."""
         printed = self.printed.removesuffix("\n").split("\n") if self.printed else []
         kept = ("tpcc: ", "error: ", *(["  "] if self.mark == "terminal" else []))
-        told = [line for line in self.told.split("\n") if line.startswith(kept)]
+        told = re.sub(r"\r([^\r\n]* MB (read|written))(?=[\r\n])", r"\1\n", self.told)
+        told = [line for line in told.split("\n") if line.startswith(kept)]
         told = [re.sub(r"[\d.]*\d(?= (s|requests|New-Orders|us)\b)", "*", line) if line.startswith("tpcc: time: ") else line for line in told]
         lines = printed + ["! " + line for line in told] + [self.status]
         if lines[-1] == "status 0":
             lines.pop()
-        shown = SHOWN.get(self.mark.split(" ")[0] if self.mark.startswith("room") else self.mark, "").format(self.mark[5:])
-        words = "".join(it if " " <= it <= "~" else f"\\x{ord(it):02x}" for it in " ".join(self.words))
-        return ["$ tpcc " + words + shown] + [line.replace(f"{folder}/", "") for line in lines]
+        return lines
+
+
+def bytes_shown(word):
+    """The word, with the byte of that number for each `\\x1b`."""
+    return re.sub(r"\\x([0-9a-f]{2})", lambda it: chr(int(it[1], 16)), word)
 
 
 def read_terminal(master):
@@ -196,7 +237,16 @@ def commands_of(path):
     """How often the scenario is run, by the line `times N` if there is one, and its commands."""
     lines = [line for line in lines_of(path / "commands") if line and not line.startswith("#")]
     times = [int(line.split()[1]) for line in lines if line.startswith("times ")]
-    return (times or [1])[0], [Run(line) for line in lines if not line.startswith("times ")]
+    return (times or [1])[0], [run for line in lines if not line.startswith("times ") for run in runs_of(path, line)]
+
+
+def runs_of(path, line):
+    """The run of that line, or one for each record of the list that it names."""
+    mark = MARK.match(line)
+    if mark is None or not mark[1].startswith("each of "):
+        return [Run(line)]
+    records = lines_of(path / mark[1].removeprefix("each of "))[:-1]
+    return [Run(line, record, place + 1) for place, record in enumerate(records)]
 
 
 class Scenario:
@@ -206,11 +256,8 @@ class Scenario:
         self.path, self.folder, self.name = path, folder, path.name
         self.runs = commands_of(path)[1]
         folder.mkdir(parents=True)
-        for name in {name for run in self.runs for name in run.files() if not name.startswith("/")}:
-            (folder / name).parent.mkdir(parents=True, exist_ok=True)
-            lines = read_file(path, name)
-            if lines is not None:
-                write_lines(folder / name, lines)
+        for run in self.runs:
+            run.take_files(path, folder)
 
     def found(self):
         """The files that are in its folder, by their names there."""

@@ -12,6 +12,3 @@ mod value;
 
 pub use seat::Seat;
 pub use value::{Change, Value};
-
-#[cfg(test)]
-mod tests;

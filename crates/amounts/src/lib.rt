@@ -9,6 +9,3 @@ mod totals;
 pub use cents::Cents;
 pub use rate::Rate;
 pub use totals::{line_amount, order_total, total_is_nearest_cent};
-
-#[cfg(test)]
-mod tests;

@@ -37,8 +37,3 @@ pub use laws::{different_tables_have_different_records, records_tell_tables};
 pub use ranges::columns_are_in_range;
 pub use reader::{read, read_scale};
 pub use writer::write;
-
-#[cfg(test)]
-mod tests;
-#[cfg(test)]
-mod writing_tests;

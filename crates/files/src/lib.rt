@@ -19,6 +19,3 @@ pub use numbers::{parse_cents, parse_ranged, parse_rate, parse_whole};
 pub use record_writer::RecordWriter;
 pub use records::Records;
 pub use words::{credit_word, parse_credit, parse_text};
-
-#[cfg(test)]
-mod tests;

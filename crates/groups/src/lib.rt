@@ -21,6 +21,3 @@ pub use laws::{
 };
 pub use wants::{Extent, Kind, Prefix, Want, kind_of, warehouse_of};
 pub use wishes::{Mode, Wish, footprint};
-
-#[cfg(test)]
-mod tests;

@@ -14,6 +14,3 @@ pub use laws::{
     taken_back_is_as_before,
 };
 pub use name_index::NameIndex;
-
-#[cfg(test)]
-mod tests;

@@ -10,6 +10,3 @@ mod places;
 mod rule;
 
 pub use length::{Length, Mark, meet};
-
-#[cfg(test)]
-mod tests;

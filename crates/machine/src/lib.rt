@@ -31,6 +31,3 @@ pub use payment::{
 };
 pub use plain::Plain;
 pub use stock_level::{low_stock, recent_items, stock_level_reply};
-
-#[cfg(test)]
-mod tests;

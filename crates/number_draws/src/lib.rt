@@ -6,6 +6,3 @@
 mod draws;
 
 pub use draws::NumberDraws;
-
-#[cfg(test)]
-mod tests;

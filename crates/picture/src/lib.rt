@@ -21,6 +21,3 @@ mod steps;
 mod under_way;
 
 pub use drawing::write_picture;
-
-#[cfg(test)]
-mod tests;

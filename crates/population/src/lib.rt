@@ -14,6 +14,3 @@ mod profile;
 mod warehouses;
 
 pub use initial::populate;
-
-#[cfg(test)]
-mod tests;

@@ -13,6 +13,3 @@ pub use laws::{
 };
 pub use meeting::{Meeting, Reported};
 pub use results::Results;
-
-#[cfg(test)]
-mod tests;

@@ -31,6 +31,3 @@ pub use reply::{Fault, Reply, Shown};
 pub use request::{Choice, Request};
 pub use script::{MOST_REQUESTS, Script};
 pub use stock_level::{StockLevel, StockLevelReply};
-
-#[cfg(test)]
-mod tests;

@@ -4,6 +4,3 @@
 mod routing;
 
 pub use routing::{MOST_EXECUTORS, Routing};
-
-#[cfg(test)]
-mod tests;

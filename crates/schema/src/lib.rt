@@ -27,6 +27,3 @@ pub use scale::Scale;
 pub use scale_fault::ScaleFault;
 pub use table_rows::TableRows;
 pub use tables::Tables;
-
-#[cfg(test)]
-mod tests;

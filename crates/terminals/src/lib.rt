@@ -58,6 +58,3 @@ pub use log_records::{log_record, read_log, write_log};
 pub use outputs::write_outputs;
 pub use schedules::read_schedule;
 pub use scripts::{read_script, write_script};
-
-#[cfg(test)]
-mod tests;

@@ -34,6 +34,3 @@ pub use log_seats::LogSeats;
 pub use opening::{GroupSeats, named_all};
 pub use places::{GROUPS_PER_WAREHOUSE, group_at, place_of};
 pub use ticket_box::{TICKETS, TicketBox};
-
-#[cfg(test)]
-mod tests;

@@ -52,6 +52,3 @@ fn told(rt: &impl Eprint, fault: UsageFault) -> Status {
     let _ = rt.eprint(&fault);
     fault.status()
 }
-
-#[cfg(test)]
-mod tests;

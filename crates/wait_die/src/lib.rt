@@ -7,6 +7,3 @@
 mod deciding;
 
 pub use deciding::{Age, Decision, Holder, verdict};
-
-#[cfg(test)]
-mod tests;

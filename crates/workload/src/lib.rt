@@ -19,6 +19,3 @@ pub use mix::Mix;
 pub use script::draw_script;
 pub use sessions::Workload;
 pub use terminal::Terminal;
-
-#[cfg(test)]
-mod tests;

@@ -1,0 +1,54 @@
+ghost use Rattle.std.specs.Prelude.{◌≡◌};
+ghost use Rattle.requests.specs.declared.group.Group.TheVariants.{History};
+
+use super::*;
+use agreement::Change;
+use groups::{Content, Mode};
+use requests::Group;
+use std::marker::Brand;
+use std::sync::Wait;
+use std::thread::{self, Threads};
+use tickets::{GroupNames, GroupSeats};
+
+const DISTRICT: Group = Group::History { w_id: 1, d_id: 10 };
+
+// The list of payments is there, and empty.
+struct NoPayment;
+
+impl Change<Content> for NoPayment {
+    ghost use Rattle.std.specs.Prelude.{[], Some};
+    ghost use Rattle.groups.specs.Content.Content.{OfHistory};
+
+    ghost changed = { λ none before. OfHistory (Some []) };
+}
+
+// A shared claim goes to another thread and back, while another stays.
+fn shared_by_two_threads<J: GroupNames + Send + 'static>(
+    rt: &(impl Threads + Wait),
+    seats: GroupSeats,
+) -> Result<Option<Mode>, Fail>
+    requires known { J.warehouses ≡ 1 }
+    requires committed { J.committed (History 1 10) ≡ seats.committed }
+    requires work { J.work (History 1 10) ≡ seats.work }
+{
+    let (mut tickets, mut log) = seats.named::<J>(DISTRICT);
+    let (Some(mut first), Some(second)) = (tickets.share(), tickets.share()) else {
+        return Ok(None);
+    };
+    let child = thread::spawn(rt, move || {
+        second.look_untouched();
+        second
+    })?;
+    log.look(&mut first);
+    tickets.take_back(first);
+    let second = child.join(rt);
+    Ok(Some(second.mode()))
+}
+
+#[test]
+fn a_claim_goes_to_another_thread_and_back(rt: HostRuntime) -> Result<(), Fail> {
+    let seats = GroupSeats::open(rt.alloc(), &NoPayment)?;
+    let told = shared_by_two_threads::<Brand>(&rt, seats)?;
+    assert_eq!(rt; told, Some(Mode::Shared));
+    Ok(())
+}

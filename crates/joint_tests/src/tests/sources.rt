@@ -1,0 +1,36 @@
+use super::*;
+use std::io;
+use std::io::Read;
+use terminals::{FaultKind, FileError, FileFault, read_script};
+
+// Gives its text, then an error.
+#[derive(Drop)]
+struct Failing<'a> {
+    text: &'a [u8],
+}
+
+impl<'a> Read for Failing<'a> {
+    fn read(&mut self, buf: &mut [u8]) -> io::Result<usize> {
+        match (self.text.split_first(), buf.first_mut()) {
+            (Some((byte, rest)), Some(place)) => {
+                *place = *byte;
+                self.text = rest;
+                Ok(1)
+            }
+            _ => Err(io::Error::from(io::ErrorKind::BrokenPipe)),
+        }
+    }
+}
+
+// Fault 10 comes at the record that is under way, and also behind the end record.
+#[test]
+fn a_source_that_fails_is_a_fault(rt: HostRuntime) {
+    for (text, record) in [("L,1", 1), ("L,1,1,10\nEN", 2), ("END,0\n", 2)] {
+        let kind = FaultKind::Io;
+        let source = Failing {
+            text: text.as_bytes(),
+        };
+        let found = read_script(rt.alloc(), source).err();
+        assert_eq!(rt; found, Some(FileError::File(FileFault { kind, record })));
+    }
+}
