@@ -1,5 +1,7 @@
 mod TableSlots
 pub mod Wholes
+pub mod ByDistrict
+pub mod Parting
 pub mod PartLaws
 pub mod WholeLaws
 pub mod LastFirst
@@ -16,3 +18,4 @@ pub mod HomeSlots
 pub mod HomeReads
 pub mod HomeWrites
 pub mod HomeOrders
+pub mod Undelivered
