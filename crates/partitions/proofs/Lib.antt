@@ -1,13 +1,13 @@
 mod TableSlots
 pub mod Wholes
 pub mod ByDistrict
-pub mod Parting
 pub mod PartLaws
 pub mod WholeLaws
 pub mod LastFirst
 pub mod Chunks
 pub mod Filters
 pub mod KeyBlocks
+pub mod Parting
 pub mod HomeKeys
 pub mod HomeTables
 pub mod Cuts
@@ -19,3 +19,4 @@ pub mod HomeReads
 pub mod HomeWrites
 pub mod HomeOrders
 pub mod Undelivered
+pub mod HomeDeliveries

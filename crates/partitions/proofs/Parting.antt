@@ -23,7 +23,10 @@ use Rattle.schema.proofs.KeyOrders.{orders_total, orders_exact}
 use Rattle.partitions.specs.NewOrders.{DistrictRows, all_entries, AreByDistrict}
 use Rattle.partitions.specs.Appends.{AddsRows}
 use Rattle.partitions.specs.Parts.{is_of}
+use Rattle.partitions.specs.Splits.{entries_at}
 use Rattle.partitions.proofs.Wholes.{find-append}
+use Rattle.partitions.proofs.PartLaws.{kept}
+use Rattle.partitions.proofs.KeyBlocks.{entries_part}
 
 -- ---- parted
 
@@ -145,6 +148,17 @@ module _ (home next : ℕ) (rows : List (OrderKey × NewOrder)) (districts : Lis
         },
         all_more districts rest ∙ h.all,
       )
+
+-- ---- the rows of one warehouse
+
+-- what is among the entries of a warehouse is its own, and among those of all
+pub of_home : (home : ℕ) → 1 ≤ home → (rows es : List (OrderKey × NewOrder)) → es ≡ entries_at (λ (key : OrderKey). key.w_id) (home - 1) rows → (key : OrderKey) (row : NewOrder)
+    → get (from_entries {R = order_cmp} es) key ≡ Some row → IsTrue (is_of home key.w_id) × (get (from_entries {R = order_cmp} rows) key ≡ Some row)
+of_home home some rows es are key row found =
+    let part = ap (λ m. get m key) (ap (λ l. from_entries {R = order_cmp} l) are ∙ entries_part orders_total orders_exact (λ (k : OrderKey). k.w_id) (home - 1) rows) in
+    let at = kept orders_total orders_exact (from_entries {R = order_cmp} rows) (λ (k : OrderKey). is_of (home - 1 + 1) k.w_id) key row (sym part ∙ found) in
+    let same : home - 1 + 1 ≡ home = omega arith in
+    (subst (λ n. IsTrue (is_of n key.w_id)) same at.0, at.1)
 
 -- ---- appended
 

@@ -8,5 +8,5 @@ use Rattle.partitions.proofs.delivery_rows.moments_of.Given as goal
 abbrev pub invariant-loop-place : goal.invariant-loop-place
 invariant-loop-place l = record {
   long : length l.moments ≡ 15;
-  read : (n : ℕ) → n < l.place → slice_index_or l.moments n None ≡ moment_at (table_of line_cmp l.fn.lines.now) (line_key l.order (n + 1));
+  read : (n : ℕ) → n < l.place → slice_index_or l.moments n None ≡ moment_at (table_of line_cmp l.fn.lines) (line_key l.order (n + 1));
 }
