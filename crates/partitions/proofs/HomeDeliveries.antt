@@ -1,5 +1,5 @@
 -- An order of a warehouse's that is delivered, or whose delivery is taken back: the rows still make a part.
-use Rattle.std.proofs.Common.{◌≡◌, ℕ, Bool, true, false, cond, ◌&&◌, ◌==◌, List, Option, Some, None, IsTrue, is_some, refl, sym, ap, subst, ◌∙◌, arith}
+use Rattle.std.proofs.Common.{◌≡◌, ℕ, Bool, true, false, cond, ◌&&◌, ◌==◌, ◌-◌, slice_index_or, List, Option, Some, None, IsTrue, is_some, refl, sym, ap, subst, ◌∙◌, arith}
 use Rattle.std.specs.Option.{option_map}
 use Rattle.std.specs.declared.cmp.Ordering.{Ordering}
 use Rattle.std.specs.declared.cmp.Ordering.TheVariants.{Less, Equal, Greater}
@@ -126,5 +126,5 @@ module _ (p : Part) (h : IsPart p) where
   part_undelivered key there before =
       part_changed key there _ (with_carrier_back key before.carrier_id) (with_moments_back key before.moments)
       (λ k r. elim (is_order key k) as (λ (b : Bool). has_customer p.tables.scale (customer_of_order k (cond b (record r { carrier_id = before.carrier_id }) r)) ≡ has_customer p.tables.scale (customer_of_order k r)) [ true ↦ refl | false ↦ refl ])
-      (λ k r. elim (is_of_order key k) as (λ (b : Bool). has_item p.tables.scale (cond b (record r { delivery_d = _ }) r).i_id ≡ has_item p.tables.scale r.i_id) [ true ↦ refl | false ↦ refl ])
-      (λ k r. elim (is_of_order key k) as (λ (b : Bool). has_warehouse p.tables.scale (cond b (record r { delivery_d = _ }) r).supply_w_id ≡ has_warehouse p.tables.scale r.supply_w_id) [ true ↦ refl | false ↦ refl ])
+      (λ k r. elim (is_of_order key k) as (λ (b : Bool). has_item p.tables.scale (cond b (record r { delivery_d = slice_index_or before.moments (k.number - 1) None }) r).i_id ≡ has_item p.tables.scale r.i_id) [ true ↦ refl | false ↦ refl ])
+      (λ k r. elim (is_of_order key k) as (λ (b : Bool). has_warehouse p.tables.scale (cond b (record r { delivery_d = slice_index_or before.moments (k.number - 1) None }) r).supply_w_id ≡ has_warehouse p.tables.scale r.supply_w_id) [ true ↦ refl | false ↦ refl ])

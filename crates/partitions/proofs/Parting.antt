@@ -23,7 +23,7 @@ use Rattle.schema.proofs.KeyOrders.{orders_total, orders_exact}
 use Rattle.partitions.specs.NewOrders.{DistrictRows, all_entries, AreByDistrict}
 use Rattle.partitions.specs.Appends.{AddsRows}
 use Rattle.partitions.specs.Parts.{is_of}
-use Rattle.partitions.specs.Splits.{entries_at}
+use Rattle.partitions.specs.Splits.{entries_at, AreLastFirst}
 use Rattle.partitions.proofs.Wholes.{find-append}
 use Rattle.partitions.proofs.PartLaws.{kept}
 use Rattle.partitions.proofs.KeyBlocks.{entries_part}
@@ -159,6 +159,16 @@ of_home home some rows es are key row found =
     let at = kept orders_total orders_exact (from_entries {R = order_cmp} rows) (λ (k : OrderKey). is_of (home - 1 + 1) k.w_id) key row (sym part ∙ found) in
     let same : home - 1 + 1 ≡ home = omega arith in
     (subst (λ n. IsTrue (is_of n key.w_id)) same at.0, at.1)
+
+-- those of the warehouse whose turn it is, of the maps of all, the last first
+pub next_home : (warehouses home : ℕ) (rows : List (OrderKey × NewOrder)) (items yielded : List DistrictRows) (next : DistrictRows)
+    → AreLastFirst (λ place (part : DistrictRows). part.entries ≡ entries_at (λ (key : OrderKey). key.w_id) place rows) 0 warehouses items → home + length yielded ≡ warehouses
+    → length yielded < length items → next ≡ slice_index_or items (length yielded) next → (1 ≤ home) × (next.entries ≡ entries_at (λ (key : OrderKey). key.w_id) (home - 1) rows)
+next_home warehouses home rows items yielded next split count l is =
+    let some : 1 ≤ home = omega (arith, split.count) in
+    let at : warehouses - 1 - (home - 1) ≡ length yielded = omega arith in
+    let stands = split.each (home - 1) next (omega arith) (omega arith) in
+    (some, ap (λ (m : DistrictRows). m.entries) (is ∙ ap (λ n. slice_index_or items n next) (sym at)) ∙ stands)
 
 -- ---- appended
 

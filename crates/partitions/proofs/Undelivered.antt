@@ -1,5 +1,5 @@
 -- A delivery that is taken back, row by row, and all at once.
-use Rattle.std.proofs.Common.{◌≡◌, ◌≢◌, ℕ, ◌+◌, ◌-◌, ◌<◌, ◌≤◌, Bool, true, false, cond, ◌&&◌, ◌||◌, ◌==◌, nat_le, nat_lt, List, slice_index_or, Option, Some, None, IsTrue, is_some, refl, sym, ap, subst, ◌∙◌, arith}
+use Rattle.std.proofs.Common.{◌≡◌, ◌≢◌, ℕ, zero, suc, ◌+◌, ◌-◌, ◌<◌, ◌≤◌, Bool, true, false, cond, ◌&&◌, ◌||◌, ◌==◌, nat_le, nat_lt, List, [], ◌∷◌, length, slice_index_or, Option, Some, None, IsTrue, is_some, refl, sym, ap, subst, ◌∙◌, arith}
 use Rattle.std.specs.declared.cmp.Ordering.{Ordering}
 use Rattle.std.specs.declared.cmp.Ordering.TheVariants.{Less, Equal, Greater}
 use Rattle.std.specs.Ordering.{eq_by_cmp, is_eq}
@@ -55,6 +55,12 @@ line_test order number key =
         | false ↦ λ f. refl
       ] refl
     ] refl
+
+-- an element that is there, whatever stands for one that isn't
+pub index_any : {X : Type 0} (xs : List X) (i : ℕ) (d e : X) → i < length xs → slice_index_or xs i d ≡ slice_index_or xs i e
+index_any [] i d e l = absurd (omega arith)
+index_any (x ∷ xs) zero d e l = refl
+index_any (x ∷ xs) (suc i) d e l = index_any xs i d e (omega arith)
 
 -- the row of a line with the moment at its number
 abbrev dated_back : List (Option ℕ) → OrderLineKey → OrderLine → OrderLine

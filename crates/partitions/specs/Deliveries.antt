@@ -1,5 +1,5 @@
 -- A delivery that is taken back: what stood there before it, and the tables with that put back.
-use Rattle.std.specs.Prelude.{◌≡◌, ◌≢◌, ℕ, ◌+◌, ◌-◌, ◌<◌, if◌then◌else◌, List, slice_index_or, Option, None}
+use Rattle.std.specs.Prelude.{◌≡◌, ◌≢◌, ℕ, ◌+◌, ◌-◌, ◌<◌, if◌then◌else◌, List, length, slice_index_or, Option, None}
 use Rattle.std.specs.Option.{option_and_then}
 use Rattle.std.specs.BTreeMap.{BTreeMap}
 use Rattle.std.specs.FinMap as table
@@ -29,6 +29,7 @@ new_beside order new_orders key = if is_of_district (district_of_order order) ke
 -- this is what stood there before the order was delivered
 pub record StoodBefore (t : Database) (order : OrderKey) (before : BeforeDelivery) : Type 0 where
   pub carrier : before.carrier_id ≡ carrier_at t.orders order
+  pub fifteen : length before.moments ≡ 15
   pub moments : (n : ℕ) → n < 15 → slice_index_or before.moments n None ≡ moment_at t.lines (line_key order (n + 1))
   pub new_orders : (key : OrderKey) → table.get (table_of order_cmp before.new_orders) key ≡ new_beside order t.new_orders key
 

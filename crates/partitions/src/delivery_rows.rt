@@ -1,5 +1,5 @@
 //! What takes a delivery back, over the ordered maps of one warehouse.
-ghost use Rattle.std.specs.Prelude.{◌≡◌, ◌+◌, ◌<◌, ℕ, None, slice_index_or, if◌then◌else◌};
+ghost use Rattle.std.specs.Prelude.{◌≡◌, ◌+◌, ◌<◌, ℕ, None, length, slice_index_or, if◌then◌else◌};
 ghost use Rattle.std.specs.Option.{option_map};
 ghost use Rattle.std.specs.Ordering.{eq_by_cmp};
 ghost use Rattle.std.specs.FinMap as table;
@@ -38,7 +38,8 @@ pub(crate) fn moments_of(
     lines: &BTreeMap<OrderLineKey, OrderLine>,
     order: OrderKey,
 ) -> [Option<Moment>; 15]
-    ensures { (n : ℕ) → n < 15 → slice_index_or result n None ≡ moment_at (table_of line_cmp lines.now) (line_key order (n + 1)) }
+    ensures fifteen { length result ≡ 15 }
+    ensures each { (n : ℕ) → n < 15 → slice_index_or result n None ≡ moment_at (table_of line_cmp lines.now) (line_key order (n + 1)) }
 {
     let mut moments = [None; 15];
     for place in 0..15 {
@@ -66,7 +67,8 @@ pub(crate) fn put_moments_back(
     order: OrderKey,
     moments: [Option<Moment>; 15],
 )
-    requires { EachRow (λ key _. is_line_number key.number) (table_of line_cmp lines.old) }
+    requires fifteen { length moments ≡ 15 }
+    requires numbered { EachRow (λ key _. is_line_number key.number) (table_of line_cmp lines.old) }
     ensures { table_of line_cmp lines.new ≡ map_rows (with_moments_back order moments) (table_of line_cmp lines.old) }
 {
     for place in 0..15 {

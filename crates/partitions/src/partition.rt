@@ -318,6 +318,7 @@ impl Partition {
     /// Takes a delivery back: what stood there before it is there again. It takes no memory.
     pub fn take_back_delivery(&mut self, key: OrderKey, before: BeforeDelivery)
         requires order { IsTrue (map.contains_key self.old.tables.orders key) }
+        requires fifteen { length before.moments ≡ 15 }
         requires beside { AreNewBeside key self.old.tables.new_orders before.new_orders }
         ensures { self.new ≡ record self.old { tables = without_delivery self.old.tables key before } }
     {

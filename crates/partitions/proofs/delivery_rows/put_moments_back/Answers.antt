@@ -1,19 +1,24 @@
-use Rattle.std.proofs.Common.{◌+◌, cond, sym, ap, ◌∙◌, refl, arith}
+use Rattle.std.proofs.Common.{◌+◌, ◌<◌, None, length, cond, sym, ap, ◌∙◌, refl, arith}
 use Rattle.std.specs.Option.{option_map}
 use Rattle.std.specs.Ordering.{eq_by_cmp}
 use Rattle.std.specs.FinMap.{get}
 use Rattle.rows.specs.declared.records.OrderLine.{OrderLine}
 use Rattle.rows.specs.Keys.{line_cmp}
 use Rattle.schema.specs.MapRows.{table_of}
-use Rattle.partitions.proofs.Undelivered.{dated_back_none, dated_back_more, dated_back_all}
+use Rattle.partitions.proofs.Undelivered.{index_any, dated_back_none, dated_back_more, dated_back_all}
 use Rattle.partitions.proofs.delivery_rows.put_moments_back.Goals as goal
 
 pub loop-place-init : goal.loop-place-init
 loop-place-init c = dated_back_none c.args.order c.args.moments (table_of line_cmp c.args.lines.now)
 
 pub loop-place-preserved : goal.loop-place-preserved
-loop-place-preserved c = ?
+loop-place-preserved c =
+    let long : c.loop-place.place < length c.args.moments = omega (arith, c.requires.fifteen, c.loop-place-test.true) in
+    dated_back_more c.args.order c.args.moments c.loop-place.place c.index-moments-place.result (table_of line_cmp c.args.lines.now) (table_of line_cmp c.loop-place.lines) (table_of line_cmp c.put_moment_back.new.lines)
+    (c.index-moments-place.is ∙ index_any c.args.moments c.loop-place.place c.index-moments-place.result None long) c.loop-place.invariant
+    (λ q. c.put_moment_back.ensures q
+    ∙ ap (λ k. option_map (λ (row : OrderLine). cond (eq_by_cmp line_cmp q k) (record row { delivery_d = c.index-moments-place.result }) row) (get (table_of line_cmp c.loop-place.lines) q)) c.line_key.ensures)
 
 pub returns : goal.returns
 returns c =
-    dated_back_all c.args.order c.args.moments (c.loop-place.place + 1) (table_of line_cmp c.args.lines.now) (table_of line_cmp c.loop-place.lines) (omega arith) c.requires c.loop-place.invariant
+    dated_back_all c.args.order c.args.moments (c.loop-place.place + 1) (table_of line_cmp c.args.lines.now) (table_of line_cmp c.loop-place.lines) (omega arith) c.requires.numbered c.loop-place.invariant

@@ -35,8 +35,9 @@ pub returns-clause-before : goal.returns-clause-before
 returns-clause-before c =
     let p = c.self.inside in
     let there = subst (λ (v : Part). IsTrue (table.contains_key v.tables.orders c.args.key)) (sym c.self.view_is) c.requires in
-    subst (λ (v : Part). StoodBefore v.tables c.args.key _) c.self.view_is (record {
+    subst (λ (v : Part). StoodBefore v.tables c.args.key (record { carrier_id = c.carrier_of-carrier_id.result; moments = c.moments_of-moments.result; new_orders = c.in_ok-new_orders.new_orders })) c.self.view_is (record {
       carrier = c.carrier_of-carrier_id.ensures;
-      moments = c.moments_of-moments.ensures;
+      fifteen = c.moments_of-moments.ensures.fifteen;
+      moments = c.moments_of-moments.ensures.each;
       new_orders = λ q. c.in_ok-new_orders.ensures.was q ∙ sym (beside_is (part p.catalog p.home p.rows) c.self.invariant.is_part c.args.key there q);
     })
