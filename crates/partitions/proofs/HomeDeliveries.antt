@@ -1,5 +1,5 @@
 -- An order of a warehouse's that is delivered, or whose delivery is taken back: the rows still make a part.
-use Rattle.std.proofs.Common.{◌≡◌, ℕ, Bool, true, false, cond, ◌&&◌, ◌==◌, ◌-◌, slice_index_or, List, Option, Some, None, IsTrue, is_some, refl, sym, ap, subst, ◌∙◌, arith}
+use Rattle.std.proofs.Common.{◌≡◌, ℕ, Bool, true, false, cond, ◌&&◌, ◌==◌, ◌-◌, slice_index_or, Option, Some, None, IsTrue, is_some, refl, sym, ap, subst, ◌∙◌, arith}
 use Rattle.std.specs.Option.{option_map}
 use Rattle.std.specs.declared.cmp.Ordering.{Ordering}
 use Rattle.std.specs.declared.cmp.Ordering.TheVariants.{Less, Equal, Greater}
@@ -12,13 +12,13 @@ use Rattle.rows.specs.declared.keys.OrderLineKey.{OrderLineKey}
 use Rattle.rows.specs.declared.records.Order.{Order}
 use Rattle.rows.specs.declared.records.NewOrder.{NewOrder}
 use Rattle.rows.specs.declared.records.OrderLine.{OrderLine}
-use Rattle.rows.specs.Keys.{order_cmp, line_cmp, order_of_line, district_of_order}
+use Rattle.rows.specs.Keys.{order_cmp, order_of_line, district_of_order}
 use Rattle.schema.specs.EachRow.{EachRow}
 use Rattle.schema.specs.MapRows.{map_rows, put_row}
 use Rattle.schema.specs.Scale.{has_item, has_warehouse, has_customer}
 use Rattle.schema.specs.Database.{customer_of_order, is_order_id, is_line_number, is_of_district, is_of_order}
 use Rattle.schema.specs.OrderRows.{with_carrier, with_moment, with_delivery, is_order, carried_by, delivered_at}
-use Rattle.schema.proofs.KeyOrders.{orders_total, orders_exact, lines_total, lines_exact}
+use Rattle.schema.proofs.KeyOrders.{orders_total, orders_exact, lines_exact}
 use Rattle.schema.proofs.OrdersKept.{contains-map_rows}
 use Rattle.schema.proofs.TableWrites.{get-map_rows, get-put_row}
 use Rattle.partitions.specs.declared.delivery_rows.BeforeDelivery.{BeforeDelivery}

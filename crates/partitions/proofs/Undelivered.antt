@@ -1,11 +1,10 @@
 -- A delivery that is taken back, row by row, and all at once.
-use Rattle.std.proofs.Common.{◌≡◌, ◌≢◌, ℕ, zero, suc, ◌+◌, ◌-◌, ◌<◌, ◌≤◌, Bool, true, false, cond, ◌&&◌, ◌||◌, ◌==◌, nat_le, nat_lt, List, [], ◌∷◌, length, slice_index_or, Option, Some, None, IsTrue, is_some, refl, sym, ap, subst, ◌∙◌, arith}
+use Rattle.std.proofs.Common.{◌≡◌, ℕ, zero, suc, ◌+◌, ◌-◌, ◌<◌, ◌≤◌, Bool, true, false, cond, ◌&&◌, ◌||◌, ◌==◌, nat_le, nat_lt, List, [], ◌∷◌, length, slice_index_or, Option, Some, None, IsTrue, refl, sym, ap, ◌∙◌, arith}
 use Rattle.std.specs.declared.cmp.Ordering.{Ordering}
 use Rattle.std.specs.declared.cmp.Ordering.TheVariants.{Less, Equal, Greater}
 use Rattle.std.specs.Ordering.{eq_by_cmp, is_eq}
 use Rattle.std.specs.Option.{option_map}
 use Rattle.std.specs.Cmp.{eq_by_cmp_equiv}
-use Rattle.std.specs.FinMap as table
 use Rattle.std.specs.FinMap.{FinMap, get, same_map}
 use Rattle.std.proofs.lemmas.Bool.Decides.{nat_tests}
 use Rattle.rows.specs.declared.keys.OrderKey.{OrderKey}
@@ -16,7 +15,7 @@ use Rattle.rows.specs.Keys.{order_cmp, line_cmp}
 use Rattle.schema.specs.EachRow.{EachRow}
 use Rattle.schema.specs.MapRows.{map_rows}
 use Rattle.schema.specs.Database.{is_line_number, is_of_order}
-use Rattle.schema.specs.OrderRows.{LineTable, line_key, is_order}
+use Rattle.schema.specs.OrderRows.{LineTable, line_key}
 use Rattle.schema.proofs.Deliveries.{is_before, order_test}
 use Rattle.schema.proofs.KeyOrders.{orders_total, orders_exact, lines_total, lines_exact}
 use Rattle.schema.proofs.TableWrites.{get-map_rows}
@@ -105,12 +104,14 @@ number_is true n number h = grind (arith, nat_tests)
 number_is false n number h = absurd cc
 
 -- one line more
-pub dated_back_more : (order : OrderKey) (moments : List (Option ℕ)) (place : ℕ) (moment : Option ℕ) (old mid new : LineTable) → moment ≡ slice_index_or moments place None → AreDatedBack order moments (place + 1) old mid
-    → ((q : OrderLineKey) → get new q ≡ option_map (λ (row : OrderLine). cond (eq_by_cmp line_cmp q (line_key order (place + 1))) (record row { delivery_d = moment }) row) (get mid q))
+pub dated_back_more : (order : OrderKey) (moments : List (Option ℕ)) (place : ℕ) (moment : Option ℕ) (key : OrderLineKey) (old mid new : LineTable) → moment ≡ slice_index_or moments place None → key ≡ line_key order (place + 1)
+    → AreDatedBack order moments (place + 1) old mid
+    → ((q : OrderLineKey) → get new q ≡ option_map (λ (row : OrderLine). cond (eq_by_cmp line_cmp q key) (record row { delivery_d = moment }) row) (get mid q))
     → AreDatedBack order moments (place + 1 + 1) old new
-dated_back_more order moments place moment old mid new is held one q =
+dated_back_more order moments place moment key old mid new is at held one q =
     let number = place + 1 in
-    one q ∙ ap (option_map (λ (row : OrderLine). cond (eq_by_cmp line_cmp q (line_key order number)) (record row { delivery_d = moment }) row)) (held q)
+    one q ∙ ap (λ k. option_map (λ (row : OrderLine). cond (eq_by_cmp line_cmp q k) (record row { delivery_d = moment }) row) (get mid q)) at
+    ∙ ap (option_map (λ (row : OrderLine). cond (eq_by_cmp line_cmp q (line_key order number)) (record row { delivery_d = moment }) row)) (held q)
     ∙ dated_twice (eq_by_cmp line_cmp q (line_key order number)) (is_before order number q) (is_before order (number + 1) q)
     (one_further (is_of_order order q) q.number number (omega arith) ∙ ap (λ b. b || is_before order number q) (sym (line_test order number q))) moments q moment
     (λ e.

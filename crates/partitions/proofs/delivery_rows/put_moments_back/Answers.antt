@@ -1,8 +1,4 @@
-use Rattle.std.proofs.Common.{◌+◌, ◌<◌, None, length, cond, sym, ap, ◌∙◌, refl, arith}
-use Rattle.std.specs.Option.{option_map}
-use Rattle.std.specs.Ordering.{eq_by_cmp}
-use Rattle.std.specs.FinMap.{get}
-use Rattle.rows.specs.declared.records.OrderLine.{OrderLine}
+use Rattle.std.proofs.Common.{◌+◌, ◌<◌, None, length, slice_index_or, arith}
 use Rattle.rows.specs.Keys.{line_cmp}
 use Rattle.schema.specs.MapRows.{table_of}
 use Rattle.partitions.proofs.Undelivered.{index_any, dated_back_none, dated_back_more, dated_back_all}
@@ -14,10 +10,8 @@ loop-place-init c = dated_back_none c.args.order c.args.moments (table_of line_c
 pub loop-place-preserved : goal.loop-place-preserved
 loop-place-preserved c =
     let long : c.loop-place.place < length c.args.moments = omega (arith, c.requires.fifteen, c.loop-place-test.true) in
-    dated_back_more c.args.order c.args.moments c.loop-place.place c.index-moments-place.result (table_of line_cmp c.args.lines.now) (table_of line_cmp c.loop-place.lines) (table_of line_cmp c.put_moment_back.new.lines)
-    (c.index-moments-place.is ∙ index_any c.args.moments c.loop-place.place c.index-moments-place.result None long) c.loop-place.invariant
-    (λ q. c.put_moment_back.ensures q
-    ∙ ap (λ k. option_map (λ (row : OrderLine). cond (eq_by_cmp line_cmp q k) (record row { delivery_d = c.index-moments-place.result }) row) (get (table_of line_cmp c.loop-place.lines) q)) c.line_key.ensures)
+    dated_back_more c.args.order c.args.moments c.loop-place.place (slice_index_or c.args.moments c.loop-place.place c.index-moments-place.result) c.line_key.result (table_of line_cmp c.args.lines.now) (table_of line_cmp c.loop-place.lines) (table_of line_cmp c.put_moment_back.new.lines)
+    (index_any c.args.moments c.loop-place.place c.index-moments-place.result None long) c.line_key.ensures c.loop-place.invariant c.put_moment_back.ensures
 
 pub returns : goal.returns
 returns c =

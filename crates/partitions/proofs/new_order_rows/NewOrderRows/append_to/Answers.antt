@@ -1,11 +1,11 @@
-use Rattle.std.proofs.Common.{◌≡◌, ◌+◌, ◌++◌, ◌∷◌, [], length, refl, sym, ap, subst, ◌∙◌, arith}
+use Rattle.std.proofs.Common.{refl, sym, ap, subst, ◌∙◌, arith}
 use Rattle.std.proofs.lemmas.Iterator.Adapters.{YieldsList-from_vec}
 use Rattle.std.proofs.lemmas.Iterator.Consumers.{YieldsList-turn, YieldsList-end}
 use Rattle.std.proofs.lemmas.List.{map-id}
 use Rattle.rows.specs.Keys.{order_cmp}
 use Rattle.schema.proofs.KeyOrders.{orders_total}
 use Rattle.partitions.specs.Appends.{AddsRows}
-use Rattle.partitions.specs.NewOrders.{DistrictRows, all_entries}
+use Rattle.partitions.specs.NewOrders.{all_entries}
 use Rattle.partitions.proofs.EntriesAdded.{adds_rows}
 use Rattle.partitions.proofs.Parting.{adds_none, adds_more}
 use Rattle.partitions.proofs.new_order_rows.NewOrderRows.append_to.Goals as goal

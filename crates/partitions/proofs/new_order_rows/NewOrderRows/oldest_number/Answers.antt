@@ -1,9 +1,6 @@
-use Rattle.std.proofs.Common.{◌≡◌, ◌-◌, ◌+◌, ◌<◌, true, false, rules, sym, ap, ◌∙◌, arith}
-use Rattle.std.specs.FinMap as table
+use Rattle.std.proofs.Common.{sym, ap, ◌∙◌}
 use Rattle.std.specs.FinMap.{from_entries}
-use Rattle.std.proofs.lemmas.Bool.Decides.{nat_tests}
 use Rattle.rows.specs.Keys.{order_cmp}
-use Rattle.rows.specs.Ranged.{is_between}
 use Rattle.schema.specs.Database.{rows_where, is_of_district}
 use Rattle.schema.specs.Consistency.{numbers}
 use Rattle.schema.specs.OrderRows.{smallest}

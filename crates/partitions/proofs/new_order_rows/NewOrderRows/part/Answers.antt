@@ -1,8 +1,4 @@
-use Rattle.std.proofs.Common.{◌≡◌, ◌+◌, ◌<◌, ◌≤◌, ◌++◌, ◌∷◌, [], List, rules, sym, ap, subst, ◌∙◌, arith}
-use Rattle.std.specs.List.{filter}
-use Rattle.std.specs.Ordering.{is_gt, is_le}
-use Rattle.rows.specs.declared.keys.OrderKey.{OrderKey}
-use Rattle.rows.specs.Keys.{order_cmp}
+use Rattle.std.proofs.Common.{◌+◌, ◌++◌, ◌∷◌, [], List, sym, ap, subst, ◌∙◌, arith}
 use Rattle.partitions.specs.NewOrders.{DistrictRows, AreByDistrict, all_entries}
 use Rattle.partitions.proofs.Parting.{IsPartedTo, parted_none, parted_more, parted_all}
 use Rattle.partitions.proofs.new_order_rows.NewOrderRows.part.Goals as goal
