@@ -38,3 +38,8 @@ pub mod NewOrderTaken
 pub mod NewOrderPuts
 pub mod NewOrderDone
 pub mod NewOrderSale
+pub mod DeliveryChanges
+pub mod DeliveryCarriedOut
+pub mod DeliveryDone
+pub mod DeliveryWorks
+pub mod DeliverySteps

@@ -1,0 +1,1 @@
+-- What the actions of a Delivery find and do is what their facts say, by what stood in the tables when they began.
