@@ -105,9 +105,13 @@ fn is_any(delivered: &Delivered) -> bool
 fn reply(delivery: &Delivery, delivered: &Delivered) -> DeliveryReply
     ensures { result ≡ delivery_reply delivery.now (numbers_of delivered.now) }
 {
+    let mut orders = [None; 10];
+    for place in 0..10 {
+        orders[place] = number_of(delivered[place]);
+    }
     DeliveryReply {
         carrier_id: delivery.carrier_id,
-        orders: delivered.map(number_of),
+        orders,
     }
 }
 
