@@ -40,6 +40,7 @@ pub mod NewOrderDone
 pub mod NewOrderSale
 pub mod DeliveryChanges
 pub mod DeliveryCarriedOut
+pub mod DeliveryKept
 pub mod DeliveryDone
 pub mod DeliveryWorks
 pub mod DeliverySteps
