@@ -41,6 +41,7 @@ pub mod NewOrderSale
 pub mod DeliveryChanges
 pub mod DeliveryCarriedOut
 pub mod DeliveryKept
+pub mod DeliveryAmount
 pub mod DeliveryDone
 pub mod DeliveryWorks
 pub mod DeliverySteps

@@ -4,6 +4,7 @@
 ghost use Rattle.transactions.specs.DeliveryLaws.{DeliveriesAreCarriedOut, RolledBackDeliveriesAreCarriedOut, SkippedDeliveriesAreCarriedOut};
 
 mod customers;
+mod orders;
 mod phases;
 mod work;
 
