@@ -15,14 +15,10 @@ use Rattle.groups.specs.Content.{Content, content}
 use Rattle.groups.specs.Content.Content.{OfOrders}
 use Rattle.groups.specs.Laws.{ChangesOneGroup}
 use Rattle.groups.proofs.Parts.{rows_of-remove_own, rows_of-remove_other}
+use Rattle.transactions.specs.Delivery.{with_order_delivered}
 use Rattle.machine.proofs.RowsOfGroups.{rows_of-map_rows, rows_of-map_rows_other}
 
 module _ (key : OrderKey) (carrier moment : ℕ) where
-  abbrev pub with_order_delivered : Content → Content
-  with_order_delivered (OfOrders orders new_orders lines) =
-      OfOrders (map_rows (with_carrier key carrier) orders) (table.remove new_orders key) (map_rows (with_moment key moment) lines)
-  with_order_delivered other = other
-
   other_order : (w_id d_id : ℕ) → g.Orders w_id d_id ≢ group_of_order key → (q : OrderKey) → is_same (group_of_order q) (g.Orders w_id d_id) ≡ true → is_order key q ≡ false
   other_order w_id d_id apart q inside =
       elim (is_order key q) as (λ b. is_order key q ≡ b → b ≡ false) [
@@ -35,10 +31,10 @@ module _ (key : OrderKey) (carrier moment : ℕ) where
         | false ↦ λ e. refl
       ] refl
 
-  pub order_changes : (t : Database) → ChangesOneGroup (group_of_order key) with_order_delivered t (with_delivery t key carrier moment)
+  pub order_changes : (t : Database) → ChangesOneGroup (group_of_order key) (with_order_delivered key carrier moment) t (with_delivery t key carrier moment)
   order_changes t = record { here = here; elsewhere = elsewhere }
     where
-      here : content (with_delivery t key carrier moment) (group_of_order key) ≡ with_order_delivered (content t (group_of_order key))
+      here : content (with_delivery t key carrier moment) (group_of_order key) ≡ with_order_delivered key carrier moment (content t (group_of_order key))
       here =
           let orders = rows_of-map_rows group_of_order (group_of_order key) orders_total orders_exact (with_carrier key carrier) t.orders in
           let new_orders = rows_of-remove_own orders_total orders_exact group_of_order t.new_orders key in

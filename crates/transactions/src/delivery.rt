@@ -9,6 +9,7 @@ mod phases;
 mod work;
 
 pub use customers::credit_customers;
+pub use orders::deliver_orders;
 pub use phases::Progress;
 pub use work::{Found, Work};
 

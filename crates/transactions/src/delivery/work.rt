@@ -6,6 +6,7 @@ ghost use Rattle.transactions.specs.Granted.{AreGrantedFor, AreLeft};
 ghost use Rattle.transactions.specs.Delivery.{CanDo, HasDone, home_of, wishes_of};
 
 use super::customers::credit_customers;
+use super::orders::deliver_orders;
 use super::{CustomersCredited, Delivered};
 use groups::Wish;
 use requests::{Delivery, Group};
@@ -89,7 +90,9 @@ impl Work {
         ensures err { OnErr result ((slice.new ≡ slice.old) × (claims.new ≡ claims.old)) }
     {
         match self {
-            Work::DeliverOrders(_) => Err(NoMemory),
+            Work::DeliverOrders(delivery) => {
+                Ok(Found::Orders(deliver_orders(slice, claims, &delivery)?))
+            }
             Work::CreditCustomers(delivery, delivered) => Ok(Found::Customers(credit_customers(
                 slice,
                 claims,
