@@ -94,8 +94,8 @@ skipped_follow d found delivered is none shared asked held claims known done ope
 
 -- ---- the customers
 
-same_customers : (credited other : CustomersCredited) → any_found.Delivery (Customers credited) ∷ [] ≡ any_found.Delivery (Customers other) ∷ [] → credited ≡ other
-same_customers credited other same = cc
+same_customers : (one other : CustomersCredited) → any_found.Delivery (Customers one) ∷ [] ≡ any_found.Delivery (Customers other) ∷ [] → one ≡ other
+same_customers one other same = cc
 
 pub customers_found : (shared : Shared) (d : Delivery) (delivered : Deliveries) (found : List Found) (claims : List (List Claiming))
     → HaveAllDone shared (any_work.Delivery (CreditCustomers d delivered) ∷ []) found claims → AreCustomersOf found
