@@ -38,3 +38,10 @@ pub mod NewOrderTaken
 pub mod NewOrderPuts
 pub mod NewOrderDone
 pub mod NewOrderSale
+pub mod DeliveryChanges
+pub mod DeliveryCarriedOut
+pub mod DeliveryKept
+pub mod DeliveryAmount
+pub mod DeliveryDone
+pub mod DeliveryWorks
+pub mod DeliverySteps

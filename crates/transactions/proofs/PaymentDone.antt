@@ -30,15 +30,15 @@ use Rattle.transactions.proofs.Told.{customer_told}
 -- ---- a claim that began as a fresh one on what the tables have in its group
 
 module _ (t : Database) (own : Group) (was : Claiming) (on : IsExclusiveOn own was) (new : IsFresh was) (left : was.left ≡ content t was.group) where
-  left_here : was.left ≡ content t own
+  pub left_here : was.left ≡ content t own
   left_here = left ∙ ap (content t) on.group
 
-  told_here : was.told ≡ content t own
+  pub told_here : was.told ≡ content t own
   told_here = sym new.left ∙ left_here
 
 -- and is one on its group still, whatever it left
 module _ (own : Group) (was now : Claiming) (on : IsExclusiveOn own was) (has : Content) (is : now ≡ leaving was has) where
-  on_still : IsExclusiveOn own now
+  pub on_still : IsExclusiveOn own now
   on_still = record { group = ap (λ (k : Claiming). k.group) is ∙ on.group; mode = ap (λ (k : Claiming). k.mode) is ∙ on.mode }
 
 -- a fresh claim is left as it was

@@ -11,12 +11,13 @@ use Rattle.tickets.specs.Claims.{all_claims}
 use Rattle.transactions.specs.Granted.{wish_of}
 use Rattle.transactions.specs.Progresses.{works_of}
 use Rattle.transactions.specs.Works.{all_wishes}
-use Rattle.transactions.specs.declared.progress.Progress.TheVariants.{NewOrder, Payment, OrderStatus, StockLevel}
+use Rattle.transactions.specs.declared.progress.Progress.TheVariants.{NewOrder, Payment, OrderStatus, Delivery, StockLevel}
 use Rattle.transactions.specs.Laws.{AcceptedRequestsHaveTheirGroups, ActionsCanDoTheirWork, ClaimsAreOfTheFootprint, PhasesHaveActions, ReachedRequestsAreAccepted, TransactionsClaimEachGroupOnce, TransactionsHaveFewActions}
 use Rattle.transactions.proofs.AcceptedGroups.{delivery_groups_there, level_groups_there, order_groups_there}
 use Rattle.transactions.proofs.NewOrderWorks as new_order
 use Rattle.transactions.proofs.PaymentWorks as payment
 use Rattle.transactions.proofs.OrderStatusWorks as order_status
+use Rattle.transactions.proofs.DeliveryWorks as delivery
 use Rattle.transactions.proofs.StockLevelWorks as stock_level
 
 pub accepted_requests_have_their_groups : AcceptedRequestsHaveTheirGroups
@@ -30,24 +31,28 @@ pub accepted : ReachedRequestsAreAccepted
 accepted shared asked (NewOrder progress) held reached = new_order.accepted shared asked progress held reached
 accepted shared asked (Payment progress) held reached = payment.accepted shared asked progress held reached
 accepted shared asked (OrderStatus progress) held reached = order_status.accepted shared asked progress held reached
+accepted shared asked (Delivery progress) held reached = delivery.accepted shared asked progress held reached
 accepted shared asked (StockLevel progress) held reached = stock_level.accepted shared asked progress held reached
 
 pub some_actions : PhasesHaveActions
 some_actions (NewOrder progress) = new_order.some_actions progress
 some_actions (Payment progress) = payment.some_actions progress
 some_actions (OrderStatus progress) = order_status.some_actions progress
+some_actions (Delivery progress) = delivery.some_actions progress
 some_actions (StockLevel progress) = stock_level.some_actions progress
 
 pub can_all : ActionsCanDoTheirWork
 can_all shared asked (NewOrder progress) held reached = new_order.can_all shared asked progress held reached
 can_all shared asked (Payment progress) held reached = payment.can_all shared asked progress held reached
 can_all shared asked (OrderStatus progress) held reached = order_status.can_all shared asked progress held reached
+can_all shared asked (Delivery progress) held reached = delivery.can_all shared asked progress held reached
 can_all shared asked (StockLevel progress) held reached = stock_level.can_all shared asked progress held reached
 
 pub within : ClaimsAreOfTheFootprint
 within shared asked (NewOrder progress) held reached = new_order.within shared asked progress held reached
 within shared asked (Payment progress) held reached = payment.within shared asked progress held reached
 within shared asked (OrderStatus progress) held reached = order_status.within shared asked progress held reached
+within shared asked (Delivery progress) held reached = delivery.within shared asked progress held reached
 within shared asked (StockLevel progress) held reached = stock_level.within shared asked progress held reached
 
 -- those whose image passes are as many as the images that pass
@@ -77,4 +82,5 @@ pub few_actions : TransactionsHaveFewActions
 few_actions shared asked (NewOrder progress) held reached = omega (arith, new_order.few_actions shared asked progress held reached)
 few_actions shared asked (Payment progress) held reached = omega (arith, payment.few_actions shared asked progress held reached)
 few_actions shared asked (OrderStatus progress) held reached = omega (arith, order_status.few_actions shared asked progress held reached)
+few_actions shared asked (Delivery progress) held reached = omega (arith, delivery.few_actions shared asked progress held reached)
 few_actions shared asked (StockLevel progress) held reached = omega (arith, stock_level.few_actions shared asked progress held reached)

@@ -14,7 +14,7 @@ use Rattle.groups.specs.declared.wishes.Wish.{Wish}
 use Rattle.tickets.specs.Claims.{Claiming}
 use Rattle.tickets.proofs.Committed.{All-front}
 use Rattle.slices.proofs.Steps.{All-last}
-use Rattle.transactions.specs.declared.work.Work.TheVariants.{NewOrder, Payment, OrderStatus, StockLevel}
+use Rattle.transactions.specs.declared.work.Work.TheVariants.{NewOrder, Payment, OrderStatus, Delivery, StockLevel}
 use Rattle.transactions.specs.declared.work.Work.{Work}
 use Rattle.transactions.specs.Granted.{AreWishesAt, IsGrantedFor, AreGrantedFor, AreLeft}
 use Rattle.transactions.specs.Works.{home_of, wishes_of}
@@ -25,6 +25,7 @@ use Rattle.transactions.proofs.Homes.{claims_here, of_one_home}
 use Rattle.transactions.proofs.NewOrderWorks as new_order
 use Rattle.transactions.proofs.PaymentWorks as payment
 use Rattle.transactions.proofs.OrderStatusWorks as order_status
+use Rattle.transactions.proofs.DeliveryWorks as delivery
 use Rattle.transactions.proofs.StockLevelWorks as stock_level
 
 -- ---- the wish of a number
@@ -99,6 +100,7 @@ works_wish_once : (work : Work) → AreApart (wishes_of work)
 works_wish_once (NewOrder work) = new_order.works_wish_once work
 works_wish_once (Payment work) = payment.works_wish_once work
 works_wish_once (OrderStatus work) = order_status.works_wish_once work
+works_wish_once (Delivery work) = delivery.works_wish_once work
 works_wish_once (StockLevel work) = stock_level.works_wish_once work
 
 pub apart_at : (work : Work) (k : ℕ) (wish : Wish) → slice_get (wishes_of work) k ≡ Some wish → All (λ (before : Wish). before.group ≢ wish.group) (take k (wishes_of work))
@@ -144,12 +146,14 @@ pub works_have_wishes : WorksHaveWishes
 works_have_wishes (NewOrder work) = new_order.works_have_wishes work
 works_have_wishes (Payment work) = payment.works_have_wishes work
 works_have_wishes (OrderStatus work) = order_status.works_have_wishes work
+works_have_wishes (Delivery work) = delivery.works_have_wishes work
 works_have_wishes (StockLevel work) = stock_level.works_have_wishes work
 
 pub works_have_a_claim_for_each_wish : WorksHaveAClaimForEachWish
 works_have_a_claim_for_each_wish shared (NewOrder work) found claims done = new_order.done_on shared work done.0 claims done.2
 works_have_a_claim_for_each_wish shared (Payment work) found claims done = payment.done_on shared work done.0 claims done.2
 works_have_a_claim_for_each_wish shared (OrderStatus work) found claims done = order_status.done_on shared work done.0 claims done.2
+works_have_a_claim_for_each_wish shared (Delivery work) found claims done = delivery.done_on shared work done.0 claims done.2
 works_have_a_claim_for_each_wish shared (StockLevel work) found claims done = stock_level.done_on shared work done.0 claims done.2
 
 -- as many claims as wishes
@@ -163,18 +167,21 @@ pub works_claim_at_home : WorksClaimAtHome
 works_claim_at_home (NewOrder work) = new_order.works_claim_at_home work
 works_claim_at_home (Payment work) = payment.works_claim_at_home work
 works_claim_at_home (OrderStatus work) = order_status.works_claim_at_home work
+works_claim_at_home (Delivery work) = delivery.works_claim_at_home work
 works_claim_at_home (StockLevel work) = stock_level.works_claim_at_home work
 
 pub works_have_their_groups : WorksHaveTheirGroups
 works_have_their_groups shared (NewOrder work) can = new_order.works_have_their_groups shared work can
 works_have_their_groups shared (Payment work) can = payment.works_have_their_groups shared work can
 works_have_their_groups shared (OrderStatus work) can = order_status.works_have_their_groups shared work can
+works_have_their_groups shared (Delivery work) can = delivery.works_have_their_groups shared work can
 works_have_their_groups shared (StockLevel work) can = stock_level.works_have_their_groups shared work can
 
 pub works_are_at_warehouses : WorksAreAtWarehouses
 works_are_at_warehouses shared (NewOrder work) can = new_order.works_are_at_warehouses shared work can
 works_are_at_warehouses shared (Payment work) can = payment.works_are_at_warehouses shared work can
 works_are_at_warehouses shared (OrderStatus work) can = order_status.works_are_at_warehouses shared work can
+works_are_at_warehouses shared (Delivery work) can = delivery.works_are_at_warehouses shared work can
 works_are_at_warehouses shared (StockLevel work) can = stock_level.works_are_at_warehouses shared work can
 
 pub works_are_done_at_home : WorksAreDoneAtHome

@@ -8,6 +8,8 @@ pub mod NewOrderLaws
 pub mod NewOrderStock
 pub mod StockLevel
 pub mod StockLevelLaws
+pub mod Delivery
+pub mod DeliveryLaws
 pub mod Works
 pub mod Progresses
 pub mod Acting

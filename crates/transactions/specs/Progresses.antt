@@ -10,12 +10,13 @@ use Rattle.commit_log.specs.Claimed.{IsCarriedOut}
 use Rattle.transactions.specs.declared.work.Work.{Work}
 use Rattle.transactions.specs.declared.work.Found.{Found}
 use Rattle.transactions.specs.declared.progress.Progress.{Progress}
-use Rattle.transactions.specs.declared.progress.Progress.TheVariants.{NewOrder, Payment, OrderStatus, StockLevel}
+use Rattle.transactions.specs.declared.progress.Progress.TheVariants.{NewOrder, Payment, OrderStatus, Delivery, StockLevel}
 use Rattle.transactions.specs.declared.progress.Gathered.{Gathered}
 use Rattle.transactions.specs.declared.progress.Gathered.TheVariants.{Next, Finish, RollBack}
 use Rattle.transactions.specs.NewOrder as new_order
 use Rattle.transactions.specs.Payment as payment
 use Rattle.transactions.specs.OrderStatus as order_status
+use Rattle.transactions.specs.Delivery as delivery
 use Rattle.transactions.specs.StockLevel as stock_level
 use Rattle.transactions.specs.Works.{HaveAllDone}
 
@@ -32,6 +33,7 @@ abbrev pub IsReached : Shared → Request → Progress → List (List Claiming) 
 IsReached shared asked (NewOrder progress) held = new_order.IsReached shared asked progress held
 IsReached shared asked (Payment progress) held = payment.IsReached shared asked progress held
 IsReached shared asked (OrderStatus progress) held = order_status.IsReached shared asked progress held
+IsReached shared asked (Delivery progress) held = delivery.IsReached shared asked progress held
 IsReached shared asked (StockLevel progress) held = stock_level.IsReached shared asked progress held
 
 -- what the actions of its phase do, by place
@@ -39,6 +41,7 @@ abbrev pub works_of : Progress → List Work
 works_of (NewOrder progress) = new_order.works_of progress
 works_of (Payment progress) = payment.works_of progress
 works_of (OrderStatus progress) = order_status.works_of progress
+works_of (Delivery progress) = delivery.works_of progress
 works_of (StockLevel progress) = stock_level.works_of progress
 
 -- ---- what follows

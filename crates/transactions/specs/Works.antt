@@ -6,14 +6,16 @@ use Rattle.tickets.specs.Claims.{Claiming}
 use Rattle.transactions.specs.declared.new_order.work.Found.{Found as NewOrderFound}
 use Rattle.transactions.specs.declared.payment.Found.{Found as PaymentFound}
 use Rattle.transactions.specs.declared.order_status.Found.{Found as OrderStatusFound}
+use Rattle.transactions.specs.declared.delivery.work.Found.{Found as DeliveryFound}
 use Rattle.transactions.specs.declared.stock_level.Found.{Found as StockLevelFound}
 use Rattle.transactions.specs.declared.work.Work.{Work}
-use Rattle.transactions.specs.declared.work.Work.TheVariants.{NewOrder, Payment, OrderStatus, StockLevel}
+use Rattle.transactions.specs.declared.work.Work.TheVariants.{NewOrder, Payment, OrderStatus, Delivery, StockLevel}
 use Rattle.transactions.specs.declared.work.Found.{Found}
 use Rattle.transactions.specs.declared.work.Found.TheVariants as found
 use Rattle.transactions.specs.NewOrder as new_order
 use Rattle.transactions.specs.Payment as payment
 use Rattle.transactions.specs.OrderStatus as order_status
+use Rattle.transactions.specs.Delivery as delivery
 use Rattle.transactions.specs.StockLevel as stock_level
 
 -- the warehouse at which the work is done
@@ -21,6 +23,7 @@ abbrev pub home_of : Work → ℕ
 home_of (NewOrder work) = new_order.home_of work
 home_of (Payment work) = payment.home_of work
 home_of (OrderStatus work) = order_status.home_of work
+home_of (Delivery work) = delivery.home_of work
 home_of (StockLevel work) = stock_level.home_of work
 
 -- the groups that an action claims for its work, and how
@@ -28,6 +31,7 @@ abbrev pub wishes_of : Work → List Wish
 wishes_of (NewOrder work) = new_order.wishes_of work
 wishes_of (Payment work) = payment.wishes_of work
 wishes_of (OrderStatus work) = order_status.wishes_of work
+wishes_of (Delivery work) = delivery.wishes_of work
 wishes_of (StockLevel work) = stock_level.wishes_of work
 
 -- what the work needs
@@ -35,6 +39,7 @@ abbrev pub CanDo : Shared → Work → Type 0
 CanDo shared (NewOrder work) = new_order.CanDo shared work
 CanDo shared (Payment work) = payment.CanDo shared work
 CanDo shared (OrderStatus work) = order_status.CanDo shared work
+CanDo shared (Delivery work) = delivery.CanDo shared work
 CanDo shared (StockLevel work) = stock_level.CanDo shared work
 
 -- The work found this, and was done under these claims.
@@ -42,6 +47,7 @@ abbrev pub HasDone : Shared → Work → Found → List Claiming → Type 0
 HasDone shared (NewOrder work) one claims = (own : NewOrderFound) × (one ≡ found.NewOrder own) × new_order.HasDone shared work own claims
 HasDone shared (Payment work) one claims = (own : PaymentFound) × (one ≡ found.Payment own) × payment.HasDone shared work own claims
 HasDone shared (OrderStatus work) one claims = (own : OrderStatusFound) × (one ≡ found.OrderStatus own) × order_status.HasDone shared work own claims
+HasDone shared (Delivery work) one claims = (own : DeliveryFound) × (one ≡ found.Delivery own) × delivery.HasDone shared work own claims
 HasDone shared (StockLevel work) one claims = (own : StockLevelFound) × (one ≡ found.StockLevel own) × stock_level.HasDone shared work own claims
 
 -- ---- the actions of a phase

@@ -13,6 +13,7 @@
 #![tactic(auto)]
 
 mod acting;
+pub mod delivery;
 mod laws;
 mod listed;
 pub mod new_order;

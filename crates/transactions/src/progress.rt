@@ -7,7 +7,7 @@ ghost use Rattle.transactions.specs.Granted.{IsAsked};
 ghost use Rattle.transactions.specs.Progresses.{FollowsFrom, HasFound, IsReached, has_graph, works_of};
 
 use crate::work::{Found, Work};
-use crate::{new_order, order_status, payment, stock_level};
+use crate::{delivery, new_order, order_status, payment, stock_level};
 use requests::{Fault, Reply, Request};
 use schema::NoMemory;
 use std::alloc::Global;
@@ -18,6 +18,7 @@ pub enum Progress {
     NewOrder(new_order::Progress),
     Payment(payment::Progress),
     OrderStatus(order_status::Progress),
+    Delivery(delivery::Progress),
     StockLevel(stock_level::Progress),
 }
 
@@ -72,6 +73,7 @@ impl Progress {
             Progress::NewOrder(progress) => progress.works(alloc),
             Progress::Payment(progress) => progress.works(alloc),
             Progress::OrderStatus(progress) => progress.works(alloc),
+            Progress::Delivery(progress) => progress.works(alloc),
             Progress::StockLevel(progress) => progress.works(alloc),
         }
     }
@@ -85,6 +87,7 @@ impl Progress {
             Progress::NewOrder(progress) => progress.gather(alloc, found),
             Progress::Payment(progress) => progress.gather(alloc, found),
             Progress::OrderStatus(progress) => progress.gather(alloc, found),
+            Progress::Delivery(progress) => progress.gather(alloc, found),
             Progress::StockLevel(progress) => progress.gather(alloc, found),
         }
     }

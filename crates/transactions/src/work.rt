@@ -5,7 +5,7 @@ ghost use Rattle.slices.specs.Sliced.{SliceKeeps};
 ghost use Rattle.transactions.specs.Granted.{AreGrantedFor, AreLeft};
 ghost use Rattle.transactions.specs.Works.{CanDo, HasDone, home_of, wishes_of};
 
-use crate::{new_order, order_status, payment, stock_level};
+use crate::{delivery, new_order, order_status, payment, stock_level};
 use groups::Wish;
 use schema::NoMemory;
 use slices::Slice;
@@ -18,6 +18,7 @@ pub enum Work {
     NewOrder(new_order::Work),
     Payment(payment::Work),
     OrderStatus(order_status::Work),
+    Delivery(delivery::Work),
     StockLevel(stock_level::Work),
 }
 
@@ -27,6 +28,7 @@ pub enum Found {
     NewOrder(new_order::Found),
     Payment(payment::Found),
     OrderStatus(order_status::Found),
+    Delivery(delivery::Found),
     StockLevel(stock_level::Found),
 }
 
@@ -39,6 +41,7 @@ impl Work {
             Work::NewOrder(work) => work.home(),
             Work::Payment(work) => work.home(),
             Work::OrderStatus(work) => work.home(),
+            Work::Delivery(work) => work.home(),
             Work::StockLevel(work) => work.home(),
         }
     }
@@ -51,6 +54,7 @@ impl Work {
             Work::NewOrder(work) => work.wish_count(),
             Work::Payment(work) => work.wish_count(),
             Work::OrderStatus(work) => work.wish_count(),
+            Work::Delivery(work) => work.wish_count(),
             Work::StockLevel(work) => work.wish_count(),
         }
     }
@@ -64,6 +68,7 @@ impl Work {
             Work::NewOrder(work) => work.wish(number),
             Work::Payment(work) => work.wish(number),
             Work::OrderStatus(work) => work.wish(number),
+            Work::Delivery(work) => work.wish(number),
             Work::StockLevel(work) => work.wish(number),
         }
     }
@@ -89,6 +94,7 @@ pub fn run<J: GroupNames>(
         Work::NewOrder(work) => Ok(Found::NewOrder(work.run(alloc, slice, claims)?)),
         Work::Payment(work) => Ok(Found::Payment(work.run(slice, claims)?)),
         Work::OrderStatus(work) => Ok(Found::OrderStatus(work.run(alloc, slice, claims)?)),
+        Work::Delivery(work) => Ok(Found::Delivery(work.run(slice, claims)?)),
         Work::StockLevel(work) => Ok(Found::StockLevel(work.run(alloc, slice, claims)?)),
     }
 }
