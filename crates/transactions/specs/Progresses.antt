@@ -1,5 +1,5 @@
 -- How far a transaction of any kind has come, and what follows.
-use Rattle.std.specs.Prelude.{◌≡◌, Bool, true, false, List, ◌++◌}
+use Rattle.std.specs.Prelude.{◌≡◌, Bool, true, List, ◌++◌}
 use Rattle.partitions.specs.Parts.{Shared, shared_of}
 use Rattle.schema.specs.Database.{Database}
 use Rattle.requests.specs.declared.request.Request.{Request}
@@ -20,13 +20,13 @@ use Rattle.transactions.specs.Delivery as delivery
 use Rattle.transactions.specs.StockLevel as stock_level
 use Rattle.transactions.specs.Works.{HaveAllDone}
 
--- whether requests of its kind have a flow graph: so far these four
+-- whether requests of its kind have a flow graph: all kinds have one
 abbrev pub has_graph : Request → Bool
 has_graph (request.NewOrder n) = true
 has_graph (request.Payment p) = true
 has_graph (request.OrderStatus o) = true
+has_graph (request.Delivery d) = true
 has_graph (request.StockLevel s) = true
-has_graph asked = false
 
 -- what is known of how far it has come, for a request, beside the claims of each action of the phases before, by place
 abbrev pub IsReached : Shared → Request → Progress → List (List Claiming) → Type 0

@@ -33,7 +33,7 @@ pub enum Gathered {
     RollBack(Fault),
 }
 
-/// Whether requests of its kind have a flow graph: those of the other kinds can't be carried out by actions.
+/// Whether requests of its kind have a flow graph: all kinds have one.
 pub fn has_graph(request: &Request) -> bool
     ensures { result ≡ has_graph request.now }
 {
@@ -41,8 +41,8 @@ pub fn has_graph(request: &Request) -> bool
         Request::NewOrder(_)
         | Request::Payment(_)
         | Request::OrderStatus(_)
+        | Request::Delivery(_)
         | Request::StockLevel(_) => true,
-        Request::Delivery(_) => false,
     }
 }
 
@@ -58,10 +58,12 @@ impl Progress {
             Request::OrderStatus(asked) => {
                 Progress::OrderStatus(order_status::Progress::ReadCustomer(asked))
             }
+            Request::Delivery(delivery) => {
+                Progress::Delivery(delivery::Progress::DeliverOrders(delivery))
+            }
             Request::StockLevel(asked) => {
                 Progress::StockLevel(stock_level::Progress::ReadNext(asked))
             }
-            Request::Delivery(_) => unreachable!(),
         }
     }
 
