@@ -17,7 +17,7 @@ pub struct Action {
 }
 
 /// The actions of a request, by place: the groups that it claims, in their order, are an action's each, but the home
-/// district's. `None` where requests of its kind have no flow graph.
+/// district's. `None` of a Delivery and a Stock-Level, which are not drawn yet.
 pub fn actions_of(alloc: Global, request: &Request) -> Result<Option<Vec<Action>>, NoMemory> {
     if matches!(request, Request::Delivery(_) | Request::StockLevel(_)) {
         return Ok(None);

@@ -1,9 +1,8 @@
 -- How far a transaction of any kind has come, and what follows.
-use Rattle.std.specs.Prelude.{◌≡◌, Bool, true, List, ◌++◌}
+use Rattle.std.specs.Prelude.{◌≡◌, List, ◌++◌}
 use Rattle.partitions.specs.Parts.{Shared, shared_of}
 use Rattle.schema.specs.Database.{Database}
 use Rattle.requests.specs.declared.request.Request.{Request}
-use Rattle.requests.specs.declared.request.Request.TheVariants as request
 use Rattle.requests.specs.declared.reply.Reply.TheVariants.{RolledBack}
 use Rattle.tickets.specs.Claims.{Claiming, all_claims}
 use Rattle.commit_log.specs.Claimed.{IsCarriedOut}
@@ -19,14 +18,6 @@ use Rattle.transactions.specs.OrderStatus as order_status
 use Rattle.transactions.specs.Delivery as delivery
 use Rattle.transactions.specs.StockLevel as stock_level
 use Rattle.transactions.specs.Works.{HaveAllDone}
-
--- whether requests of its kind have a flow graph: all kinds have one
-abbrev pub has_graph : Request → Bool
-has_graph (request.NewOrder n) = true
-has_graph (request.Payment p) = true
-has_graph (request.OrderStatus o) = true
-has_graph (request.Delivery d) = true
-has_graph (request.StockLevel s) = true
 
 -- what is known of how far it has come, for a request, beside the claims of each action of the phases before, by place
 abbrev pub IsReached : Shared → Request → Progress → List (List Claiming) → Type 0

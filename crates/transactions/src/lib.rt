@@ -31,5 +31,5 @@ pub use laws::{
     works_are_done_at_home, works_claim_at_home, works_have_their_groups, works_have_wishes,
 };
 pub use listed::Listed;
-pub use progress::{Gathered, Progress, has_graph};
+pub use progress::{Gathered, Progress};
 pub use work::{Found, Work, run};

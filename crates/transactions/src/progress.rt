@@ -1,10 +1,10 @@
 //! How far a transaction has come, by kind, and what follows of what the actions of its phase found.
-ghost use Rattle.std.specs.Prelude.{◌≡◌, List, IfOk, IsTrue};
+ghost use Rattle.std.specs.Prelude.{◌≡◌, List, IfOk};
 ghost use Rattle.partitions.specs.Parts.{Shared};
 ghost use Rattle.requests.specs.declared.request.Request.{Request as AnyRequest};
 ghost use Rattle.tickets.specs.Claims.{Claiming};
 ghost use Rattle.transactions.specs.Granted.{IsAsked};
-ghost use Rattle.transactions.specs.Progresses.{FollowsFrom, HasFound, IsReached, has_graph, works_of};
+ghost use Rattle.transactions.specs.Progresses.{FollowsFrom, HasFound, IsReached, works_of};
 
 use crate::work::{Found, Work};
 use crate::{delivery, new_order, order_status, payment, stock_level};
@@ -33,23 +33,9 @@ pub enum Gathered {
     RollBack(Fault),
 }
 
-/// Whether requests of its kind have a flow graph: all kinds have one.
-pub fn has_graph(request: &Request) -> bool
-    ensures { result ≡ has_graph request.now }
-{
-    match request {
-        Request::NewOrder(_)
-        | Request::Payment(_)
-        | Request::OrderStatus(_)
-        | Request::Delivery(_)
-        | Request::StockLevel(_) => true,
-    }
-}
-
 impl Progress {
     /// Where a transaction begins.
     pub fn begin(request: Request) -> Progress
-        requires { IsTrue (has_graph request) }
         ensures { (shared : Shared) (asked : AnyRequest) (held : List (List Claiming)) → IsAsked shared asked request held → IsReached shared asked result held }
     {
         match request {

@@ -31,11 +31,11 @@ module _ {J : Type 0} where
   )
 
   unless_nothing : (why : Option Refusal) (session number : ℕ) (asked : Request) (desk : SessionDesk J) (old new : Parts J) (answer : EventAnswer) → SubmitsUnless why session number asked desk old answer new
-      → (answer ≡ Nothing → (why ≡ None) × (can_admit asked old ≡ false)) × ((why ≡ None) × (can_admit asked old ≡ false) → answer ≡ Nothing)
+      → (answer ≡ Nothing → (why ≡ None) × (can_admit old ≡ false)) × ((why ≡ None) × (can_admit old ≡ false) → answer ≡ Nothing)
   unless_nothing (Some why) session number asked desk old new answer said =
       (λ is. let e = said.0 in absurd (cc), λ h. let e = h.0 in absurd (cc))
   unless_nothing None session number asked desk old new answer said =
-      let can = into_nothing (can_admit asked old) session number asked desk old new answer said in
+      let can = into_nothing (can_admit old) session number asked desk old new answer said in
       (λ is. (refl, can.0 is), λ h. can.1 h.1)
 
   submit_nothing : (found : Option (SessionDesk J)) (session number : ℕ) (asked : Request) (old new : Parts J) (answer : EventAnswer) → SubmitsAt found session number asked old answer new

@@ -44,7 +44,7 @@ module _ {J : Type 0} where
           let same : why ≡ SessionBusy = cc in
           never_busy shared asked (at ∙ ap Err same)
       by_check (Ok u) true at said = let e = said.0 in absurd (cc)
-      by_check (Ok u) false at said = into (can_admit asked old) said
+      by_check (Ok u) false at said = into (can_admit old) said
 
   busy_of : (shared : Shared) (w : Parts J) (h : IsSoundWith shared nothing w) (old new : Parts J) (session number : ℕ) (asked : Request) (answer : EventAnswer) (desk : SessionDesk J) (pass : Option Passing) → desk.pass ≡ pass
       → slice_get w.desk.sessions.items session ≡ Some desk

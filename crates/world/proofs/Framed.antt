@@ -158,8 +158,8 @@ module _ {J : Type 0} (messages : List (Message J)) (items : List (Item J)) wher
     stays (framed old) (framed new) (Submit session number asked) (Answered session number (Refused why)) answer tt (said.0, ap framed said.1),
   )
   unless_submitted shared old new h session number asked desk answer there None is said =
-      submits_into shared (framed old) (framed new) h session number asked desk answer there is (can_admit asked old)
-      (into_submitted (can_admit asked old) session number asked desk old new answer said)
+      submits_into shared (framed old) (framed new) h session number asked desk answer there is (can_admit old)
+      (into_submitted (can_admit old) session number asked desk old new answer said)
 
   pub submits_framed : (shared : Shared) (old new : Parts J) (h : IsSoundWith shared nothing (framed old)) (session number : ℕ) (asked : Request) (answer : EventAnswer)
       → (found : Option (SessionDesk J)) → slice_get old.desk.sessions.items session ≡ found → SubmitsAt found session number asked old answer new

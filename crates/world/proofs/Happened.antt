@@ -52,7 +52,7 @@ module _ {J : Type 0} where
       → IsSoundWith shared nothing new × Advances old (step (Submit session number asked) answer ∷ []) new
   submits_unless shared old new h session number asked desk answer there (Some why) is said =
       (subst (λ w. IsSoundWith shared nothing w) (sym said.1) h, stays old new (Submit session number asked) (Answered session number (Refused why)) answer tt said)
-  submits_unless shared old new h session number asked desk answer there None is said = submits_into shared old new h session number asked desk answer there is (can_admit asked old) said
+  submits_unless shared old new h session number asked desk answer there None is said = submits_into shared old new h session number asked desk answer there is (can_admit old) said
 
   pub submits_on : (shared : Shared) (old new : Parts J) (h : IsSoundWith shared nothing old) (session number : ℕ) (asked : Request) (answer : EventAnswer)
       → (found : Option (SessionDesk J)) → slice_get old.desk.sessions.items session ≡ found → SubmitsAt found session number asked old answer new

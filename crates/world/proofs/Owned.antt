@@ -106,7 +106,7 @@ module _ {J : Type 0} (routing : Routes) where
   unless_own : (why : Option Refusal) (to session number : ℕ) (asked : Request) (desk : SessionDesk J) (old new : Parts J) (answer : EventAnswer) → to ≡ executor_of routing (home_of_request asked)
       → SubmitsUnless why session number asked desk old answer new → All (IsOf routing to) old.inbox → All (IsOf routing to) new.inbox
   unless_own (Some why) to session number asked desk old new answer is said own = same_own to old.inbox new.inbox (ap (λ (w : Parts J). w.inbox) said.1) own
-  unless_own None to session number asked desk old new answer is said own = into_own (can_admit asked old) to session number asked desk old new answer is said own
+  unless_own None to session number asked desk old new answer is said own = into_own (can_admit old) to session number asked desk old new answer is said own
 
   pub submitted_own : (found : Option (SessionDesk J)) (to session number : ℕ) (asked : Request) (old new : Parts J) (answer : EventAnswer) → to ≡ executor_of routing (home_of_request asked)
       → SubmitsAt found session number asked old answer new → All (IsOf routing to) old.inbox → All (IsOf routing to) new.inbox

@@ -31,18 +31,16 @@ not_refused (Some pass) checked accepted active there ok idle =
     (subst (λ (b : Bool). refuses (Some pass) (Ok accepted) b ≡ None) (sym idle) refl)
 
 -- there is no room
-pub full : (graph : Bool) (used room number last : ℕ) → room ≤ used → (graph && (nat_lt used room && nat_lt number last)) ≡ false
-full graph used room number last h = ap (λ b. graph && (b && nat_lt number last)) (le-ltb used room h) ∙ and-false graph
+pub full : (used room number last : ℕ) → room ≤ used → (nat_lt used room && nat_lt number last) ≡ false
+full used room number last h = ap (λ b. b && nat_lt number last) (le-ltb used room h)
 
 -- there is no number left
-pub spent : (graph : Bool) (used room number last : ℕ) → last ≤ number → (graph && (nat_lt used room && nat_lt number last)) ≡ false
-spent graph used room number last h =
-    ap (λ b. graph && (nat_lt used room && b)) (le-ltb number last h) ∙ ap (λ b. graph && b) (and-false (nat_lt used room)) ∙ and-false graph
+pub spent : (used room number last : ℕ) → last ≤ number → (nat_lt used room && nat_lt number last) ≡ false
+spent used room number last h = ap (λ b. nat_lt used room && b) (le-ltb number last h) ∙ and-false (nat_lt used room)
 
--- there are all three
-pub has_all : (graph : Bool) (used room number last : ℕ) → graph ≡ true → used < room → number < last → (graph && (nat_lt used room && nat_lt number last)) ≡ true
-has_all graph used room number last is h k =
-    ap (λ b. b && (nat_lt used room && nat_lt number last)) is ∙ ap (λ b. b && nat_lt number last) (lt-ltb used room h) ∙ lt-ltb number last k
+-- there are both
+pub has_both : (used room number last : ℕ) → used < room → number < last → (nat_lt used room && nat_lt number last) ≡ true
+has_both used room number last h k = ap (λ b. b && nat_lt number last) (lt-ltb used room h) ∙ lt-ltb number last k
 
 module _ {J : Type 0} where
   -- a session whose pass is there can ask
@@ -59,7 +57,7 @@ module _ {J : Type 0} where
 
   -- what is done with a request that is not refused
   pub submits : (at : Option (SessionDesk J)) (desk : SessionDesk J) (session number : ℕ) (asked : Request) (old : Parts J) (answer : EventAnswer) (new : Parts J) (room : Bool)
-      → at ≡ Some desk → refusal_at desk asked old ≡ None → can_admit asked old ≡ room
+      → at ≡ Some desk → refusal_at desk asked old ≡ None → can_admit old ≡ room
       → SubmitsInto room session number asked desk old answer new → SubmitsAt at session number asked old answer new
   submits at desk session number asked old answer new room is none has into =
       subst (λ (o : Option (SessionDesk J)). SubmitsAt o session number asked old answer new) (sym is)

@@ -27,7 +27,7 @@ use Rattle.slices.specs.Sliced.{Joined, all_standing, everywhere}
 use Rattle.transactions.specs.declared.acting.Ran.{Ran}
 use Rattle.transactions.specs.declared.acting.Ran.TheVariants as ran
 use Rattle.transactions.specs.declared.work.Work.{Work}
-use Rattle.transactions.specs.Progresses.{has_graph, IsReached, works_of}
+use Rattle.transactions.specs.Progresses.{IsReached, works_of}
 use Rattle.world.specs.declared.desk.Active.TheVariants.{Acting}
 use Rattle.world.specs.declared.desk.SessionDesk.{SessionDesk}
 use Rattle.world.specs.declared.flight.Flow.{Flow}
@@ -95,9 +95,9 @@ module _ {J : Type 0} where
   abbrev pub refusal_at : SessionDesk J → Request → Parts J → Option Refusal
   refusal_at desk request w = refuses desk.pass (check_of w.catalog.scale request) (is_some w.desk.active)
 
-  -- requests of its kind have a flow graph, the inbox has room, and there is an age left
-  abbrev pub can_admit : Request → Parts J → Bool
-  can_admit asked w = has_graph asked && (nat_lt (length w.inbox) 1024 && nat_lt w.desk.admitted 18446744073709551615)
+  -- the inbox has room, and there is an age left
+  abbrev pub can_admit : Parts J → Bool
+  can_admit w = nat_lt (length w.inbox) 1024 && nat_lt w.desk.admitted 18446744073709551615
 
   -- A transaction more is admitted, and active: the actions of its first phase stand at the inbox's end, and the session's
   -- pass goes with them.
@@ -146,7 +146,7 @@ module _ {J : Type 0} where
   -- It is refused for this reason, or else it may be admitted.
   abbrev pub SubmitsUnless : Option Refusal → ℕ → ℕ → Request → SessionDesk J → Parts J → EventAnswer → Parts J → Type 0
   SubmitsUnless (Some why) session number asked desk old answer new = StaysAt (Answered session number (Refused why)) old answer new
-  SubmitsUnless None session number asked desk old answer new = SubmitsInto (can_admit asked old) session number asked desk old answer new
+  SubmitsUnless None session number asked desk old answer new = SubmitsInto (can_admit old) session number asked desk old answer new
 
   -- A submission: nothing happens where there is no such session.
   abbrev pub SubmitsAt : Option (SessionDesk J) → ℕ → ℕ → Request → Parts J → EventAnswer → Parts J → Type 0
@@ -209,9 +209,9 @@ module _ {J : Type 0} where
   -- there is no such session; or it is not refused, and can't be admitted
   abbrev pub CannotSubmit : Option (SessionDesk J) → Request → Parts J → Type 0
   CannotSubmit None asked w = Unit {0}
-  CannotSubmit (Some desk) asked w = (refusal_at desk asked w ≡ None) × (can_admit asked w ≡ false)
+  CannotSubmit (Some desk) asked w = (refusal_at desk asked w ≡ None) × (can_admit w ≡ false)
 
-  -- A submission by a session of 64 or above, or one that isn't refused while its kind has no flow graph, the inbox is full of
+  -- A submission by a session of 64 or above, or one that isn't refused while the inbox is full of
   -- the executor where it would begin, or no age is left; and a Take or a Send where there is nothing to take or to send, or no
   -- such executor.
   abbrev pub CannotHappen : Event → Core J → Type 0

@@ -3,7 +3,6 @@ ghost use Rattle.std.specs.Prelude.{◌≡◌, ◌<◌, length, IfOk, IfSome, On
 ghost use Rattle.commit_log.specs.Asks.{asking};
 ghost use Rattle.commit_log.specs.Passing.{seating, with_asks};
 ghost use Rattle.world.specs.declared.desk.SessionDesk.{SessionDesk as AnyDesk};
-ghost use Rattle.transactions.specs.Progresses.{has_graph};
 ghost use Rattle.world.specs.Worlds.{Admits, CanAsk, CanSubmit, SubmitsAt};
 
 use crate::beginning::Phase;
@@ -16,7 +15,7 @@ use history::EventAnswer;
 use requests::{Answer, Refusal, Request, check};
 use schema::NoMemory;
 use std::alloc::Global;
-use transactions::{Progress, has_graph};
+use transactions::Progress;
 
 impl<J: Names> Parts<J> {
     // A session submits a request.
@@ -42,9 +41,6 @@ impl<J: Names> Parts<J> {
         if self.desk.active.is_some() {
             return refused(session, number, Refusal::Busy);
         }
-        if !has_graph(request) {
-            return EventAnswer::Nothing;
-        }
         if self.inbox.len() >= INBOX || self.desk.admitted == u64::MAX {
             return EventAnswer::Nothing;
         }
@@ -62,7 +58,6 @@ impl<J: Names> Parts<J> {
         number: u32,
         request: &Request,
     ) -> Result<u64, NoMemory>
-        requires graph { IsTrue (has_graph request.now) }
         requires room { length self.old.inbox < 1024 }
         requires age { self.old.desk.admitted < 18446744073709551615 }
         requires sessions { CanSubmit self.old }

@@ -1,8 +1,7 @@
 use Rattle.std.proofs.Common.{◌≡◌, length, refl, sym, arith, inl, true, false}
 use Rattle.std.specs.Prelude.{slice_get}
-use Rattle.transactions.specs.Progresses.{has_graph}
 use Rattle.world.specs.Worlds.{can_admit}
-use Rattle.world.proofs.Submitting.{can_ask, found, full, has_all, is_there, spent, submits, unrefused}
+use Rattle.world.proofs.Submitting.{can_ask, found, full, has_both, is_there, spent, submits, unrefused}
 use Rattle.world.proofs.world.Parts.submit.Goals as goal
 use Rattle.world.proofs.world.Parts.submit.Goals.{then-len-ge-INBOX-via-then-len-ge-INBOX, then-len-ge-INBOX-via-else-len-ge-INBOX+then-self}
 
@@ -15,9 +14,9 @@ returns-then-len-ge-INBOX g c =
     let at = found old.desk.sessions.items c.deref.result.now c.args.session desk c.deref.ensures.value looked.3.0 looked.1 in
     let there = is_there desk.pass c.is_none.result c.is_none.ensures c.if-is_none.false in
     let none = unrefused desk asked old c.scale.result c.in_default-check.field-0 c.is_some.result there c.scale.ensures c.in_default-check.ensures.first c.is_some.ensures c.if-is_some.false in
-    let cannot : can_admit asked old ≡ false = elim c.then-len-ge-INBOX.branch [
-      | then-len-ge-INBOX-via-then-len-ge-INBOX w ↦ full (has_graph asked) (length old.inbox) 1024 old.desk.admitted 18446744073709551615 (omega arith)
-      | then-len-ge-INBOX-via-else-len-ge-INBOX+then-self w ↦ spent (has_graph asked) (length old.inbox) 1024 old.desk.admitted 18446744073709551615 (omega arith)
+    let cannot : can_admit old ≡ false = elim c.then-len-ge-INBOX.branch [
+      | then-len-ge-INBOX-via-then-len-ge-INBOX w ↦ full (length old.inbox) 1024 old.desk.admitted 18446744073709551615 (omega arith)
+      | then-len-ge-INBOX-via-else-len-ge-INBOX+then-self w ↦ spent (length old.inbox) 1024 old.desk.admitted 18446744073709551615 (omega arith)
     ] in
     submits (slice_get old.desk.sessions.items c.args.session) desk c.args.session c.args.number asked old _ old false at none cannot (refl, refl)
 
@@ -39,7 +38,7 @@ returns-in-Err-admit g c =
     let at = found old.desk.sessions.items c.deref.result.now c.args.session desk c.deref.ensures.value looked.3.0 looked.1 in
     let there = is_there desk.pass c.is_none.result c.is_none.ensures c.if-is_none.false in
     let none = unrefused desk asked old c.scale.result c.in_default-check.field-0 c.is_some.result there c.scale.ensures c.in_default-check.ensures.first c.is_some.ensures c.if-is_some.false in
-    let can : can_admit asked old ≡ true =
-    has_all (has_graph asked) (length old.inbox) 1024 old.desk.admitted 18446744073709551615 (sym c.if-not-has_graph.ensures) (omega arith) (omega arith) in
+    let can : can_admit old ≡ true =
+    has_both (length old.inbox) 1024 old.desk.admitted 18446744073709551615 (omega arith) (omega arith) in
     submits (slice_get old.desk.sessions.items c.args.session) desk c.args.session c.args.number asked old c.refused-in-Err-admit.result c.admit.new.self true at none can
     (inl (c.refused-in-Err-admit.ensures, c.in-Err-admit.ensures.err))
