@@ -1,14 +1,13 @@
 -- An order has 300 lines at most, and so what they come to fits.
-use Rattle.std.proofs.Common.{◌≡◌, ℕ, ◌+◌, ◌-◌, ◌*◌, ◌≤◌, Bool, true, ◌&&◌, ◌==◌, nat_le, nat_lt, List, ◌∷◌, length, filter, refl, sym, ap, ◌∙◌, arith}
+use Rattle.std.proofs.Common.{◌≡◌, ◌+◌, ◌-◌, ◌≤◌, true, ◌&&◌, ◌==◌, nat_le, nat_lt, length, filter, ap, arith}
 use Rattle.std.proofs.lemmas.Bool.Decides.{nat_tests}
 use Rattle.std.proofs.lemmas.List.Sums.{count_by-le-length, length-filter}
 use Rattle.std.specs.FinMap as table
 use Rattle.rows.specs.Keys.{district_of_order}
-use Rattle.rows.specs.declared.keys.DistrictKey.{DistrictKey}
 use Rattle.rows.specs.declared.keys.OrderKey.{OrderKey}
 use Rattle.rows.specs.declared.keys.OrderLineKey.{OrderLineKey}
 use Rattle.rows.specs.declared.records.OrderLine.{OrderLine}
-use Rattle.schema.specs.Database.{Database, LinesNumbered, is_of_order, rows_where}
+use Rattle.schema.specs.Database.{Database, LinesNumbered, is_of_order}
 use Rattle.schema.specs.Consistency.{lines_of}
 use Rattle.schema.specs.OrderRows.{is_in_span}
 use Rattle.machine.proofs.RecentLines.{few_lines}

@@ -1,17 +1,15 @@
 -- The actions of a Delivery are the Delivery: a district reads and changes its own two groups, so that from tables which the
 -- claims tell its turn delivers the order that was found, and leaves in both groups what the claims left.
-use Rattle.std.proofs.Common.{◌≡◌, ◌≢◌, ◌⊎◌, inl, inr, ℕ, zero, suc, ◌+◌, ◌≤◌, false, List, [], ◌∷◌, ◌++◌, map, Option, Some, None, is_some, refl, sym, ap, subst, ◌∙◌, arith}
+use Rattle.std.proofs.Common.{◌≡◌, ◌≢◌, inl, inr, ℕ, zero, suc, ◌+◌, ◌≤◌, false, List, [], ◌∷◌, ◌++◌, map, Option, Some, None, is_some, refl, sym, ap, ◌∙◌, arith}
 use Rattle.std.specs.List.{AllByRecursion, list_any, range_with_len}
 use Rattle.std.specs.Option.{option_map, option_and_then}
 use Rattle.std.proofs.lemmas.List.Elements.{recursion_from_All}
 use Rattle.std.specs.FinMap as table
-use Rattle.rows.specs.declared.keys.CustomerKey.{CustomerKey}
 use Rattle.rows.specs.declared.keys.DistrictKey.{DistrictKey}
 use Rattle.rows.specs.declared.records.Customer.{Customer}
-use Rattle.rows.specs.declared.records.Order.{Order}
 use Rattle.schema.specs.Scale.{customer_key, district_key}
 use Rattle.schema.specs.Database.{Database, customer_of_order}
-use Rattle.schema.specs.OrderRows.{oldest_new_order, with_delivery}
+use Rattle.schema.specs.OrderRows.{with_delivery}
 use Rattle.schema.proofs.KeyOrders.{customers_total, customers_exact}
 use Rattle.indexes.specs.Namesakes.{Customers}
 use Rattle.requests.specs.declared.group.Group.{Group}
@@ -19,21 +17,20 @@ use Rattle.requests.specs.declared.group.Group.TheVariants as g
 use Rattle.requests.specs.declared.delivery.Delivery.{Delivery}
 use Rattle.requests.specs.declared.reply.Reply.TheVariants as reply
 use Rattle.requests.specs.declared.reply.Shown.TheVariants as kind
-use Rattle.groups.specs.Groups.{group_of_customer, group_of_order}
-use Rattle.groups.specs.Content.{Content, content, rows_of}
+use Rattle.groups.specs.Groups.{group_of_customer}
+use Rattle.groups.specs.Content.{content, rows_of}
 use Rattle.groups.specs.Content.Content.{OfCustomers}
 use Rattle.groups.specs.Laws.{with_customer}
 use Rattle.groups.specs.declared.wishes.Mode.TheVariants.{Exclusive}
 use Rattle.groups.proofs.Parts.{get-rows_of-own}
 use Rattle.groups.proofs.RowsPut.{each_put_changes_one_group}
 use Rattle.tickets.specs.Claims.{Claiming}
-use Rattle.tickets.specs.Committed.{TellsContent, contents_after}
+use Rattle.tickets.specs.Committed.{TellsContent}
 use Rattle.machine.specs.Outcome.{Outcome}
 use Rattle.machine.specs.NewOrder.{order_key}
-use Rattle.machine.specs.Delivery.{Round, Turn, after_turn, amount_of, customer_delivered, delivered_in, delivered_oldest, delivered_order, delivery_reply, handed_over, no_turns, receiver, told, turn_of}
+use Rattle.machine.specs.Delivery.{Round, Turn, after_turn, customer_delivered, delivered_in, delivered_oldest, delivery_reply, handed_over, no_turns, receiver, told, turn_of}
 use Rattle.transactions.specs.declared.delivery.OrderDelivered.{OrderDelivered}
-use Rattle.transactions.specs.Granted.{IsExclusiveOn}
-use Rattle.transactions.specs.Delivery.{AreCredited, AreExclusiveOn, AreOrdersDelivered, Deliveries, IsCredited, IsCustomerCredited, IsCustomerOutOfRange, IsOldestOrder, IsOneOutOfRange, IsOrderDelivered, IsOutOfRange, FindsOldest, number_of, numbers_of, order_delivered, row_credited, ten}
+use Rattle.transactions.specs.Delivery.{AreCredited, AreExclusiveOn, AreOrdersDelivered, Deliveries, IsCredited, IsCustomerCredited, IsOldestOrder, IsOneOutOfRange, IsOrderDelivered, IsOutOfRange, number_of, numbers_of, order_delivered, row_credited, ten}
 use Rattle.transactions.specs.DeliveryLaws.{DeliveriesAreCarriedOut, RolledBackDeliveriesAreCarriedOut, SkippedDeliveriesAreCarriedOut}
 use Rattle.transactions.proofs.DeliveryChanges.{order_changes}
 use Rattle.transactions.proofs.EachOne.{each_of_both, each_of_first, each_of_second}

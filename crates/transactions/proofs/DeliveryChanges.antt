@@ -1,17 +1,15 @@
 -- An order that is delivered changes the orders of its district alone.
 use Rattle.std.proofs.Common.{◌≡◌, ◌≢◌, ℕ, true, false, cond, ◌&&◌, ◌==◌, refl, ap, arith}
 use Rattle.std.proofs.lemmas.Bool.Decides.{nat_tests}
-use Rattle.std.specs.FinMap as table
 use Rattle.rows.specs.Keys.{order_of_line}
 use Rattle.rows.specs.declared.keys.OrderKey.{OrderKey}
-use Rattle.schema.specs.MapRows.{map_rows}
 use Rattle.schema.specs.Database.{Database}
 use Rattle.schema.specs.OrderRows.{is_order, carried_by, delivered_at, with_carrier, with_moment, with_delivery}
 use Rattle.schema.proofs.KeyOrders.{orders_total, orders_exact, lines_total, lines_exact}
 use Rattle.requests.specs.declared.group.Group.{Group}
 use Rattle.requests.specs.declared.group.Group.TheVariants as g
 use Rattle.groups.specs.Groups.{group_of_line, group_of_order, is_same}
-use Rattle.groups.specs.Content.{Content, content}
+use Rattle.groups.specs.Content.{content}
 use Rattle.groups.specs.Content.Content.{OfOrders}
 use Rattle.groups.specs.Laws.{ChangesOneGroup}
 use Rattle.groups.proofs.Parts.{rows_of-remove_own, rows_of-remove_other}

@@ -1,5 +1,5 @@
 -- What the actions of a Delivery find and do is what their facts say, by what stood in the tables when they began.
-use Rattle.std.proofs.Common.{◌≡◌, ℕ, true, ◌&&◌, ◌==◌, List, [], Option, Some, None, refl, sym, ap, ◌∙◌, arith}
+use Rattle.std.proofs.Common.{◌≡◌, ℕ, true, ◌&&◌, ◌==◌, Option, Some, None, sym, ap, ◌∙◌, arith}
 use Rattle.std.proofs.lemmas.Bool.Decides.{nat_tests}
 use Rattle.std.specs.Option.{option_and_then}
 use Rattle.std.specs.FinMap as table
@@ -7,10 +7,9 @@ use Rattle.rows.specs.declared.keys.DistrictKey.{DistrictKey}
 use Rattle.rows.specs.declared.keys.OrderKey.{OrderKey}
 use Rattle.rows.specs.declared.keys.OrderLineKey.{OrderLineKey}
 use Rattle.rows.specs.declared.records.Customer.{Customer}
-use Rattle.rows.specs.declared.records.OrderLine.{OrderLine}
 use Rattle.schema.specs.Scale.{customer_key}
 use Rattle.schema.specs.Database.{Database, is_of_district, is_of_order, rows_where}
-use Rattle.schema.specs.Consistency.{lines_of, numbers}
+use Rattle.schema.specs.Consistency.{numbers}
 use Rattle.schema.specs.OrderRows.{oldest_new_order, smallest, with_delivery}
 use Rattle.schema.proofs.KeyOrders.{customers_total, customers_exact, lines_total, lines_exact, orders_total, orders_exact}
 use Rattle.indexes.specs.Namesakes.{Customers}
@@ -18,7 +17,7 @@ use Rattle.requests.specs.declared.group.Group.TheVariants as g
 use Rattle.requests.specs.declared.group.Group.{Group}
 use Rattle.groups.specs.Groups.{group_of_customer, group_of_line, group_of_order, is_same}
 use Rattle.groups.specs.Content.{Content, content, rows_of}
-use Rattle.groups.specs.Content.Content.{OfCustomers, OfOrders}
+use Rattle.groups.specs.Content.Content.{OfOrders}
 use Rattle.groups.specs.Laws.{order_in, with_customer}
 use Rattle.groups.proofs.Parts.{get-rows_of-own}
 use Rattle.groups.proofs.RowsInGroups.{each_row_stands_in_one_group, same_row}

@@ -1,6 +1,5 @@
 -- One district's claim after another: what is kept, and what is taken back where memory ends.
-use Rattle.std.proofs.Common.{◌≡◌, ◌≢◌, [], ◌∷◌, List, refl, sym, ap, subst, ◌∙◌}
-use Rattle.schema.specs.Database.{Database}
+use Rattle.std.proofs.Common.{◌≡◌, ◌≢◌, [], ◌∷◌, List, sym, ap, subst, ◌∙◌}
 use Rattle.requests.specs.declared.group.Group.{Group}
 use Rattle.groups.specs.Content.{content}
 use Rattle.groups.specs.Laws.{ChangesOneGroup}

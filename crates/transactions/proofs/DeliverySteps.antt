@@ -23,7 +23,7 @@ use Rattle.transactions.specs.declared.work.Found.{Found}
 use Rattle.transactions.specs.declared.work.Found.TheVariants as any_found
 use Rattle.transactions.specs.declared.progress.Progress.TheVariants as any_progress
 use Rattle.transactions.specs.declared.progress.Gathered.TheVariants.{Next, Finish, RollBack}
-use Rattle.transactions.specs.Delivery.{AreCustomersCredited, AreCustomersOf, AreOrdersDelivered, AreOrdersOf, Deliveries, HasDone, HasDelivered, is_any, numbers_of, ten}
+use Rattle.transactions.specs.Delivery.{AreCustomersCredited, AreCustomersOf, AreOrdersDelivered, AreOrdersOf, Deliveries, HasDone, is_any, numbers_of, ten}
 use Rattle.transactions.specs.Works.{HaveAllDone}
 use Rattle.transactions.specs.Progresses.{FollowsFrom}
 use Rattle.transactions.proofs.Done.{first_done, none_done}

@@ -1,9 +1,9 @@
 -- What the actions of a Delivery need and claim, and where.
-use Rattle.std.proofs.Common.{◌≡◌, ◌≢◌, ◌≤◌, ◌<◌, ◌+◌, ℕ, zero, suc, true, List, [], ◌∷◌, ◌++◌, length, map, IsTrue, refl, sym, ap, subst, ◌∙◌, arith}
-use Rattle.std.specs.Prelude.{All, take, slice_index_or}
+use Rattle.std.proofs.Common.{◌≡◌, ◌≢◌, ◌≤◌, ◌<◌, ◌+◌, ℕ, zero, suc, List, [], ◌∷◌, ◌++◌, length, map, IsTrue, refl, sym, ap, subst, ◌∙◌, arith}
+use Rattle.std.specs.Prelude.{All, take}
 use Rattle.std.specs.List.{range_with_len}
 use Rattle.std.proofs.lemmas.Bool.{not-false}
-use Rattle.std.proofs.lemmas.List.{append-nil, map-append}
+use Rattle.std.proofs.lemmas.List.{append-nil}
 use Rattle.std.proofs.lemmas.List.Elements.{All-nil, All-cons}
 use Rattle.std.proofs.lemmas.List.FromFn.{get_or-map-range_with_len, length-map-range_with_len, take-map-range_with_len}
 use Rattle.partitions.specs.Parts.{Shared}
@@ -29,7 +29,7 @@ use Rattle.transactions.specs.declared.delivery.phases.Progress.{Progress}
 use Rattle.transactions.specs.declared.delivery.phases.Progress.TheVariants as at
 use Rattle.transactions.specs.declared.work.Work.TheVariants as any_work
 use Rattle.transactions.specs.Granted.{AreSomeOf, AreWishesAt, wish_of}
-use Rattle.transactions.specs.Delivery.{AreExclusiveOn, CanDo, HasDone, IsReached, home_of, ten, wishes_of, work_of, works_of}
+use Rattle.transactions.specs.Delivery.{AreExclusiveOn, CanDo, HasDone, IsReached, home_of, ten, wishes_of, works_of}
 use Rattle.transactions.specs.Works.{CanDo as AnyCanDo, all_wishes}
 use Rattle.transactions.proofs.AcceptedGroups.{delivery_groups_there}
 use Rattle.transactions.proofs.DeliveryCarriedOut.{orders_on}

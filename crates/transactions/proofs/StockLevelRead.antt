@@ -15,8 +15,6 @@ use Rattle.groups.specs.declared.wishes.Mode.TheVariants.{Shared}
 use Rattle.tickets.specs.Claims.{Claiming}
 use Rattle.machine.specs.StockLevel.{low_stock, next_order, recent_items}
 use Rattle.machine.proofs.StockLevelGroups.{same_items, same_low}
-use Rattle.tickets.specs.Committed.{Tells}
-use Rattle.groups.specs.declared.wishes.Wish.{Wish}
 use Rattle.transactions.specs.Granted.{AreGrantedFor, AreLeft, IsSharedOn}
 use Rattle.transactions.specs.StockLevel.{AreItemsFound, AreSharedOn, IsLowFound, IsNextFound, stock_of}
 use Rattle.transactions.proofs.StockLevelWorks.{stock_wishes}

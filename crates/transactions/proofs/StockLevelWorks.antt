@@ -1,6 +1,6 @@
 -- What the actions of a Stock-Level need and claim, and where.
-use Rattle.std.proofs.Common.{◌≡◌, ◌≢◌, ◌≤◌, ◌<◌, ◌+◌, ℕ, zero, suc, true, List, [], ◌∷◌, ◌++◌, length, map, IsTrue, refl, sym, ap, subst, ◌∙◌, arith}
-use Rattle.std.specs.Prelude.{All, take, slice_index_or}
+use Rattle.std.proofs.Common.{◌≡◌, ◌≢◌, ◌≤◌, ◌<◌, ◌+◌, ℕ, zero, suc, List, [], ◌∷◌, ◌++◌, length, map, IsTrue, refl, sym, ap, subst, ◌∙◌, arith}
+use Rattle.std.specs.Prelude.{All, take}
 use Rattle.std.specs.List.{range_with_len}
 use Rattle.std.proofs.lemmas.Bool.{not-false}
 use Rattle.std.proofs.lemmas.List.{append-nil}
@@ -18,7 +18,7 @@ use Rattle.requests.specs.declared.refusal.Refusal.TheVariants.{BadWarehouse, Ba
 use Rattle.requests.specs.Check.{applies, IsAccepted}
 use Rattle.groups.specs.Groups.{warehouse_of}
 use Rattle.groups.specs.declared.wishes.Wish.{Wish}
-use Rattle.groups.specs.Footprint.{shared as sharing, footprint, groups_of, stock_level_footprint}
+use Rattle.groups.specs.Footprint.{shared as sharing, footprint, groups_of}
 use Rattle.tickets.specs.Claims.{Claiming, all_claims}
 use Rattle.tickets.specs.Places.{IsGroupOf}
 use Rattle.transactions.specs.declared.stock_level.Work.{Work}
@@ -28,7 +28,7 @@ use Rattle.transactions.specs.declared.stock_level.Progress.{Progress}
 use Rattle.transactions.specs.declared.stock_level.Progress.TheVariants as at
 use Rattle.transactions.specs.declared.work.Work.TheVariants as any_work
 use Rattle.transactions.specs.Granted.{AreSomeOf, AreWishesAt, wish_of}
-use Rattle.transactions.specs.StockLevel.{AreSharedOn, CanDo, HasDone, IsReached, home_of, stock_of, wishes_of, work_of, works_of}
+use Rattle.transactions.specs.StockLevel.{AreSharedOn, CanDo, HasDone, IsReached, home_of, stock_of, wishes_of, works_of}
 use Rattle.transactions.specs.Works.{CanDo as AnyCanDo, all_wishes}
 use Rattle.transactions.proofs.AcceptedGroups.{level_groups_there}
 use Rattle.transactions.proofs.InScale.{not_first}

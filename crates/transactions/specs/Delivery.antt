@@ -19,9 +19,6 @@ use Rattle.requests.specs.declared.group.Group.TheVariants as g
 use Rattle.requests.specs.declared.delivery.Delivery.{Delivery}
 use Rattle.requests.specs.declared.request.Request.{Request}
 use Rattle.requests.specs.declared.request.Request.TheVariants as request
-use Rattle.requests.specs.declared.reply.Fault.TheVariants.{Range}
-use Rattle.requests.specs.declared.reply.Reply.TheVariants as reply
-use Rattle.requests.specs.declared.reply.Shown.TheVariants as kind
 use Rattle.requests.specs.Check.{IsAccepted}
 use Rattle.groups.specs.Content.{Content, content}
 use Rattle.groups.specs.Content.Content.{OfCustomers, OfOrders}

@@ -1,4 +1,4 @@
-use Rattle.std.proofs.Common.{◌≡◌, ◌≢◌, ◌<◌, ◌+◌, ◌==◌, ℕ, true, false, length, refl, sym, ap, subst, ◌∙◌, arith}
+use Rattle.std.proofs.Common.{◌≡◌, ◌<◌, ◌==◌, ℕ, true, false, length, refl, sym, ap, subst, ◌∙◌, arith}
 use Rattle.std.specs.Prelude.{slice_index_or, slice_set, List}
 use Rattle.std.proofs.lemmas.Bool.Decides.{nat_tests}
 use Rattle.std.proofs.lemmas.List.{get_or_default, set-get_or}
@@ -10,8 +10,8 @@ use Rattle.groups.specs.declared.wishes.Mode.TheVariants.{Shared}
 use Rattle.tickets.specs.Claims.{Claiming}
 use Rattle.slices.specs.Sliced.{Sliced}
 use Rattle.machine.specs.StockLevel.{low_stock}
-use Rattle.transactions.specs.StockLevel.{IsLowFound, stock_of}
-use Rattle.transactions.proofs.StockLevelRead.{low_is_found, many, shared_at}
+use Rattle.transactions.specs.StockLevel.{IsLowFound}
+use Rattle.transactions.proofs.StockLevelRead.{low_is_found, shared_at}
 use Rattle.transactions.proofs.stock_level.count_low.Goals as goal
 
 pub look-requires : goal.look-requires

@@ -1,4 +1,4 @@
-use Rattle.std.proofs.Common.{◌≡◌, ap, ◌∙◌}
+use Rattle.std.proofs.Common.{ap, ◌∙◌}
 use Rattle.schema.specs.Database.{Database}
 use Rattle.partitions.specs.Parts.{Part}
 use Rattle.slices.specs.Sliced.{Sliced}

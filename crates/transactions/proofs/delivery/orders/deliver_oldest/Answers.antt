@@ -1,4 +1,4 @@
-use Rattle.std.proofs.Common.{◌≡◌, sym, ap, subst, ◌∙◌}
+use Rattle.std.proofs.Common.{sym, ap, subst, ◌∙◌}
 use Rattle.schema.specs.Database.{Database}
 use Rattle.schema.specs.OrderRows.{oldest_new_order}
 use Rattle.partitions.specs.Parts.{Part}
