@@ -146,6 +146,8 @@ fn amount_of(rows: &Partition, order: OrderKey) -> u32
     amount
 }
 
+// Stands in for a look-up that `Partition` doesn't offer yet: it gives up. So does the next. Until both are there,
+// `has_graph` says that a Delivery has no flow graph.
 fn stand_in_oldest(rows: &Partition, home: DistrictKey) -> Result<Option<u32>, NoMemory>
     ensures { IfOk result (λ r. r ≡ oldest_new_order rows.now.tables home) }
 {
