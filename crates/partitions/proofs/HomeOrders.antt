@@ -85,9 +85,9 @@ part_with_order p key order lines h home number customer few known =
 
 -- ---- other orders
 
-module _ (shared : Shared) (home : ℕ) (rows : HomeRows) (orders : BTreeMap OrderKey Order) (new_orders : BTreeMap OrderKey NewOrder) (lines : BTreeMap OrderLineKey OrderLine) where
+module _ (shared : Shared) (home : ℕ) (rows : HomeRows) (orders : BTreeMap OrderKey Order) (new_orders : List (OrderKey × NewOrder)) (lines : BTreeMap OrderLineKey OrderLine) where
   -- the part of rows whose orders are others
-  pub other_orders : (x : FinMap order_cmp Order) (y : FinMap order_cmp NewOrder) (z : LineTable) → table_of order_cmp orders ≡ x → table_of order_cmp new_orders ≡ y → table_of line_cmp lines ≡ z
+  pub other_orders : (x : FinMap order_cmp Order) (y : FinMap order_cmp NewOrder) (z : LineTable) → table_of order_cmp orders ≡ x → table.from_entries new_orders ≡ y → table_of line_cmp lines ≡ z
       → part shared home (record rows { orders = orders; new_orders = new_orders; lines = lines })
       ≡ record (part shared home rows) { tables = record (part shared home rows).tables { orders = x; new_orders = y; lines = z } }
   other_orders x y z a b d = λ i. record (part shared home rows) { tables = record (part shared home rows).tables { orders = a i; new_orders = b i; lines = d i } }

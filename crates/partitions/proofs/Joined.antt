@@ -143,7 +143,7 @@ whole_more scale before rows new s home hr same next fits h adds =
       histories = rows_more districts_total districts_exact (λ key. key.w_id) (λ t. t.histories) before p next district_keys_of 10 length-district_keys_of district_keys_owned
           rows.histories.items hr.histories.items new.histories.items h.histories counts.histories (ap (λ n. from_entries (zip (district_keys_of n) hr.histories.items)) next) adds.histories;
       orders = entries_more orders_total orders_exact (λ key. key.w_id) (λ t. t.orders) before p next h.homes rows.orders.entries hr.orders.entries new.orders.entries h.orders refl it.orders_here adds.orders;
-      new_orders = entries_more orders_total orders_exact (λ key. key.w_id) (λ t. t.new_orders) before p next h.homes rows.new_orders.entries hr.new_orders.entries new.new_orders.entries h.new_orders refl it.new_orders_here adds.new_orders;
+      new_orders = entries_more orders_total orders_exact (λ key. key.w_id) (λ t. t.new_orders) before p next h.homes rows.new_orders.entries hr.new_orders new.new_orders.entries h.new_orders refl it.new_orders_here adds.new_orders;
       lines = entries_more lines_total lines_exact (λ key. key.w_id) (λ t. t.lines) before p next h.homes rows.lines.entries hr.lines.entries new.lines.entries h.lines refl it.lines_here adds.lines;
     }
 

@@ -1,11 +1,13 @@
 mod TableSlots
 pub mod Wholes
+pub mod ByDistrict
 pub mod PartLaws
 pub mod WholeLaws
 pub mod LastFirst
 pub mod Chunks
 pub mod Filters
 pub mod KeyBlocks
+pub mod Parting
 pub mod HomeKeys
 pub mod HomeTables
 pub mod Cuts
@@ -16,3 +18,5 @@ pub mod HomeSlots
 pub mod HomeReads
 pub mod HomeWrites
 pub mod HomeOrders
+pub mod Undelivered
+pub mod HomeDeliveries

@@ -1,3 +1,5 @@
+pub mod NewOrders
+pub mod Deliveries
 pub mod Slots
 pub mod Parts
 pub mod Partitions

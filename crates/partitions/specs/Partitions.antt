@@ -40,7 +40,7 @@ part shared home rows = record {
     customers = map.from_entries (zip (customer_keys_of shared.scale home) rows.customers.items);
     histories = map.from_entries (zip (district_keys_of home) rows.histories.items);
     orders = map.from_entries rows.orders.entries;
-    new_orders = map.from_entries rows.new_orders.entries;
+    new_orders = map.from_entries rows.new_orders;
     lines = map.from_entries rows.lines.entries;
   };
 }
@@ -65,5 +65,5 @@ pub record AreSameHomeRows (old new : HomeRows) : Type 0 where
   pub customers : new.customers.items ≡ old.customers.items
   pub histories : new.histories.items ≡ old.histories.items
   pub orders : new.orders.entries ≡ old.orders.entries
-  pub new_orders : new.new_orders.entries ≡ old.new_orders.entries
+  pub new_orders : new.new_orders ≡ old.new_orders
   pub lines : new.lines.entries ≡ old.lines.entries

@@ -40,7 +40,7 @@ pub(crate) fn append_home(
     append(&mut rows.customers, home.customers, parts)?;
     append(&mut rows.histories, home.histories, parts)?;
     rows.orders.append(&mut home.orders)?;
-    rows.new_orders.append(&mut home.new_orders)?;
+    home.new_orders.append_to(&mut rows.new_orders)?;
     rows.lines.append(&mut home.lines)?;
     Ok(())
 }

@@ -1,9 +1,10 @@
 ghost use Rattle.std.specs.Prelude.{IfOk};
 ghost use Rattle.partitions.specs.Partitions.{AreSameHomeRows};
 
+use crate::new_order_rows::NewOrderRows;
 use schema::{
-    Customer, District, HistoryList, NewOrder, NoMemory, Order, OrderKey, OrderLine, OrderLineKey,
-    Stock, Warehouse,
+    Customer, District, HistoryList, NoMemory, Order, OrderKey, OrderLine, OrderLineKey, Stock,
+    Warehouse,
 };
 use std::collections::BTreeMap;
 
@@ -21,7 +22,7 @@ pub struct HomeRows {
     /// By H_D_ID.
     pub histories: Vec<HistoryList>,
     pub orders: BTreeMap<OrderKey, Order>,
-    pub new_orders: BTreeMap<OrderKey, NewOrder>,
+    pub new_orders: NewOrderRows,
     pub lines: BTreeMap<OrderLineKey, OrderLine>,
 }
 
@@ -37,7 +38,7 @@ impl HomeRows {
             customers: self.customers.clone()?,
             histories: self.histories.clone()?,
             orders: self.orders.clone()?,
-            new_orders: self.new_orders.clone()?,
+            new_orders: self.new_orders.try_clone()?,
             lines: self.lines.clone()?,
         })
     }

@@ -4,16 +4,20 @@ ghost use Rattle.std.specs.FinMap as map;
 ghost use Rattle.std.specs.List.{list_all, slice_get};
 ghost use Rattle.schema.specs.Scale.{has_customer, customer_key};
 ghost use Rattle.schema.specs.Database.{customer_of_order, is_order_id, with_payment, without_payment, rows_where, is_of_order};
-ghost use Rattle.schema.specs.OrderRows.{StoodThere, is_in_span, is_line_within, line_key, with_order, without_order};
+ghost use Rattle.schema.specs.OrderRows.{StoodThere, is_in_span, is_line_within, line_key, oldest_new_order, with_delivery, with_order, without_order};
+ghost use Rattle.partitions.specs.Deliveries.{AreNewBeside, StoodBefore, without_delivery};
 ghost use Rattle.partitions.specs.Parts.{IsPart, has_district_of};
 ghost use Rattle.partitions.specs.Slots.{customer_slot_by, home_slot, home_stock_slot};
 
 use crate::Catalog;
+use crate::delivery_rows::{
+    BeforeDelivery, carrier_of, moments_of, put_carrier_back, put_moments_back,
+};
 use crate::home_rows::HomeRows;
 use schema::{
-    Customer, CustomerKey, District, DistrictKey, Entries, History, Item, Lines, NoMemory, Order,
-    OrderKey, OrderLine, OrderLineKey, Orders, Replaced, Scale, Stock, StockKey, Warehouse,
-    add_order_rows, lines_in_span, take_back_order_rows,
+    CarrierId, Customer, CustomerKey, District, DistrictKey, Entries, History, Item, Lines, Moment,
+    NoMemory, Order, OrderKey, OrderLine, OrderLineKey, Orders, Replaced, Scale, Stock, StockKey,
+    Warehouse, lines_in_span,
 };
 use std::marker::Model;
 use std::mem;
@@ -248,9 +252,8 @@ impl Partition {
         ensures replaced { IfOk result (StoodThere self.old.tables key (length lines.items)) }
         ensures err { OnErr result (self.new ≡ self.old) }
     {
-        add_order_rows(
+        self.rows.new_orders.add_order(
             &mut self.rows.orders,
-            &mut self.rows.new_orders,
             &mut self.rows.lines,
             key,
             order,
@@ -268,13 +271,59 @@ impl Partition {
         requires within { IsPart (record self.old { tables = without_order self.old.tables key replaced }) }
         ensures { self.new ≡ record self.old { tables = without_order self.old.tables key replaced } }
     {
-        take_back_order_rows(
+        self.rows
+            .new_orders
+            .take_back_order(&mut self.rows.orders, &mut self.rows.lines, key, replaced);
+    }
+
+    /// The number of the district's oldest new order, `None` where it has none here (clause 2.7.4.2). It reads one row.
+    pub fn oldest_new_order(&self, home: DistrictKey) -> Option<u32>
+        ensures { result ≡ oldest_new_order self.now.tables home }
+    {
+        self.rows.new_orders.oldest_number(home)
+    }
+
+    /// Delivers an order: it is new no more, it gets the carrier, and its lines get the moment (clause 2.7.4.2). It gives
+    /// what stood there before, for which the district's rows of NEW-ORDER are copied. Want of memory changes nothing.
+    pub fn deliver_order(
+        &mut self,
+        key: OrderKey,
+        carrier: CarrierId,
+        moment: Moment,
+    ) -> Result<BeforeDelivery, NoMemory>
+        requires { IsTrue (map.contains_key self.old.tables.orders key) }
+        ensures ok { OnOk result (self.new ≡ record self.old { tables = with_delivery self.old.tables key carrier moment }) }
+        ensures before { IfOk result (StoodBefore self.old.tables key) }
+        ensures err { OnErr result (self.new ≡ self.old) }
+    {
+        let carrier_id = carrier_of(&self.rows.orders, key);
+        let moments = moments_of(&self.rows.lines, key);
+        let new_orders = self.rows.new_orders.deliver_order(
             &mut self.rows.orders,
-            &mut self.rows.new_orders,
             &mut self.rows.lines,
             key,
-            replaced,
-        );
+            carrier,
+            moment,
+        )?;
+        Ok(BeforeDelivery {
+            carrier_id,
+            moments,
+            new_orders,
+        })
+    }
+
+    /// Takes a delivery back: what stood there before it is there again. It takes no memory.
+    pub fn take_back_delivery(&mut self, key: OrderKey, before: BeforeDelivery)
+        requires order { IsTrue (map.contains_key self.old.tables.orders key) }
+        requires fifteen { length before.moments ≡ 15 }
+        requires beside { AreNewBeside key self.old.tables.new_orders before.new_orders }
+        ensures { self.new ≡ record self.old { tables = without_delivery self.old.tables key before } }
+    {
+        put_carrier_back(&mut self.rows.orders, key, before.carrier_id);
+        put_moments_back(&mut self.rows.lines, key, before.moments);
+        self.rows
+            .new_orders
+            .put_district_back(key, before.new_orders);
     }
 
     /// The place of the district's row among the warehouse's, from 0; `None` where it is none of the warehouse's.

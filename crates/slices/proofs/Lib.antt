@@ -1,5 +1,6 @@
 pub mod Steps
 pub mod Orders
+pub mod Delivered
 pub mod LatestNoted
 pub mod Seen
 pub mod Homes

@@ -37,11 +37,11 @@ use Rattle.slices.proofs.Steps.{changes_to}
 -- ---- rows of an order that are put, or taken away, change the group of its district alone
 
 module _ {K X : Type 0} {R : K → K → Ordering} (o : IsTotalOrder R) (a : IsAntisymmetric R) (own : K → Group) where
-  row_here : (m : FinMap R X) (key : K) (row : Option X) → rows_of own (own key) (put_row m key row) ≡ put_row (rows_of own (own key) m) key row
+  pub row_here : (m : FinMap R X) (key : K) (row : Option X) → rows_of own (own key) (put_row m key row) ≡ put_row (rows_of own (own key) m) key row
   row_here m key (Some row) = rows_of-insert_own o a own m key row
   row_here m key None = rows_of-remove_own o a own m key
 
-  row_elsewhere : (group : Group) (m : FinMap R X) (key : K) (row : Option X) → group ≢ own key → rows_of own group (put_row m key row) ≡ rows_of own group m
+  pub row_elsewhere : (group : Group) (m : FinMap R X) (key : K) (row : Option X) → group ≢ own key → rows_of own group (put_row m key row) ≡ rows_of own group m
   row_elsewhere group m key (Some row) apart = rows_of-insert_other o a own group m key row apart
   row_elsewhere group m key None apart = rows_of-remove_other o a own group m key apart
 

@@ -1,5 +1,5 @@
 -- A row that is here is of the warehouse.
-use Rattle.std.proofs.Common.{◌≡◌, ℕ, arith, sym, ◌∙◌}
+use Rattle.std.proofs.Common.{◌≡◌, ℕ, Option, Some, None, is_some, arith, refl, sym, ◌∙◌}
 use Rattle.std.specs.Prelude.{IsTrue}
 use Rattle.std.specs.FinMap as map
 use Rattle.std.proofs.lemmas.Bool.Decides.{nat_tests}
@@ -7,6 +7,8 @@ use Rattle.rows.specs.declared.keys.DistrictKey.{DistrictKey}
 use Rattle.rows.specs.declared.keys.StockKey.{StockKey}
 use Rattle.rows.specs.declared.keys.CustomerKey.{CustomerKey}
 use Rattle.schema.specs.declared.scale.Scale.{Scale}
+use Rattle.rows.specs.declared.keys.OrderKey.{OrderKey}
+use Rattle.rows.specs.declared.records.Order.{Order}
 use Rattle.partitions.specs.Parts.{Part, IsPart, is_of, has_district_of, has_stock_of, has_customer_of}
 
 home_told : (home w_id : ℕ) → IsTrue (is_of home w_id) → w_id ≡ home
@@ -32,3 +34,10 @@ home_of_stock p is key there = home_told_by_stock p.tables.scale p.home key (sym
 
 pub home_of_customer : (p : Part) → IsPart p → (key : CustomerKey) → IsTrue (map.contains_key p.tables.customers key) → key.w_id ≡ p.home
 home_of_customer p is key there = home_told_by_customer p.tables.scale p.home key (sym (is.customers key) ∙ there)
+
+home_of_found : (p : Part) → IsPart p → (key : OrderKey) (found : Option Order) → map.get p.tables.orders key ≡ found → IsTrue (is_some found) → key.w_id ≡ p.home
+home_of_found p is key None at there = absurd cc
+home_of_found p is key (Some row) at there = home_told p.home key.w_id (is.orders_here key row at)
+
+pub home_of_order : (p : Part) → IsPart p → (key : OrderKey) → IsTrue (map.contains_key p.tables.orders key) → key.w_id ≡ p.home
+home_of_order p is key there = home_of_found p is key (map.get p.tables.orders key) refl there

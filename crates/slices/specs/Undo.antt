@@ -1,9 +1,9 @@
 -- Steps in a group, and what taking them back makes of what the group has. What is asked of a step that is to be taken back
 -- speaks of what its own group has, and of the scale, and of nothing else.
-use Rattle.std.specs.Prelude.{◌≡◌, ℕ, ◌+◌, ◌<◌, ◌≤◌, Bool, List, [], ◌∷◌, ◌++◌, length, map, Option, Some, is_some, IsTrue, unwrap_or}
+use Rattle.std.specs.Prelude.{◌≡◌, ◌≢◌, ℕ, ◌+◌, ◌<◌, ◌≤◌, Bool, List, [], ◌∷◌, ◌++◌, length, map, Option, Some, is_some, IsTrue, unwrap_or}
 use Rattle.std.specs.List.{list_all}
 use Rattle.std.specs.FinMap as table
-use Rattle.rows.specs.Keys.{order_of_line}
+use Rattle.rows.specs.Keys.{order_cmp, order_of_line}
 use Rattle.rows.specs.declared.keys.CustomerKey.{CustomerKey}
 use Rattle.rows.specs.declared.keys.OrderKey.{OrderKey}
 use Rattle.rows.specs.declared.records.Customer as customer
@@ -12,10 +12,12 @@ use Rattle.rows.specs.declared.records.OrderLine.{OrderLine}
 use Rattle.rows.specs.declared.records.History.{History}
 use Rattle.schema.specs.declared.scale.Scale.{Scale}
 use Rattle.schema.specs.declared.order_rows.Replaced.{Replaced}
-use Rattle.schema.specs.MapRows.{put_row}
+use Rattle.schema.specs.MapRows.{table_of, map_rows, put_row}
 use Rattle.schema.specs.Scale.{has_item, has_warehouse, has_customer}
 use Rattle.schema.specs.Database.{Database, without_last, customer_of_order, is_order_id, is_line_number}
-use Rattle.schema.specs.OrderRows.{is_line_within, line_key, put_lines}
+use Rattle.schema.specs.OrderRows.{is_line_within, line_key, put_lines, with_carrier, with_moment}
+use Rattle.partitions.specs.declared.delivery_rows.BeforeDelivery.{BeforeDelivery}
+use Rattle.partitions.specs.Deliveries.{with_carrier_back, with_moments_back}
 use Rattle.partitions.specs.Parts.{Part}
 use Rattle.indexes.specs.NameOrder.{last_of, first_of}
 use Rattle.requests.specs.declared.group.Group.{Group}
@@ -24,7 +26,7 @@ use Rattle.groups.specs.Content.{Content, content}
 use Rattle.groups.specs.Content.Content.{OfOrders, OfHistory}
 use Rattle.groups.specs.Laws.{ChangesOneGroup, warehouse_in, district_in, customer_in, order_in, new_order_in, line_in, history_in, stock_in, with_warehouse, with_district, with_customer, with_stock}
 use Rattle.slices.specs.declared.kept.Kept.{Kept}
-use Rattle.slices.specs.declared.kept.Kept.TheVariants.{Warehouse, District, Stock, Customer, NoPayment, Order}
+use Rattle.slices.specs.declared.kept.Kept.TheVariants.{Warehouse, District, Stock, Customer, NoPayment, Order, Delivery}
 
 -- what a district's list has with one payment more at its end
 abbrev pub with_payment_more : History → Content → Content
@@ -47,6 +49,18 @@ abbrev pub with_order_back : OrderKey → Replaced → Content → Content
 with_order_back key replaced (OfOrders orders new_orders lines) =
     OfOrders (put_row orders key replaced.order) (put_row new_orders key replaced.new_order) (put_lines key 1 replaced.lines.items lines)
 with_order_back key replaced other = other
+
+-- what a district's orders have once an order is delivered: it is new no more, it has the carrier, and its lines the moment
+abbrev pub with_order_delivered : OrderKey → ℕ → ℕ → Content → Content
+with_order_delivered key carrier moment (OfOrders orders new_orders lines) =
+    OfOrders (map_rows (with_carrier key carrier) orders) (table.remove new_orders key) (map_rows (with_moment key moment) lines)
+with_order_delivered key carrier moment other = other
+
+-- and with what stood there before put back
+abbrev pub with_order_undelivered : OrderKey → BeforeDelivery → Content → Content
+with_order_undelivered key before (OfOrders orders new_orders lines) =
+    OfOrders (map_rows (with_carrier_back key before.carrier_id) orders) (put_row new_orders key (table.get (table_of order_cmp before.new_orders) key)) (map_rows (with_moments_back key before.moments) lines)
+with_order_undelivered key before other = other
 
 -- these are the C_LAST and the C_FIRST of the row
 abbrev pub AreNamesOf : Option customer.Customer → customer.Customer → Type 0
@@ -90,6 +104,13 @@ pub record CanTakeBackOrder (scale : Scale) (key : OrderKey) (replaced : Replace
   pub lines : (n : ℕ) → n < length replaced.lines.items → IsTrue (is_some (line_in (group_of_order key) content (line_key key (1 + n))))
   pub within : AreOrdersWithin scale (group_of_order key) (with_order_back key replaced content)
 
+-- The order is there; of fifteen lines it is kept when they were delivered; and but for the order itself the group's new orders
+-- are those of before.
+pub record CanTakeBackDelivery (key : OrderKey) (before : BeforeDelivery) (content : Content) : Type 0 where
+  pub order : IsTrue (is_some (order_in (group_of_order key) content key))
+  pub fifteen : length before.moments ≡ 15
+  pub beside : (other : OrderKey) → other ≢ key → table.get (table_of order_cmp before.new_orders) other ≡ new_order_in (group_of_order key) content other
+
 -- What one group has changes so. The warehouse, the scale, the items and what all other groups have stay.
 pub record ChangesGroup (group : Group) (change : Content → Content) (old new : Part) : Type 0 where
   pub contents : ChangesOneGroup group change old.tables new.tables
@@ -107,9 +128,11 @@ group_of_kept (Stock key row) = group_of_stock key
 group_of_kept (Customer key row) = group_of_customer key
 group_of_kept (NoPayment key) = group_of_history key
 group_of_kept (Order key replaced) = group_of_order key
+group_of_kept (Delivery key before) = group_of_order key
 
 -- What is asked of what the group has: a row stands at the key, a customer's with the names of the row that comes back; or
--- there is a list; or the rows of the order are there, and without them the rules of the scale are kept.
+-- there is a list; or the rows of the order are there, and without them the rules of the scale are kept; or the order is there,
+-- and what is kept of its delivery fits the group.
 abbrev pub CanPutBack : Scale → Kept → Content → Type 0
 CanPutBack scale (Warehouse w_id row) content = IsTrue (is_some (warehouse_in (group_of_warehouse w_id) content w_id))
 CanPutBack scale (District key row) content = IsTrue (is_some (district_in (group_of_district key) content key))
@@ -118,6 +141,7 @@ CanPutBack scale (Customer key row) content =
     IsTrue (is_some (customer_in (group_of_customer key) content key)) × AreNamesOf (customer_in (group_of_customer key) content key) row
 CanPutBack scale (NoPayment key) content = IsTrue (is_some (history_in (group_of_history key) content key))
 CanPutBack scale (Order key replaced) content = CanTakeBackOrder scale key replaced content
+CanPutBack scale (Delivery key before) content = CanTakeBackDelivery key before content
 
 -- what the group has once the step is taken back
 abbrev pub put_back_in : Kept → Content → Content
@@ -127,6 +151,7 @@ put_back_in (Stock key row) content = with_stock key row content
 put_back_in (Customer key row) content = with_customer key row content
 put_back_in (NoPayment key) content = with_payment_fewer content
 put_back_in (Order key replaced) content = with_order_back key replaced content
+put_back_in (Delivery key before) content = with_order_undelivered key before content
 
 -- A step in a group, with what takes it back: it changes what that group has, and once it is taken back the group has what
 -- it had.

@@ -4,8 +4,9 @@ ghost use Rattle.std.specs.Option.{option_copied, option_map};
 ghost use Rattle.std.specs.FinMap as map;
 ghost use Rattle.rows.specs.declared.records.Order as order;
 ghost use Rattle.schema.specs.Database.{Database, with_payment, without_payment};
-ghost use Rattle.schema.specs.OrderRows.{StoodThere, line_key, with_order, without_order};
+ghost use Rattle.schema.specs.OrderRows.{StoodThere, line_key, with_delivery, with_order, without_order};
 ghost use Rattle.schema.specs.Scale.{has_customer};
+ghost use Rattle.partitions.specs.Deliveries.{AreNewBeside, StoodBefore, without_delivery};
 ghost use Rattle.partitions.specs.Parts.{IsPart};
 ghost use Rattle.partitions.specs.Slots.{home_slot};
 ghost use Rattle.indexes.specs.LatestIndex.{FitsLatestBy};
@@ -14,10 +15,10 @@ ghost use Rattle.slices.specs.Fitting.{IsOrderChanged};
 ghost use Rattle.slices.specs.Undo.{AreNamesAt, IsOrderFor};
 
 use indexes::{LatestOrders, NameIndex};
-use partitions::{Partition, Rows};
+use partitions::{BeforeDelivery, Partition, Rows};
 use schema::{
-    Customer, CustomerKey, District, DistrictKey, History, NoMemory, Order, OrderKey, OrderLine,
-    Replaced, Stock, StockKey, Warehouse,
+    CarrierId, Customer, CustomerKey, District, DistrictKey, History, Moment, NoMemory, Order,
+    OrderKey, OrderLine, Replaced, Stock, StockKey, Warehouse,
 };
 use std::alloc::Global;
 use std::marker::Model;
@@ -180,6 +181,31 @@ impl IndexedRows {
         let now = number_of_customer(replaced.order.as_ref());
         self.partition.take_back_order(key, replaced);
         note_latest(&self.partition, &mut self.latest, key, was, now);
+    }
+
+    /// Delivers an order, which stays its customer's, and gives what stood there before. An error changes nothing.
+    pub(crate) fn deliver_order(
+        &mut self,
+        key: OrderKey,
+        carrier: CarrierId,
+        moment: Moment,
+    ) -> Result<BeforeDelivery, NoMemory>
+        requires { IsTrue (map.contains_key self.old.tables.orders key) }
+        ensures ok { OnOk result (self.new ≡ record self.old { tables = with_delivery self.old.tables key carrier moment }) }
+        ensures before { IfOk result (StoodBefore self.old.tables key) }
+        ensures err { OnErr result (self.new ≡ self.old) }
+    {
+        self.partition.deliver_order(key, carrier, moment)
+    }
+
+    /// Takes a delivery back: what stood there before it is there again. It takes no memory.
+    pub(crate) fn take_back_delivery(&mut self, key: OrderKey, before: BeforeDelivery)
+        requires order { IsTrue (map.contains_key self.old.tables.orders key) }
+        requires fifteen { length before.moments ≡ 15 }
+        requires beside { AreNewBeside key self.old.tables.new_orders before.new_orders }
+        ensures { self.new ≡ record self.old { tables = without_delivery self.old.tables key before } }
+    {
+        self.partition.take_back_delivery(key, before);
     }
 }
 

@@ -5,6 +5,7 @@ ghost use Rattle.groups.specs.Content.{content};
 ghost use Rattle.slices.specs.Undo as spec;
 
 use crate::indexed::IndexedRows;
+use partitions::BeforeDelivery;
 use schema::{
     Customer, CustomerKey, District, DistrictKey, OrderKey, Replaced, Stock, StockKey, Warehouse,
 };
@@ -21,6 +22,8 @@ pub(crate) enum Kept {
     NoPayment(DistrictKey),
     /// The step added an order, and this stood in the places of its rows.
     Order(OrderKey, Replaced),
+    /// The step delivered the order, and this stood there before.
+    Delivery(OrderKey, BeforeDelivery),
 }
 
 impl Kept {
@@ -48,6 +51,7 @@ impl Kept {
                 let _ = rows.partition();
                 rows.take_back_order(key, replaced);
             }
+            Kept::Delivery(key, before) => rows.take_back_delivery(key, before),
         }
     }
 }

@@ -2,19 +2,19 @@
 ghost use Rattle.std.specs.Prelude.{◌≡◌, IsTrue};
 ghost use Rattle.std.specs.FinMap as map;
 ghost use Rattle.schema.specs.Database.{with_payment};
-ghost use Rattle.schema.specs.OrderRows.{with_order};
+ghost use Rattle.schema.specs.OrderRows.{with_delivery, with_order};
 ghost use Rattle.schema.specs.Scale.{has_customer};
 ghost use Rattle.groups.specs.Groups.{group_of_warehouse, group_of_district, group_of_customer, group_of_order, group_of_history, group_of_stock};
 ghost use Rattle.groups.specs.Laws.{with_warehouse, with_district, with_customer, with_stock};
-ghost use Rattle.slices.specs.Undo.{AreNamesAt, IsOrderFor, with_order_more, with_payment_more};
-ghost use Rattle.slices.specs.HomeRows.{home_of_warehouse, home_of_district, home_of_stock, home_of_customer};
+ghost use Rattle.slices.specs.Undo.{AreNamesAt, IsOrderFor, with_order_delivered, with_order_more, with_payment_more};
+ghost use Rattle.slices.specs.HomeRows.{home_of_warehouse, home_of_district, home_of_stock, home_of_customer, home_of_order};
 
 use crate::indexed::IndexedRows;
 use crate::kept::Kept;
 use crate::step::Step;
 use schema::{
-    Customer, CustomerKey, District, DistrictKey, History, NoMemory, Order, OrderKey, OrderLine,
-    Stock, StockKey, Warehouse,
+    CarrierId, Customer, CustomerKey, District, DistrictKey, History, Moment, NoMemory, Order,
+    OrderKey, OrderLine, Stock, StockKey, Warehouse,
 };
 
 /// A row takes the place of the warehouse's.
@@ -159,5 +159,30 @@ impl Step for AddOrder {
     fn run(self, rows: &mut IndexedRows) -> Result<Kept, NoMemory> {
         let replaced = rows.add_order(self.key, self.order, self.lines)?;
         Ok(Kept::Order(self.key, replaced))
+    }
+}
+
+/// An order is delivered.
+#[derive(Drop)]
+pub(crate) struct DeliverOrder {
+    pub(crate) key: OrderKey,
+    pub(crate) carrier: CarrierId,
+    pub(crate) moment: Moment,
+}
+
+impl Step for DeliverOrder {
+    ghost group = { λ step. group_of_order step.key };
+
+    ghost changed = { λ step. with_order_delivered step.key step.carrier step.moment };
+
+    ghost done = { λ step t. with_delivery t step.key step.carrier step.moment };
+
+    ghost is_possible = { λ step p. IsTrue (map.contains_key p.tables.orders step.key) };
+
+    ghost at_home = { λ step p is can. home_of_order p is step.key can };
+
+    fn run(self, rows: &mut IndexedRows) -> Result<Kept, NoMemory> {
+        let before = rows.deliver_order(self.key, self.carrier, self.moment)?;
+        Ok(Kept::Delivery(self.key, before))
     }
 }

@@ -2,7 +2,7 @@ ghost use Rattle.std.specs.Prelude.{◌≡◌, ◌≢◌, ◌<◌, ◌≤◌, �
 ghost use Rattle.std.specs.List.{list_all};
 ghost use Rattle.std.specs.FinMap as map;
 ghost use Rattle.schema.specs.Database.{customer_of_order, is_order_id, with_payment};
-ghost use Rattle.schema.specs.OrderRows.{is_line_within, with_order};
+ghost use Rattle.schema.specs.OrderRows.{is_line_within, with_delivery, with_order};
 ghost use Rattle.schema.specs.Scale.{has_customer};
 ghost use Rattle.partitions.specs.Parts.{IsPart};
 ghost use Rattle.partitions.specs.Slots.{home_slot};
@@ -18,19 +18,21 @@ ghost use Rattle.tickets.specs.Claims.{fresh, leaving};
 ghost use Rattle.tickets.specs.Places.{IsGroupOf, place_in_warehouse};
 ghost use Rattle.slices.specs.Openings.{AreHomeBoxesOf};
 ghost use Rattle.slices.specs.Sliced.{at_rest, lending, part_in, standing, taking_back, IsClaimAt, SliceKeeps};
-ghost use Rattle.slices.specs.Undo.{with_order_more, with_payment_more, AreNamesAt};
+ghost use Rattle.slices.specs.Undo.{with_order_delivered, with_order_more, with_payment_more, AreNamesAt};
 
 use crate::changes::ContentOf;
 use crate::ground::{Ground, Held};
 use crate::indexed::IndexedRows;
-use crate::row_steps::{AddOrder, AddPayment, PutCustomer, PutDistrict, PutStock, PutWarehouse};
+use crate::row_steps::{
+    AddOrder, AddPayment, DeliverOrder, PutCustomer, PutDistrict, PutStock, PutWarehouse,
+};
 use crate::step::Step;
 use indexes::{LatestOrders, NameIndex};
 use partitions::Partition;
 use requests::Group;
 use schema::{
-    Customer, CustomerKey, District, DistrictKey, History, NoMemory, Order, OrderKey, OrderLine,
-    Stock, StockKey, Warehouse,
+    CarrierId, Customer, CustomerKey, District, DistrictKey, History, Moment, NoMemory, Order,
+    OrderKey, OrderLine, Stock, StockKey, Warehouse,
 };
 use std::alloc::Global;
 use std::marker::Model;
@@ -163,7 +165,7 @@ impl<J: GroupNames> Slice<J> {
     }
 
     /// Puts a row in place of the warehouse's, under an exclusive claim on it. Want of memory changes
-    /// nothing. So for the next five.
+    /// nothing. So for the next six.
     pub fn put_warehouse(
         &mut self,
         claim: &mut Claim<J>,
@@ -276,6 +278,33 @@ impl<J: GroupNames> Slice<J> {
         ensures err { OnErr result ((self.new ≡ self.old) × (claim.new ≡ claim.old)) }
     {
         self.put(claim, AddOrder { key, order, lines })
+    }
+
+    /// Delivers an order: it is new no more, it gets the carrier, and its lines get the moment (clause 2.7.4.2), under an
+    /// exclusive claim on the district's orders. All of it is one step.
+    pub fn deliver_order(
+        &mut self,
+        claim: &mut Claim<J>,
+        key: OrderKey,
+        carrier: CarrierId,
+        moment: Moment,
+    ) -> Result<(), NoMemory>
+        requires group { claim.old.group ≡ group.Orders key.w_id key.d_id }
+        requires exclusive { claim.old.mode ≡ Exclusive }
+        requires there { IsTrue (map.contains_key self.old.tables.orders key) }
+        ensures claim { OnOk result (claim.new ≡ leaving claim.old (with_order_delivered key carrier moment claim.old.left)) }
+        ensures kept { OnOk result (SliceKeeps (claim.old ∷ []) self.old (claim.new ∷ []) self.new) }
+        ensures rows { OnOk result (self.new ≡ record self.old { tables = with_delivery self.old.tables key carrier moment }) }
+        ensures err { OnErr result ((self.new ≡ self.old) × (claim.new ≡ claim.old)) }
+    {
+        self.put(
+            claim,
+            DeliverOrder {
+                key,
+                carrier,
+                moment,
+            },
+        )
     }
 
     // Does a step in a group of the warehouse, under an exclusive claim on it, and keeps what takes it back. Want of

@@ -4,7 +4,9 @@ ghost use Rattle.tickets.specs.Openings.{AreNamed};
 
 use super::*;
 use amounts::Cents;
+use partitions::Partition;
 use requests::Group;
+use schema::{CarrierId, OrderKey};
 use slices::{Slice, cut, open_groups, opened_groups_have_boxes};
 use std::alloc::Global;
 use std::marker::Brand;
@@ -70,5 +72,69 @@ fn a_row_is_put_and_undone(rt: HostRuntime) -> Result<(), Fail> {
     let openings = open_groups(rt.alloc(), &tables)?;
     let told = put_and_undone::<Brand>(rt.alloc(), tables, openings);
     assert_eq!(rt; told, Some((50_000, 7, 50_000, 63)));
+    Ok(())
+}
+
+// The number of the oldest new order of the order's district, the order's carrier, and whether its first line is delivered.
+fn seen(rows: &Partition, key: OrderKey) -> Option<(Option<u32>, Option<u32>, bool)> {
+    let oldest = rows.oldest_new_order(DistrictKey {
+        w_id: key.w_id,
+        d_id: key.d_id,
+    });
+    let carrier = rows.order(key)?.carrier_id;
+    let (_, line) = rows.lines_of(key).next()?;
+    Some((
+        oldest,
+        carrier.map(|carrier| carrier.get()),
+        line.delivery_d.is_some(),
+    ))
+}
+
+// The first warehouse's oldest new order of district 1 is delivered, and that is undone: what is seen of it before,
+// under the claim, and after the undo.
+fn delivered_and_undone<J: GroupNames>(
+    alloc: Global,
+    tables: Tables,
+    openings: Vec<GroupSeats>,
+) -> Option<[(Option<u32>, Option<u32>, bool); 3]>
+    requires warehouses { J.warehouses ≡ tables.scale.warehouses }
+    requires opened { AreOpenedFor tables openings.items }
+    requires names { AreNamed tables.scale.warehouses J.committed J.work openings.items }
+{
+    let mut slices = opened::<J>(alloc, tables, openings).ok()?;
+    let slice = slices.get_mut(0)?;
+    let w_id = slice.home();
+    let o_id = slice
+        .partition()
+        .oldest_new_order(DistrictKey { w_id, d_id: 1 })?;
+    let key = OrderKey {
+        w_id,
+        d_id: 1,
+        o_id,
+    };
+    slice.partition().order(key)?;
+    let before = seen(slice.partition(), key)?;
+    let Ok(mut claim) = slice.grant(63, Group::Orders { w_id, d_id: 1 }) else {
+        return None;
+    };
+    slice.look(&mut claim);
+    let moment = Moment::new(1_714_564_800);
+    let Ok(()) = slice.deliver_order(&mut claim, key, CarrierId::new(7), moment) else {
+        return None;
+    };
+    let meanwhile = seen(slice.partition(), key)?;
+    slice.undo(&mut claim);
+    slice.take_back(claim);
+    let after = seen(slice.partition(), key)?;
+    Some([before, meanwhile, after])
+}
+
+#[test]
+fn an_order_is_delivered_and_that_undone(rt: HostRuntime) -> Result<(), Fail> {
+    let tables = two_warehouses(rt.alloc())?;
+    let openings = open_groups(rt.alloc(), &tables)?;
+    let told = delivered_and_undone::<Brand>(rt.alloc(), tables, openings);
+    let new = (Some(5), None, false);
+    assert_eq!(rt; told, Some([new, (None, Some(7), true), new]));
     Ok(())
 }

@@ -15,6 +15,6 @@ returns c =
       customers = c.in_ok-append-3.ensures;
       histories = c.in_ok-append-4.ensures;
       orders = adds_rows orders_total rows.orders.entries home.orders.entries c.append-5.new.self.entries c.append-5.ensures.other_was_ordered c.in_ok-append-5.ensures.inserts_all.0;
-      new_orders = adds_rows orders_total rows.new_orders.entries home.new_orders.entries c.append-6.new.self.entries c.append-6.ensures.other_was_ordered c.in_ok-append-6.ensures.inserts_all.0;
-      lines = adds_rows lines_total rows.lines.entries home.lines.entries c.append-7.new.self.entries c.append-7.ensures.other_was_ordered c.in_ok-append-7.ensures.inserts_all.0;
+      new_orders = c.in_ok-append_to.ensures;
+      lines = adds_rows lines_total rows.lines.entries home.lines.entries c.append-6.new.self.entries c.append-6.ensures.other_was_ordered c.in_ok-append-6.ensures.inserts_all.0;
     }

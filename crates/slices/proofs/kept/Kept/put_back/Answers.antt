@@ -9,8 +9,10 @@ use Rattle.groups.proofs.RowsInGroups.{each_row_stands_in_one_group}
 use Rattle.indexes.specs.NameOrder.{last_of, first_of}
 use Rattle.slices.specs.declared.kept.Kept.{Kept}
 use Rattle.slices.specs.declared.kept.Kept.TheVariants as k
-use Rattle.slices.specs.Undo.{group_of_kept, CanPutBack, CanTakeBackOrder}
+use Rattle.slices.specs.Undo.{group_of_kept, CanPutBack, CanTakeBackDelivery, CanTakeBackOrder}
 use Rattle.slices.proofs.Steps.{warehouse_changes, district_changes, stock_changes, customer_changes, no_payment_changes}
+use Rattle.partitions.specs.declared.delivery_rows.BeforeDelivery.{BeforeDelivery}
+use Rattle.slices.proofs.Delivered.{beside_in, delivery_back_changes}
 use Rattle.slices.proofs.Orders.{part_without_order, order_back_changes}
 use Rattle.slices.proofs.kept.Kept.put_back.Goals as goal
 
@@ -67,6 +69,27 @@ pub take_back_order-requires-clause-within : goal.take_back_order-requires-claus
 take_back_order-requires-clause-within c =
     let can = can_take_back c.args.rows.now c.args.self c.in-Order.key c.in-Order.replaced c.in-Order.is c.requires in
     part_without_order c.args.rows.now c.in-Order.key c.in-Order.replaced c.partition.ensures.part can
+
+-- what is asked of a delivery that is taken back
+can_take_back_delivery : (p : Part) (kept : Kept) (key : OrderKey) (before : BeforeDelivery) → kept ≡ k.Delivery key before → CanPutBack p.tables.scale kept (content p.tables (group_of_kept kept))
+    → CanTakeBackDelivery key before (content p.tables (group_of_order key))
+can_take_back_delivery p kept key before is can = subst (λ (other : Kept). CanPutBack p.tables.scale other (content p.tables (group_of_kept other))) is can
+
+pub take_back_delivery-requires-clause-order : goal.take_back_delivery-requires-clause-order
+take_back_delivery-requires-clause-order c =
+    let t = c.args.rows.now.tables in
+    sym (ap is_some ((each_row_stands_in_one_group t).orders c.in-Delivery.key).0) ∙ (can_take_back_delivery c.args.rows.now c.args.self c.in-Delivery.key c.in-Delivery.before c.in-Delivery.is c.requires).order
+
+pub take_back_delivery-requires-clause-fifteen : goal.take_back_delivery-requires-clause-fifteen
+take_back_delivery-requires-clause-fifteen c = (can_take_back_delivery c.args.rows.now c.args.self c.in-Delivery.key c.in-Delivery.before c.in-Delivery.is c.requires).fifteen
+
+pub take_back_delivery-requires-clause-beside : goal.take_back_delivery-requires-clause-beside
+take_back_delivery-requires-clause-beside c = λ other unlike.
+    (can_take_back_delivery c.args.rows.now c.args.self c.in-Delivery.key c.in-Delivery.before c.in-Delivery.is c.requires).beside other unlike
+    ∙ beside_in c.args.rows.now.tables c.in-Delivery.key other
+
+pub returns-in-Delivery : goal.returns-in-Delivery
+returns-in-Delivery c = rw c.in-Delivery.is (delivery_back_changes c.args.rows.now c.take_back_delivery.new.self c.in-Delivery.key c.in-Delivery.before c.take_back_delivery.ensures)
 
 pub returns-in-Customer : goal.returns-in-Customer
 returns-in-Customer c = rw c.in-Customer.is (customer_changes c.args.rows.now c.replace_customer.new.self c.in-Customer.key c.in-Customer.row c.replace_customer.ensures.tables)

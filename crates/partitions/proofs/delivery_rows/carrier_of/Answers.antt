@@ -1,0 +1,14 @@
+use Rattle.std.proofs.Common.{sym, ap, ◌∙◌}
+use Rattle.std.specs.Option.{option_and_then}
+use Rattle.rows.specs.declared.records.Order.{Order}
+use Rattle.schema.proofs.KeyOrders.{orders_total}
+use Rattle.schema.proofs.RowReads.{read_entry}
+use Rattle.partitions.proofs.delivery_rows.carrier_of.Goals as goal
+
+pub returns-in_err-get : goal.returns-in_err-get
+returns-in_err-get c =
+    c.from_residual.ensures
+    ∙ ap (option_and_then (λ (row : Order). row.carrier_id)) (c.in_err-get.ensures.value ∙ sym (read_entry orders_total c.args.orders.now.entries c.args.key))
+
+pub returns : goal.returns
+returns c = ap (option_and_then (λ (row : Order). row.carrier_id)) (c.in_ok-get.ensures.value ∙ sym (read_entry orders_total c.args.orders.now.entries c.args.key))

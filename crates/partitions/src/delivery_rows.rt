@@ -1,0 +1,106 @@
+//! What takes a delivery back, over the ordered maps of one warehouse.
+ghost use Rattle.std.specs.Prelude.{◌≡◌, ◌+◌, ◌<◌, ℕ, None, length, slice_index_or, if◌then◌else◌};
+ghost use Rattle.std.specs.Option.{option_map};
+ghost use Rattle.std.specs.Ordering.{eq_by_cmp};
+ghost use Rattle.std.specs.FinMap as table;
+ghost use Rattle.rows.specs.Keys.{order_cmp, line_cmp};
+ghost use Rattle.schema.specs.EachRow.{EachRow};
+ghost use Rattle.schema.specs.MapRows.{table_of, map_rows};
+ghost use Rattle.schema.specs.Database.{is_line_number};
+ghost use Rattle.schema.specs.OrderRows.{line_key};
+ghost use Rattle.partitions.specs.Deliveries.{carrier_at, moment_at, with_carrier_back, with_moments_back};
+
+use schema::{CarrierId, Moment, NewOrder, Order, OrderKey, OrderLine, OrderLineKey};
+use std::collections::BTreeMap;
+
+/// What an order, its lines and the new orders of its district were before it was delivered.
+#[derive(Drop)]
+pub struct BeforeDelivery {
+    pub carrier_id: Option<CarrierId>,
+    /// At the numbers of lines, from 1: `None` too where there is no line.
+    pub moments: [Option<Moment>; 15],
+    /// The district's rows of NEW-ORDER.
+    pub new_orders: BTreeMap<OrderKey, NewOrder>,
+}
+
+/// The order's carrier, where it has one.
+pub(crate) fn carrier_of(orders: &BTreeMap<OrderKey, Order>, key: OrderKey) -> Option<CarrierId>
+    ensures { result ≡ carrier_at (table_of order_cmp orders.now) key }
+{
+    orders.get(&key)?.carrier_id
+}
+
+/// The moments at which the order's lines were delivered, at their numbers from 1.
+pub(crate) fn moments_of(
+    lines: &BTreeMap<OrderLineKey, OrderLine>,
+    order: OrderKey,
+) -> [Option<Moment>; 15]
+    ensures fifteen { length result ≡ 15 }
+    ensures each { (n : ℕ) → n < 15 → slice_index_or result n None ≡ moment_at (table_of line_cmp lines.now) (line_key order (n + 1)) }
+{
+    let mut moments = [None; 15];
+    for place in 0..15 {
+        moments[place] = moment_of(lines, line_key(order, place as u32 + 1));
+    }
+    moments
+}
+
+/// Puts the carrier of the order back. It takes no memory.
+pub(crate) fn put_carrier_back(
+    orders: &mut BTreeMap<OrderKey, Order>,
+    key: OrderKey,
+    carrier: Option<CarrierId>,
+)
+    ensures { table_of order_cmp orders.new ≡ map_rows (with_carrier_back key carrier) (table_of order_cmp orders.old) }
+{
+    if let Some(row) = orders.get_mut(&key) {
+        row.carrier_id = carrier;
+    }
+}
+
+/// Puts the moments of the order's lines back. It takes no memory.
+pub(crate) fn put_moments_back(
+    lines: &mut BTreeMap<OrderLineKey, OrderLine>,
+    order: OrderKey,
+    moments: [Option<Moment>; 15],
+)
+    requires fifteen { length moments ≡ 15 }
+    requires numbered { EachRow (λ key _. is_line_number key.number) (table_of line_cmp lines.old) }
+    ensures { table_of line_cmp lines.new ≡ map_rows (with_moments_back order moments) (table_of line_cmp lines.old) }
+{
+    for place in 0..15 {
+        put_moment_back(lines, line_key(order, place as u32 + 1), moments[place]);
+    }
+}
+
+// The moment at which the line was delivered, where it was.
+fn moment_of(lines: &BTreeMap<OrderLineKey, OrderLine>, key: OrderLineKey) -> Option<Moment>
+    ensures { result ≡ moment_at (table_of line_cmp lines.now) key }
+{
+    lines.get(&key)?.delivery_d
+}
+
+// The line's row, if it is there, gets this moment, or none.
+fn put_moment_back(
+    lines: &mut BTreeMap<OrderLineKey, OrderLine>,
+    key: OrderLineKey,
+    moment: Option<Moment>,
+)
+    ensures { (q : OrderLineKey) → table.get (table_of line_cmp lines.new) q
+        ≡ option_map (λ row. if eq_by_cmp line_cmp q key then record row { delivery_d = moment } else row) (table.get (table_of line_cmp lines.old) q) }
+{
+    if let Some(row) = lines.get_mut(&key) {
+        row.delivery_d = moment;
+    }
+}
+
+fn line_key(order: OrderKey, number: u32) -> OrderLineKey
+    ensures { result ≡ line_key order number }
+{
+    OrderLineKey {
+        w_id: order.w_id,
+        d_id: order.d_id,
+        o_id: order.o_id,
+        number,
+    }
+}
