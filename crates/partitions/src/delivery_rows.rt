@@ -24,10 +24,7 @@ pub struct BeforeDelivery {
 }
 
 /// The order's carrier, where it has one.
-pub(crate) fn carrier_of(
-    orders: &BTreeMap<OrderKey, Order>,
-    key: OrderKey,
-) -> Option<CarrierId>
+pub(crate) fn carrier_of(orders: &BTreeMap<OrderKey, Order>, key: OrderKey) -> Option<CarrierId>
     ensures { result ≡ carrier_at (table_of order_cmp orders.now) key }
 {
     orders.get(&key)?.carrier_id

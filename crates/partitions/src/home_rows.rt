@@ -3,8 +3,8 @@ ghost use Rattle.partitions.specs.Partitions.{AreSameHomeRows};
 
 use crate::new_order_rows::NewOrderRows;
 use schema::{
-    Customer, District, HistoryList, NoMemory, Order, OrderKey, OrderLine, OrderLineKey,
-    Stock, Warehouse,
+    Customer, District, HistoryList, NoMemory, Order, OrderKey, OrderLine, OrderLineKey, Stock,
+    Warehouse,
 };
 use std::collections::BTreeMap;
 

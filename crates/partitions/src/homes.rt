@@ -8,8 +8,8 @@ use crate::home_rows::HomeRows;
 use crate::new_order_rows::NewOrderRows;
 use crate::splits::{split, split_map, split_new_orders};
 use schema::{
-    Customer, District, HistoryList, Item, NoMemory, Order, OrderKey, OrderLine,
-    OrderLineKey, Scale, Stock, TableRows, Warehouse,
+    Customer, District, HistoryList, Item, NoMemory, Order, OrderKey, OrderLine, OrderLineKey,
+    Scale, Stock, TableRows, Warehouse,
 };
 use std::alloc::Global;
 use std::collections::BTreeMap;

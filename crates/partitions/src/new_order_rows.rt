@@ -12,7 +12,6 @@ ghost use Rattle.schema.specs.OrderRows.{put_lines, lines_at, line_key, smallest
 ghost use Rattle.partitions.specs.Parts.{is_of};
 ghost use Rattle.partitions.specs.Appends.{AddsRows};
 
-
 use schema::{
     CarrierId, DistrictKey, Moment, NewOrder, NoMemory, Order, OrderKey, OrderLine, OrderLineKey,
     Replaced, add_order_rows, deliver_order_rows, oldest_number, take_back_order_rows,

@@ -15,9 +15,9 @@ use crate::delivery_rows::{
 };
 use crate::home_rows::HomeRows;
 use schema::{
-    CarrierId, Customer, CustomerKey, District, DistrictKey, Entries, History, Item, Lines, Moment, NoMemory, Order,
-    OrderKey, OrderLine, OrderLineKey, Orders, Replaced, Scale, Stock, StockKey, Warehouse,
-    lines_in_span,
+    CarrierId, Customer, CustomerKey, District, DistrictKey, Entries, History, Item, Lines, Moment,
+    NoMemory, Order, OrderKey, OrderLine, OrderLineKey, Orders, Replaced, Scale, Stock, StockKey,
+    Warehouse, lines_in_span,
 };
 use std::marker::Model;
 use std::mem;
@@ -271,12 +271,9 @@ impl Partition {
         requires within { IsPart (record self.old { tables = without_order self.old.tables key replaced }) }
         ensures { self.new ≡ record self.old { tables = without_order self.old.tables key replaced } }
     {
-        self.rows.new_orders.take_back_order(
-            &mut self.rows.orders,
-            &mut self.rows.lines,
-            key,
-            replaced,
-        );
+        self.rows
+            .new_orders
+            .take_back_order(&mut self.rows.orders, &mut self.rows.lines, key, replaced);
     }
 
     /// The number of the district's oldest new order, `None` where it has none here (clause 2.7.4.2). It reads one row.

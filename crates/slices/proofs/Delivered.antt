@@ -174,16 +174,16 @@ moments_again lines key moment moments numbered stood = same_map lines_total lin
     ∙ elim (get lines q) as (λ r. get lines q ≡ r → option_map (with_moments_back key moments q) (option_map (with_moment key moment q) r) ≡ r) [
       | None ↦ λ e. refl
       | Some row ↦ λ e. elim (is_of_order key q) as (λ (b : Bool). is_of_order key q ≡ b
-      → Some (cond b (record (cond b (delivered_at moment row) row) { delivery_d = slice_index_or moments (q.number - 1) None }) (cond b (delivered_at moment row) row)) ≡ Some row) [
-        | true ↦ λ own.
-            let range : is_line_number q.number ≡ true = numbered q row e in
-            let low : q.number - 1 < 15 = grind (arith, nat_tests) in
-            let number : q.number - 1 + 1 ≡ q.number = grind (arith, nat_tests) in
-            let found : get lines (line_key key (q.number - 1 + 1)) ≡ Some row = ap (λ n. get lines (line_key key n)) number ∙ ap (get lines) (sym (of_line key q own)) ∙ e in
-            let had : slice_index_or moments (q.number - 1) None ≡ row.delivery_d = stood (q.number - 1) low ∙ ap (option_and_then (λ (r : OrderLine). r.delivery_d)) found in
-            ap (λ m. Some (record row { delivery_d = m })) had
-        | false ↦ λ other. refl
-      ] refl
+          → Some (cond b (record (cond b (delivered_at moment row) row) { delivery_d = slice_index_or moments (q.number - 1) None }) (cond b (delivered_at moment row) row)) ≡ Some row) [
+            | true ↦ λ own.
+                let range : is_line_number q.number ≡ true = numbered q row e in
+                let low : q.number - 1 < 15 = grind (arith, nat_tests) in
+                let number : q.number - 1 + 1 ≡ q.number = grind (arith, nat_tests) in
+                let found : get lines (line_key key (q.number - 1 + 1)) ≡ Some row = ap (λ n. get lines (line_key key n)) number ∙ ap (get lines) (sym (of_line key q own)) ∙ e in
+                let had : slice_index_or moments (q.number - 1) None ≡ row.delivery_d = stood (q.number - 1) low ∙ ap (option_and_then (λ (r : OrderLine). r.delivery_d)) found in
+                ap (λ m. Some (record row { delivery_d = m })) had
+            | false ↦ λ other. refl
+          ] refl
     ] refl)
 
 each_of_group : {K X : Type 0} {R : K → K → Ordering} (a : IsAntisymmetric R) (own : K → Group) (group : Group) (test : K → X → Bool) (m : FinMap R X) → EachRow test m → EachRow test (rows_of own group m)

@@ -17,8 +17,8 @@ ghost use Rattle.slices.specs.Undo.{AreNamesAt, IsOrderFor};
 use indexes::{LatestOrders, NameIndex};
 use partitions::{BeforeDelivery, Partition, Rows};
 use schema::{
-    CarrierId, Customer, CustomerKey, District, DistrictKey, History, Moment, NoMemory, Order, OrderKey, OrderLine,
-    Replaced, Stock, StockKey, Warehouse,
+    CarrierId, Customer, CustomerKey, District, DistrictKey, History, Moment, NoMemory, Order,
+    OrderKey, OrderLine, Replaced, Stock, StockKey, Warehouse,
 };
 use std::alloc::Global;
 use std::marker::Model;

@@ -13,8 +13,8 @@ use crate::indexed::IndexedRows;
 use crate::kept::Kept;
 use crate::step::Step;
 use schema::{
-    CarrierId, Customer, CustomerKey, District, DistrictKey, History, Moment, NoMemory, Order, OrderKey, OrderLine,
-    Stock, StockKey, Warehouse,
+    CarrierId, Customer, CustomerKey, District, DistrictKey, History, Moment, NoMemory, Order,
+    OrderKey, OrderLine, Stock, StockKey, Warehouse,
 };
 
 /// A row takes the place of the warehouse's.

@@ -23,14 +23,16 @@ ghost use Rattle.slices.specs.Undo.{with_order_delivered, with_order_more, with_
 use crate::changes::ContentOf;
 use crate::ground::{Ground, Held};
 use crate::indexed::IndexedRows;
-use crate::row_steps::{AddOrder, AddPayment, DeliverOrder, PutCustomer, PutDistrict, PutStock, PutWarehouse};
+use crate::row_steps::{
+    AddOrder, AddPayment, DeliverOrder, PutCustomer, PutDistrict, PutStock, PutWarehouse,
+};
 use crate::step::Step;
 use indexes::{LatestOrders, NameIndex};
 use partitions::Partition;
 use requests::Group;
 use schema::{
-    CarrierId, Customer, CustomerKey, District, DistrictKey, History, Moment, NoMemory, Order, OrderKey, OrderLine,
-    Stock, StockKey, Warehouse,
+    CarrierId, Customer, CustomerKey, District, DistrictKey, History, Moment, NoMemory, Order,
+    OrderKey, OrderLine, Stock, StockKey, Warehouse,
 };
 use std::alloc::Global;
 use std::marker::Model;
@@ -295,7 +297,14 @@ impl<J: GroupNames> Slice<J> {
         ensures rows { OnOk result (self.new ≡ record self.old { tables = with_delivery self.old.tables key carrier moment }) }
         ensures err { OnErr result ((self.new ≡ self.old) × (claim.new ≡ claim.old)) }
     {
-        self.put(claim, DeliverOrder { key, carrier, moment })
+        self.put(
+            claim,
+            DeliverOrder {
+                key,
+                carrier,
+                moment,
+            },
+        )
     }
 
     // Does a step in a group of the warehouse, under an exclusive claim on it, and keeps what takes it back. Want of

@@ -22,13 +22,14 @@ use Rattle.groups.specs.Laws.{order_in, with_customer}
 use Rattle.groups.proofs.Parts.{get-rows_of-own}
 use Rattle.groups.proofs.RowsInGroups.{each_row_stands_in_one_group, same_row}
 use Rattle.tickets.specs.Claims.{Claiming, leaving}
+use Rattle.slices.specs.Undo.{with_order_delivered}
 use Rattle.machine.specs.NewOrder.{order_key}
 use Rattle.machine.specs.Delivery.{amount_of, customer_delivered}
 use Rattle.machine.proofs.BalanceDelivered.{come_to}
 use Rattle.machine.proofs.RowsOfGroups.{rows_where-rows_of}
 use Rattle.transactions.specs.declared.delivery.OrderDelivered.{OrderDelivered}
 use Rattle.transactions.specs.Granted.{IsExclusiveOn, IsFresh}
-use Rattle.transactions.specs.Delivery.{IsCustomerCredited, IsCustomerOutOfRange, IsOldestOrder, IsOrderDelivered, row_credited, with_order_delivered}
+use Rattle.transactions.specs.Delivery.{IsCustomerCredited, IsCustomerOutOfRange, IsOldestOrder, IsOrderDelivered, row_credited}
 use Rattle.transactions.proofs.DeliveryChanges.{order_changes}
 use Rattle.transactions.proofs.PaymentDone.{left_here, on_still, told_here}
 

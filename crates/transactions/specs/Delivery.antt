@@ -5,14 +5,12 @@ use Rattle.std.specs.List.{list_any, range_with_len}
 use Rattle.std.specs.Option.{option_map, option_and_then}
 use Rattle.std.specs.FinMap as table
 use Rattle.rows.specs.declared.keys.DistrictKey.{DistrictKey}
-use Rattle.rows.specs.declared.keys.OrderKey.{OrderKey}
 use Rattle.rows.specs.declared.records.Customer.{Customer}
 use Rattle.rows.specs.declared.records.Order.{Order}
 use Rattle.partitions.specs.Parts.{Shared}
 use Rattle.schema.specs.Scale.{customer_key, district_key}
 use Rattle.schema.specs.Database.{Database}
-use Rattle.schema.specs.MapRows.{map_rows}
-use Rattle.schema.specs.OrderRows.{oldest_new_order, with_carrier, with_delivery, with_moment}
+use Rattle.schema.specs.OrderRows.{oldest_new_order, with_delivery}
 use Rattle.indexes.specs.Namesakes.{Customers}
 use Rattle.requests.specs.declared.group.Group.{Group}
 use Rattle.requests.specs.declared.group.Group.TheVariants as g
@@ -20,8 +18,8 @@ use Rattle.requests.specs.declared.delivery.Delivery.{Delivery}
 use Rattle.requests.specs.declared.request.Request.{Request}
 use Rattle.requests.specs.declared.request.Request.TheVariants as request
 use Rattle.requests.specs.Check.{IsAccepted}
-use Rattle.groups.specs.Content.{Content, content}
-use Rattle.groups.specs.Content.Content.{OfCustomers, OfOrders}
+use Rattle.groups.specs.Content.{content}
+use Rattle.groups.specs.Content.Content.{OfCustomers}
 use Rattle.groups.specs.declared.wishes.Wish.{Wish}
 use Rattle.groups.specs.Footprint.{exclusively}
 use Rattle.tickets.specs.Claims.{Claiming}
@@ -79,12 +77,6 @@ AreOrdersDelivered d [] [] [] = Unit {0}
 AreOrdersDelivered d (k ∷ districts) (one ∷ found) (claim ∷ claims) =
     IsOrderDelivered d.carrier_id d.moment (district_key d.w_id k) one claim × AreOrdersDelivered d districts found claims
 AreOrdersDelivered d districts found claims = ⊥
-
--- what a district's orders have once an order is delivered: it is new no more, it has the carrier, and its lines the moment
-abbrev pub with_order_delivered : OrderKey → ℕ → ℕ → Content → Content
-with_order_delivered key carrier moment (OfOrders orders new_orders lines) =
-    OfOrders (map_rows (with_carrier key carrier) orders) (table.remove new_orders key) (map_rows (with_moment key moment) lines)
-with_order_delivered key carrier moment other = other
 
 -- ---- the customers of one district
 

@@ -1,24 +1,22 @@
 //! The orders of a Delivery: each district's oldest new order is delivered (clause 2.7.4.2).
-ghost use Rattle.std.specs.Prelude.{◌≡◌, ◌≢◌, ◌≤◌, ◌+◌, [], ◌∷◌, Some, length, map, IsTrue, OnErr, OnOk, IfOk};
-ghost use Rattle.std.specs.FinMap as table;
+ghost use Rattle.std.specs.Prelude.{◌≡◌, ◌≢◌, ◌≤◌, ◌+◌, [], ◌∷◌, Some, length, map, OnErr, OnOk, IfOk};
 ghost use Rattle.std.specs.List.{range_with_len};
 ghost use Rattle.partitions.specs.Parts.{IsPart};
-ghost use Rattle.schema.specs.OrderRows.{oldest_new_order, with_delivery};
+ghost use Rattle.schema.specs.OrderRows.{oldest_new_order};
 ghost use Rattle.requests.specs.declared.group.Group.{Group as AnyGroup};
 ghost use Rattle.requests.specs.declared.group.Group.TheVariants as group;
 ghost use Rattle.groups.specs.Content.{content};
 ghost use Rattle.groups.specs.Footprint.{exclusively};
 ghost use Rattle.tickets.specs.Claims.{leaving};
 ghost use Rattle.slices.specs.Sliced.{SliceKeeps};
-ghost use Rattle.groups.specs.declared.wishes.Mode.TheVariants.{Exclusive};
 ghost use Rattle.machine.specs.Delivery.{HasCarrier, amount_of};
 ghost use Rattle.transactions.specs.Granted.{AreGrantedFor, AreLeft, IsExclusiveOn, IsFresh};
-ghost use Rattle.transactions.specs.Delivery.{AreOrdersDelivered, IsOldestOrder, IsOrderDelivered, ten, with_order_delivered};
+ghost use Rattle.transactions.specs.Delivery.{AreOrdersDelivered, IsOldestOrder, IsOrderDelivered, ten};
 
 use super::{Delivered, OrderDelivered};
 use partitions::Partition;
 use requests::Delivery;
-use schema::{CarrierId, DistrictKey, Moment, NoMemory, OrderKey};
+use schema::{CarrierId, DistrictKey, NoMemory, OrderKey};
 use slices::Slice;
 use tickets::{Claim, GroupNames};
 
@@ -98,7 +96,7 @@ fn deliver_oldest<J: GroupNames>(
     ensures err { OnErr result ((slice.new ≡ slice.old) × (orders.new ≡ orders.old)) }
 {
     slice.look(orders);
-    let Some(o_id) = stand_in_oldest(slice.partition(), home)? else {
+    let Some(o_id) = slice.partition().oldest_new_order(home) else {
         return Ok(None);
     };
     let key = OrderKey {
@@ -108,7 +106,7 @@ fn deliver_oldest<J: GroupNames>(
     };
     let order = order_of(slice.partition(), home, o_id);
     let carrier = CarrierId::new(delivery.carrier_id);
-    stand_in_deliver(slice, orders, key, carrier, delivery.moment)?;
+    slice.deliver_order(orders, key, carrier, delivery.moment)?;
     Ok(Some(order))
 }
 
@@ -144,28 +142,4 @@ fn amount_of(rows: &Partition, order: OrderKey) -> u32
         amount += line.amount.get();
     }
     amount
-}
-
-fn stand_in_oldest(rows: &Partition, home: DistrictKey) -> Result<Option<u32>, NoMemory>
-    ensures { IfOk result (λ r. r ≡ oldest_new_order rows.now.tables home) }
-{
-    Err(NoMemory)
-}
-
-fn stand_in_deliver<J: GroupNames>(
-    slice: &mut Slice<J>,
-    claim: &mut Claim<J>,
-    key: OrderKey,
-    carrier: CarrierId,
-    moment: Moment,
-) -> Result<(), NoMemory>
-    requires group { claim.old.group ≡ group.Orders key.w_id key.d_id }
-    requires exclusive { claim.old.mode ≡ Exclusive }
-    requires there { IsTrue (table.contains_key slice.old.tables.orders key) }
-    ensures claim { OnOk result (claim.new ≡ leaving claim.old (with_order_delivered key carrier moment claim.old.left)) }
-    ensures kept { OnOk result (SliceKeeps (claim.old ∷ []) slice.old (claim.new ∷ []) slice.new) }
-    ensures rows { OnOk result (slice.new ≡ record slice.old { tables = with_delivery slice.old.tables key carrier moment }) }
-    ensures err { OnErr result ((slice.new ≡ slice.old) × (claim.new ≡ claim.old)) }
-{
-    Err(NoMemory)
 }

@@ -16,6 +16,6 @@ invariant_of-self c =
     (λ is. (
       subst (λ (r : Part). FitsNamesBy (home_slot r.home) c.self.inside.names r.tables) (sym is) c.self.invariant.0,
       subst (λ (r : Part). FitsLatestBy (home_slot r.home) c.self.inside.latest r.tables) (sym is)
-      (fits_delivered (home_slot p.home) c.self.inside.latest p.tables (with_delivery p.tables c.args.key c.args.carrier c.args.moment) (with_carrier c.args.key c.args.carrier) (carrier_stays c.args.key c.args.carrier) refl refl c.self.invariant.1),
+          (fits_delivered (home_slot p.home) c.self.inside.latest p.tables (with_delivery p.tables c.args.key c.args.carrier c.args.moment) (with_carrier c.args.key c.args.carrier) (carrier_stays c.args.key c.args.carrier) refl refl c.self.invariant.1),
     ))
     (λ is. subst (FitRows c.self.inside.names c.self.inside.latest) (sym is) c.self.invariant)
