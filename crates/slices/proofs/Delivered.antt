@@ -1,5 +1,5 @@
 -- An order that is delivered, and whose delivery is taken back: what its group has.
-use Rattle.std.proofs.Common.{◌≡◌, ◌≢◌, ℕ, ◌+◌, ◌-◌, ◌<◌, ◌&&◌, ◌==◌, inl, inr, Bool, true, false, cond, List, [], ◌∷◌, length, slice_index_or, Option, Some, None, IsTrue, is_some, refl, sym, ap, subst, ◌∙◌, T, arith}
+use Rattle.std.proofs.Common.{◌≡◌, ◌≢◌, ℕ, ◌+◌, ◌-◌, ◌<◌, ◌&&◌, ◌==◌, inl, inr, Bool, true, false, cond, List, [], ◌∷◌, slice_index_or, Option, Some, None, IsTrue, is_some, refl, sym, ap, subst, ◌∙◌, T, arith}
 use Rattle.std.specs.List.{filter}
 use Rattle.std.specs.Option.{option_map, option_and_then}
 use Rattle.std.specs.declared.cmp.Ordering.{Ordering}
@@ -27,16 +27,16 @@ use Rattle.schema.proofs.KeyOrders.{orders_total, orders_exact, lines_total, lin
 use Rattle.schema.proofs.OrdersKept.{contains-map_rows}
 use Rattle.schema.proofs.TableWrites.{get-map_rows, put_row_same, put_row_twice}
 use Rattle.partitions.specs.declared.delivery_rows.BeforeDelivery.{BeforeDelivery}
-use Rattle.partitions.specs.Deliveries.{AreNewBeside, StoodBefore, carrier_at, moment_at, new_beside, with_carrier_back, with_moments_back, without_delivery}
+use Rattle.partitions.specs.Deliveries.{StoodBefore, carrier_at, moment_at, new_beside, with_carrier_back, with_moments_back, without_delivery}
 use Rattle.partitions.specs.Parts.{Part, IsPart}
 use Rattle.partitions.specs.Slots.{Slots, customer_slot_by}
 use Rattle.requests.specs.declared.group.Group.{Group}
 use Rattle.requests.specs.declared.group.Group.TheVariants.{Orders}
 use Rattle.groups.specs.Groups.{group_of_order, group_of_line, is_same}
-use Rattle.groups.specs.Content.{Content, content, rows_of}
+use Rattle.groups.specs.Content.{content, rows_of}
 use Rattle.groups.specs.Content.Content.{OfOrders}
-use Rattle.groups.specs.Laws.{order_in, new_order_in}
-use Rattle.groups.proofs.Parts.{rows_of-remove_own, rows_of-remove_other, get-rows_of-own}
+use Rattle.groups.specs.Laws.{new_order_in}
+use Rattle.groups.proofs.Parts.{get-rows_of-own}
 use Rattle.groups.proofs.RowsInGroups.{each_row_stands_in_one_group}
 use Rattle.tickets.proofs.Apart.{apart}
 use Rattle.indexes.specs.LatestOrder.{is_order_by, order_numbers}
