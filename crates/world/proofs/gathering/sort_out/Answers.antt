@@ -112,24 +112,6 @@ loop-report-preserved-in-Some-next-6 g c =
       found_room = found_room_more r rest l.results is l.refusal one.result l.found.items one.new.found.items _ _ told one.ensures.found one.ensures.room l.invariant.found_room;
     }
 
-pub loop-report-preserved-in-Some-next-7 : goal.loop-report-preserved-in-Some-next-7
-loop-report-preserved-in-Some-next-7 g c =
-    let l = c.loop-report in
-    let one = c.sort_one-refusal-in-Some-next in
-    let r = c.in-Some-next.report in
-    let rest = c.next-in-loop-report.new.self in
-    let is = c.in-Some-next.ensures.results in
-    let told = one.ensures.refusal in
-    let holds_now : Flow g.row.J.Denot → Flow g.row.J.Denot = λ f. record f { transaction = record f.transaction { held = one.new.held } } in
-    record {
-      flow = ap holds_now l.invariant.flow;
-      held = held_more r rest l.results is l.flow.transaction.held one.new.held _ one.ensures.held l.invariant.held;
-      room = room_more r rest l.results is l.flow.transaction.held one.new.held one.ensures.held l.invariant.room;
-      refusal = refusal_more r rest l.results is l.refusal one.result _ told l.invariant.refusal;
-      found = found_more r rest l.results is l.refusal one.result l.found.items one.new.found.items _ told one.ensures.found l.invariant.found;
-      found_room = found_room_more r rest l.results is l.refusal one.result l.found.items one.new.found.items _ _ told one.ensures.found one.ensures.room l.invariant.found_room;
-    }
-
 pub loop-report-preserved : goal.loop-report-preserved
 loop-report-preserved g c =
     let l = c.loop-report in

@@ -1,0 +1,13 @@
+-- The names are those of the seats that the test opens.
+use Rattle.std.specs.Prelude.{slice_index_or}
+use Rattle.tickets.specs.Openings.{opened}
+use Rattle.tickets.specs.Places.{place_of}
+use Rattle.tickets.specs.Unset.{no_table, nothing}
+use Rattle.joint_tests.proofs.tests.slice.an_order_is_delivered_and_that_undone.Given as goal
+
+abbrev pub ghosts-delivered_and_undone : goal.ghosts-delivered_and_undone
+ghosts-delivered_and_undone g a = record {
+  warehouses = a.tables.scale.warehouses;
+  committed = λ group. (slice_index_or a.openings.items (place_of group) (opened no_table no_table nothing)).committed;
+  work = λ group. (slice_index_or a.openings.items (place_of group) (opened no_table no_table nothing)).work;
+}
