@@ -20,7 +20,7 @@ ROOT = os.path.dirname(os.path.dirname(os.path.abspath(__file__)))
 POPULATION = ["--warehouses", "1", "--items", "10", "--customers", "3"]
 MOMENT = "2024-05-01T12:00:00"
 # A payment by number, a customer's last order and a payment by last name, and a payment that is rolled back; an order whose
-# second line takes from the same stock as its first, one of an item that isn't there, and how much is low.
+# second line takes from the same stock as its first, one of an item that isn't there, how much is low, and a delivery.
 REQUESTS = [
     f"P,1,1,1,1,#1,100,{MOMENT}",
     "O,1,1,BARBARBAR",
@@ -29,9 +29,8 @@ REQUESTS = [
     f"N,1,1,1,{MOMENT},1,1,5,1,1,6,2,1,1,3,1,2,4,1,3",
     f"N,1,1,2,{MOMENT},1,1,5,2,1,6,3,1,1,4,1,2,11,1,3",
     "L,1,1,20",
+    f"D,1,7,{MOMENT}",
 ]
-# The kind that the core doesn't carry out.
-DELIVERIES = [f"D,1,7,{MOMENT}"]
 # The name under which the log is written.
 OTHER_NAME = "log.csv.tpcc-0"
 AT_ONCE = 4 * (os.cpu_count() or 1)
@@ -172,12 +171,11 @@ def main():
     with tempfile.TemporaryDirectory(prefix="gate-allocations-") as room:
         refuser, dataset, script, schedule = library(room), f"{room}/dataset.csv", f"{room}/script.csv", f"{room}/schedule.csv"
         subprocess.run([program, "populate", dataset, *POPULATION], check=True)
-        asked = [*REQUESTS, *DELIVERIES]
-        write(script, [*asked, f"END,{len(asked)}"])
+        write(script, [*REQUESTS, f"END,{len(REQUESTS)}"])
         events = [it for number, request in enumerate(REQUESTS) for it in (f"S,0,{number},{request}", "R")]
         write(schedule, [*events, f"END,{len(events)}"])
         sweeps = [
-            Sweep(program, room, refuser, "run", [dataset, script, script], 2 * len(asked)),
+            Sweep(program, room, refuser, "run", [dataset, script, script], 2 * len(REQUESTS)),
             Sweep(program, room, refuser, "sim", [dataset, schedule], len(REQUESTS)),
         ]
         return 0 if all([it.whole() for it in sweeps]) else 1
