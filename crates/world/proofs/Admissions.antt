@@ -62,15 +62,16 @@ module _ {J : Type 0} where
   pub admits : (session number : ℕ) (asked : Request) (desk left : SessionDesk J) (old new : Parts J) (flow : Flow J) (works : Vec Work Global) (meeting : List (Option (Report J)))
       → is_some desk.pass ≡ true
       → flow.transaction.age ≡ old.desk.admitted → flow.transaction.number ≡ number → flow.transaction.request ≡ asked → flow.transaction.held ≡ []
+      → slice_get old.desk.active flow.transaction.slot ≡ Some None
       → ((shared : Shared) → IsAccepted shared.scale asked → IsReached shared asked flow.progress [])
       → IfSome desk.pass (λ was. flow.transaction.pass ≡ with_asks was (asking number asked was.seen was.mine))
       → works.items ≡ works_of flow.progress → meeting ≡ replicate (length works.items) None
       → left.seat ≡ seating desk.seat.session flow.transaction.pass.asks → left.pass ≡ None
       → new.catalog ≡ old.catalog → new.slices ≡ old.slices → new.inbox ≡ old.inbox ++ Start flow works ∷ []
       → new.outbox ≡ old.outbox → new.log ≡ old.log → new.desk.admitted ≡ old.desk.admitted + 1
-      → new.desk.active ≡ Some (Acting 0 meeting) → new.desk.sessions.items ≡ slice_set old.desk.sessions.items session left
+      → new.desk.active ≡ slice_set old.desk.active flow.transaction.slot (Some (Acting 0 meeting)) → new.desk.sessions.items ≡ slice_set old.desk.sessions.items session left
       → Admits session number asked desk old new
-  admits session number asked desk left old new flow works meeting there age same request held begins told works_are first seat away catalog slices inbox outbox log admitted active sessions =
+  admits session number asked desk left old new flow works meeting there age same request held free begins told works_are first seat away catalog slices inbox outbox log admitted active sessions =
       let with_pass = asked_with desk.pass (λ was. with_asks was (asking number asked was.seen was.mine)) flow.transaction.pass there told in
       record {
         flow = flow;
@@ -80,6 +81,7 @@ module _ {J : Type 0} where
         number_is = same;
         request = request;
         held = held;
+        free = free;
         begins = begins;
         here = with_pass.1.0;
         pass_is = with_pass.1.1;
@@ -90,6 +92,6 @@ module _ {J : Type 0} where
         outbox = outbox;
         log = log;
         admitted = admitted;
-        active = active ∙ ap (λ (slots : List (Option (Report J))). Some (Acting 0 slots)) first;
+        active = active ∙ ap (λ (slots : List (Option (Report J))). slice_set old.desk.active flow.transaction.slot (Some (Acting 0 slots))) first;
         sessions = sessions ∙ ap (slice_set old.desk.sessions.items session) (left_at left desk.seat.session flow.transaction.pass seat away);
       }

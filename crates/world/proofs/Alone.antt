@@ -1,10 +1,12 @@
 -- While an action is to run, no claim is out on a group for which it wishes: so it doesn't die.
-use Rattle.std.proofs.Common.{◌≡◌, ℕ, ◌+◌, ◌-◌, ◌<◌, ◌≤◌, zero, suc, List, [], ◌∷◌, ◌++◌, length, Option, Some, None, refl, sym, ◌∙◌, ap, subst, arith}
+use Rattle.std.proofs.Common.{◌≡◌, ℕ, ◌+◌, ◌-◌, ◌<◌, ◌≤◌, ◌==◌, cond, zero, suc, List, [], ◌∷◌, ◌++◌, length, Option, Some, None, refl, sym, ◌∙◌, ap, subst, arith}
 use Rattle.std.specs.Prelude.{All, map, option_map, slice_index_or}
 use Rattle.std.specs.List.{slice_get, sum_by}
 use Rattle.std.proofs.lemmas.List.{append_cancel_left, get_or-set_same}
 use Rattle.std.proofs.lemmas.List.Elements.{All-head, All-tail}
+use Rattle.std.proofs.lemmas.List.Sorted.{sum_by-IsPermutation}
 use Rattle.std.proofs.lemmas.List.Sums.{sum_by-cons, sum_by-append}
+use Rattle.std.proofs.lemmas.Map.Views.{exact_unsigned_eq}
 use Rattle.partitions.specs.Parts.{Shared}
 use Rattle.schema.specs.Database.{Database}
 use Rattle.requests.specs.declared.group.Group.{Group}
@@ -28,6 +30,7 @@ use Rattle.transactions.proofs.Reached.{counted, some_actions}
 use Rattle.rendezvous.specs.Awaited.{awaited_from, reported}
 use Rattle.slices.specs.Sliced.{Joined}
 use Rattle.world.specs.declared.desk.Active.{Active}
+use Rattle.world.specs.declared.desk.Active.TheVariants as active
 use Rattle.world.specs.declared.flight.Act.{Act as AnyAct}
 use Rattle.world.specs.declared.flight.Flow.{Flow}
 use Rattle.world.specs.declared.flight.Message.{Message}
@@ -38,8 +41,9 @@ use Rattle.world.specs.declared.flight.Item.TheVariants as item
 use Rattle.world.specs.declared.world.Parts.{Parts}
 use Rattle.world.specs.declared.world.Core.{Core}
 use Rattle.world.specs.Parted.{joined_in}
+use Rattle.world.specs.Slots.{count_active}
 use Rattle.world.specs.Flights.{Token, Acting, Committing, Ending, InFlight, nothing, parts, part_carried, part_message, part_item, part_met, acting_from, claims_reported}
-use Rattle.world.specs.Sound.{IsSoundWith, IsSoundActive, IsSoundAct, IsSoundItem, IsSoundMessage, IsSoundPhase, IsSoundRan, IsCarriedAt, IsPlaceOf, UnderWay, awaited, flight, reported_to}
+use Rattle.world.specs.Sound.{IsSoundWith, IsSoundAct, IsSoundItem, IsSoundMessage, IsSoundPhase, IsSoundRan, IsCarriedAt, IsPlaceOf, UnderWay, awaited_by_all, flight, reported_to_all}
 use Rattle.world.specs.Events.{ComesOf, TakesMessage}
 use Rattle.world.specs.Together.{IsSound, in_hand, together}
 use Rattle.world.specs.Worlds.{Fits, HasNotDied, Happens, NoneDies, TakesFirst}
@@ -49,7 +53,11 @@ use Rattle.world.proofs.Apart.{others}
 use Rattle.world.proofs.OnGroups.{wishes_on, claims_on, one_wish_on, one_claim_on, done_on, no_tickets, wished, none_held}
 use Rattle.world.proofs.Reported.{met_tokens}
 use Rattle.world.proofs.Taking.{message_in_hand}
-use Rattle.world.proofs.Tokens.{acting_under_way, is_awaited, no_acting, one_weighs, weigh_acting, weigh_other}
+use Rattle.world.proofs.Courses.{messages_stay, items_stay}
+use Rattle.world.proofs.OneSlot.{acting_weigh, awaited_of, met_apart, sound_in, weigh_slots, without}
+use Rattle.world.proofs.FreeSlots.{taken_counts}
+use Rattle.world.proofs.Quiet.{idle_awaits, idle_met}
+use Rattle.world.proofs.Tokens.{acting_under_way, acting_weighs, by_bool, is_awaited, is_itself, no_acting, weigh_acting, weigh_other}
 
 -- ---- the claims of the transaction that is under way
 
@@ -70,34 +78,34 @@ module _ (u : UnderWay) (group : Group) where
 
   -- the token of an action weighs as many
   abbrev weight : Token → ℕ
-  weight (Acting place) = own (place - length u.held)
-  weight Committing = 0
-  weight Ending = 0
+  weight (Acting slot place) = own (place - length u.held)
+  weight (Committing slot) = 0
+  weight (Ending slot) = 0
 
   carried_later : (number : ℕ) → 1 ≤ number → carried_on number ≡ 0
   carried_later zero some = absurd (omega (arith, some))
   carried_later (suc number) some = refl
 
-  at_place : (number place : ℕ) → IsPlaceOf u number place → weight (Acting place) ≡ own number
-  at_place number place is =
+  at_place : (slot number place : ℕ) → IsPlaceOf u number place → weight (Acting slot place) ≡ own number
+  at_place slot number place is =
       let same : place - length u.held ≡ number = omega (arith, is) in
       ap {B = ℕ} own same
 
-  first_weighs : (place : ℕ) (works : List Work)
-      → 1 ≤ length works → weight (Acting place) ≤ sum_by weight (acting_from place works)
-  first_weighs place [] some = absurd (omega (arith, some))
-  first_weighs place (work ∷ works) some = omega (arith, sum_by-cons weight (Acting place) (acting_from (place + 1) works))
+  first_weighs : (slot place : ℕ) (works : List Work)
+      → 1 ≤ length works → weight (Acting slot place) ≤ sum_by weight (acting_from slot place works)
+  first_weighs slot place [] some = absurd (omega (arith, some))
+  first_weighs slot place (work ∷ works) some = omega (arith, sum_by-cons weight (Acting slot place) (acting_from slot (place + 1) works))
 
   module _ {J : Type 0} (shared : Shared) where
     -- ---- what each part of what is under way has on the group
 
-    carried_few : (number : ℕ) (o : Option (Flow J))
-        → IsCarriedAt u number o → claims_on group (part_carried o).claims ≤ carried_on number
-    carried_few zero None h = absurd h
-    carried_few zero (Some flow) h =
+    carried_few : (slot number : ℕ) (o : Option (Flow J))
+        → IsCarriedAt slot u number o → claims_on group (part_carried o).claims ≤ carried_on number
+    carried_few slot zero None h = absurd h
+    carried_few slot zero (Some flow) h =
         omega (arith, ap {B = ℕ} (λ (held : List (List Claiming)). claims_on group (all_claims held)) h.held)
-    carried_few (suc number) None h = omega arith
-    carried_few (suc number) (Some flow) h = absurd h
+    carried_few slot (suc number) None h = omega arith
+    carried_few slot (suc number) (Some flow) h = absurd h
 
     ran_few : (number : ℕ) (one : Ran J) → IsSoundRan shared u number one
         → claims_on group (claims_of_ran one) ≤ work_on (slice_get (works_of u.progress) number)
@@ -107,17 +115,17 @@ module _ (u : UnderWay) (group : Group) where
     ran_few number ran.NoMemory h = omega arith
 
     report_few : (number : ℕ) (r : Report J)
-        → IsCarriedAt u number r.flow → IsSoundRan shared u number r.ran → claims_on group (claims_reported r) ≤ own number
+        → IsCarriedAt r.slot u number r.flow → IsSoundRan shared u number r.ran → claims_on group (claims_reported r) ≤ own number
     report_few number r carried sound =
         omega (
           arith,
-          carried_few number r.flow carried,
+          carried_few r.slot number r.flow carried,
           ran_few number r.ran sound,
           sum_by-append (one_claim_on group) (part_carried r.flow).claims (claims_of_ran r.ran),
         )
 
     message_few : (message : Message J)
-        → IsSoundMessage shared u message → sum_by weigh_other (part_message message).tokens ≡ 0
+        → IsSoundMessage shared (λ slot. u) message → sum_by weigh_other (part_message message).tokens ≡ 0
         → claims_on group (part_message message).claims ≤ sum_by weight (part_message message).tokens
     message_few (Start flow works) h none =
         let place = length flow.transaction.held in
@@ -126,15 +134,15 @@ module _ (u : UnderWay) (group : Group) where
         omega (
           arith,
           ap {B = ℕ} (λ (held : List (List Claiming)). claims_on group (all_claims held)) h.flow_is.held,
-          first_weighs place works.items some,
-          at_place 0 place (omega (arith, ap (λ (held : List (List Claiming)). length held) h.flow_is.held)),
+          first_weighs flow.transaction.slot place works.items some,
+          at_place flow.transaction.slot 0 place (omega (arith, ap (λ (held : List (List Claiming)). length held) h.flow_is.held)),
         )
-    message_few (Act act) h none = omega (arith, carried_few h.number act.flow h.flow, at_place h.number act.place h.place)
-    message_few (Settle claims) h none = absurd (omega (arith, none))
-    message_few (Undo claims) h none = absurd (omega (arith, none))
+    message_few (Act act) h none = omega (arith, carried_few act.slot h.number act.flow h.flow, at_place act.slot h.number act.place h.place)
+    message_few (Settle slot claims) h none = absurd (omega (arith, none))
+    message_few (Undo slot claims) h none = absurd (omega (arith, none))
 
     messages_few : (messages : List (Message J))
-        → All (IsSoundMessage shared u) messages → sum_by weigh_other (parts part_message messages).tokens ≡ 0
+        → All (IsSoundMessage shared (λ slot. u)) messages → sum_by weigh_other (parts part_message messages).tokens ≡ 0
         → claims_on group (parts part_message messages).claims ≤ sum_by weight (parts part_message messages).tokens
     messages_few [] h none = omega arith
     messages_few (message ∷ messages) h none =
@@ -143,23 +151,23 @@ module _ (u : UnderWay) (group : Group) where
         let both = sum_by-append weigh_other p.tokens rest.tokens in
         omega (
           arith,
-          message_few message (All-head (IsSoundMessage shared u) message messages h) (omega (arith, none, both)),
-          messages_few messages (All-tail (IsSoundMessage shared u) message messages h) (omega (arith, none, both)),
+          message_few message (All-head (IsSoundMessage shared (λ slot. u)) message messages h) (omega (arith, none, both)),
+          messages_few messages (All-tail (IsSoundMessage shared (λ slot. u)) message messages h) (omega (arith, none, both)),
           sum_by-append weight p.tokens rest.tokens,
           sum_by-append (one_claim_on group) p.claims rest.claims,
         )
 
     module _ (log : List Entry) where
-      item_few : (i : Item J) → IsSoundItem shared log u i → sum_by weigh_other (part_item i).tokens ≡ 0
+      item_few : (i : Item J) → IsSoundItem shared log (λ slot. u) i → sum_by weigh_other (part_item i).tokens ≡ 0
           → claims_on group (part_item i).claims ≤ sum_by weight (part_item i).tokens
       item_few (item.Push message) h none = message_few message h none
-      item_few (item.Report r) h none = omega (arith, report_few h.number r h.flow h.ran, at_place h.number r.place h.place)
-      item_few item.Ended h none = omega arith
+      item_few (item.Report r) h none = omega (arith, report_few h.number r h.flow h.ran, at_place r.slot h.number r.place h.place)
+      item_few (item.Ended slot) h none = omega arith
       item_few (item.Commit commit) h none = absurd (omega (arith, none))
       item_few (item.Reply told) h none = omega arith
 
       items_few : (items : List (Item J))
-          → All (IsSoundItem shared log u) items → sum_by weigh_other (parts part_item items).tokens ≡ 0
+          → All (IsSoundItem shared log (λ slot. u)) items → sum_by weigh_other (parts part_item items).tokens ≡ 0
           → claims_on group (parts part_item items).claims ≤ sum_by weight (parts part_item items).tokens
       items_few [] h none = omega arith
       items_few (i ∷ items) h none =
@@ -168,48 +176,48 @@ module _ (u : UnderWay) (group : Group) where
           let both = sum_by-append weigh_other p.tokens rest.tokens in
           omega (
             arith,
-            item_few i (All-head (IsSoundItem shared log u) i items h) (omega (arith, none, both)),
-            items_few items (All-tail (IsSoundItem shared log u) i items h) (omega (arith, none, both)),
+            item_few i (All-head (IsSoundItem shared log (λ slot. u)) i items h) (omega (arith, none, both)),
+            items_few items (All-tail (IsSoundItem shared log (λ slot. u)) i items h) (omega (arith, none, both)),
             sum_by-append weight p.tokens rest.tokens,
             sum_by-append (one_claim_on group) p.claims rest.claims,
           )
 
     -- those of the phase that are awaited weigh, with what the others have reported, no more than the phase claims and holds
-    phase_few : (n k : ℕ) (slots : List (Option (Report J))) (works : List Work) → IsPlaceOf u k n → length slots ≡ length works
+    phase_few : (slot n k : ℕ) (slots : List (Option (Report J))) (works : List Work) → IsPlaceOf u k n → length slots ≡ length works
         → ((i : ℕ) → slice_get (works_of u.progress) (k + i) ≡ slice_get works i)
         → ((i : ℕ) (r : Report J) → slice_get slots i ≡ Some (Some r) → claims_on group (claims_reported r) ≤ own (k + i))
-        → sum_by weight (map Acting (awaited_from n slots)) + claims_on group (parts part_met (reported slots)).claims
+        → sum_by weight (map (Acting slot) (awaited_from n slots)) + claims_on group (parts part_met (reported slots)).claims
         ≤ carried_on k + wishes_on group (all_wishes works)
-    phase_few n k [] works at many does told = omega arith
-    phase_few n k (slot ∷ slots) [] at many does told = absurd (omega (arith, many))
-    phase_few n k (slot ∷ slots) (work ∷ works) at many does told =
+    phase_few slot n k [] works at many does told = omega arith
+    phase_few slot n k (place ∷ slots) [] at many does told = absurd (omega (arith, many))
+    phase_few slot n k (place ∷ slots) (work ∷ works) at many does told =
         let next : (i : ℕ) → k + suc i ≡ (k + 1) + i = λ i. omega arith in
         let here : k + 0 ≡ k = omega arith in
-        let rest = phase_few (n + 1) (k + 1) slots works (omega (arith, at)) (omega (arith, many))
+        let rest = phase_few slot (n + 1) (k + 1) slots works (omega (arith, at)) (omega (arith, many))
         (λ i. subst (λ m. slice_get (works_of u.progress) m ≡ slice_get works i) (next i) (does (suc i)))
         (λ i r is. subst (λ m. claims_on group (claims_reported r) ≤ own m) (next i) (told (suc i) r is)) in
         let first : slice_get (works_of u.progress) k ≡ Some work =
         subst (λ m. slice_get (works_of u.progress) m ≡ Some work) here (does 0) in
-        let reported_few : (r : Report J) → Some slot ≡ Some (Some r) → claims_on group (claims_reported r) ≤ own k = λ r is.
+        let reported_few : (r : Report J) → Some place ≡ Some (Some r) → claims_on group (claims_reported r) ≤ own k = λ r is.
         subst (λ m. claims_on group (claims_reported r) ≤ own m) here (told 0 r is) in
-        by slot reported_few (ap {B = ℕ} work_on first) rest
+        by place reported_few (ap {B = ℕ} work_on first) rest
       where
-        by : (slot : Option (Report J))
-            → ((r : Report J) → Some slot ≡ Some (Some r) → claims_on group (claims_reported r) ≤ own k)
+        by : (place : Option (Report J))
+            → ((r : Report J) → Some place ≡ Some (Some r) → claims_on group (claims_reported r) ≤ own k)
             → work_on (slice_get (works_of u.progress) k) ≡ wishes_on group (wishes_of work)
-            → sum_by weight (map Acting (awaited_from (n + 1) slots)) + claims_on group (parts part_met (reported slots)).claims
+            → sum_by weight (map (Acting slot) (awaited_from (n + 1) slots)) + claims_on group (parts part_met (reported slots)).claims
             ≤ carried_on (k + 1) + wishes_on group (all_wishes works)
-            → sum_by weight (map Acting (awaited_from n (slot ∷ slots)))
-            + claims_on group (parts part_met (reported (slot ∷ slots))).claims
+            → sum_by weight (map (Acting slot) (awaited_from n (place ∷ slots)))
+            + claims_on group (parts part_met (reported (place ∷ slots))).claims
             ≤ carried_on k + wishes_on group (all_wishes (work ∷ works))
         by None reported_few does rest =
             omega (
               arith,
               does,
               rest,
-              at_place k n at,
+              at_place slot k n at,
               carried_later (k + 1) (omega arith),
-              sum_by-cons weight (Acting n) (map Acting (awaited_from (n + 1) slots)),
+              sum_by-cons weight (Acting slot n) (map (Acting slot) (awaited_from (n + 1) slots)),
               sum_by-append (one_wish_on group) (wishes_of work) (all_wishes works),
             )
         by (Some r) reported_few does rest =
@@ -248,7 +256,7 @@ module _ {J : Type 0} where
         arith,
         sum_by-append f (in_inbox w).tokens ((in_outbox w).tokens ++ (in_meeting w).tokens),
         sum_by-append f (in_outbox w).tokens (in_meeting w).tokens,
-        ap (λ (ts : List Token). sum_by f ts) (met_tokens (reported_to w.desk.active)),
+        ap (λ (ts : List Token). sum_by f ts) (met_tokens (reported_to_all w.desk.active)),
       )
 
   claims_count : (group : Group) (w : Parts J)
@@ -263,55 +271,81 @@ module _ {J : Type 0} where
 
 -- ---- an action that is to run
 
+-- no weight for this slot, and one for each other
+abbrev elsewhere : ℕ → ℕ → ℕ
+elsewhere slot n = cond (slot == n) 0 1
+
 module _ {J : Type 0} (once : TransactionsClaimEachGroupOnce) (shared : Shared) (w : Parts J)
-    (act : AnyAct J) (rest : List (Message J)) (is : w.inbox ≡ Act act ∷ rest) (h : IsSoundWith shared nothing w) where
+    (act : AnyAct J) (rest : List (Message J)) (is : w.inbox ≡ Act act ∷ rest) (h : IsSoundWith shared nothing w) (alone : count_active w.desk.active ≡ 1) where
   -- of the claims that are out, and of its wishes, one at most is for a group
   few_on : (group : Group) → claims_on group (flight w).claims + wishes_on group (wishes_of act.work) ≤ 1
   few_on group =
       let mid : Parts J = record w { inbox = rest } in
       let hand = message_in_hand shared w (Act act) rest is h in
-      let u = hand.0.under_way in
+      let slot = act.slot in
+      let all_at = hand.0.under_way in
+      let u = all_at slot in
       let sound : IsSoundAct shared u act = hand.1 in
       let tokens = hand.0.balance.tokens in
-      let weigh = weigh_acting act.place in
-      let waits = is_awaited weigh (Acting act.place) (flight mid).tokens (awaited w.desk.active) (one_weighs act.place) tokens in
-      let at = acting_under_way act.place w.desk.active waits in
+      let weigh = weigh_acting slot act.place in
+      let waits = is_awaited weigh (Acting slot act.place) (flight mid).tokens (awaited_by_all 0 w.desk.active) (acting_weighs slot act.place) tokens in
+      let at = acting_under_way slot act.place w.desk.active waits in
       let acting = at.1.1.0 in
-      let phase : IsSoundPhase shared u at.0 at.1.0 =
-      subst (λ (a : Option (Active J)). IsSoundActive shared u a) acting hand.0.active in
+      let active_is : Option (Active J) = Some (active.Acting at.0 at.1.0) in
+      let phase : IsSoundPhase shared slot u at.0 at.1.0 = sound_in shared all_at slot w.desk.active active_is hand.0.active acting in
+      let idle : count_active (without slot w.desk.active) ≡ 0 = omega (arith, alone, taken_counts w.desk.active slot (active.Acting at.0 at.1.0) acting) in
+      let none_else : awaited_by_all 0 (without slot w.desk.active) ≡ [] = idle_awaits 0 (without slot w.desk.active) idle in
       let weighed : (f : Token → ℕ)
-      → f (Acting act.place) + (sum_by f (in_inbox mid).tokens + sum_by f (in_outbox mid).tokens)
-      ≡ sum_by f (map Acting (awaited_from at.0 at.1.0)) = λ f.
+      → f (Acting slot act.place) + (sum_by f (in_inbox mid).tokens + sum_by f (in_outbox mid).tokens)
+      ≡ sum_by f (map (Acting slot) (awaited_from at.0 at.1.0)) = λ f.
       omega (
         arith,
         tokens f,
-        sum_by-cons f (Acting act.place) (flight mid).tokens,
+        sum_by-cons f (Acting slot act.place) (flight mid).tokens,
         tokens_weigh f mid,
-        ap (λ (a : Option (Active J)). sum_by f (awaited a)) acting,
+        awaited_of f slot w.desk.active active_is acting,
+        ap (λ (ts : List Token). sum_by f ts) none_else,
       ) in
-      let no_other = no_acting weigh_other (λ n. refl) (awaited_from at.0 at.1.0) in
+      let g = elsewhere slot in
+      let weightless : g slot ≡ 0 = ap {B = ℕ} (λ b. cond b 0 1) (is_itself slot) in
+      let none_away : sum_by (weigh_slots g) (map (Acting slot) (awaited_from at.0 at.1.0)) ≡ 0 = acting_weigh g slot weightless (awaited_from at.0 at.1.0) in
+      let same : (m : ℕ) → g m ≡ 0 → all_at m ≡ u = λ m none.
+      by_bool (slot == m)
+      (λ is. ap all_at (sym (exact_unsigned_eq slot m is)))
+      (λ other. absurd (omega (arith, none, ap {B = ℕ} (λ b. cond b 0 1) other))) in
+      let inbox = messages_stay shared g all_at (λ n. u) same rest (omega (arith, weighed (weigh_slots g), none_away)) hand.0.inbox in
+      let outbox = items_stay shared g all_at (λ n. u) same w.log w.outbox (omega (arith, weighed (weigh_slots g), none_away)) hand.0.outbox in
+      let no_other = no_acting weigh_other slot (λ n. refl) (awaited_from at.0 at.1.0) in
       let told : (i : ℕ) (r : Report J)
       → slice_get at.1.0 i ≡ Some (Some r) → claims_on group (claims_reported r) ≤ own u group (0 + i) = λ i r there.
       let report = phase.reports i r there in
-      let number : report.1.number ≡ 0 + i = omega (arith, report.0, report.1.place, phase.first_is) in
+      let fine = report.1.1 in
+      let number : fine.number ≡ 0 + i = omega (arith, report.0, fine.place, phase.first_is) in
       subst (λ n. claims_on group (claims_reported r) ≤ own u group n) number
-      (report_few u group shared report.1.number r report.1.flow report.1.ran) in
+      (report_few u group shared fine.number r fine.flow fine.ran) in
       let from_zero : (i : ℕ) → slice_get (works_of u.progress) (0 + i) ≡ slice_get (works_of u.progress) i = λ i.
       let same : 0 + i ≡ i = omega arith in
       ap (λ n. slice_get (works_of u.progress) n) same in
+      let met_all = parts part_met (reported_to_all w.desk.active) in
+      let met_own = parts part_met (reported at.1.0) in
+      let met_else = parts part_met (reported_to_all (without slot w.desk.active)) in
+      let met_apart_is = met_apart slot w.desk.active active_is acting in
+      let none_met : met_else.claims ≡ [] = ap (λ (rs : List (Report J)). (parts part_met rs).claims) (idle_met (without slot w.desk.active) idle) in
       omega (
         arith,
         ap {B = ℕ} (λ (p : InFlight). claims_on group p.claims) (message_taken w (Act act) rest is),
         sum_by-append (one_claim_on group) (part_carried act.flow).claims (flight mid).claims,
         claims_count group mid,
         claimed_once once shared u group phase.reached,
-        phase_few u group shared at.0 0 at.1.0 (works_of u.progress) (omega (arith, phase.first_is)) phase.many from_zero told,
-        messages_few u group shared rest hand.0.inbox (omega (arith, weighed weigh_other, no_other)),
-        items_few u group shared w.log w.outbox hand.0.outbox (omega (arith, weighed weigh_other, no_other)),
+        phase_few u group shared slot at.0 0 at.1.0 (works_of u.progress) (omega (arith, phase.first_is)) phase.many from_zero told,
+        messages_few u group shared rest inbox (omega (arith, weighed weigh_other, no_other)),
+        items_few u group shared w.log w.outbox outbox (omega (arith, weighed weigh_other, no_other)),
         weighed (weight u group),
-        ap {B = ℕ} (λ (a : Option (Active J)). claims_on group (parts part_met (reported_to a)).claims) acting,
-        at_place u group sound.number act.place sound.place,
-        carried_few u group shared sound.number act.flow sound.flow,
+        sum_by-IsPermutation (one_claim_on group) met_all.claims (met_own.claims ++ met_else.claims) met_apart_is.claims,
+        sum_by-append (one_claim_on group) met_own.claims met_else.claims,
+        ap {B = ℕ} (λ (cs : List Claiming). claims_on group cs) none_met,
+        at_place u group slot sound.number act.place sound.place,
+        carried_few u group shared slot sound.number act.flow sound.flow,
         ap {B = ℕ} (work_on u group) sound.work,
       )
 
@@ -336,10 +370,10 @@ module _ {J : Type 0} where
 
   pub none_dies : TransactionsClaimEachGroupOnce → (shared : Shared) (event : Event) (old new : Core J) (answer : EventAnswer)
       → IsSound shared old → Happens event old answer new
-      → (opening : Database) (history : List Step) → Fits opening history (together old) → NoneDies event old new
-  none_dies once shared (Submit session number asked) old new answer h said opening history fits = tt
-  none_dies once shared (Send executor) old new answer h said opening history fits = tt
-  none_dies once shared (Take executor) old new answer h said opening history fits = λ act rest report is put.
+      → (opening : Database) (history : List Step) → Fits opening history (together old) → count_active old.parts.desk.active ≡ 1 → NoneDies event old new
+  none_dies once shared (Submit session number asked) old new answer h said opening history fits alone = tt
+  none_dies once shared (Send executor) old new answer h said opening history fits alone = tt
+  none_dies once shared (Take executor) old new answer h said opening history fits alone = λ act rest report is put.
       let inbox = slice_index_or old.inboxes executor [] in
       let outbox = slice_index_or old.outboxes executor [] in
       let took = subst (λ messages. TakesFirst executor messages old answer new) is said in
@@ -354,10 +388,10 @@ module _ {J : Type 0} where
       ap (λ (w : Core J). slice_index_or w.outboxes executor []) took.1.1.1 ∙ get_or-set_same old.outboxes executor parts.outbox [] from_there in
       let same = append_cancel_left outbox takes.0 (item.Report report ∷ []) (sym more ∙ sym stands ∙ put) in
       let made = one.1.0 in
-      let told : Report J = record { place = act.place; flow = act.flow; ran = one.0 } in
+      let told : Report J = record { place = act.place; slot = act.slot; flow = act.flow; ran = one.0 } in
       let is_told : told ≡ report = cc in
       let from = taken_from shared old h executor executor from_there to_there (Act act) rest is in
       subst (λ (r : Report J). HasNotDied r.ran) is_told
       (not_died (joined_in old.parts) _ act.work one.0
-      (all_free once shared from act (rest ++ others executor old.inboxes) refl (first_sound shared old h executor executor from_there to_there (Act act) rest is) opening history
+      (all_free once shared from act (rest ++ others executor old.inboxes) refl (first_sound shared old h executor executor from_there to_there (Act act) rest is) alone opening history
       (fits_first shared old h executor executor from_there to_there (Act act) rest is opening history fits)) one.1.1)

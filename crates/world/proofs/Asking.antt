@@ -1,17 +1,16 @@
 -- A session asks, and its transaction is admitted.
-use Rattle.std.proofs.Common.{◌≡◌, ℕ, ◌+◌, ◌<◌, ◌≤◌, zero, suc, true, List, [], ◌∷◌, ◌++◌, length, Option, Some, None, Result, Ok, Err, replicate, refl, sym, ◌∙◌, ap, subst, arith}
+use Rattle.std.proofs.Common.{◌≡◌, ℕ, ◌+◌, ◌<◌, ◌≤◌, zero, suc, Bool, true, List, [], ◌∷◌, ◌++◌, length, Option, Some, None, Result, Ok, Err, replicate, refl, sym, ◌∙◌, ap, subst, arith}
 use Rattle.std.specs.Prelude.{All, map, slice_set, is_some}
 use Rattle.std.specs.List.{slice_get, sum_by}
-use Rattle.std.proofs.lemmas.List.{length-set, length-replicate}
+use Rattle.std.proofs.lemmas.List.{length-set, length-replicate, set-set}
 use Rattle.std.proofs.lemmas.Option.{slice_get_within}
-use Rattle.std.proofs.lemmas.List.Elements.{All-nil, All-cons, All-head, All-tail}
+use Rattle.std.proofs.lemmas.List.Elements.{All-nil, All-head, All-push}
 use Rattle.std.proofs.lemmas.List.Sums.{sum_by-cons, sum_by-append}
 use Rattle.partitions.specs.Parts.{Shared}
 use Rattle.schema.specs.Database.{Database}
 use Rattle.requests.specs.declared.request.Request.{Request}
 use Rattle.requests.specs.declared.refusal.Refusal.{Refusal}
 use Rattle.requests.specs.Check.{check_of}
-use Rattle.commit_log.specs.declared.entry.Entry.{Entry}
 use Rattle.commit_log.specs.Passing.{Passing, seating}
 use Rattle.history.specs.declared.event.Event.TheVariants.{Submit}
 use Rattle.history.specs.declared.event.EventAnswer.TheVariants.{Accepted}
@@ -33,17 +32,17 @@ use Rattle.world.specs.declared.desk.SessionDesk.{SessionDesk}
 use Rattle.world.specs.declared.flight.Message.{Message}
 use Rattle.world.specs.declared.flight.Message.TheVariants.{Start, Act, Settle, Undo}
 use Rattle.world.specs.declared.flight.Report.{Report}
-use Rattle.world.specs.declared.flight.Item.{Item}
-use Rattle.world.specs.declared.flight.Item.TheVariants as item
 use Rattle.world.specs.declared.world.Parts.{Parts}
 use Rattle.world.specs.Parted.{CanAllBeUndone, joined_in}
-use Rattle.world.specs.Flights.{Token, Acting, InFlight, nothing, join, parts, part_message, part_item, part_met, acting_from, unanswered_transaction}
-use Rattle.world.specs.Sound.{IsSoundWith, IsSoundStart, IsSoundPhase, IsSoundMessage, IsSoundItem, IsBalanced, IsPassOf, UnderWay, WeighAlike, awaited, flight, is_here, reported_to}
+use Rattle.world.specs.Flights.{Token, Acting, nothing, join, parts, part_message, part_met, acting_from, unanswered_transaction}
+use Rattle.world.specs.Sound.{Courses, UnderWay, IsSoundWith, IsSoundStart, IsSoundPhase, IsSoundMessage, AreSoundActive, IsBalanced, IsPassOf, flight, is_here}
 use Rattle.world.specs.Worlds.{FitsPart, Fits, Admits, refuses, tables_now}
-use Rattle.world.proofs.Joins.{IsSame, same-sym}
-use Rattle.world.proofs.Balances.{fly, in_inbox, in_outbox, message_put, balanced_same}
+use Rattle.world.proofs.Joins.{IsSame, same-refl, same-sym, same-trans, same-join}
+use Rattle.world.proofs.Balances.{message_put, balanced_same}
 use Rattle.world.proofs.Fitting.{fits_same, fits_admission}
-use Rattle.world.proofs.Puts.{lots}
+use Rattle.world.proofs.Courses.{course_on, course_here}
+use Rattle.world.proofs.OneSlot.{lots, without, awaited_then, flight_apart, flight_with, sound_then}
+use Rattle.world.proofs.Puts.{Rests, rests_of, rests_with}
 use Rattle.world.proofs.Sessions.{AreInPlace, AreAlone, AreMany, asks_first, asked_alone, asked_many, still_in_place}
 
 -- every token weighs one
@@ -53,14 +52,14 @@ one_each t = 1
 -- ---- the actions of a phase
 
 -- each has its token
-acting_tokens : (place : ℕ) (works : List Work) → sum_by one_each (acting_from place works) ≡ length works
-acting_tokens place [] = refl
-acting_tokens place (work ∷ works) = omega (arith, sum_by-cons one_each (Acting place) (acting_from (place + 1) works), acting_tokens (place + 1) works)
+acting_tokens : (slot place : ℕ) (works : List Work) → sum_by one_each (acting_from slot place works) ≡ length works
+acting_tokens slot place [] = refl
+acting_tokens slot place (work ∷ works) = omega (arith, sum_by-cons one_each (Acting slot place) (acting_from slot (place + 1) works), acting_tokens slot (place + 1) works)
 
 -- all of them are awaited
-pub all_acting : (R : Type 0) (place : ℕ) (works : List Work) → map Acting (awaited_from {R = R} place (replicate (length works) None)) ≡ acting_from place works
-all_acting R place [] = refl
-all_acting R place (work ∷ works) = ap (λ (ts : List Token). Acting place ∷ ts) (all_acting R (place + 1) works)
+pub all_acting : (R : Type 0) (slot place : ℕ) (works : List Work) → map (Acting slot) (awaited_from {R = R} place (replicate (length works) None)) ≡ acting_from slot place works
+all_acting R slot place [] = refl
+all_acting R slot place (work ∷ works) = ap (λ (ts : List Token). Acting slot place ∷ ts) (all_acting R slot (place + 1) works)
 
 as_many_awaited : (R : Type 0) (place count : ℕ) → length (awaited_from {R = R} place (replicate count None)) ≡ count
 as_many_awaited R place zero = refl
@@ -85,56 +84,42 @@ no_report_at R zero place r is = absurd (cc)
 no_report_at R (suc count) zero r is = absurd (cc)
 no_report_at R (suc count) (suc place) r is = no_report_at R count place r is
 
+-- a request that the desk doesn't refuse
+pub not_refused : (pass : Option Passing) (checked : Result (Unit {0}) Refusal) (busy : Bool) → refuses pass checked busy ≡ None → checked ≡ Ok tt
+not_refused None checked busy is = absurd (cc)
+not_refused (Some pass) (Err why) busy is = absurd (cc)
+not_refused (Some pass) (Ok u) busy is = refl
+
 module _ {J : Type 0} where
-  -- ---- while nothing is active
+  -- ---- messages
 
-  pub some_token : (shared : Shared) (u : UnderWay) (message : Message J) → IsSoundMessage shared u message → 1 ≤ sum_by one_each (part_message message).tokens
-  some_token shared u (Start flow works) h =
-      omega (arith, acting_tokens (length flow.transaction.held) works.items, ap (λ (ws : List Work). length ws) h.works_are, some_actions u.progress)
-  some_token shared u (Act act) h = omega arith
-  some_token shared u (Settle claims) h = omega arith
-  some_token shared u (Undo claims) h = omega arith
+  pub some_token : (shared : Shared) (at : Courses) (message : Message J) → IsSoundMessage shared at message → 1 ≤ sum_by one_each (part_message message).tokens
+  some_token shared at (Start flow works) h =
+      omega (
+        arith,
+        acting_tokens flow.transaction.slot (length flow.transaction.held) works.items,
+        ap (λ (ws : List Work). length ws) h.works_are,
+        some_actions (at flow.transaction.slot).progress,
+      )
+  some_token shared at (Act act) h = omega arith
+  some_token shared at (Settle slot claims) h = omega arith
+  some_token shared at (Undo slot claims) h = omega arith
 
-  pub no_message : (shared : Shared) (u : UnderWay) (messages : List (Message J)) → All (IsSoundMessage shared u) messages
+  pub no_message : (shared : Shared) (at : Courses) (messages : List (Message J)) → All (IsSoundMessage shared at) messages
       → sum_by one_each (parts part_message messages).tokens ≡ 0 → messages ≡ []
-  no_message shared u [] h none = refl
-  no_message shared u (message ∷ messages) h none =
+  no_message shared at [] h none = refl
+  no_message shared at (message ∷ messages) h none =
       absurd (omega (
         arith,
         none,
-        some_token shared u message (All-head (IsSoundMessage shared u) message messages h),
+        some_token shared at message (All-head (IsSoundMessage shared at) message messages h),
         sum_by-append one_each (part_message message).tokens (parts part_message messages).tokens,
       ))
-
-  -- an item without tokens is sound whatever transaction is under way
-  other_item : (shared : Shared) (log : List Entry) (u v : UnderWay) (i : Item J) → sum_by one_each (part_item i).tokens ≡ 0 → IsSoundItem shared log u i → IsSoundItem shared log v i
-  other_item shared log u v (item.Push message) none h = absurd (omega (arith, none, some_token shared u message h))
-  other_item shared log u v (item.Report r) none h = absurd (omega (arith, none))
-  other_item shared log u v item.Ended none h = absurd (omega (arith, none))
-  other_item shared log u v (item.Commit commit) none h = absurd (omega (arith, none))
-  other_item shared log u v (item.Reply told) none h = h
-
-  pub other_under_way : (shared : Shared) (log : List Entry) (u v : UnderWay) (items : List (Item J)) → sum_by one_each (parts part_item items).tokens ≡ 0
-      → All (IsSoundItem shared log u) items → All (IsSoundItem shared log v) items
-  other_under_way shared log u v [] none h = All-nil (IsSoundItem shared log v)
-  other_under_way shared log u v (i ∷ items) none h =
-      let both = sum_by-append one_each (part_item i).tokens (parts part_item items).tokens in
-      All-cons (IsSoundItem shared log v) i items
-      (other_item shared log u v i (omega (arith, none, both)) (All-head (IsSoundItem shared log u) i items h))
-      (other_under_way shared log u v items (omega (arith, none, both)) (All-tail (IsSoundItem shared log u) i items h))
-
-  -- a request that the desk doesn't refuse
-  pub not_refused : (pass : Option Passing) (checked : Result (Unit {0}) Refusal) (active : Option (Active J)) → refuses pass checked (is_some active) ≡ None
-      → (checked ≡ Ok tt) × (active ≡ None)
-  not_refused None checked active is = absurd (cc)
-  not_refused (Some pass) (Err why) active is = absurd (cc)
-  not_refused (Some pass) (Ok u) None is = (refl, refl)
-  not_refused (Some pass) (Ok u) (Some a) is = absurd (cc)
 
   -- ---- the admission
 
   module _ (shared : Shared) (w : Parts J) (h : IsSoundWith shared nothing w) (place number : ℕ) (asked : Request) (desk : SessionDesk J)
-      (is : slice_get w.desk.sessions.items place ≡ Some desk) (none : w.desk.active ≡ None) (accepted : check_of shared.scale asked ≡ Ok tt)
+      (is : slice_get w.desk.sessions.items place ≡ Some desk) (accepted : check_of shared.scale asked ≡ Ok tt)
       (new : Parts J) (a : Admits place number asked desk w new) where
     whose : a.flow.transaction.pass.session ≡ place
     whose = ap (λ (x : Passing). x.session) a.pass_is ∙ subst (λ (o : Option Passing). IsPassOf place o) a.here (h.sessions place desk is).1
@@ -142,17 +127,34 @@ module _ {J : Type 0} where
     here : is_here desk ≡ true
     here = ap (λ (o : Option Passing). is_some o) a.here
 
-    bare : IsBalanced w.desk (lots w)
-    bare = subst (λ (o : Option (Active J)). IsBalanced w.desk (fly (in_inbox w) (in_outbox w) (parts part_met (reported_to o)))) none h.balance
+    -- ---- the slot
 
-    -- nothing is awaited
-    at_rest : WeighAlike (lots w).tokens []
-    at_rest weight = bare.tokens weight ∙ ap (λ (o : Option (Active J)). sum_by weight (awaited o)) none
-
-    -- ---- the phase that begins
+    abbrev slot : ℕ
+    slot = a.flow.transaction.slot
 
     abbrev u : UnderWay
     u = record { request = asked; progress = a.flow.progress; held = [] }
+
+    abbrev at : Courses
+    at = course_on h.under_way slot u
+
+    now : at slot ≡ u
+    now = course_here h.under_way slot u
+
+    -- nothing is under way of a transaction in the slot
+    same : IsSame (flight w) (lots slot w)
+    same = flight_apart w slot None a.free
+
+    rests : Rests shared at slot w
+    rests = rests_with shared h.under_way slot w u (rests_of shared nothing w h slot None a.free (λ weight. refl))
+
+    below : slot < length w.desk.active
+    below = subst (λ n. slot < n) (sym rests.slots) rests.below
+
+    bare : IsBalanced w.desk (lots slot w)
+    bare = balanced_same w.desk (flight w) (lots slot w) same h.balance
+
+    -- ---- the phase that begins
 
     abbrev slots : List (Option (Report J))
     slots = replicate (length a.works.items) None
@@ -168,9 +170,11 @@ module _ {J : Type 0} where
       flow_is = record {
         asked = record {
           session = subst (λ n. n < 64) (sym whose) (subst (λ n. place < n) h.seats (slice_get_within w.desk.sessions.items place desk is));
+          slot = rests.below;
           number = ap (λ (x : Passing). x.asks.number) a.pass_is ∙ sym a.number_is;
           request = ap (λ (x : Passing). x.asks.request) a.pass_is ∙ sym a.request;
         };
+        slot_is = refl;
         request = a.request;
         held = a.held;
         progress = refl;
@@ -185,7 +189,7 @@ module _ {J : Type 0} where
       );
     }
 
-    sound_phase : IsSoundPhase shared u 0 slots
+    sound_phase : IsSoundPhase shared slot u 0 slots
     sound_phase = record {
       first_is = refl;
       reached = reached;
@@ -202,8 +206,11 @@ module _ {J : Type 0} where
 
     -- ---- the world with it
 
+    abbrev begun : Option (Active J)
+    begun = Some (active.Acting 0 slots)
+
     abbrev with_desk : Parts J
-    with_desk = record w { desk = record { admitted = new.desk.admitted; sessions = new.desk.sessions; active = Some (active.Acting 0 slots) } }
+    with_desk = record w { desk = record { admitted = new.desk.admitted; sessions = new.desk.sessions; active = slice_set w.desk.active slot begun } }
 
     new_is : new ≡ record with_desk { inbox = w.inbox ++ Start a.flow a.works ∷ [] }
     new_is = λ i. record {
@@ -219,12 +226,15 @@ module _ {J : Type 0} where
     next = record with_desk { inbox = with_desk.inbox ++ Start a.flow a.works ∷ [] }
 
     -- the message is what is under way more
-    one_more : IsSame (join (part_message (Start a.flow a.works)) (lots w)) (flight next)
+    one_more : IsSame (join (part_message (Start a.flow a.works)) (lots slot w)) (flight next)
     one_more =
         let message : Message J = Start a.flow a.works in
-        let nothing_met : flight with_desk ≡ lots w =
-        ap (λ (rs : List (Report J)). fly (in_inbox w) (in_outbox w) (parts part_met rs)) (none_reported (Report J) (length a.works.items)) in
-        subst (λ (p : InFlight). IsSame (join (part_message message) p) (flight next)) nothing_met (same-sym _ _ (message_put with_desk message))
+        let nothing_met : IsSame (flight with_desk) (lots slot w) =
+        subst (λ (rs : List (Report J)). IsSame (flight with_desk) (join (parts part_met rs) (lots slot w))) (none_reported (Report J) (length a.works.items)) (flight_with w slot begun below) in
+        same-sym (flight next) (join (part_message message) (lots slot w))
+        (same-trans (flight next) (join (part_message message) (flight with_desk)) (join (part_message message) (lots slot w))
+        (message_put with_desk message)
+        (same-join (part_message message) (part_message message) (flight with_desk) (lots slot w) (same-refl (part_message message)) nothing_met))
 
     pub admits_sound : IsSoundWith shared nothing new
     admits_sound =
@@ -232,22 +242,18 @@ module _ {J : Type 0} where
         let t = unanswered_transaction a.flow.transaction in
         let session : SessionDesk J = record { seat = seating desk.seat.session a.flow.transaction.pass.asks; pass = None } in
         let all = slice_set w.desk.sessions.items place session in
-        let rest = lots w in
-        let zero_all = at_rest one_each in
-        let front = sum_by-append one_each (in_inbox w).tokens ((in_outbox w).tokens ++ []) in
-        let back = sum_by-append one_each (in_outbox w).tokens [] in
-        let empty : w.inbox ≡ [] = no_message shared h.under_way w.inbox h.inbox (omega (arith, zero_all, front, back)) in
-        let outbox = other_under_way shared w.log h.under_way u w.outbox (omega (arith, zero_all, front, back)) h.outbox in
+        let rest = lots slot w in
         let alone : AreAlone all (t ∷ rest.pending) = asked_alone w.desk.sessions.items t rest.pending desk session place is whose here refl bare.alone bare.many in
         let many : AreMany all (t ∷ rest.pending) = asked_many w.desk.sessions.items t rest.pending desk session place is whose here refl bare.alone bare.many in
         let placed : AreInPlace all = still_in_place w.desk.sessions.items place desk session is ((h.sessions place desk is).0, tt) h.sessions in
         let balance : IsBalanced with_desk.desk (join (part_message message) rest) = record {
           tokens = λ weight. omega (
             arith,
-            at_rest weight,
-            sum_by-append weight (acting_from (length a.flow.transaction.held) a.works.items) rest.tokens,
-            ap (λ n. sum_by weight (acting_from n a.works.items)) no_held,
-            ap (λ (ts : List Token). sum_by weight ts) (all_acting (Report J) 0 a.works.items),
+            rests.tokens weight,
+            sum_by-append weight (acting_from slot (length a.flow.transaction.held) a.works.items) rest.tokens,
+            ap (λ n. sum_by weight (acting_from slot n a.works.items)) no_held,
+            ap (λ (ts : List Token). sum_by weight ts) (all_acting (Report J) slot 0 a.works.items),
+            awaited_then weight slot w.desk.active begun below,
           );
           alone = subst (λ l. AreAlone l (t ∷ rest.pending)) (sym a.sessions) alone;
           many = subst (λ l. AreMany l (t ∷ rest.pending)) (sym a.sessions) many;
@@ -255,10 +261,12 @@ module _ {J : Type 0} where
         let sound : IsSoundWith shared nothing next = record {
           shared_is = h.shared_is;
           slices = h.slices;
-          under_way = u;
-          inbox = subst (λ ms. All (IsSoundMessage shared u) (ms ++ message ∷ [])) (sym empty) (All-cons (IsSoundMessage shared u) message [] sound_start (All-nil (IsSoundMessage shared u)));
-          outbox = outbox;
-          active = sound_phase;
+          under_way = at;
+          inbox = All-push (IsSoundMessage shared at) w.inbox message rests.inbox (subst (λ x. IsSoundStart shared x a.flow a.works.items) (sym now) sound_start);
+          outbox = rests.outbox;
+          slots = length-set w.desk.active slot begun ∙ h.slots;
+          active = subst (λ (l : List (Option (Active J))). AreSoundActive shared at 0 l) (set-set w.desk.active slot None begun)
+              (sound_then shared at at slot (without slot w.desk.active) begun (λ m other. refl) rests.others (subst (λ x. IsSoundPhase shared slot x 0 slots) (sym now) sound_phase));
           seats = ap (λ (l : List (SessionDesk J)). length l) a.sessions ∙ length-set w.desk.sessions.items place session ∙ h.seats;
           sessions = subst (λ l. AreInPlace l) (sym a.sessions) placed;
           balance = balanced_same with_desk.desk (join (part_message message) rest) (flight next) one_more balance;
@@ -270,8 +278,8 @@ module _ {J : Type 0} where
     admits_fits opening history f =
         let message : Message J = Start a.flow a.works in
         let t = unanswered_transaction a.flow.transaction in
-        let rest = lots w in
-        let first = subst (λ (o : Option (Active J)). FitsPart opening history w.log (joined_in w) w.desk.admitted (fly (in_inbox w) (in_outbox w) (parts part_met (reported_to o)))) none f in
+        let rest = lots slot w in
+        let first = fits_same opening history w.log (joined_in w) w.desk.admitted (flight w) rest same f in
         let free = asks_first w.desk.sessions.items t rest.pending desk (record { seat = seating desk.seat.session a.flow.transaction.pass.asks; pass = None }) place is whose here refl bare.alone bare.many in
         let after = fits_admission opening history w.log (joined_in w) w.desk.admitted rest place number asked free first in
         let is_t : t ≡ new_one w.desk.admitted place number asked = λ i. record {

@@ -9,7 +9,7 @@ use Rattle.world.specs.declared.flight.Message.{Message}
 use Rattle.world.specs.declared.flight.Item.{Item}
 use Rattle.world.specs.declared.world.Parts.{Parts}
 use Rattle.world.specs.Flights.{InFlight, part, join, parts, part_message, part_item, part_met}
-use Rattle.world.specs.Sound.{IsBalanced, is_here, flight, reported_to}
+use Rattle.world.specs.Sound.{IsBalanced, is_here, flight, reported_to_all}
 use Rattle.world.proofs.Joins.{IsSame, same-refl, same-trans, same-is, same-join, same-swap, same-middle, join-assoc, join-nothing, parts-append}
 
 -- ---- three lots together: the inbox, the outbox and what meets
@@ -49,7 +49,7 @@ module _ {J : Type 0} where
   in_outbox w = parts part_item w.outbox
 
   abbrev pub in_meeting : Parts J → InFlight
-  in_meeting w = parts part_met (reported_to w.desk.active)
+  in_meeting w = parts part_met (reported_to_all w.desk.active)
 
   pub message_taken : (w : Parts J) (message : Message J) (rest : List (Message J)) → w.inbox ≡ message ∷ rest
       → flight w ≡ join (part_message message) (flight (record w { inbox = rest }))

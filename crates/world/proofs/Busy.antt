@@ -21,7 +21,7 @@ use Rattle.world.specs.declared.world.Core.{Core}
 use Rattle.world.specs.Flights.{nothing}
 use Rattle.world.specs.Sound.{IsSoundWith, flight}
 use Rattle.world.specs.Together.{IsSound, in_hand, together}
-use Rattle.world.specs.Worlds.{Happens, begins_at, IsBusyExactly, SubmitsAt, SubmitsUnless, SubmitsInto, can_admit, refuses}
+use Rattle.world.specs.Worlds.{Happens, begins_at, IsBusyExactly, SubmitsAt, SubmitsUnless, SubmitsInto, can_admit, is_full, refuses}
 use Rattle.world.proofs.Ready.{stands_at}
 
 -- no check answers that a session is waiting
@@ -48,12 +48,12 @@ module _ {J : Type 0} where
 
   busy_of : (shared : Shared) (w : Parts J) (h : IsSoundWith shared nothing w) (old new : Parts J) (session number : ℕ) (asked : Request) (answer : EventAnswer) (desk : SessionDesk J) (pass : Option Passing) → desk.pass ≡ pass
       → slice_get w.desk.sessions.items session ≡ Some desk
-      → SubmitsUnless (refuses pass (check_of old.catalog.scale asked) (is_some old.desk.active)) session number asked desk old answer new
+      → SubmitsUnless (refuses pass (check_of old.catalog.scale asked) (is_full old.desk.active)) session number asked desk old answer new
       → (answer ≡ Answered session number (Refused SessionBusy)) ↔ (1 ≤ count_by (is_of session) (flight w).pending)
   busy_of shared w h old new session number asked answer desk None is there said =
       (λ told. omega (arith, h.balance.alone session desk there, ap (λ (o : Option Passing). cond {A = ℕ} (is_some o) 1 0) is), λ some. said.0)
   busy_of shared w h old new session number asked answer desk (Some pass) is there said = (
-    λ told. absurd (here_not_busy old.catalog asked pass (is_some old.desk.active) session number desk old new answer said told),
+    λ told. absurd (here_not_busy old.catalog asked pass (is_full old.desk.active) session number desk old new answer said told),
     λ some. absurd (omega (arith, some, h.balance.alone session desk there, ap (λ (o : Option Passing). cond {A = ℕ} (is_some o) 1 0) is)),
   )
 

@@ -22,7 +22,7 @@ use Rattle.world.specs.declared.flight.Item.TheVariants as item
 use Rattle.world.specs.declared.world.Parts.{Parts}
 use Rattle.world.specs.declared.world.Core.{Core}
 use Rattle.world.specs.Flights.{nothing, part_message, part_item}
-use Rattle.world.specs.Sound.{IsSoundWith, IsSoundMessage, IsSoundItem, UnderWay}
+use Rattle.world.specs.Sound.{IsSoundWith, IsSoundMessage, IsSoundItem, Courses}
 use Rattle.world.specs.Events.{CanSend, CanWork, SendsItem, TakesMessage}
 use Rattle.world.specs.Together.{IsOf, HasHome, HasHomeIn, IsSound, all_of, exchanging, goes_to, home_of_claims, in_hand, put_back, together}
 use Rattle.world.specs.Worlds.{Advances, Fits, Happens, SendsFirst, SubmitsAt, TakesFirst, begins_at, TakesItsOwn}
@@ -52,16 +52,16 @@ home_is [] home some is = absurd (omega (arith, some))
 home_is (claim ∷ claims) home some is = is claim
 
 module _ {J : Type 0} where
-  has_home : (shared : Shared) (u : UnderWay) (m : Message J) → IsSoundMessage shared u m → HasHome m
+  has_home : (shared : Shared) (u : Courses) (m : Message J) → IsSoundMessage shared u m → HasHome m
   has_home shared u (message.Start flow works) h = tt
   has_home shared u (message.Act act) h = tt
-  has_home shared u (message.Settle claims) h = some_claims claims h.1
-  has_home shared u (message.Undo claims) h = some_claims claims h.1
+  has_home shared u (message.Settle slot claims) h = some_claims claims h.1
+  has_home shared u (message.Undo slot claims) h = some_claims claims h.1
 
-  has_home_in : (shared : Shared) (u : UnderWay) (w : Parts J) (i : Item J) → IsSoundItem shared w.log u i → HasHomeIn i
+  has_home_in : (shared : Shared) (u : Courses) (w : Parts J) (i : Item J) → IsSoundItem shared w.log u i → HasHomeIn i
   has_home_in shared u w (item.Push m) h = has_home shared u m h
   has_home_in shared u w (item.Report r) h = tt
-  has_home_in shared u w item.Ended h = tt
+  has_home_in shared u w (item.Ended slot) h = tt
   has_home_in shared u w (item.Commit commit) h = tt
   has_home_in shared u w (item.Reply told) h = tt
 
@@ -69,7 +69,7 @@ module _ {J : Type 0} where
   can_framed : (opening : Database) (messages : List (Message J)) (items : List (Item J)) (w : Parts J) (i : Item J) → CanSend opening i (framed messages items w) → CanSend opening i w
   can_framed opening messages items w (item.Push m) h = h
   can_framed opening messages items w (item.Report r) h = h
-  can_framed opening messages items w item.Ended h = h
+  can_framed opening messages items w (item.Ended slot) h = h
   can_framed opening messages items w (item.Commit commit) h = h
   can_framed opening messages items w (item.Reply told) h = h
 

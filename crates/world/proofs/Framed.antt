@@ -46,20 +46,20 @@ module _ {J : Type 0} (messages : List (Message J)) (items : List (Item J)) wher
 
   -- ---- an item is sent
 
-  puts_framed : (put : List (Item J)) (active : Option (Active J)) (w : Parts J) → framed (putting put active w) ≡ putting put active (framed w)
-  puts_framed put active w = λ i. record (putting put active (framed w)) { outbox = sym (append_assoc items w.outbox put) i }
+  puts_framed : (put : List (Item J)) (slot : ℕ) (active : Option (Active J)) (w : Parts J) → framed (putting put slot active w) ≡ putting put slot active (framed w)
+  puts_framed put slot active w = λ i. record (putting put slot active (framed w)) { outbox = sym (append_assoc items w.outbox put) i }
 
   goes_framed : (t : Transaction J) (g : Gathered) (w : Parts J) → framed (goes_on t g w) ≡ goes_on t g (framed w)
-  goes_framed t (Next progress) w = puts_framed _ _ w
-  goes_framed t (Finish shown) w = puts_framed _ _ w
-  goes_framed t (RollBack fault) w = puts_framed _ _ w
+  goes_framed t (Next progress) w = puts_framed _ _ _ w
+  goes_framed t (Finish shown) w = puts_framed _ _ _ w
+  goes_framed t (RollBack fault) w = puts_framed _ _ _ w
 
   gathers_framed : (progress : Progress) (found : List Found) (t : Transaction J) (old new : Parts J) → GathersInto progress found t old new → GathersInto progress found t (framed old) (framed new)
-  gathers_framed progress found t old new (inl said) = inl (ap framed said ∙ puts_framed _ _ old)
+  gathers_framed progress found t old new (inl said) = inl (ap framed said ∙ puts_framed _ _ _ old)
   gathers_framed progress found t old new (inr said) = inr (said.0, (said.1.0, ap framed said.1.1 ∙ goes_framed t said.0 old))
 
   unless_framed : (why : Option Refusal) (reports : List (Report J)) (flow : Flow J) (old new : Parts J) → MeetsUnless why reports flow old new → MeetsUnless why reports flow (framed old) (framed new)
-  unless_framed (Some why) reports flow old new said = ap framed said ∙ puts_framed _ _ old
+  unless_framed (Some why) reports flow old new said = ap framed said ∙ puts_framed _ _ _ old
   unless_framed None reports flow old new said = gathers_framed flow.progress _ _ old new said
 
   meets_framed : (reports : List (Report J)) (old new : Parts J) → MeetsAs reports old new → MeetsAs reports (framed old) (framed new)
@@ -67,12 +67,12 @@ module _ {J : Type 0} (messages : List (Message J)) (items : List (Item J)) wher
       carried_there reports (λ flow. MeetsUnless (refusal_of None reports) reports flow old new) (λ flow. MeetsUnless (refusal_of None reports) reports flow (framed old) (framed new))
       (λ flow one. unless_framed (refusal_of None reports) reports flow old new one) said
 
-  into_framed : (first : ℕ) (slots : List (Option (Report J))) (old new : Parts J) → ReportsInto first slots old new → ReportsInto first slots (framed old) (framed new)
-  into_framed first slots old new (inl said) = inl (said.0, ap framed said.1)
-  into_framed first slots old new (inr said) = inr (said.0, (said.1.0, meets_framed said.0 old new said.1.1))
+  into_framed : (slot first : ℕ) (slots : List (Option (Report J))) (old new : Parts J) → ReportsInto slot first slots old new → ReportsInto slot first slots (framed old) (framed new)
+  into_framed slot first slots old new (inl said) = inl (said.0, ap framed said.1)
+  into_framed slot first slots old new (inr said) = inr (said.0, (said.1.0, meets_framed said.0 old new said.1.1))
 
   reports_framed : (r : Report J) (old new : Parts J) → Reports r old new → Reports r (framed old) (framed new)
-  reports_framed r old new said = (said.0, (said.1.0, (said.1.1.0, into_framed said.0 _ old new said.1.1.1)))
+  reports_framed r old new said = (said.0, (said.1.0, (said.1.1.0, into_framed r.slot said.0 _ old new said.1.1.1)))
 
   logs_framed : (commit : CommitItem J) (w : Parts J) → framed (logging commit w) ≡ logging commit (framed w)
   logs_framed commit w =
@@ -83,7 +83,7 @@ module _ {J : Type 0} (messages : List (Message J)) (items : List (Item J)) wher
 
   commits_framed : (commit : CommitItem J) (old new : Parts J) (answer : EventAnswer) → Commits commit old answer new → Commits commit (framed old) answer (framed new)
   commits_framed commit old new (Logged place) said = (said.0, (said.1.0, ap framed said.1.1 ∙ logs_framed commit old))
-  commits_framed commit old new Sent said = (said.0, (said.1.0, (said.1.1.0, ap framed said.1.1.1 ∙ puts_framed _ _ old)))
+  commits_framed commit old new Sent said = (said.0, (said.1.0, (said.1.1.0, ap framed said.1.1.1 ∙ puts_framed _ _ _ old)))
   commits_framed commit old new (Accepted age) said = absurd said
   commits_framed commit old new Took said = absurd said
   commits_framed commit old new Full said = absurd said
@@ -102,8 +102,8 @@ module _ {J : Type 0} (messages : List (Message J)) (items : List (Item J)) wher
       sends_push shared (framed old) (framed new) m answer (nat_lt (length old.inbox) 1024) h s (pushes_framed (nat_lt (length old.inbox) 1024) m old new answer said)
   sends_framed shared old new (item.Report r) answer h s said =
       sends_on shared (framed old) (framed new) (item.Report r) answer h s (said.0, reports_framed r old new said.1)
-  sends_framed shared old new item.Ended answer h s said =
-      sends_on shared (framed old) (framed new) item.Ended answer h s (said.0, (said.1.0, (said.1.1.0, ap framed said.1.1.1)))
+  sends_framed shared old new (item.Ended slot) answer h s said =
+      sends_on shared (framed old) (framed new) (item.Ended slot) answer h s (said.0, (said.1.0, (said.1.1.0, ap framed said.1.1.1)))
   sends_framed shared old new (item.Commit commit) answer h s said =
       sends_on shared (framed old) (framed new) (item.Commit commit) answer h s (commits_framed commit old new answer said)
   sends_framed shared old new (item.Reply told) answer h s said =
@@ -130,6 +130,7 @@ module _ {J : Type 0} (messages : List (Message J)) (items : List (Item J)) wher
     number_is = a.number_is;
     request = a.request;
     held = a.held;
+    free = a.free;
     begins = a.begins;
     here = a.here;
     pass_is = a.pass_is;

@@ -17,7 +17,7 @@ use Rattle.world.specs.Parted.{joined_in}
 use Rattle.world.specs.declared.world.Parts.{Parts}
 use Rattle.world.specs.Flights.{nothing}
 use Rattle.world.specs.Sound.{IsSoundWith, flight}
-use Rattle.world.specs.Worlds.{Fits, Advances, SubmitsAt, SubmitsUnless, SubmitsInto, StaysAt, refusal_at, can_admit}
+use Rattle.world.specs.Worlds.{Fits, Advances, SubmitsAt, SubmitsUnless, SubmitsInto, StaysAt, refusal_at, can_admit, is_full}
 use Rattle.world.proofs.Fitting.{fits_quiet}
 use Rattle.world.proofs.Asking.{not_refused, admits_sound, admits_fits}
 
@@ -35,15 +35,15 @@ module _ {J : Type 0} where
   submits_into shared old new h session number asked desk answer there free false said =
       (subst (λ w. IsSoundWith shared nothing w) (sym said.1) h, stays old new (Submit session number asked) Nothing answer tt said)
   submits_into shared old new h session number asked desk answer there free true said =
-      let clear = not_refused desk.pass (check_of old.catalog.scale asked) old.desk.active free in
-      let accepted : check_of shared.scale asked ≡ Ok tt = subst (λ (s : Shared). check_of s.scale asked ≡ Ok tt) h.shared_is clear.0 in
+      let clear = not_refused desk.pass (check_of old.catalog.scale asked) (is_full old.desk.active) free in
+      let accepted : check_of shared.scale asked ≡ Ok tt = subst (λ (s : Shared). check_of s.scale asked ≡ Ok tt) h.shared_is clear in
       ⊎_elim
       (λ refused. (subst (λ w. IsSoundWith shared nothing w) (sym refused.1) h, stays old new (Submit session number asked) _ answer tt refused))
       (λ admitted. (
-        admits_sound shared old h session number asked desk there clear.1 accepted new admitted.1,
+        admits_sound shared old h session number asked desk there accepted new admitted.1,
         λ opening history f.
             subst (λ a. Fits opening (history ++ step (Submit session number asked) a ∷ []) new) (sym admitted.0)
-            (admits_fits shared old h session number asked desk there clear.1 accepted new admitted.1 opening history f),
+            (admits_fits shared old h session number asked desk there accepted new admitted.1 opening history f),
       ))
       said
 

@@ -16,11 +16,12 @@ use Rattle.world.specs.declared.world.Parts.{Parts}
 use Rattle.world.specs.Parted.{joined_in}
 use Rattle.world.specs.declared.flight.Report.{Report}
 use Rattle.world.specs.Flights.{Acting, InFlight, nothing, join, part_message, part_item}
-use Rattle.world.specs.Sound.{IsSoundWith, IsSoundMessage, IsSoundCommit, IsSoundItem, IsSoundPhase, IsSoundActive, awaited, flight}
+use Rattle.world.specs.Sound.{IsSoundWith, IsSoundMessage, IsSoundCommit, IsSoundItem, IsSoundPhase, awaited_by_all, flight}
 use Rattle.world.specs.Events.{Pushes, Commits, SendsItem, logging}
 use Rattle.world.specs.Worlds.{FitsPart, Fits, Advances}
 use Rattle.world.proofs.Fitting.{fits_quiet}
-use Rattle.world.proofs.Tokens.{is_awaited, one_weighs, weigh_acting, acting_under_way}
+use Rattle.world.proofs.Tokens.{is_awaited, acting_weighs, weigh_acting, acting_under_way}
+use Rattle.world.proofs.OneSlot.{sound_in}
 use Rattle.world.proofs.Puts.{GoesOn, item_in_hand, fits_in_hand}
 use Rattle.world.proofs.Reporting.{pushes_sound, pushes_fits, put_back_sound, put_back_fits}
 use Rattle.world.proofs.Meetings.{reports_go_on}
@@ -78,14 +79,16 @@ module _ {J : Type 0} where
   sends_commit shared w new commit Nothing h s said = absurd said
 
   -- the phase that is under way where a report comes
-  pub phase_at : (shared : Shared) (w : Parts J) (r : Report J) (h : IsSoundWith shared (part_item (item.Report r)) w) (first : ℕ) (slots : List (Option (Report J))) → w.desk.active ≡ Some (active.Acting first slots)
-      → IsSoundPhase shared h.under_way first slots × ((first ≤ r.place) × (slice_get slots (r.place - first) ≡ Some None))
+  pub phase_at : (shared : Shared) (w : Parts J) (r : Report J) (h : IsSoundWith shared (part_item (item.Report r)) w) (first : ℕ) (slots : List (Option (Report J)))
+      → slice_get w.desk.active r.slot ≡ Some (Some (active.Acting first slots))
+      → IsSoundPhase shared r.slot (h.under_way r.slot) first slots × ((first ≤ r.place) × (slice_get slots (r.place - first) ≡ Some None))
   phase_at shared w r h first slots is =
-      let at = acting_under_way r.place w.desk.active (is_awaited (weigh_acting r.place) (Acting r.place) (flight w).tokens (awaited w.desk.active) (one_weighs r.place) h.balance.tokens) in
+      let at = acting_under_way r.slot r.place w.desk.active
+      (is_awaited (weigh_acting r.slot r.place) (Acting r.slot r.place) (flight w).tokens (awaited_by_all 0 w.desk.active) (acting_weighs r.slot r.place) h.balance.tokens) in
       let found = at.1.1.0 in
       let same : at.0 ≡ first = cc in
       let alike : at.1.0 ≡ slots = cc in (
-        subst (λ a. IsSoundActive shared h.under_way a) is h.active,
+        sound_in shared h.under_way r.slot w.desk.active (Some (active.Acting first slots)) h.active is,
         (
           subst (λ n. n ≤ r.place) same at.1.1.1.0,
           subst (λ (l : List (Option (Report J))). slice_get l (r.place - first) ≡ Some None) alike (subst (λ n. slice_get at.1.0 (r.place - n) ≡ Some None) same at.1.1.1.1),
@@ -101,8 +104,8 @@ module _ {J : Type 0} where
       let at = phase_at shared w r h first slots said.1.1.1.0 in
       let place : r.place ≡ first + (r.place - first) = omega (arith, at.1.0) in
       quietly shared (part_item (item.Report r)) w new new answer (reports_go_on shared w r h s first (r.place - first) place slots said.1.1.1.0 at.0 at.1.1 new said.1.1.1.1) said.0 refl
-  sends_on shared w new item.Ended answer h s said =
-      quietly shared (part_item {J = J} item.Ended) w _ new answer (ended_goes_on shared w h said.1.0 said.1.1.0) said.0 said.1.1.1
+  sends_on shared w new (item.Ended slot) answer h s said =
+      quietly shared (part_item {J = J} (item.Ended slot)) w _ new answer (ended_goes_on shared slot w h said.1.0 said.1.1.0) said.0 said.1.1.1
   sends_on shared w new (item.Commit commit) answer h s said = sends_commit shared w new commit answer h s said
   sends_on shared w new (item.Reply told) answer h s said = record {
     sound = replies_sound shared w told h s said.1.0 said.1.1.0 new said.1.1.1;

@@ -4,6 +4,9 @@ pub mod Balances
 pub mod Fitting
 pub mod Taking
 pub mod Tokens
+pub mod FreeSlots
+pub mod OneSlot
+pub mod Courses
 pub mod Puts
 pub mod Releases
 pub mod Reporting

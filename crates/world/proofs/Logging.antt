@@ -1,6 +1,7 @@
 -- A transaction is logged, or refused by the log.
 use Rattle.std.proofs.Common.{◌≡◌, ℕ, ◌<◌, ◌≤◌, Bool, false, List, [], ◌∷◌, ◌++◌, length, Some, None, refl, sym, ◌∙◌, ap, subst}
 use Rattle.std.specs.Prelude.{All, map}
+use Rattle.std.specs.List.{slice_get}
 use Rattle.std.proofs.lemmas.List.{length-map, map-append}
 use Rattle.std.proofs.lemmas.List.Elements.{All-weaker, All-cons, All-nil, All-head, All-tail}
 use Rattle.partitions.specs.Parts.{Shared}
@@ -34,15 +35,17 @@ use Rattle.world.specs.declared.sending.Release.{Release}
 use Rattle.world.specs.declared.world.Parts.{Parts}
 use Rattle.world.specs.Parted.{CanAllBeUndone, joined_in}
 use Rattle.world.specs.Flights.{Committing, InFlight, part, nothing, join, part_item, unanswered_transaction}
-use Rattle.world.specs.Sound.{IsSoundWith, IsSoundItem, IsSoundCommit, IsAnswerIn, UnderWay, awaited, flight, reported_to}
+use Rattle.world.specs.Sound.{Courses, IsSoundWith, IsSoundItem, IsSoundCommit, IsAnswerIn, awaited_by_all, flight}
 use Rattle.world.specs.Following.{entry_of, is_settled, release, releasing}
 use Rattle.world.specs.Events.{logging, refusing, why_refused}
 use Rattle.world.specs.Worlds.{FitsPart, Fits}
-use Rattle.world.proofs.Fitting.{fits_entry}
-use Rattle.world.proofs.Tokens.{one_less, is_awaited, weigh_committing, commit_under_way}
-use Rattle.world.proofs.Puts.{lots, GoesOn}
+use Rattle.world.proofs.Fitting.{fits_entry, fits_same}
+use Rattle.world.proofs.Joins.{IsSame, same-refl, same-join}
+use Rattle.world.proofs.Tokens.{is_awaited, weigh_committing, commit_under_way, one_weighs}
+use Rattle.world.proofs.OneSlot.{lots, flight_apart}
+use Rattle.world.proofs.Puts.{AreServed, GoesOn, Rests, rests_of}
 use Rattle.world.proofs.Releases.{AreGiven, unanswered_release, releases_fits, releases_sound}
-use Rattle.world.proofs.Reporting.{beside, Beside, beside_now, none_met}
+use Rattle.world.proofs.Reporting.{served_same}
 
 -- ---- the log grows
 
@@ -100,10 +103,10 @@ refused_pass fault.NoMemory entries pass = (refl, refl)
 refused_pass fault.LogFull entries pass = (refl, refl)
 
 module _ {J : Type 0} where
-  item_in_more : (shared : Shared) (log : List Entry) (u : UnderWay) (entry : Entry) (i : Item J) → IsSoundItem shared log u i → IsSoundItem shared (log ++ entry ∷ []) u i
+  item_in_more : (shared : Shared) (log : List Entry) (u : Courses) (entry : Entry) (i : Item J) → IsSoundItem shared log u i → IsSoundItem shared (log ++ entry ∷ []) u i
   item_in_more shared log u entry (item.Push message) h = h
   item_in_more shared log u entry (item.Report r) h = h
-  item_in_more shared log u entry item.Ended h = h
+  item_in_more shared log u entry (item.Ended slot) h = h
   item_in_more shared log u entry (item.Commit commit) h = h
   item_in_more shared log u entry (item.Reply told) h = (h.0, (h.1.0, answer_in_more log entry told.answer h.1.1))
 
@@ -124,18 +127,31 @@ module _ {J : Type 0} where
       λ i. releasing (settle_is i) (release t (passes i) (Done (place_is i) (shown_is i)) (held_is i)) (record w { log = longer i })
 
   module _ (shared : Shared) (w : Parts J) (commit : CommitItem J) (h : IsSoundWith shared (part_item (item.Commit commit)) w) (s : IsSoundCommit shared commit) where
-    committing : w.desk.active ≡ Some active.Committing
-    committing = commit_under_way w.desk.active (is_awaited weigh_committing Committing (flight w).tokens (awaited w.desk.active) refl h.balance.tokens)
+    abbrev slot : ℕ
+    slot = commit.transaction.slot
 
-    met : reported_to w.desk.active ≡ []
-    met = none_met w committing
+    committing : slice_get w.desk.active slot ≡ Some (Some active.Committing)
+    committing = commit_under_way slot w.desk.active
+        (is_awaited (weigh_committing slot) (Committing slot) (flight w).tokens (awaited_by_all 0 w.desk.active) (one_weighs slot) h.balance.tokens)
 
-    by_lots : Beside (part_item (item.Commit commit)) w [] (Committing ∷ [])
-    by_lots = beside_now (part_item (item.Commit commit)) w [] (Committing ∷ []) h.balance met (ap awaited committing)
+    rests : Rests shared h.under_way slot w
+    rests = rests_of shared (part_item (item.Commit commit)) w h slot (Some active.Committing) committing (λ weight. refl)
+
+    below : slot < length w.desk.active
+    below = subst (λ n. slot < n) (sym rests.slots) rests.below
+
+    by_lots : IsSame (join (part_item (item.Commit commit)) (flight w)) (join (part_item (item.Commit commit)) (lots slot w))
+    by_lots =
+        let hand = part_item (item.Commit commit) in
+        same-join hand hand (flight w) (lots slot w) (same-refl hand) (flight_apart w slot (Some active.Committing) committing)
+
+    served : AreServed w.desk (unanswered_transaction commit.transaction ∷ (lots slot w).pending)
+    served = served_same w.desk _ (unanswered_transaction commit.transaction ∷ (lots slot w).pending) by_lots.pending (record { alone = h.balance.alone; many = h.balance.many })
 
     fits_by_lots : (opening : Database) (history : List Step) → FitsPart opening history w.log (joined_in w) w.desk.admitted (join (part_item (item.Commit commit)) (flight w))
-        → FitsPart opening history w.log (joined_in w) w.desk.admitted (join (part_item (item.Commit commit)) (lots w))
-    fits_by_lots opening history f = subst (λ rs. FitsPart opening history w.log (joined_in w) w.desk.admitted (beside (part_item (item.Commit commit)) w rs)) met f
+        → FitsPart opening history w.log (joined_in w) w.desk.admitted (join (part_item (item.Commit commit)) (lots slot w))
+    fits_by_lots opening history f =
+        fits_same opening history w.log (joined_in w) w.desk.admitted (join (part_item (item.Commit commit)) (flight w)) (join (part_item (item.Commit commit)) (lots slot w)) by_lots f
 
     pub refusing_goes_on : (why : AppendFault) → GoesOn shared (part_item (item.Commit commit)) w (refusing commit why w)
     refusing_goes_on why =
@@ -153,10 +169,10 @@ module _ {J : Type 0} where
         let hand = part_item (item.Commit commit) in
         let pending : hand.pending ≡ unanswered_release r ∷ [] = ap (λ u. u ∷ []) (sym is) in
         record {
-          sound = releases_sound shared h.under_way w hand false r h.shared_is h.slices h.inbox h.outbox h.seats h.sessions
+          sound = releases_sound shared h.under_way w hand false r rests
               (subst (λ n. n < 64) (sym same.0) s.asked.session) (ap (λ asks. asks.number) same.1 ∙ s.asked.number) tt
-              s.undo s.few pending by_lots.served (one_less Committing (lots w).tokens [] by_lots.tokens);
-          fits = λ opening history f. releases_fits opening history w hand false r refl pending (fits_by_lots opening history f);
+              s.undo s.few pending served;
+          fits = λ opening history f. releases_fits opening history w hand false r below refl pending (fits_by_lots opening history f);
         }
 
     pub logging_goes_on : IsSoundWith shared nothing (logging commit w)
@@ -176,16 +192,26 @@ module _ {J : Type 0} where
         let claims = claims_logged shown (all_claims t.held) in
         let hand : InFlight = part claims (u ∷ []) [] in
         let settle = is_settled shown in
-        let few : length held ≤ MOST_ACTIONS = subst (λ n. n ≤ MOST_ACTIONS) (sym (length-map t.held (claims_logged shown))) s.few in (
-          releases_sound shared h.under_way logged_w hand settle r h.shared_is h.slices h.inbox
-              (All-weaker (IsSoundItem shared w.log h.under_way) (IsSoundItem shared log h.under_way) (λ i sound. item_in_more shared w.log h.under_way entry i sound) w.outbox h.outbox)
-              h.seats h.sessions s.asked.session s.asked.number (entry, (slice_get-last w.log entry, refl)) (all_logged_given shown t.held s.undo) few refl
-              (record { alone = by_lots.served.alone; many = by_lots.served.many })
-              (one_less Committing (lots w).tokens [] by_lots.tokens),
+        let others = lots slot w in
+        let few : length held ≤ MOST_ACTIONS = subst (λ n. n ≤ MOST_ACTIONS) (sym (length-map t.held (claims_logged shown))) s.few in
+        let rests_logged : Rests shared h.under_way slot logged_w = record {
+          shared_is = rests.shared_is;
+          slices = rests.slices;
+          inbox = rests.inbox;
+          outbox = All-weaker (IsSoundItem shared w.log h.under_way) (IsSoundItem shared log h.under_way) (λ i sound. item_in_more shared w.log h.under_way entry i sound) w.outbox rests.outbox;
+          slots = rests.slots;
+          below = rests.below;
+          others = rests.others;
+          seats = rests.seats;
+          sessions = rests.sessions;
+          tokens = rests.tokens;
+        } in (
+          releases_sound shared h.under_way logged_w hand settle r rests_logged s.asked.session s.asked.number (entry, (slice_get-last w.log entry, refl)) (all_logged_given shown t.held s.undo) few refl
+              (record { alone = served.alone; many = served.many }),
           λ opening history executor f.
               let first = fits_by_lots opening history f in
-              let after = fits_entry opening history w.log (joined_in w) w.desk.admitted (all_claims t.held) (lots w).claims (unanswered_transaction t) (lots w).pending executor entry
+              let after = fits_entry opening history w.log (joined_in w) w.desk.admitted (all_claims t.held) others.claims (unanswered_transaction t) others.pending executor entry
               refl (sym s.asked.number) (sym s.asked.request) refl (s.carried_out opening ((λ i. record { scale = sym f.scale i; items = sym f.items i }) ∙ h.shared_is)) first.told first.committed in
-              releases_fits opening (history ++ step (Send executor) (Logged place) ∷ []) logged_w hand settle r (sym (logged_claims shown t.held)) refl
+              releases_fits opening (history ++ step (Send executor) (Logged place) ∷ []) logged_w hand settle r below (sym (logged_claims shown t.held)) refl
               (record { told = after.0; committed = after.1; scale = first.scale; items = first.items }),
         )

@@ -21,6 +21,7 @@ use Rattle.slices.specs.Openings.{AreOpenedFor, IsBoxOf}
 use Rattle.slices.specs.Sliced.{Sliced, AreSlicesOf, all_at_rest, all_standing, at_rest, everywhere, joined}
 use Rattle.slices.proofs.Joined.{cut_slices_are_at_rest}
 use Rattle.slices.proofs.Opened.{opened_groups_have_boxes}
+use Rattle.world.specs.declared.desk.Active.{Active}
 use Rattle.world.specs.declared.desk.SessionDesk.{SessionDesk}
 use Rattle.world.specs.declared.world.Parts.{Parts}
 use Rattle.world.specs.declared.world.Core.{Core}
@@ -31,7 +32,7 @@ use Rattle.world.specs.Together.{IsOf, IsSound, all_of, together}
 use Rattle.world.specs.Parted.{joined_in}
 use Rattle.world.specs.Flights.{nothing, join, parts, part_message, part_item, part_met}
 use Rattle.world.specs.Openings.{AreNewLanes, IsNew, session_with}
-use Rattle.world.specs.Sound.{IsSoundWith, IsSoundMessage, IsSoundItem, IsSoundActive, IsPassOf, IsBalanced, UnderWay, awaited, is_here, reported_to, flight}
+use Rattle.world.specs.Sound.{IsSoundWith, IsSoundMessage, IsSoundItem, AreSoundActive, IsPassOf, IsBalanced, Courses, awaited_by_all, is_here, reported_to_all, flight}
 use Rattle.world.specs.Worlds.{Fits, FitsPart}
 
 -- ---- the log's seats
@@ -57,9 +58,22 @@ cut_slices t shared slices within same are =
 
 -- ---- the sessions
 
--- a transaction, where there is none
-none_under_way : UnderWay
-none_under_way = record { request = unasked; progress = unasked_progress; held = [] }
+-- a transaction in each slot, where there is none
+none_under_way : Courses
+none_under_way slot = record { request = unasked; progress = unasked_progress; held = [] }
+
+-- free slots
+none_met : (J : Type 0) (n : ℕ) → reported_to_all {J = J} (replicate n None) ≡ []
+none_met J zero = refl
+none_met J (suc n) = none_met J n
+
+none_awaited : (J : Type 0) (slot n : ℕ) → awaited_by_all {J = J} slot (replicate n None) ≡ []
+none_awaited J slot zero = refl
+none_awaited J slot (suc n) = none_awaited J (suc slot) n
+
+none_active : (J : Type 0) (shared : Shared) (at : Courses) (slot n : ℕ) → AreSoundActive {J = J} shared at slot (replicate n None)
+none_active J shared at slot zero = tt
+none_active J shared at slot (suc n) = (tt, none_active J shared at (suc slot) n)
 
 found_in : {X Y : Type 0} (f : X → Y) (o : Option X) (y : Y) (x : X) → option_map f o ≡ Some y → o ≡ Some x → y ≡ f x
 found_in f o y x found is = cc
@@ -82,13 +96,13 @@ module _ {J : Type 0} where
 
   -- ---- the world
 
-  nothing_flies : (w : Parts J) → w.inbox ≡ [] → w.outbox ≡ [] → w.desk.active ≡ None → flight w ≡ nothing
+  nothing_flies : (w : Parts J) → w.inbox ≡ [] → w.outbox ≡ [] → w.desk.active ≡ replicate 64 None → flight w ≡ nothing
   nothing_flies w inbox outbox active =
-      ap (λ ms. join (parts part_message ms) (join (parts part_item w.outbox) (parts part_met (reported_to w.desk.active)))) inbox
-      ∙ ap (λ is. join nothing (join (parts part_item is) (parts part_met (reported_to w.desk.active)))) outbox
-      ∙ ap (λ a. join nothing (join nothing (parts part_met (reported_to a)))) active
+      ap (λ ms. join (parts part_message ms) (join (parts part_item w.outbox) (parts part_met (reported_to_all w.desk.active)))) inbox
+      ∙ ap (λ is. join nothing (join (parts part_item is) (parts part_met (reported_to_all w.desk.active)))) outbox
+      ∙ ap (λ rs. join nothing (join nothing (parts part_met rs))) (ap reported_to_all active ∙ none_met J 64)
 
-  pub opened_sound : (shared : Shared) (lanes : List (Passing × Seating)) (w : Parts J) → AreNewLanes lanes → w.catalog ≡ shared → AreSlicesOf w.catalog w.slices.items → w.inbox ≡ [] → w.outbox ≡ [] → w.desk.active ≡ None
+  pub opened_sound : (shared : Shared) (lanes : List (Passing × Seating)) (w : Parts J) → AreNewLanes lanes → w.catalog ≡ shared → AreSlicesOf w.catalog w.slices.items → w.inbox ≡ [] → w.outbox ≡ [] → w.desk.active ≡ replicate 64 None
       → w.desk.sessions.items ≡ map session_with lanes → IsSoundWith shared nothing w
   opened_sound shared lanes w new shared_is slices inbox outbox active sessions =
       let found_at : (number : ℕ) (session : SessionDesk J) → slice_get w.desk.sessions.items number ≡ Some session → session ≡ session_with (new_pass number, new_seat number) =
@@ -100,13 +114,14 @@ module _ {J : Type 0} where
         under_way = none_under_way;
         inbox = subst (All (IsSoundMessage shared none_under_way)) (sym inbox) (All-nil (IsSoundMessage shared none_under_way));
         outbox = subst (All (IsSoundItem shared w.log none_under_way)) (sym outbox) (All-nil (IsSoundItem shared w.log none_under_way));
-        active = subst (IsSoundActive shared none_under_way) (sym active) tt;
+        slots = ap (λ (l : List (Option (Active J))). length l) active ∙ length-replicate {A = Option (Active J)} 64 None;
+        active = subst (AreSoundActive shared none_under_way 0) (sym active) (none_active J shared none_under_way 0 64);
         seats = ap length sessions ∙ length-map lanes session_with ∙ new.many;
         sessions = λ number session found.
             let is = found_at number session found in
             (ap (λ (s : SessionDesk J). s.seat.session) is, subst (IsPassOf number) (sym (ap (λ (s : SessionDesk J). s.pass) is)) refl);
         balance = subst (λ p. IsBalanced w.desk (join nothing p)) (sym (nothing_flies w inbox outbox active)) (record {
-          tokens = λ weight. ap (λ a. sum_by weight (awaited a)) (sym active);
+          tokens = λ weight. ap (λ ts. sum_by weight ts) (sym (ap (awaited_by_all 0) active ∙ none_awaited J 0 64));
           alone = λ number session found. ap {B = ℕ} (λ (s : SessionDesk J). 0 + cond (is_here s) 1 0) (found_at number session found);
           many = omega (arith, here, new.many);
         });
@@ -114,7 +129,7 @@ module _ {J : Type 0} where
 
   pub opened_new : (t : Database) (executors : ℕ) (lanes : List (Passing × Seating)) (w : Core J) → AreNewLanes lanes → AreSlicesOf w.parts.catalog w.parts.slices.items → joined_in w.parts ≡ all_at_rest t
       → w.routing ≡ record { warehouses = t.scale.warehouses; executors = executors } → w.inboxes ≡ replicate executors [] → w.outboxes ≡ replicate executors []
-      → w.parts.log ≡ [] → w.parts.desk.admitted ≡ 0 → w.parts.desk.active ≡ None
+      → w.parts.log ≡ [] → w.parts.desk.admitted ≡ 0 → w.parts.desk.active ≡ replicate 64 None
       → w.parts.desk.sessions.items ≡ map session_with lanes → IsNew t executors w
   opened_new t executors lanes w new slices rows routing inboxes outboxes log admitted active sessions = record {
     slices = slices;
@@ -144,7 +159,7 @@ module _ {J : Type 0} where
   -- so it is where each executor has empty queues
   pub opened_core : (shared : Shared) (executors : ℕ) (lanes : List (Passing × Seating)) (w : Core J) → AreNewLanes lanes → w.parts.catalog ≡ shared → AreSlicesOf w.parts.catalog w.parts.slices.items
       → w.routing ≡ record { warehouses = shared.scale.warehouses; executors = executors } → w.inboxes ≡ replicate executors [] → w.outboxes ≡ replicate executors []
-      → w.parts.inbox ≡ [] → w.parts.outbox ≡ [] → w.parts.desk.active ≡ None → w.parts.desk.sessions.items ≡ map session_with lanes → IsSound shared w
+      → w.parts.inbox ≡ [] → w.parts.outbox ≡ [] → w.parts.desk.active ≡ replicate 64 None → w.parts.desk.sessions.items ≡ map session_with lanes → IsSound shared w
   opened_core shared executors lanes w new shared_is slices routing inboxes outboxes inbox outbox active sessions = record {
     all = opened_sound shared lanes (together w) new shared_is slices (ap (λ qs. all_of qs) inboxes ∙ none_waits (Message J) executors) (ap (λ qs. all_of qs) outboxes ∙ none_waits (Item J) executors) active sessions;
     routed = ap (λ (r : Routes). r.warehouses) routing;
@@ -169,7 +184,7 @@ module _ (t : Database) (consistent : Consistent t) where
     items = refl;
   }
 
-  opened_parts : {J : Type 0} (w : Parts J) → joined_in w ≡ all_at_rest t → w.log ≡ [] → w.inbox ≡ [] → w.outbox ≡ [] → w.desk.active ≡ None → w.desk.admitted ≡ 0
+  opened_parts : {J : Type 0} (w : Parts J) → joined_in w ≡ all_at_rest t → w.log ≡ [] → w.inbox ≡ [] → w.outbox ≡ [] → w.desk.active ≡ replicate 64 None → w.desk.admitted ≡ 0
       → Fits t [] w
   opened_parts w rest empty inbox outbox active admitted =
       subst (λ p. FitsPart t [] w.log (joined_in w) w.desk.admitted p) (sym (nothing_flies w inbox outbox active))
@@ -177,6 +192,6 @@ module _ (t : Database) (consistent : Consistent t) where
       (subst (λ l. FitsPart t [] l (joined_in w) 0 nothing) (sym empty) (subst (λ s. FitsPart t [] [] s 0 nothing) (sym rest) rest_fits)))
 
   pub opened_fits : {J : Type 0} (executors : ℕ) (w : Core J) → joined_in w.parts ≡ all_at_rest t → w.parts.log ≡ [] → w.inboxes ≡ replicate executors [] → w.outboxes ≡ replicate executors []
-      → w.parts.desk.active ≡ None → w.parts.desk.admitted ≡ 0 → Fits t [] (together w)
+      → w.parts.desk.active ≡ replicate 64 None → w.parts.desk.admitted ≡ 0 → Fits t [] (together w)
   opened_fits {J} executors w rest empty inboxes outboxes active admitted =
       opened_parts (together w) rest empty (ap (λ qs. all_of qs) inboxes ∙ none_waits (Message J) executors) (ap (λ qs. all_of qs) outboxes ∙ none_waits (Item J) executors) active admitted

@@ -71,9 +71,9 @@ module _ {J : Type 0} (routing : Routes) where
   commits_inbox commit old new (Answered session number told) said = absurd said
   commits_inbox commit old new Nothing said = absurd said
 
-  into_inbox : (first : ℕ) (slots : List (Option (Report J))) (old new : Parts J) → ReportsInto first slots old new → new.inbox ≡ old.inbox
-  into_inbox first slots old new (inl kept) = ap (λ (w : Parts J). w.inbox) kept.1
-  into_inbox first slots old new (inr met) = meets_inbox met.0 old new met.1.1
+  into_inbox : (slot first : ℕ) (slots : List (Option (Report J))) (old new : Parts J) → ReportsInto slot first slots old new → new.inbox ≡ old.inbox
+  into_inbox slot first slots old new (inl kept) = ap (λ (w : Parts J). w.inbox) kept.1
+  into_inbox slot first slots old new (inr met) = meets_inbox met.0 old new met.1.1
 
   same_own : (to : ℕ) (old new : List (Message J)) → new ≡ old → All (IsOf routing to) old → All (IsOf routing to) new
   same_own to old new same own = subst (λ q. All (IsOf routing to) q) (sym same) own
@@ -86,8 +86,8 @@ module _ {J : Type 0} (routing : Routes) where
   pub sent_own : (executor to : ℕ) (i : Item J) (old new : Parts J) (answer : EventAnswer) → to ≡ goes_to routing executor i → SendsItem i old answer new
       → All (IsOf routing to) old.inbox → All (IsOf routing to) new.inbox
   sent_own executor to (item.Push m) old new answer is said own = push_own (nat_lt (length old.inbox) 1024) to m old new answer (sym is) said own
-  sent_own executor to (item.Report r) old new answer is said own = same_own to old.inbox new.inbox (into_inbox said.1.0 _ old new said.1.1.1.1) own
-  sent_own executor to item.Ended old new answer is said own = same_own to old.inbox new.inbox (ap (λ (w : Parts J). w.inbox) said.1.1.1) own
+  sent_own executor to (item.Report r) old new answer is said own = same_own to old.inbox new.inbox (into_inbox r.slot said.1.0 _ old new said.1.1.1.1) own
+  sent_own executor to (item.Ended slot) old new answer is said own = same_own to old.inbox new.inbox (ap (λ (w : Parts J). w.inbox) said.1.1.1) own
   sent_own executor to (item.Commit commit) old new answer is said own = same_own to old.inbox new.inbox (commits_inbox commit old new answer said) own
   sent_own executor to (item.Reply told) old new answer is said own = same_own to old.inbox new.inbox said.1.1.1.1.1.0 own
 

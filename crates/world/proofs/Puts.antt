@@ -1,10 +1,13 @@
--- Items are put for what is in hand.
-use Rattle.std.proofs.Common.{◌≡◌, ℕ, ◌+◌, List, [], ◌∷◌, ◌++◌, length, Option, Some, None, sym, subst, cond}
-use Rattle.std.specs.Prelude.{All, count_by}
-use Rattle.std.specs.List.{slice_get}
+-- Items are put for what is in hand, and the transaction in one slot goes on.
+use Rattle.std.proofs.Common.{◌≡◌, ℕ, ◌+◌, ◌<◌, List, [], ◌∷◌, ◌++◌, length, Option, Some, None, refl, sym, ◌∙◌, ap, subst, cond, arith}
+use Rattle.std.specs.Prelude.{All, count_by, slice_set}
+use Rattle.std.specs.List.{slice_get, sum_by}
 use Rattle.std.specs.List.Sorted.{IsPermutation}
+use Rattle.std.proofs.lemmas.List.{length-set, set-set}
 use Rattle.std.proofs.lemmas.List.Elements.{All-head, All-tail, All-append}
-use Rattle.std.proofs.lemmas.List.Sorted.{IsPermutation-refl, IsPermutation-append}
+use Rattle.std.proofs.lemmas.List.Sorted.{IsPermutation-refl, IsPermutation-trans, IsPermutation-append, sum_by-IsPermutation}
+use Rattle.std.proofs.lemmas.List.Sums.{sum_by-append}
+use Rattle.std.proofs.lemmas.Option.{slice_get_within}
 use Rattle.partitions.specs.Parts.{Shared}
 use Rattle.schema.specs.Database.{Database}
 use Rattle.history.specs.History.{Step, Unanswered, is_of}
@@ -15,13 +18,17 @@ use Rattle.world.specs.declared.desk.SessionDesk.{SessionDesk}
 use Rattle.world.specs.declared.flight.Item.{Item}
 use Rattle.world.specs.declared.world.Parts.{Parts}
 use Rattle.world.specs.Parted.{joined_in}
-use Rattle.world.specs.Flights.{InFlight, part, nothing, join, parts, part_item, part_met}
-use Rattle.world.specs.Sound.{IsSoundWith, IsSoundMessage, IsSoundItem, IsSoundActive, IsSessionOf, IsBalanced, WeighAlike, UnderWay, flight, reported_to, awaited, is_here}
-use Rattle.world.specs.Following.{putting}
+use Rattle.world.specs.Flights.{Token, InFlight, part, nothing, join, parts, part_message, part_item, part_met}
+use Rattle.world.specs.Sound.{Courses, UnderWay, IsSoundWith, IsSoundMessage, IsSoundItem, IsSoundActive, AreSoundActive, IsSessionOf, IsBalanced, WeighAlike, flight, reported_to, reported_to_all, awaited, awaited_by_all, is_here}
+use Rattle.world.specs.Following.{putting, with_active}
 use Rattle.world.specs.Worlds.{FitsPart, Fits}
-use Rattle.world.proofs.Joins.{IsSame, same-refl, same-sym, same-join}
-use Rattle.world.proofs.Balances.{fly, in_inbox, in_outbox, item_taken, items_put, balanced_same}
+use Rattle.world.proofs.Joins.{IsSame, same-refl, same-sym, same-trans, same-join, join-assoc}
+use Rattle.world.proofs.Balances.{in_inbox, in_outbox, item_taken, balanced_same}
 use Rattle.world.proofs.Fitting.{fits_same, fits_like}
+use Rattle.world.proofs.Reported.{met_tokens}
+use Rattle.world.proofs.OneSlot.{lots, without, of_slot, weigh_slots, awaited_of, awaited_then, flight_apart, flight_then, flight_with, none_of_slot, sound_in, sound_then}
+use Rattle.world.proofs.Courses.{course_on, course_here, course_elsewhere, messages_stay, items_stay}
+use Rattle.world.proofs.Tokens.{one_weighs}
 
 module _ {J : Type 0} where
   -- what is known of the first item of the outbox, once it is in hand
@@ -36,6 +43,7 @@ module _ {J : Type 0} where
           under_way = h.under_way;
           inbox = h.inbox;
           outbox = All-tail (IsSoundItem shared old.log h.under_way) item rest all;
+          slots = h.slots;
           active = h.active;
           seats = h.seats;
           sessions = h.sessions;
@@ -49,69 +57,194 @@ module _ {J : Type 0} where
   fits_in_hand opening history old item rest is f =
       fits_same opening history old.log (joined_in old) old.desk.admitted (flight old) (join (part_item item) (flight (record old { outbox = rest }))) (item_taken old item rest is) f
 
-  -- ---- where nothing has met
-
-  -- the inbox and the outbox
-  abbrev pub lots : Parts J → InFlight
-  lots w = fly (in_inbox w) (in_outbox w) nothing
-
-  -- what is under way once items are put and this is active, where nothing has met
-  lots_put : (w : Parts J) (items : List (Item J)) (active : Option (Active J)) → reported_to active ≡ []
-      → IsSame (flight (putting items active w)) (join (parts part_item items) (lots w))
-  lots_put w items active none =
-      let bare : Parts J = record w { desk = record w.desk { active = None } } in
-      subst (λ rs. IsSame (fly (in_inbox w) (parts part_item (w.outbox ++ items)) (parts part_met rs)) (join (parts part_item items) (lots w))) (sym none)
-      (items_put bare items)
-
-  pub puts_fits : (opening : Database) (history : List Step) (w : Parts J) (hand : InFlight) (items : List (Item J)) (active : Option (Active J)) → reported_to active ≡ []
-      → IsPermutation hand.claims (parts part_item items).claims → IsPermutation hand.pending (parts part_item items).pending
-      → FitsPart opening history w.log (joined_in w) w.desk.admitted (join hand (lots w)) → Fits opening history (putting items active w)
-  puts_fits opening history w hand items active none claims pending f =
-      let put = parts part_item items in
-      let rest = lots w in
-      fits_same opening history w.log (joined_in w) w.desk.admitted (join put rest) (flight (putting items active w)) (same-sym _ _ (lots_put w items active none))
-      (fits_like opening history w.log (joined_in w) w.desk.admitted (join hand rest) (join put rest)
-      (IsPermutation-append hand.claims put.claims rest.claims rest.claims claims (IsPermutation-refl rest.claims))
-      (IsPermutation-append hand.pending put.pending rest.pending rest.pending pending (IsPermutation-refl rest.pending)) f)
-
   -- each session has its one pass or its one transaction, and there are 64
   pub record AreServed (desk : Desk J) (pending : List Unanswered) : Type 0 where
     pub alone : (number : ℕ) (session : SessionDesk J) → slice_get desk.sessions.items number ≡ Some session
         → count_by (is_of number) pending + cond (is_here session) 1 0 ≡ 1
     pub many : length pending + count_by is_here desk.sessions.items ≡ 64
 
-  pub puts_sound : (shared : Shared) (u : UnderWay) (w : Parts J) (hand : InFlight) (items : List (Item J)) (active : Option (Active J)) → reported_to active ≡ []
-      → w.catalog ≡ shared → AreSlicesOf w.catalog w.slices.items
-      → All (IsSoundMessage shared u) w.inbox → All (IsSoundItem shared w.log u) w.outbox → All (IsSoundItem shared w.log u) items
-      → IsSoundActive shared u active → length w.desk.sessions.items ≡ 64
-      → ((number : ℕ) (session : SessionDesk J) → slice_get w.desk.sessions.items number ≡ Some session → IsSessionOf number session)
-      → IsPermutation hand.pending (parts part_item items).pending
-      → AreServed w.desk (hand.pending ++ (lots w).pending)
-      → WeighAlike ((parts part_item items).tokens ++ (lots w).tokens) (awaited active)
-      → IsSoundWith shared nothing (putting items active w)
-  puts_sound shared u w hand items active none shared_is slices inbox outbox fine sound seats sessions pending served tokens =
+  -- ---- the world but for one slot
+
+  -- All is sound but for the transaction in this slot, of which nothing is under way: of what is, there is just what the others
+  -- await.
+  pub record Rests (shared : Shared) (at : Courses) (slot : ℕ) (w : Parts J) : Type 0 where
+    pub shared_is : w.catalog ≡ shared
+    pub slices : AreSlicesOf w.catalog w.slices.items
+    pub inbox : All (IsSoundMessage shared at) w.inbox
+    pub outbox : All (IsSoundItem shared w.log at) w.outbox
+    pub slots : length w.desk.active ≡ 64
+    pub below : slot < 64
+    pub others : AreSoundActive shared at 0 (without slot w.desk.active)
+    pub seats : length w.desk.sessions.items ≡ 64
+    pub sessions : (number : ℕ) (session : SessionDesk J) → slice_get w.desk.sessions.items number ≡ Some session → IsSessionOf number session
+    pub tokens : WeighAlike (lots slot w).tokens (awaited_by_all 0 (without slot w.desk.active))
+
+  -- where all that the transaction awaits is in hand
+  pub rests_of : (shared : Shared) (hand : InFlight) (w : Parts J) (h : IsSoundWith shared hand w) (slot : ℕ) (a : Option (Active J)) → slice_get w.desk.active slot ≡ Some a
+      → WeighAlike hand.tokens (awaited slot a) → Rests shared h.under_way slot w
+  rests_of shared hand w h slot a is own = record {
+    shared_is = h.shared_is;
+    slices = h.slices;
+    inbox = h.inbox;
+    outbox = h.outbox;
+    slots = h.slots;
+    below = subst (λ n. slot < n) h.slots (slice_get_within w.desk.active slot a is);
+    others = sound_then shared h.under_way h.under_way slot w.desk.active None (λ m other. refl) h.active tt;
+    seats = h.seats;
+    sessions = h.sessions;
+    tokens = λ weight.
+        let met = parts part_met (reported_to a) in
+        omega (
+          arith,
+          h.balance.tokens weight,
+          own weight,
+          sum_by-append weight hand.tokens (flight w).tokens,
+          sum_by-IsPermutation weight (flight w).tokens (met.tokens ++ (lots slot w).tokens) (flight_apart w slot a is).tokens,
+          ap (λ ts. sum_by weight (ts ++ (lots slot w).tokens)) (met_tokens (reported_to a)),
+          awaited_of weight slot w.desk.active a is,
+        );
+  }
+
+  -- and then it may have come as far as it likes
+  pub rests_with : (shared : Shared) (at : Courses) (slot : ℕ) (w : Parts J) (u : UnderWay) → Rests shared at slot w → Rests shared (course_on at slot u) slot w
+  rests_with shared at slot w u r =
+      let g = of_slot slot in
+      let bt = course_on at slot u in
+      let stays : (m : ℕ) → g m ≡ 0 → at m ≡ bt m = λ m none. course_elsewhere at slot u m (λ is. one_at m is none) in
+      let rest = lots slot w in
+      let zero_all : sum_by (weigh_slots g) rest.tokens ≡ 0 = r.tokens (weigh_slots g) ∙ none_of_slot slot w.desk.active in
+      let met = parts part_met (reported_to_all (without slot w.desk.active)) in
+      let front = sum_by-append (weigh_slots g) (in_inbox w).tokens ((in_outbox w).tokens ++ met.tokens) in
+      let back = sum_by-append (weigh_slots g) (in_outbox w).tokens met.tokens in
+      record {
+        shared_is = r.shared_is;
+        slices = r.slices;
+        inbox = messages_stay shared g at bt stays w.inbox (omega (arith, zero_all, front, back)) r.inbox;
+        outbox = items_stay shared g at bt stays w.log w.outbox (omega (arith, zero_all, front, back)) r.outbox;
+        slots = r.slots;
+        below = r.below;
+        others = subst (λ (l : List (Option (Active J))). AreSoundActive shared bt 0 l) (set-set w.desk.active slot None None)
+            (sound_then shared at bt slot (without slot w.desk.active) None (λ m other. course_elsewhere at slot u m other) r.others tt);
+        seats = r.seats;
+        sessions = r.sessions;
+        tokens = r.tokens;
+      }
+    where
+      one_at : (m : ℕ) → m ≡ slot → of_slot slot m ≡ 0 → ⊥
+      one_at m is none = omega (arith, none, ap {B = ℕ} (λ n. of_slot slot n) is, one_weighs slot)
+
+  -- ---- the transaction in the slot goes on
+
+  -- what is under way then
+  lots_put : (w : Parts J) (items : List (Item J)) (slot : ℕ) (a : Option (Active J)) → reported_to a ≡ [] → slot < length w.desk.active
+      → IsSame (flight (putting items slot a w)) (join (parts part_item items) (lots slot w))
+  lots_put w items slot a none below =
+      subst (λ rs. IsSame (flight (putting items slot a w)) (join (parts part_met rs) (join (parts part_item items) (lots slot w)))) none (flight_then w items slot a below)
+
+  pub puts_fits : (opening : Database) (history : List Step) (w : Parts J) (hand : InFlight) (items : List (Item J)) (slot : ℕ) (a : Option (Active J)) → reported_to a ≡ [] → slot < length w.desk.active
+      → IsPermutation hand.claims (parts part_item items).claims → IsPermutation hand.pending (parts part_item items).pending
+      → FitsPart opening history w.log (joined_in w) w.desk.admitted (join hand (lots slot w)) → Fits opening history (putting items slot a w)
+  puts_fits opening history w hand items slot a none below claims pending f =
       let put = parts part_item items in
-      let rest = lots w in
-      let desk : Desk J = record w.desk { active = active } in
+      let rest = lots slot w in
+      fits_same opening history w.log (joined_in w) w.desk.admitted (join put rest) (flight (putting items slot a w)) (same-sym _ _ (lots_put w items slot a none below))
+      (fits_like opening history w.log (joined_in w) w.desk.admitted (join hand rest) (join put rest)
+      (IsPermutation-append hand.claims put.claims rest.claims rest.claims claims (IsPermutation-refl rest.claims))
+      (IsPermutation-append hand.pending put.pending rest.pending rest.pending pending (IsPermutation-refl rest.pending)) f)
+
+  pub puts_sound : (shared : Shared) (at : Courses) (slot : ℕ) (w : Parts J) (hand : InFlight) (items : List (Item J)) (a : Option (Active J)) → Rests shared at slot w → reported_to a ≡ []
+      → All (IsSoundItem shared w.log at) items → IsSoundActive shared slot (at slot) a
+      → IsPermutation hand.pending (parts part_item items).pending
+      → AreServed w.desk (hand.pending ++ (lots slot w).pending)
+      → WeighAlike (parts part_item items).tokens (awaited slot a)
+      → IsSoundWith shared nothing (putting items slot a w)
+  puts_sound shared at slot w hand items a r none fine sound pending served tokens =
+      let put = parts part_item items in
+      let rest = lots slot w in
+      let desk : Desk J = record w.desk { active = slice_set w.desk.active slot a } in
+      let below : slot < length w.desk.active = subst (λ n. slot < n) (sym r.slots) r.below in
       let first : InFlight = part put.claims hand.pending put.tokens in
       let same : IsSame first put = record { claims = IsPermutation-refl put.claims; pending = pending; tokens = IsPermutation-refl put.tokens } in
-      let balance : IsBalanced desk (join first rest) = record { tokens = tokens; alone = served.alone; many = served.many } in
+      let balance : IsBalanced desk (join first rest) = record {
+        tokens = λ weight. omega (arith, tokens weight, r.tokens weight, sum_by-append weight put.tokens rest.tokens, awaited_then weight slot w.desk.active a below);
+        alone = served.alone;
+        many = served.many;
+      } in
       record {
-        shared_is = shared_is;
-        slices = slices;
-        under_way = u;
-        inbox = inbox;
-        outbox = All-append (IsSoundItem shared w.log u) w.outbox items outbox fine;
-        active = sound;
-        seats = seats;
-        sessions = sessions;
-        balance = balanced_same desk (join put rest) (flight (putting items active w)) (same-sym _ _ (lots_put w items active none))
+        shared_is = r.shared_is;
+        slices = r.slices;
+        under_way = at;
+        inbox = r.inbox;
+        outbox = All-append (IsSoundItem shared w.log at) w.outbox items r.outbox fine;
+        slots = length-set w.desk.active slot a ∙ r.slots;
+        active = subst (λ (l : List (Option (Active J))). AreSoundActive shared at 0 l) (set-set w.desk.active slot None a)
+            (sound_then shared at at slot (without slot w.desk.active) a (λ m other. refl) r.others sound);
+        seats = r.seats;
+        sessions = r.sessions;
+        balance = balanced_same desk (join put rest) (flight (putting items slot a w)) (same-sym _ _ (lots_put w items slot a none below))
             (balanced_same desk (join first rest) (join put rest) (same-join first put rest rest same (same-refl rest)) balance);
       }
-
-  -- ---- what goes on
 
   -- from what was in hand, the next world is sound, and a history that fits goes on fitting
   pub record GoesOn (shared : Shared) (hand : InFlight) (old new : Parts J) : Type 0 where
     pub sound : IsSoundWith shared nothing new
     pub fits : (opening : Database) (history : List Step) → FitsPart opening history old.log (joined_in old) old.desk.admitted (join hand (flight old)) → Fits opening history new
+
+  -- ---- what is in hand joins what the slot has
+
+  -- What is in hand, with what has met in the slot, is what has met there then; and it awaits so much less.
+  pub joins_on : (shared : Shared) (hand : InFlight) (w : Parts J) (h : IsSoundWith shared hand w) (slot : ℕ) (a b : Option (Active J)) → slice_get w.desk.active slot ≡ Some a
+      → IsSoundActive shared slot (h.under_way slot) b
+      → ((weight : Token → ℕ) → sum_by weight hand.tokens + sum_by weight (awaited slot b) ≡ sum_by weight (awaited slot a))
+      → IsPermutation (hand.claims ++ (parts part_met (reported_to a)).claims) (parts part_met (reported_to b)).claims
+      → IsPermutation (hand.pending ++ (parts part_met (reported_to a)).pending) (parts part_met (reported_to b)).pending
+      → GoesOn shared hand w (with_active slot b w)
+  joins_on shared hand w h slot a b is sound awaits claims pending =
+      let next : Parts J = with_active slot b w in
+      let was = parts part_met (reported_to a) in
+      let now = parts part_met (reported_to b) in
+      let rest = lots slot w in
+      let within = slice_get_within w.desk.active slot a is in
+      let apart : IsSame (join hand (flight w)) (join (join hand was) rest) =
+      subst (λ q. IsSame (join hand (flight w)) q) (sym (join-assoc hand was rest)) (same-join hand hand (flight w) (join was rest) (same-refl hand) (flight_apart w slot a is)) in
+      let met : InFlight = part now.claims now.pending (hand.tokens ++ was.tokens) in
+      let joined : IsSame (join hand was) met = record { claims = claims; pending = pending; tokens = IsPermutation-refl (hand.tokens ++ was.tokens) } in
+      let with_token : IsSame (join hand (flight w)) (join met rest) = same-trans (join hand (flight w)) (join (join hand was) rest) (join met rest) apart (same-join (join hand was) met rest rest joined (same-refl rest)) in
+      let then : IsSame (join now rest) (flight next) = same-sym _ _ (flight_with w slot b within) in
+      let desk : Desk J = next.desk in
+      let before = balanced_same w.desk (join hand (flight w)) (join met rest) with_token h.balance in
+      let balance : IsBalanced desk (join now rest) = record {
+        tokens = λ weight.
+            omega (
+              arith,
+              before.tokens weight,
+              awaits weight,
+              sum_by-append weight (hand.tokens ++ was.tokens) rest.tokens,
+              sum_by-append weight hand.tokens was.tokens,
+              sum_by-append weight now.tokens rest.tokens,
+              ap (λ ts. sum_by weight ts) (met_tokens (reported_to a)),
+              ap (λ ts. sum_by weight ts) (met_tokens (reported_to b)),
+              awaited_of weight slot w.desk.active a is,
+              awaited_then weight slot w.desk.active b within,
+            );
+        alone = before.alone;
+        many = before.many;
+      } in
+      record {
+        sound = record {
+          shared_is = h.shared_is;
+          slices = h.slices;
+          under_way = h.under_way;
+          inbox = h.inbox;
+          outbox = h.outbox;
+          slots = length-set w.desk.active slot b ∙ h.slots;
+          active = sound_then shared h.under_way h.under_way slot w.desk.active b (λ m other. refl) h.active sound;
+          seats = h.seats;
+          sessions = h.sessions;
+          balance = balanced_same desk (join now rest) (flight next) then balance;
+        };
+        fits = λ opening history f.
+            let together = fits_same opening history w.log (joined_in w) w.desk.admitted (join hand (flight w)) (join met rest) with_token f in
+            fits_same opening history w.log (joined_in w) w.desk.admitted (join now rest) (flight next) then
+            (record { told = together.told; committed = together.committed; scale = together.scale; items = together.items });
+      }

@@ -96,6 +96,7 @@ module _ {J : Type 0} where
       under_way = h.under_way;
       inbox = All-permutation (IsSoundMessage shared h.under_way) ms ns messages.order h.inbox;
       outbox = All-permutation (IsSoundItem shared w.log h.under_way) is js items.order h.outbox;
+      slots = h.slots;
       active = h.active;
       seats = h.seats;
       sessions = h.sessions;

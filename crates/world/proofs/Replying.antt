@@ -64,6 +64,7 @@ module _ {J : Type 0} where
           under_way = h.under_way;
           inbox = h.inbox;
           outbox = h.outbox;
+          slots = h.slots;
           active = h.active;
           seats = ap (λ (l : List (SessionDesk J)). length l) sessions_are ∙ length-set w.desk.sessions.items place session ∙ h.seats;
           sessions = subst (λ l. AreInPlace l) (sym sessions_are) placed;

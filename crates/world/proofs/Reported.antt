@@ -89,7 +89,7 @@ module _ {J : Type 0} where
 
   -- ---- the reports of a phase
 
-  module _ (shared : Shared) (u : UnderWay) where
+  module _ (shared : Shared) (slot : ℕ) (u : UnderWay) where
     -- an action that ran has done this work, and all of it can be taken back
     abbrev pub HasRan : Work → Ran J → Type 0
     HasRan work (ran.Done claims found) = HasDone shared work found claims × CanAllBeUndone claims
@@ -99,7 +99,7 @@ module _ {J : Type 0} where
     -- From this place on each action has reported of its own work.
     abbrev pub HaveReported : ℕ → List Work → List (Report J) → Type 0
     HaveReported place [] [] = Unit {0}
-    HaveReported place (work ∷ works) (r ∷ reports) = (IsCarriedAt u place r.flow × HasRan work r.ran) × HaveReported (suc place) works reports
+    HaveReported place (work ∷ works) (r ∷ reports) = (IsCarriedAt slot u place r.flow × HasRan work r.ran) × HaveReported (suc place) works reports
     HaveReported place works reports = ⊥
 
     ran_at : (place : ℕ) (work : Work) (r : Ran J) → IsWorkAt u place work → IsSoundRan shared u place r → HasRan work r
@@ -112,7 +112,7 @@ module _ {J : Type 0} where
 
     have_reported : (place : ℕ) (works : List Work) (reports : List (Report J)) → length reports ≡ length works
         → ((i : ℕ) → slice_get (works_of u.progress) (place + i) ≡ slice_get works i)
-        → ((i : ℕ) (r : Report J) → slice_get reports i ≡ Some r → IsPlaceOf u (place + i) r.place × IsSoundReport shared u r)
+        → ((i : ℕ) (r : Report J) → slice_get reports i ≡ Some r → IsPlaceOf u (place + i) r.place × ((r.slot ≡ slot) × IsSoundReport shared u r))
         → HaveReported place works reports
     have_reported place [] [] many at each = tt
     have_reported place [] (r ∷ reports) many at each = absurd (omega (arith, many))
@@ -120,18 +120,20 @@ module _ {J : Type 0} where
     have_reported place (work ∷ works) (r ∷ reports) many at each =
         let first = each 0 r refl in
         let zero_more : place + 0 ≡ place = omega arith in
-        let here : first.1.number ≡ place = omega (arith, first.0, first.1.place) in
+        let one = first.1.1 in
+        let here : one.number ≡ place = omega (arith, first.0, one.place) in
+        let carried : IsCarriedAt slot u place r.flow = subst (λ s. IsCarriedAt s u place r.flow) first.1.0 (subst (λ n. IsCarriedAt r.slot u n r.flow) here one.flow) in
         let own : IsWorkAt u place work = subst (λ n. slice_get (works_of u.progress) n ≡ Some work) zero_more (at 0) in (
-          (subst (λ n. IsCarriedAt u n r.flow) here first.1.flow, ran_at place work r.ran own (subst (λ n. IsSoundRan shared u n r.ran) here first.1.ran)),
+          (carried, ran_at place work r.ran own (subst (λ n. IsSoundRan shared u n r.ran) here one.ran)),
           have_reported (suc place) works reports (omega (arith, many))
               (λ i. let one_more : place + suc i ≡ suc place + i = omega arith in subst (λ n. slice_get (works_of u.progress) n ≡ slice_get works i) one_more (at (suc i)))
               (λ i q is. let e = each (suc i) q is in (omega (arith, e.0), e.1)),
         )
 
     -- where all places of the phase have reported
-    pub phase_reported : (first k : ℕ) (slots : List (Option (Report J))) (r : Report J) (reports : List (Report J)) → IsSoundPhase shared u first slots → IsSoundReport shared u r
-        → r.place ≡ first + k → map Some reports ≡ slice_set slots k (Some r) → HaveReported 0 (works_of u.progress) reports
-    phase_reported first k slots r reports at s here all =
+    pub phase_reported : (first k : ℕ) (slots : List (Option (Report J))) (r : Report J) (reports : List (Report J)) → IsSoundPhase shared slot u first slots → IsSoundReport shared u r
+        → r.slot ≡ slot → r.place ≡ first + k → map Some reports ≡ slice_set slots k (Some r) → HaveReported 0 (works_of u.progress) reports
+    phase_reported first k slots r reports at s own here all =
         let many : length reports ≡ length (works_of u.progress) =
         sym (length-map reports Some) ∙ ap (λ (l : List (Option (Report J))). length l) all ∙ length-set slots k (Some r) ∙ at.many in
         have_reported 0 (works_of u.progress) reports many (λ i. let same : 0 + i ≡ i = omega arith in ap (λ n. slice_get (works_of u.progress) n) same)
@@ -141,24 +143,24 @@ module _ {J : Type 0} where
         some_of None = None
         some_of (Some q) = Some (Some q)
 
-        by : (i : ℕ) (q : Report J) → ((i ≡ k) × (Some r ≡ Some q)) ⊎ (slice_get slots i ≡ Some (Some q)) → IsPlaceOf u (0 + i) q.place × IsSoundReport shared u q
+        by : (i : ℕ) (q : Report J) → ((i ≡ k) × (Some r ≡ Some q)) ⊎ (slice_get slots i ≡ Some (Some q)) → IsPlaceOf u (0 + i) q.place × ((q.slot ≡ slot) × IsSoundReport shared u q)
         by i q (inl put) =
             let both = put.1 in
             let same : r ≡ q = cc in
-            subst (λ (p : Report J). IsPlaceOf u (0 + i) p.place × IsSoundReport shared u p) same (omega (arith, put.0, here, at.first_is), s)
+            subst (λ (p : Report J). IsPlaceOf u (0 + i) p.place × ((p.slot ≡ slot) × IsSoundReport shared u p)) same (omega (arith, put.0, here, at.first_is), (own, s))
         by i q (inr stood) = let told = at.reports i q stood in (omega (arith, told.0, at.first_is), told.1)
 
     -- ---- who carries the transaction
 
-    pub is_carried : (o : Option (Flow J)) → IsCarriedAt u 0 o → (flow : Flow J) × ((o ≡ Some flow) × IsSoundFlow u flow)
+    pub is_carried : (o : Option (Flow J)) → IsCarriedAt slot u 0 o → (flow : Flow J) × ((o ≡ Some flow) × IsSoundFlow slot u flow)
     is_carried None h = absurd h
     is_carried (Some flow) h = (flow, (refl, h))
 
-    carries_none : (place : ℕ) (o : Option (Flow J)) → IsCarriedAt u (suc place) o → o ≡ None
+    carries_none : (place : ℕ) (o : Option (Flow J)) → IsCarriedAt slot u (suc place) o → o ≡ None
     carries_none place None h = refl
     carries_none place (Some flow) h = absurd h
 
-    part_later : (place : ℕ) (r : Report J) → IsCarriedAt u (suc place) r.flow → part_met r ≡ part (all_claims (held_by r.ran)) [] []
+    part_later : (place : ℕ) (r : Report J) → IsCarriedAt slot u (suc place) r.flow → part_met r ≡ part (all_claims (held_by r.ran)) [] []
     part_later place r h =
         ap (λ (o : Option (Flow J)). part ((part_carried o).claims ++ claims_of_ran r.ran) (part_carried o).pending []) (carries_none place r.flow h)
         ∙ ap (λ cs. part cs [] []) (held_by_ran r.ran)

@@ -45,6 +45,7 @@ module _ {J : Type 0} where
         under_way = h.under_way;
         inbox = All-push (IsSoundMessage shared h.under_way) mid.inbox message h.inbox fine;
         outbox = h.outbox;
+        slots = h.slots;
         active = h.active;
         seats = h.seats;
         sessions = h.sessions;
@@ -71,6 +72,7 @@ module _ {J : Type 0} where
     under_way = h.under_way;
     inbox = h.inbox;
     outbox = All-push (IsSoundItem shared mid.log h.under_way) mid.outbox item h.outbox fine;
+    slots = h.slots;
     active = h.active;
     seats = h.seats;
     sessions = h.sessions;
@@ -81,32 +83,3 @@ module _ {J : Type 0} where
       → FitsPart opening history mid.log (joined_in mid) mid.desk.admitted (join (part_item item) (flight mid)) → Fits opening history (record mid { outbox = mid.outbox ++ item ∷ [] })
   put_back_fits opening history mid item f =
       fits_same opening history mid.log (joined_in mid) mid.desk.admitted (join (part_item item) (flight mid)) (flight (record mid { outbox = mid.outbox ++ item ∷ [] })) (item_back mid item) f
-
-  -- ---- what has met
-
-  -- with what is in hand beside the inbox, the outbox and what has met
-  abbrev pub beside : InFlight → Parts J → List (Report J) → InFlight
-  beside hand w met = join hand (fly (in_inbox w) (in_outbox w) (parts part_met met))
-
-  -- what is balanced beside what has met, and what is awaited
-  pub record Beside (hand : InFlight) (w : Parts J) (met : List (Report J)) (await : List Token) : Type 0 where
-    pub served : AreServed w.desk (beside hand w met).pending
-    pub tokens : WeighAlike (beside hand w met).tokens await
-
-  pub beside_now : (hand : InFlight) (w : Parts J) (met : List (Report J)) (await : List Token) → IsBalanced w.desk (join hand (flight w))
-      → reported_to w.desk.active ≡ met → awaited w.desk.active ≡ await → Beside hand w met await
-  beside_now hand w met await h is awaits =
-      let b = subst (λ rs. IsBalanced w.desk (beside hand w rs)) is h in
-      record {
-        served = record { alone = b.alone; many = b.many };
-        tokens = subst (λ ts. WeighAlike (beside hand w met).tokens ts) awaits b.tokens;
-      }
-
-  pub first_met : (w : Parts J) (first : ℕ) (slots : List (Option (Report J))) → w.desk.active ≡ Some (active.Acting first slots) → reported_to w.desk.active ≡ reported slots
-  first_met w first slots is = ap reported_to is
-
-  pub none_met : (w : Parts J) → w.desk.active ≡ Some active.Committing → reported_to w.desk.active ≡ []
-  none_met w is = ap reported_to is
-
-  pub ending_met : (w : Parts J) (left : ℕ) → w.desk.active ≡ Some (active.Ending left) → reported_to w.desk.active ≡ []
-  ending_met w left is = ap reported_to is

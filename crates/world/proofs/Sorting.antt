@@ -1,6 +1,7 @@
 -- What the actions of a phase reported is sorted out, one report after another.
 use Rattle.std.proofs.Common.{◌≡◌, ◌↔◌, ◌⊎◌, inl, inr, false, ℕ, ◌+◌, ◌<◌, ◌≤◌, List, [], ◌∷◌, ◌++◌, length, Option, Some, None, refl, sym, ◌∙◌, ap, subst, arith, append-nil, append_assoc, IsSome}
-use Rattle.std.proofs.lemmas.List.{length-append}
+use Rattle.std.specs.Prelude.{slice_set}
+use Rattle.std.proofs.lemmas.List.{length-append, set-set}
 use Rattle.requests.specs.declared.refusal.Refusal.{Refusal}
 use Rattle.requests.specs.declared.refusal.Refusal.TheVariants as refusal
 use Rattle.tickets.specs.Claims.{Claiming}
@@ -15,9 +16,10 @@ use Rattle.transactions.specs.Progresses.{FollowsFrom, works_of}
 use Rattle.transactions.specs.declared.laws.TheConstants.{MOST_ACTIONS}
 use Rattle.world.specs.declared.desk.Active.{Active}
 use Rattle.world.specs.declared.flight.Flow.{Flow}
+use Rattle.world.specs.declared.flight.Item.{Item}
 use Rattle.world.specs.declared.flight.Report.{Report}
 use Rattle.world.specs.declared.world.Parts.{Parts}
-use Rattle.world.specs.Following.{CarriesFirst, IfCarried, found_by, found_in, held_by, held_in, holding, refusal_of, refused, refused_by, releasing, with_active}
+use Rattle.world.specs.Following.{CarriesFirst, IfCarried, found_by, found_in, held_by, held_in, holding, putting, refusal_of, refused, refused_by, releasing, with_active}
 use Rattle.world.specs.Events.{CanMeet, CanMeetFor, GathersInto, HasMet, MeetsAs, MeetsUnless, goes_on}
 use Rattle.transactions.proofs.Reached.{few_actions}
 use Rattle.world.proofs.Reported.{one_holds, stays_refused}
@@ -33,6 +35,10 @@ next_few progress next found met follows =
     let held = met.2 in
     let claims = met.3 in
     omega (arith, few_actions met.0 met.1 next (held ++ claims) (follows met.0 met.1 held claims met.4 met.5))
+
+-- what is put into a slot that was emptied before
+pub put_twice : {X : Type 0} (slots mid now : List (Option X)) (slot : ℕ) (a : Option X) → mid ≡ slice_set slots slot None → now ≡ slice_set mid slot a → now ≡ slice_set slots slot a
+put_twice slots mid now slot a free put = put ∙ ap (λ l. slice_set l slot a) free ∙ set-set slots slot None a
 
 module _ {J : Type 0} where
   -- who isn't refused now wasn't before
@@ -147,6 +153,12 @@ module _ {J : Type 0} where
       (λ f meets is.
       omega (arith, meets.room, ap (λ (x : Flow J). length x.transaction.held) is, length-append f.transaction.held (held_in reports), few_held reports)) can sorted
 
+  -- the transaction is still in its slot
+  pub sorted_slot : (reports : List (Report J)) (last : Flow J) → CanMeet reports → IsSorted reports last → last.transaction.slot < 64
+  sorted_slot reports last can sorted =
+      carried_both reports (CanMeetFor reports) (λ f. last ≡ record f { transaction = holding f.transaction (held_in reports) }) (last.transaction.slot < 64)
+      (λ f meets is. subst (λ n. n < 64) (sym (ap (λ (x : Flow J). x.transaction.slot) is)) meets.slot) can sorted
+
   -- where it isn't refused, its actions have done their work
   pub sorted_done : (reports : List (Report J)) (last : Flow J) (start : Option Refusal) (found : List Found) → CanMeet reports → IsSorted reports last → refusal_of start reports ≡ None → found ≡ found_in reports
       → HasMet last.progress found
@@ -204,18 +216,29 @@ module _ {J : Type 0} where
       subst (λ o. MeetsUnless o reports f old new) (sym from_none)
       (subst (λ (x : Flow J). GathersInto x.progress (found_in reports) x.transaction old new) same (subst (λ fs. GathersInto last.progress fs last.transaction old new) is_found gathers))) sorted
 
-  -- whichever transaction was active
-  unless_active : (why : Option Refusal) (reports : List (Report J)) (f : Flow J) (a : Option (Active J)) (old new : Parts J) → MeetsUnless why reports f (with_active a old) new → MeetsUnless why reports f old new
-  unless_active (Some why) reports f a old new h = h
-  unless_active None reports f a old new (inl h) = inl h
-  unless_active None reports f a old new (inr h) = inr (h.0, (h.1.0, h.1.1 ∙ goes_alike h.0))
-    where
-      goes_alike : (g : Gathered) → goes_on (holding f.transaction (held_in reports)) g (with_active a old) ≡ goes_on (holding f.transaction (held_in reports)) g old
-      goes_alike (Next progress) = refl
-      goes_alike (Finish shown) = refl
-      goes_alike (RollBack fault) = refl
+  -- whatever was in the transaction's slot
+  putting_over : (items : List (Item J)) (own slot : ℕ) (b a : Option (Active J)) (w : Parts J) → own ≡ slot → putting items own b (with_active slot a w) ≡ putting items own b w
+  putting_over items own slot b a w same =
+      ap (λ (l : List (Option (Active J))). record w { outbox = w.outbox ++ items; desk = record w.desk { active = l } })
+      (subst (λ n. slice_set (slice_set w.desk.active n a) own b ≡ slice_set w.desk.active own b) same (set-set w.desk.active own a b))
 
-  pub meets_active : (reports : List (Report J)) (a : Option (Active J)) (old new : Parts J) → MeetsAs reports (with_active a old) new → MeetsAs reports old new
-  meets_active reports a old new h =
-      carried_there reports (λ f. MeetsUnless (refusal_of None reports) reports f (with_active a old) new) (λ f. MeetsUnless (refusal_of None reports) reports f old new)
-      (λ f h. unless_active (refusal_of None reports) reports f a old new h) h
+  unless_active : (why : Option Refusal) (reports : List (Report J)) (f : Flow J) (slot : ℕ) (a : Option (Active J)) (old new : Parts J) → f.transaction.slot ≡ slot
+      → MeetsUnless why reports f (with_active slot a old) new → MeetsUnless why reports f old new
+  unless_active (Some why) reports f slot a old new same h = h ∙ putting_over _ f.transaction.slot slot _ a old same
+  unless_active None reports f slot a old new same (inl h) = inl (h ∙ putting_over _ f.transaction.slot slot _ a old same)
+  unless_active None reports f slot a old new same (inr h) = inr (h.0, (h.1.0, h.1.1 ∙ goes_alike h.0))
+    where
+      goes_alike : (g : Gathered) → goes_on (holding f.transaction (held_in reports)) g (with_active slot a old) ≡ goes_on (holding f.transaction (held_in reports)) g old
+      goes_alike (Next progress) = putting_over _ f.transaction.slot slot _ a old same
+      goes_alike (Finish shown) = putting_over _ f.transaction.slot slot _ a old same
+      goes_alike (RollBack fault) = putting_over _ f.transaction.slot slot _ a old same
+
+  pub meets_active : (reports : List (Report J)) (slot : ℕ) (a : Option (Active J)) (old new : Parts J) → CarriesFirst reports (λ f. f.transaction.slot ≡ slot)
+      → MeetsAs reports (with_active slot a old) new → MeetsAs reports old new
+  meets_active [] slot a old new own h = h
+  meets_active (r ∷ reports) slot a old new own h = by r.flow own h
+    where
+      by : (o : Option (Flow J)) → IfCarried o (λ f. f.transaction.slot ≡ slot) → IfCarried o (λ f. MeetsUnless (refusal_of None (r ∷ reports)) (r ∷ reports) f (with_active slot a old) new)
+          → IfCarried o (λ f. MeetsUnless (refusal_of None (r ∷ reports)) (r ∷ reports) f old new)
+      by None own h = h
+      by (Some f) own h = unless_active (refusal_of None (r ∷ reports)) (r ∷ reports) f slot a old new own h

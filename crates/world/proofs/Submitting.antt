@@ -1,7 +1,7 @@
 -- What a submission is answered.
 use Rattle.std.proofs.Common.{◌≡◌, ◌≤◌, ◌<◌, ℕ, List, length, get_or, refl, sym, ap, ◌∙◌, subst, Ok, Some, None}
 use Rattle.std.specs.Prelude.{Bool, true, false, ◌&&◌, not, nat_lt, Option, Result, is_some, slice_get}
-use Rattle.std.proofs.lemmas.Bool.{le-ltb, lt-ltb}
+use Rattle.std.proofs.lemmas.Bool.{le-ltb, lt-leb, lt-ltb}
 use Rattle.std.proofs.lemmas.Option.{slice_get_read}
 use Rattle.std.proofs.Math.Bool.{and-false}
 use Rattle.commit_log.specs.Passing.{Passing}
@@ -12,7 +12,8 @@ use Rattle.requests.specs.declared.request.Request.{Request}
 use Rattle.schema.specs.declared.scale.Scale.{Scale}
 use Rattle.world.specs.declared.desk.SessionDesk.{SessionDesk}
 use Rattle.world.specs.declared.world.Parts.{Parts}
-use Rattle.world.specs.Worlds.{CanAsk, SubmitsAt, SubmitsInto, SubmitsUnless, can_admit, refusal_at, refuses}
+use Rattle.world.specs.Slots.{count_active}
+use Rattle.world.specs.Worlds.{CanAsk, SubmitsAt, SubmitsInto, SubmitsUnless, can_admit, is_full, refusal_at, refuses}
 
 -- a list has the element that was read of it
 pub found : {X : Type 0} (xs shown : List X) (place : ℕ) (x : X) → shown ≡ xs → place < length shown → x ≡ get_or shown place x → slice_get xs place ≡ Some x
@@ -22,7 +23,8 @@ found {X} xs shown place x is inside read = subst (λ (ys : List X). slice_get y
 pub is_there : (pass : Option Passing) (away : Bool) → is_some pass ≡ not away → away ≡ false → is_some pass ≡ true
 is_there pass away told here = told ∙ ap not here
 
--- nothing speaks against a request whose session's pass is there, that its check accepts, while no transaction is active
+-- nothing speaks against a request whose session's pass is there, that its check accepts, while not as many transactions are
+-- active as can be
 not_refused : (pass : Option Passing) (checked : Result (Unit {0}) Refusal) (accepted : Unit {0}) (active : Bool)
     → is_some pass ≡ true → checked ≡ Ok accepted → active ≡ false → refuses pass checked active ≡ None
 not_refused None checked accepted active there ok idle = absurd (cc)
@@ -48,12 +50,12 @@ module _ {J : Type 0} where
   can_ask at desk is there = subst (λ (o : Option (SessionDesk J)). CanAsk o) (sym is) there
 
   -- so the desk does not refuse it
-  pub unrefused : (desk : SessionDesk J) (asked : Request) (old : Parts J) (scale : Scale) (accepted : Unit {0}) (busy : Bool)
-      → is_some desk.pass ≡ true → scale ≡ old.catalog.scale → Ok accepted ≡ check_of scale asked → busy ≡ is_some old.desk.active → busy ≡ false
+  pub unrefused : (desk : SessionDesk J) (asked : Request) (old : Parts J) (scale : Scale) (accepted : Unit {0})
+      → is_some desk.pass ≡ true → scale ≡ old.catalog.scale → Ok accepted ≡ check_of scale asked → count_active old.desk.active < 64
       → refusal_at desk asked old ≡ None
-  unrefused desk asked old scale accepted busy there same checked told idle =
-      not_refused desk.pass (check_of old.catalog.scale asked) accepted (is_some old.desk.active) there
-      (ap (λ (s : Scale). check_of s asked) (sym same) ∙ sym checked) (sym told ∙ idle)
+  unrefused desk asked old scale accepted there same checked room =
+      not_refused desk.pass (check_of old.catalog.scale asked) accepted (is_full old.desk.active) there
+      (ap (λ (s : Scale). check_of s asked) (sym same) ∙ sym checked) (lt-leb 64 (count_active old.desk.active) room)
 
   -- what is done with a request that is not refused
   pub submits : (at : Option (SessionDesk J)) (desk : SessionDesk J) (session number : ℕ) (asked : Request) (old : Parts J) (answer : EventAnswer) (new : Parts J) (room : Bool)

@@ -34,6 +34,7 @@ module _ {J : Type 0} where
           under_way = h.under_way;
           inbox = All-tail (IsSoundMessage shared h.under_way) message rest all;
           outbox = h.outbox;
+          slots = h.slots;
           active = h.active;
           seats = h.seats;
           sessions = h.sessions;
@@ -59,6 +60,7 @@ module _ {J : Type 0} where
         under_way = u;
         inbox = h.inbox;
         outbox = All-append (IsSoundItem shared mid.log u) mid.outbox items h.outbox fine;
+        slots = h.slots;
         active = h.active;
         seats = h.seats;
         sessions = h.sessions;

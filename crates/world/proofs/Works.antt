@@ -22,61 +22,63 @@ use Rattle.world.specs.declared.flight.Message.TheVariants.{Start, Act, Settle, 
 use Rattle.world.specs.declared.world.Parts.{Parts}
 use Rattle.world.specs.Flights.{Acting, InFlight, part, join, parts, part_carried, part_item, acting_from, unanswered_transaction}
 use Rattle.world.specs.Following.{acts_from, acts_of}
-use Rattle.world.specs.Sound.{IsCarriedAt, IsSoundAct, IsSoundItem, IsSoundRan, IsSoundStart, IsPlaceOf, IsWorkAt, UnderWay}
+use Rattle.world.specs.Sound.{IsCarriedAt, IsSoundAct, IsSoundItem, IsSoundRan, IsSoundStart, IsPlaceOf, IsWorkAt, UnderWay, Courses}
 use Rattle.world.specs.Parted.{joined_in}
 use Rattle.world.specs.Events.{ComesOf, TakesMessage, Works}
 use Rattle.world.proofs.Keeping.{more, stays}
 
 -- actions that carry nothing have their tokens alone
-part_acts_from : (J : Type 0) (place age : ℕ) (works : List Work) → parts part_item (acts_from {J = J} place age None works) ≡ part [] [] (acting_from place works)
-part_acts_from J place age [] = refl
-part_acts_from J place age (work ∷ works) = ap (λ (p : InFlight). join (part [] [] (Acting place ∷ [])) p) (part_acts_from J (place + 1) age works)
+part_acts_from : (J : Type 0) (place age slot : ℕ) (works : List Work) → parts part_item (acts_from {J = J} place age slot None works) ≡ part [] [] (acting_from slot place works)
+part_acts_from J place age slot [] = refl
+part_acts_from J place age slot (work ∷ works) = ap (λ (p : InFlight). join (part [] [] (Acting slot place ∷ [])) p) (part_acts_from J (place + 1) age slot works)
 
 -- where nothing is carried but with the first action
-carried_later : (J : Type 0) (u : UnderWay) (number : ℕ) → 1 ≤ number → IsCarriedAt {J = J} u number None
-carried_later J u zero some = absurd (omega (arith, some))
-carried_later J u (suc number) some = tt
+carried_later : (J : Type 0) (slot : ℕ) (u : UnderWay) (number : ℕ) → 1 ≤ number → IsCarriedAt {J = J} slot u number None
+carried_later J slot u zero some = absurd (omega (arith, some))
+carried_later J slot u (suc number) some = tt
 
 module _ {J : Type 0} where
-  one_fine : (shared : Shared) (log : List Entry) (u : UnderWay) (one : Item J) → IsSoundItem shared log u one → All (IsSoundItem {J = J} shared log u) (one ∷ [])
+  one_fine : (shared : Shared) (log : List Entry) (u : Courses) (one : Item J) → IsSoundItem shared log u one → All (IsSoundItem {J = J} shared log u) (one ∷ [])
   one_fine shared log u one fine = All-cons (IsSoundItem shared log u) one [] fine (All-nil (IsSoundItem shared log u))
 
   -- ---- the actions of a phase
 
   -- all of them have the transaction, and their tokens
   pub part_acts : (flow : Flow J) (works : List Work) → 1 ≤ length works
-      → parts part_item (acts_of flow works) ≡ part (all_claims flow.transaction.held) (unanswered_transaction flow.transaction ∷ []) (acting_from (length flow.transaction.held) works)
+      → parts part_item (acts_of flow works) ≡ part (all_claims flow.transaction.held) (unanswered_transaction flow.transaction ∷ []) (acting_from flow.transaction.slot (length flow.transaction.held) works)
   part_acts flow [] some = absurd (omega (arith, some))
   part_acts flow (work ∷ works) some =
       let t = flow.transaction in
-      let first = part (all_claims t.held) (unanswered_transaction t ∷ []) (Acting (length t.held) ∷ []) in
-      ap (λ (p : InFlight). join first p) (part_acts_from J (length t.held + 1) t.age works)
-      ∙ ap (λ (claims : List Claiming). part claims (unanswered_transaction t ∷ []) (acting_from (length t.held) (work ∷ works))) (append-nil (all_claims t.held))
+      let first = part (all_claims t.held) (unanswered_transaction t ∷ []) (Acting t.slot (length t.held) ∷ []) in
+      ap (λ (p : InFlight). join first p) (part_acts_from J (length t.held + 1) t.age t.slot works)
+      ∙ ap (λ (claims : List Claiming). part claims (unanswered_transaction t ∷ []) (acting_from t.slot (length t.held) (work ∷ works))) (append-nil (all_claims t.held))
 
   -- those from a number on are sound
-  acts_fine_from : (shared : Shared) (log : List Entry) (u : UnderWay) (number place age : ℕ) (carried : Option (Flow J)) (works : List Work)
-      → IsPlaceOf u number place → IsCarriedAt u number carried → ((k : ℕ) (work : Work) → slice_get works k ≡ Some work → IsWorkAt u (number + k) work) → All (CanDo shared) works
-      → All (IsSoundItem shared log u) (acts_from place age carried works)
-  acts_fine_from shared log u number place age carried [] is here at can = All-nil (IsSoundItem shared log u)
-  acts_fine_from shared log u number place age carried (work ∷ works) is here at can =
-      let act : AnyAct J = record { place = place; age = age; work = work; flow = carried } in
+  acts_fine_from : (shared : Shared) (log : List Entry) (at : Courses) (number place age slot : ℕ) (carried : Option (Flow J)) (works : List Work)
+      → (let u = at slot in IsPlaceOf u number place → IsCarriedAt slot u number carried → ((k : ℕ) (work : Work) → slice_get works k ≡ Some work → IsWorkAt u (number + k) work) → All (CanDo shared) works
+      → All (IsSoundItem shared log at) (acts_from place age slot carried works))
+  acts_fine_from shared log at number place age slot carried [] is here does can = All-nil (IsSoundItem shared log at)
+  acts_fine_from shared log at number place age slot carried (work ∷ works) is here does can =
+      let u = at slot in
+      let act : AnyAct J = record { place = place; age = age; slot = slot; work = work; flow = carried } in
       let first : number + 0 ≡ number = omega arith in
       let later : (k : ℕ) → number + suc k ≡ (number + 1) + k = λ k. omega arith in
       let sound : IsSoundAct shared u act = record {
         number = number;
         place = is;
         flow = here;
-        work = subst (λ n. IsWorkAt u n work) first (at 0 work refl);
+        work = subst (λ n. IsWorkAt u n work) first (does 0 work refl);
         can = All-head (CanDo shared) work works can;
       } in
-      All-cons (IsSoundItem shared log u) (item.Push (Act act)) (acts_from (place + 1) age None works) sound
-      (acts_fine_from shared log u (number + 1) (place + 1) age None works (omega (arith, is)) (carried_later J u (number + 1) (omega arith))
-      (λ k other is. subst (λ n. IsWorkAt u n other) (later k) (at (suc k) other is)) (All-tail (CanDo shared) work works can))
+      All-cons (IsSoundItem shared log at) (item.Push (Act act)) (acts_from (place + 1) age slot None works) sound
+      (acts_fine_from shared log at (number + 1) (place + 1) age slot None works (omega (arith, is)) (carried_later J slot u (number + 1) (omega arith))
+      (λ k other is. subst (λ n. IsWorkAt u n other) (later k) (does (suc k) other is)) (All-tail (CanDo shared) work works can))
 
-  pub acts_fine : (shared : Shared) (log : List Entry) (u : UnderWay) (flow : Flow J) (works : List Work) → IsSoundStart shared u flow works → All (IsSoundItem shared log u) (acts_of flow works)
-  acts_fine shared log u flow works h =
+  pub acts_fine : (shared : Shared) (log : List Entry) (at : Courses) (flow : Flow J) (works : List Work) → IsSoundStart shared (at flow.transaction.slot) flow works → All (IsSoundItem shared log at) (acts_of flow works)
+  acts_fine shared log at flow works h =
+      let u = at flow.transaction.slot in
       let from_zero : (k : ℕ) → k ≡ 0 + k = λ k. omega arith in
-      acts_fine_from shared log u 0 (length flow.transaction.held) flow.transaction.age (Some flow) works (omega (arith, ap (λ (hs : List (List Claiming)). length hs) h.flow_is.held)) h.flow_is
+      acts_fine_from shared log at 0 (length flow.transaction.held) flow.transaction.age flow.transaction.slot (Some flow) works (omega (arith, ap (λ (hs : List (List Claiming)). length hs) h.flow_is.held)) h.flow_is
       (λ k work is. subst (λ n. IsWorkAt u n work) (from_zero k) (subst (λ (ws : List Work). slice_get ws k ≡ Some work) h.works_are is)) h.can
 
   -- ---- each message
@@ -91,7 +93,7 @@ module _ {J : Type 0} where
         kept = subst (λ (p : InFlight). SlicesKeep held slices p.claims slices) (sym are) (stays held slices);
         pending = ap (λ (p : InFlight). p.pending) are;
         tokens = ap (λ (p : InFlight). p.tokens) are;
-        fine = λ u log sound. acts_fine (shared_of slices.tables) log u flow works.items sound;
+        fine = λ at log sound. acts_fine (shared_of slices.tables) log at flow works.items sound;
       }
 
   ran_soundly : (u : UnderWay) (number : ℕ) (work : Work) (one : Ran J) (old new : Joined) → IsWorkAt u number work → ComesOf old work one new → IsSoundRan (shared_of old.tables) u number one
@@ -101,7 +103,7 @@ module _ {J : Type 0} where
 
   -- an action that runs puts its report
   pub acts : (act : AnyAct J) (one : Ran J) (old new : Joined) → SlicesKeep [] old (claims_of_ran one) new → ComesOf old act.work one new
-      → Works (Act act) old (item.Report (record { place = act.place; flow = act.flow; ran = one }) ∷ []) new
+      → Works (Act act) old (item.Report (record { place = act.place; slot = act.slot; flow = act.flow; ran = one }) ∷ []) new
   acts act one old new kept of =
       let carried = part_carried act.flow in
       record {
@@ -110,29 +112,29 @@ module _ {J : Type 0} where
             (more carried.claims (claims_of_ran one) old new kept);
         pending = append-nil carried.pending;
         tokens = refl;
-        fine = λ u log fine.
-            one_fine (shared_of old.tables) log u (item.Report (record { place = act.place; flow = act.flow; ran = one }))
-            (record { number = fine.number; place = fine.place; flow = fine.flow; ran = ran_soundly u fine.number act.work one old new fine.work of });
+        fine = λ at log fine.
+            one_fine (shared_of old.tables) log at (item.Report (record { place = act.place; slot = act.slot; flow = act.flow; ran = one }))
+            (record { number = fine.number; place = fine.place; flow = fine.flow; ran = ran_soundly (at act.slot) fine.number act.work one old new fine.work of });
       }
 
   -- claims whose work is committed are given back
-  pub settles : (claims : List Claiming) (old new : Joined) → SlicesKeep claims old [] new → Works {J = J} (Settle claims) old (item.Ended ∷ []) new
-  settles claims old new kept = record {
+  pub settles : (slot : ℕ) (claims : List Claiming) (old new : Joined) → SlicesKeep claims old [] new → Works {J = J} (Settle slot claims) old (item.Ended slot ∷ []) new
+  settles slot claims old new kept = record {
     put = refl;
     kept = kept;
     pending = refl;
     tokens = refl;
-    fine = λ u log fine. one_fine (shared_of old.tables) log u item.Ended tt;
+    fine = λ at log fine. one_fine (shared_of old.tables) log at (item.Ended slot) tt;
   }
 
   -- claims whose work is taken back are given back
-  pub undoes : (claims : List Claiming) (old new : Joined) → SlicesKeep claims old [] new → Works {J = J} (Undo claims) old (item.Ended ∷ []) new
-  undoes claims old new kept = record {
+  pub undoes : (slot : ℕ) (claims : List Claiming) (old new : Joined) → SlicesKeep claims old [] new → Works {J = J} (Undo slot claims) old (item.Ended slot ∷ []) new
+  undoes slot claims old new kept = record {
     put = refl;
     kept = kept;
     pending = refl;
     tokens = refl;
-    fine = λ u log fine. one_fine (shared_of old.tables) log u item.Ended tt;
+    fine = λ at log fine. one_fine (shared_of old.tables) log at (item.Ended slot) tt;
   }
 
   -- the message's items stand at the outbox's end, and nothing else changes but the slices

@@ -48,7 +48,7 @@ use Rattle.world.specs.declared.world.Parts.{Parts}
 use Rattle.world.specs.Flights.{parts, part_message, part_item}
 use Rattle.world.specs.Parted.{CanAllBeSettled, CanAllBeUndone, joined_in}
 use Rattle.world.specs.Following.{CarriesFirst, acts_of, committing, ending, entry_of, found_in, held_in, holding, is_settled, refusal_of, refused, release, releasing, putting, with_active}
-use Rattle.world.specs.Sound.{IsSoundMessage, IsSoundItem, UnderWay}
+use Rattle.world.specs.Sound.{IsSoundMessage, IsSoundItem, Courses}
 
 -- the refusal by which a fault of the log is answered
 abbrev pub why_refused : AppendFault → Refusal
@@ -77,9 +77,9 @@ module _ {J : Type 0} where
   abbrev pub PutsItems : Joined → Message J → List (Item J) → Joined → Type 0
   PutsItems old (Start flow works) items new = items ≡ acts_of flow works.items
   PutsItems old (Act act) items new =
-      (ran : Ran J) × ((items ≡ item.Report (record { place = act.place; flow = act.flow; ran = ran }) ∷ []) × ComesOf old act.work ran new)
-  PutsItems old (Settle claims) items new = items ≡ item.Ended ∷ []
-  PutsItems old (Undo claims) items new = items ≡ item.Ended ∷ []
+      (ran : Ran J) × ((items ≡ item.Report (record { place = act.place; slot = act.slot; flow = act.flow; ran = ran }) ∷ []) × ComesOf old act.work ran new)
+  PutsItems old (Settle slot claims) items new = items ≡ item.Ended slot ∷ []
+  PutsItems old (Undo slot claims) items new = items ≡ item.Ended slot ∷ []
 
   -- What a message does to the rows, and the items that it puts: what is committed is kept; the items have with them the
   -- transactions and the tokens that came with the message; and they are as sound as it is.
@@ -88,14 +88,14 @@ module _ {J : Type 0} where
     pub kept : SlicesKeep (part_message message).claims old (parts part_item items).claims new
     pub pending : (parts part_item items).pending ≡ (part_message message).pending
     pub tokens : (parts part_item items).tokens ≡ (part_message message).tokens
-    pub fine : (u : UnderWay) (log : List Entry) → IsSoundMessage (shared_of old.tables) u message → All (IsSoundItem (shared_of old.tables) log u) items
+    pub fine : (at : Courses) (log : List Entry) → IsSoundMessage (shared_of old.tables) at message → All (IsSoundItem (shared_of old.tables) log at) items
 
   -- what is asked of a message that is worked on
   abbrev pub CanWork : Shared → Message J → Type 0
   CanWork shared (Start flow works) = (1 ≤ length works.items) × ((length flow.transaction.held + length works.items ≤ MOST_ACTIONS) × All (CanDo shared) works.items)
   CanWork shared (Act act) = CanDo shared act.work
-  CanWork shared (Settle claims) = CanAllBeSettled claims
-  CanWork shared (Undo claims) = CanAllBeUndone claims
+  CanWork shared (Settle slot claims) = CanAllBeSettled claims
+  CanWork shared (Undo slot claims) = CanAllBeUndone claims
 
   -- the items that the message's work puts stand at the outbox's end, and nothing else changes but the slices, which are still
   -- those of all warehouses
@@ -117,7 +117,7 @@ module _ {J : Type 0} where
   -- The actions of the next phase are put, and nothing is reported yet; or the transaction is to be logged.
   abbrev pub goes_on : Transaction J → Gathered → Parts J → Parts J
   goes_on t (Next progress) old =
-      putting (acts_of (record { transaction = t; progress = progress }) (works_of progress)) (Some (Acting (length t.held) (replicate (length (works_of progress)) None))) old
+      putting (acts_of (record { transaction = t; progress = progress }) (works_of progress)) t.slot (Some (Acting (length t.held) (replicate (length (works_of progress)) None))) old
   goes_on t (Finish shown) old = committing t shown old
   goes_on t (RollBack fault) old = committing t (reply.RolledBack fault) old
 
@@ -138,6 +138,7 @@ module _ {J : Type 0} where
 
   -- what is asked of them
   pub record CanMeetFor (reports : List (Report J)) (flow : Flow J) : Type 0 where
+    pub slot : flow.transaction.slot < 64
     pub room : length flow.transaction.held + length reports ≤ MOST_ACTIONS
     pub done : refusal_of None reports ≡ None → HasMet flow.progress (found_in reports)
 
@@ -146,18 +147,18 @@ module _ {J : Type 0} where
   CanMeet reports = CarriesFirst reports (CanMeetFor reports)
 
   -- Another action is awaited, and the report is kept; or the phase has met.
-  abbrev pub ReportsInto : ℕ → List (Option (Report J)) → Parts J → Parts J → Type 0
-  ReportsInto first slots old new =
-      ((1 ≤ length (awaited_from 0 slots)) × (new ≡ with_active (Some (Acting first slots)) old))
+  abbrev pub ReportsInto : ℕ → ℕ → List (Option (Report J)) → Parts J → Parts J → Type 0
+  ReportsInto slot first slots old new =
+      ((1 ≤ length (awaited_from 0 slots)) × (new ≡ with_active slot (Some (Acting first slots)) old))
       ⊎ ((reports : List (Report J)) × ((map Some reports ≡ slots) × MeetsAs reports old new))
 
-  -- the phase that is under way: the place of its first action, and what has been reported, from that place on
-  abbrev pub OfPhase : Parts J → (ℕ → List (Option (Report J)) → Type 0) → Type 0
-  OfPhase w P = (first : ℕ) × ((slots : List (Option (Report J))) × ((w.desk.active ≡ Some (Acting first slots)) × P first slots))
+  -- the phase that is under way in this slot: the place of its first action, and what has been reported, from that place on
+  abbrev pub OfPhase : ℕ → Parts J → (ℕ → List (Option (Report J)) → Type 0) → Type 0
+  OfPhase slot w P = (first : ℕ) × ((slots : List (Option (Report J))) × ((slice_get w.desk.active slot ≡ Some (Some (Acting first slots))) × P first slots))
 
-  -- A report comes to the phase that is under way.
+  -- A report comes to the phase of its own transaction.
   abbrev pub Reports : Report J → Parts J → Parts J → Type 0
-  Reports r old new = OfPhase old (λ first slots. ReportsInto first (slice_set slots (r.place - first) (Some r)) old new)
+  Reports r old new = OfPhase r.slot old (λ first slots. ReportsInto r.slot first (slice_set slots (r.place - first) (Some r)) old new)
 
   -- ---- a transaction is logged
 
@@ -189,6 +190,7 @@ module _ {J : Type 0} where
     pub asks : commit.transaction.pass.asks.request ≡ commit.transaction.request
     pub carried_out : IsCarriedOut opening commit.transaction.request (all_claims commit.transaction.held) commit.reply
     pub few : length commit.transaction.held ≤ MOST_ACTIONS
+    pub slot : commit.transaction.slot < 64
 
   -- ---- the sessions
 
@@ -207,17 +209,17 @@ module _ {J : Type 0} where
 
   -- ---- all items
 
-  -- so many actions have yet to give their claims back
-  abbrev pub OfEnding : Parts J → (ℕ → Type 0) → Type 0
-  OfEnding w P = (left : ℕ) × ((w.desk.active ≡ Some (Ending left)) × P left)
+  -- so many actions of the transaction in this slot have yet to give their claims back
+  abbrev pub OfEnding : ℕ → Parts J → (ℕ → Type 0) → Type 0
+  OfEnding slot w P = (left : ℕ) × ((slice_get w.desk.active slot ≡ Some (Some (Ending left))) × P left)
 
   -- what is asked of an item that is sent
   abbrev pub CanSend : Database → Item J → Parts J → Type 0
   CanSend opening (item.Push message) w = Unit {0}
   CanSend opening (item.Report r) w =
-      OfPhase w (λ first slots. (first ≤ r.place) × ((slice_get slots (r.place - first) ≡ Some None)
-      × ((reports : List (Report J)) → map Some reports ≡ slice_set slots (r.place - first) (Some r) → CanMeet reports)))
-  CanSend opening item.Ended w = OfEnding w (λ left. 1 ≤ left)
+      (r.slot < 64) × OfPhase r.slot w (λ first slots. (first ≤ r.place) × ((slice_get slots (r.place - first) ≡ Some None)
+      × ((reports : List (Report J)) → map Some reports ≡ slice_set slots (r.place - first) (Some r) → CanMeet reports × CarriesFirst reports (λ flow. flow.transaction.slot ≡ r.slot))))
+  CanSend opening (item.Ended slot) w = (slot < 64) × OfEnding slot w (λ left. 1 ≤ left)
   CanSend opening (item.Commit commit) w = CanCommit opening commit
   CanSend opening (item.Reply told) w = (desk : SessionDesk J) × (slice_get w.desk.sessions.items told.pass.session ≡ Some desk)
 
@@ -225,6 +227,6 @@ module _ {J : Type 0} where
   abbrev pub SendsItem : Item J → Parts J → EventAnswer → Parts J → Type 0
   SendsItem (item.Push message) old answer new = Pushes (nat_lt (length old.inbox) 1024) message old answer new
   SendsItem (item.Report r) old answer new = (answer ≡ Sent) × Reports r old new
-  SendsItem item.Ended old answer new = (answer ≡ Sent) × OfEnding old (λ left. new ≡ with_active (ending (left - 1)) old)
+  SendsItem (item.Ended slot) old answer new = (answer ≡ Sent) × OfEnding slot old (λ left. new ≡ with_active slot (ending (left - 1)) old)
   SendsItem (item.Commit commit) old answer new = Commits commit old answer new
   SendsItem (item.Reply told) old answer new = Replies told old answer new

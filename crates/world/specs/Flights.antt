@@ -17,12 +17,12 @@ use Rattle.world.specs.declared.flight.Item.TheVariants as item
 
 -- ---- tokens
 
--- What has to come back of the active transaction: that the action of a place has run, that it was logged, or that an action
--- has given its claims back.
+-- What has to come back of the active transaction in a slot: that the action of a place has run, that it was logged, or that
+-- an action has given its claims back.
 pub data Token : Type 0 where
-  Acting : ℕ → Token
-  Committing : Token
-  Ending : Token
+  Acting : ℕ → ℕ → Token
+  Committing : ℕ → Token
+  Ending : ℕ → Token
 
 -- What a part of what is under way has with it.
 pub record InFlight : Type 0 where
@@ -47,14 +47,14 @@ abbrev pub parts : {X : Type 0} → (X → InFlight) → List X → InFlight
 parts f [] = nothing
 parts f (x ∷ xs) = join (f x) (parts f xs)
 
--- the actions of these places, from the first one on
-abbrev pub acting_from : ℕ → List Work → List Token
-acting_from place [] = []
-acting_from place (work ∷ works) = Acting place ∷ acting_from (place + 1) works
+-- the actions of these places, from the first one on, of the transaction in this slot
+abbrev pub acting_from : ℕ → ℕ → List Work → List Token
+acting_from slot place [] = []
+acting_from slot place (work ∷ works) = Acting slot place ∷ acting_from slot (place + 1) works
 
 -- the claims of an action, which are to be given back
-abbrev pub part_held : List Claiming → InFlight
-part_held claims = part claims [] (Ending ∷ [])
+abbrev pub part_held : ℕ → List Claiming → InFlight
+part_held slot claims = part claims [] (Ending slot ∷ [])
 
 -- the place of the entry that an answer names
 abbrev pub place_answered : Answer → Option ℕ
@@ -97,10 +97,10 @@ module _ {J : Type 0} where
 
   -- what a message has with it
   abbrev pub part_message : Message J → InFlight
-  part_message (Start flow works) = part_transaction flow.transaction (acting_from (length flow.transaction.held) works.items)
-  part_message (Act act) = part (part_carried act.flow).claims (part_carried act.flow).pending (Acting act.place ∷ [])
-  part_message (Settle claims) = part_held claims
-  part_message (Undo claims) = part_held claims
+  part_message (Start flow works) = part_transaction flow.transaction (acting_from flow.transaction.slot (length flow.transaction.held) works.items)
+  part_message (Act act) = part (part_carried act.flow).claims (part_carried act.flow).pending (Acting act.slot act.place ∷ [])
+  part_message (Settle slot claims) = part_held slot claims
+  part_message (Undo slot claims) = part_held slot claims
 
   -- what is carried comes before what the action holds
   abbrev pub claims_reported : Report J → List Claiming
@@ -108,7 +108,7 @@ module _ {J : Type 0} where
 
   -- a report on its way to where its phase meets, and there: no token is left of it then
   abbrev pub part_report : Report J → InFlight
-  part_report r = part (claims_reported r) (part_carried r.flow).pending (Acting r.place ∷ [])
+  part_report r = part (claims_reported r) (part_carried r.flow).pending (Acting r.slot r.place ∷ [])
 
   -- what a report that has met has with it: its token has come back
   abbrev pub part_met : Report J → InFlight
@@ -118,6 +118,6 @@ module _ {J : Type 0} where
   abbrev pub part_item : Item J → InFlight
   part_item (item.Push message) = part_message message
   part_item (item.Report r) = part_report r
-  part_item item.Ended = part [] [] (Ending ∷ [])
-  part_item (item.Commit commit) = part_transaction commit.transaction (Committing ∷ [])
+  part_item (item.Ended slot) = part [] [] (Ending slot ∷ [])
+  part_item (item.Commit commit) = part_transaction commit.transaction (Committing commit.transaction.slot ∷ [])
   part_item (item.Reply told) = part [] (unanswered_reply told ∷ []) []

@@ -1,5 +1,5 @@
 -- What follows when a phase has met, and when a transaction is over.
-use Rattle.std.specs.Prelude.{ℕ, ◌+◌, Bool, true, false, zero, suc, List, [], ◌∷◌, ◌++◌, Option, Some, None, map, length}
+use Rattle.std.specs.Prelude.{ℕ, ◌+◌, Bool, true, false, zero, suc, List, [], ◌∷◌, ◌++◌, Option, Some, None, map, length, slice_set}
 use Rattle.requests.specs.declared.group.Group.{Group}
 use Rattle.requests.specs.declared.reply.Reply.{Reply}
 use Rattle.requests.specs.declared.reply.Reply.TheVariants as reply
@@ -40,14 +40,14 @@ module _ {J : Type 0} where
   -- ---- the actions of a phase
 
   -- the actions from this place on; the first of them carries this
-  abbrev pub acts_from : ℕ → ℕ → Option (Flow J) → List Work → List (Item J)
-  acts_from place age carried [] = []
-  acts_from place age carried (work ∷ works) =
-      item.Push (Act (record { place = place; age = age; work = work; flow = carried })) ∷ acts_from (place + 1) age None works
+  abbrev pub acts_from : ℕ → ℕ → ℕ → Option (Flow J) → List Work → List (Item J)
+  acts_from place age slot carried [] = []
+  acts_from place age slot carried (work ∷ works) =
+      item.Push (Act (record { place = place; age = age; slot = slot; work = work; flow = carried })) ∷ acts_from (place + 1) age slot None works
 
   -- all actions of a phase, whose places come after those of the phases before: the first carries the transaction
   abbrev pub acts_of : Flow J → List Work → List (Item J)
-  acts_of flow works = acts_from (length flow.transaction.held) flow.transaction.age (Some flow) works
+  acts_of flow works = acts_from (length flow.transaction.held) flow.transaction.age flow.transaction.slot (Some flow) works
 
   -- ---- what they report
 
@@ -105,15 +105,15 @@ module _ {J : Type 0} where
   abbrev pub holding : Transaction J → List (List Claiming) → Transaction J
   holding t more = record t { held = t.held ++ more }
 
-  -- ---- the active transaction
+  -- ---- the active transactions
 
-  -- the world with the active transaction so far, and nothing else changed
-  abbrev pub with_active : Option (Active J) → Parts J → Parts J
-  with_active active w = record w { desk = record w.desk { active = active } }
+  -- the world with the transaction in this slot so far, and nothing else changed
+  abbrev pub with_active : ℕ → Option (Active J) → Parts J → Parts J
+  with_active slot active w = record w { desk = record w.desk { active = slice_set w.desk.active slot active } }
 
-  -- these items stand at the end of the outbox, and this is the active transaction
-  abbrev pub putting : List (Item J) → Option (Active J) → Parts J → Parts J
-  putting items active w = record w { outbox = w.outbox ++ items; desk = record w.desk { active = active } }
+  -- these items stand at the end of the outbox, and the transaction in this slot has come so far
+  abbrev pub putting : List (Item J) → ℕ → Option (Active J) → Parts J → Parts J
+  putting items slot active w = record w { outbox = w.outbox ++ items; desk = record w.desk { active = slice_set w.desk.active slot active } }
 
   -- a phase is under way
   abbrev pub IsActing : Active J → Type 0
@@ -128,22 +128,22 @@ module _ {J : Type 0} where
 
   -- it was carried out with this reply, and is to be logged
   abbrev pub committing : Transaction J → Reply → Parts J → Parts J
-  committing t shown w = putting (item.Commit (record { transaction = t; reply = shown }) ∷ []) (Some Committing) w
+  committing t shown w = putting (item.Commit (record { transaction = t; reply = shown }) ∷ []) t.slot (Some Committing) w
 
   -- ---- a transaction that is over
 
   -- what a transaction that is over gives back: its pass, with this answer, and what its actions hold
   abbrev pub release : Transaction J → Passing → Answer → List (List Claiming) → Release J
-  release t pass answer held = record { age = t.age; number = t.number; pass = pass; answer = answer; held = held }
+  release t pass answer held = record { age = t.age; slot = t.slot; number = t.number; pass = pass; answer = answer; held = held }
 
   -- so where it is refused
   abbrev pub refused : Transaction J → Refusal → Release J
   refused t why = release t t.pass (Refused why) t.held
 
   -- its claims are settled, or what was done under them is taken back
-  abbrev pub push_of : Bool → List Claiming → Item J
-  push_of true claims = item.Push (Settle claims)
-  push_of false claims = item.Push (Undo claims)
+  abbrev pub push_of : Bool → ℕ → List Claiming → Item J
+  push_of true slot claims = item.Push (Settle slot claims)
+  push_of false slot claims = item.Push (Undo slot claims)
 
   -- the answer to its session, as an item
   abbrev pub reply_of : Release J → Item J
@@ -151,11 +151,11 @@ module _ {J : Type 0} where
 
   -- the answer, and then a push for each action that holds claims, by place
   abbrev pub items_released : Bool → Release J → List (Item J)
-  items_released settle r = reply_of r ∷ map (push_of settle) r.held
+  items_released settle r = reply_of r ∷ map (push_of settle r.slot) r.held
 
   -- The items of a transaction that is over are put, and as many actions have yet to end as hold claims.
   abbrev pub releasing : Bool → Release J → Parts J → Parts J
-  releasing settle r w = putting (items_released settle r) (ending (length r.held)) w
+  releasing settle r w = putting (items_released settle r) r.slot (ending (length r.held)) w
 
   -- the entry of a commit
   abbrev pub entry_of : CommitItem J → Entry

@@ -1,3 +1,4 @@
+pub mod Slots
 pub mod Flights
 pub mod Parted
 pub mod Sound

@@ -1,5 +1,5 @@
 -- For what a world is opened, why none was, what its sessions are then, and what a simulation tells.
-use Rattle.std.specs.Prelude.{◌≡◌, ◌⊎◌, ◌<◌, ℕ, Bool, true, false, List, [], Some, None, Result, Ok, Err, is_some, replicate, slice_get, length, ◌≤◌}
+use Rattle.std.specs.Prelude.{◌≡◌, ◌⊎◌, ◌<◌, ℕ, zero, suc, List, [], Some, None, Result, Ok, Err, replicate, slice_get, length, ◌≤◌}
 use Rattle.schema.specs.Database.{Database}
 use Rattle.consistency.specs.Broken.{BreaksFirst}
 use Rattle.tickets.specs.declared.group_names.GroupNames.{Ghosts as GroupNames}
@@ -21,6 +21,7 @@ use Rattle.world.specs.declared.world.GatherFault.{GatherFault}
 use Rattle.world.specs.declared.world.GatherFault.TheVariants as gather
 use Rattle.world.specs.declared.world.Core.{Core}
 use Rattle.world.specs.Parted.{joined_in}
+use Rattle.world.specs.Slots.{count_active}
 use Rattle.world.specs.Together.{together}
 use Rattle.world.specs.Worlds.{Fits, HappenInTurn, tables_now}
 
@@ -47,10 +48,11 @@ number_of NoMemory = 1
 number_of BadExecutors = 2
 number_of (NotConsistent n) = 3
 
--- What is gathered of a world: nothing while a transaction is active, and else these tables, unless there is no memory for them.
-abbrev pub IsGathered : Bool → Database → Result Database GatherFault → Type 0
-IsGathered true tables gathered = gathered ≡ Err gather.NotIdle
-IsGathered false tables gathered = (gathered ≡ Ok tables) ⊎ (gathered ≡ Err gather.NoMemory)
+-- What is gathered of a world in which so many transactions are active: these tables where none is, unless there is no memory
+-- for them, and else nothing.
+abbrev pub IsGathered : ℕ → Database → Result Database GatherFault → Type 0
+IsGathered zero tables gathered = (gathered ≡ Ok tables) ⊎ (gathered ≡ Err gather.NoMemory)
+IsGathered (suc active) tables gathered = gathered ≡ Err gather.NotIdle
 
 -- the passes and the seats of 64 sessions that have asked, seen and logged nothing, by the sessions' numbers
 pub record AreNewLanes (lanes : List (Passing × Seating)) : Type 0 where
@@ -73,7 +75,7 @@ module _ {J : Type 0} where
     pub outboxes : w.outboxes ≡ replicate executors []
     pub log : w.parts.log ≡ []
     pub admitted : w.parts.desk.admitted ≡ 0
-    pub active : w.parts.desk.active ≡ None
+    pub active : w.parts.desk.active ≡ replicate 64 None
     pub many : length w.parts.desk.sessions.items ≡ 64
     pub each : (session : ℕ) → session < 64 → slice_get w.parts.desk.sessions.items session ≡ Some (session_with (new_pass session, new_seat session))
 
@@ -93,4 +95,4 @@ pub record Simulates (J : Type 0) (opening : Database) (executors : ℕ) (schedu
   pub happen : HappenInTurn steps first last
   pub fits : Fits opening steps (together last)
   pub log : s.log.items ≡ last.parts.log
-  pub tables : IsGathered (is_some last.parts.desk.active) (tables_now opening s.log.items) s.tables
+  pub tables : IsGathered (count_active last.parts.desk.active) (tables_now opening s.log.items) s.tables

@@ -1,5 +1,5 @@
 -- What is known of each thing that is under way, and what a world keeps.
-use Rattle.std.specs.Prelude.{◌≡◌, ℕ, ◌+◌, ◌<◌, ◌≤◌, Bool, zero, suc, List, [], ◌∷◌, Option, Some, None, All, map, length, replicate, count_by, is_some, if◌then◌else◌}
+use Rattle.std.specs.Prelude.{◌≡◌, ℕ, ◌+◌, ◌<◌, ◌≤◌, Bool, zero, suc, List, [], ◌∷◌, ◌++◌, Option, Some, None, All, map, length, replicate, count_by, is_some, if◌then◌else◌}
 use Rattle.std.specs.List.{slice_get, sum_by}
 use Rattle.partitions.specs.Parts.{Shared, shared_of}
 use Rattle.schema.specs.Database.{Database}
@@ -53,11 +53,15 @@ IsPassOf number (Some pass) = pass.session ≡ number
 abbrev pub WeighAlike : List Token → List Token → Type 0
 WeighAlike some others = (weight : Token → ℕ) → sum_by weight some ≡ sum_by weight others
 
--- The transaction whose phase is under way: what was asked, how far it has come, and what its earlier phases hold.
+-- A transaction whose phase is under way: what was asked, how far it has come, and what its earlier phases hold.
 pub record UnderWay : Type 0 where
   pub request : Request
   pub progress : Progress
   pub held : List (List Claiming)
+
+-- how far the transaction in each slot has come
+abbrev pub Courses : Type 0
+Courses = ℕ → UnderWay
 
 -- the action of this number of its phase, from 0, does this
 abbrev pub IsWorkAt : UnderWay → ℕ → Work → Type 0
@@ -70,31 +74,33 @@ IsPlaceOf u number place = place ≡ length u.held + number
 module _ {J : Type 0} where
   -- ---- transactions
 
-  -- its session is one of the 64, and asks what the transaction is to do
+  -- its session is one of the 64, and asks what the transaction is to do; and its slot is one of the 64
   pub record IsAskedBy (t : Transaction J) : Type 0 where
     pub session : t.pass.session < 64
+    pub slot : t.slot < 64
     pub number : t.pass.asks.number ≡ t.number
     pub request : t.pass.asks.request ≡ t.request
 
-  -- the transaction is this one, and has come so far
-  pub record IsSoundFlow (u : UnderWay) (flow : Flow J) : Type 0 where
+  -- the transaction is the one in this slot, and has come so far
+  pub record IsSoundFlow (slot : ℕ) (u : UnderWay) (flow : Flow J) : Type 0 where
     pub asked : IsAskedBy flow.transaction
+    pub slot_is : flow.transaction.slot ≡ slot
     pub request : flow.transaction.request ≡ u.request
     pub held : flow.transaction.held ≡ u.held
     pub progress : flow.progress ≡ u.progress
 
   -- the transaction goes with the first action of its phase, and with no other
-  abbrev pub IsCarriedAt : UnderWay → ℕ → Option (Flow J) → Type 0
-  IsCarriedAt u zero None = ⊥
-  IsCarriedAt u zero (Some flow) = IsSoundFlow u flow
-  IsCarriedAt u (suc number) None = Unit {0}
-  IsCarriedAt u (suc number) (Some flow) = ⊥
+  abbrev pub IsCarriedAt : ℕ → UnderWay → ℕ → Option (Flow J) → Type 0
+  IsCarriedAt slot u zero None = ⊥
+  IsCarriedAt slot u zero (Some flow) = IsSoundFlow slot u flow
+  IsCarriedAt slot u (suc number) None = Unit {0}
+  IsCarriedAt slot u (suc number) (Some flow) = ⊥
 
   -- ---- one thing that is under way
 
   -- a beginning has the works of the first phase, which are few and can all be done
   pub record IsSoundStart (shared : Shared) (u : UnderWay) (flow : Flow J) (works : List Work) : Type 0 where
-    pub flow_is : IsSoundFlow u flow
+    pub flow_is : IsSoundFlow flow.transaction.slot u flow
     pub works_are : works ≡ works_of u.progress
     pub can : All (CanDo shared) works
     pub few : length flow.transaction.held + length works ≤ MOST_ACTIONS
@@ -103,16 +109,16 @@ module _ {J : Type 0} where
   pub record IsSoundAct (shared : Shared) (u : UnderWay) (act : Act J) : Type 0 where
     pub number : ℕ
     pub place : IsPlaceOf u number act.place
-    pub flow : IsCarriedAt u number act.flow
+    pub flow : IsCarriedAt act.slot u number act.flow
     pub work : IsWorkAt u number act.work
     pub can : CanDo shared act.work
 
-  -- a message is sound, by its kind
-  abbrev pub IsSoundMessage : Shared → UnderWay → Message J → Type 0
-  IsSoundMessage shared u (message.Start flow works) = IsSoundStart shared u flow works.items
-  IsSoundMessage shared u (message.Act act) = IsSoundAct shared u act
-  IsSoundMessage shared u (message.Settle claims) = CanAllBeSettled claims
-  IsSoundMessage shared u (message.Undo claims) = CanAllBeUndone claims
+  -- a message is sound, by its kind, with how far its transaction has come
+  abbrev pub IsSoundMessage : Shared → Courses → Message J → Type 0
+  IsSoundMessage shared at (message.Start flow works) = IsSoundStart shared (at flow.transaction.slot) flow works.items
+  IsSoundMessage shared at (message.Act act) = IsSoundAct shared (at act.slot) act
+  IsSoundMessage shared at (message.Settle slot claims) = CanAllBeSettled claims
+  IsSoundMessage shared at (message.Undo slot claims) = CanAllBeUndone claims
 
   -- an action that ran did the work of its number, and all of it can be taken back
   abbrev pub IsSoundRan : Shared → UnderWay → ℕ → Ran J → Type 0
@@ -124,7 +130,7 @@ module _ {J : Type 0} where
   pub record IsSoundReport (shared : Shared) (u : UnderWay) (r : Report J) : Type 0 where
     pub number : ℕ
     pub place : IsPlaceOf u number r.place
-    pub flow : IsCarriedAt u number r.flow
+    pub flow : IsCarriedAt r.slot u number r.flow
     pub ran : IsSoundRan shared u number r.ran
 
   -- A commit is of a request that its check accepts, and that was carried out under the transaction's claims with this
@@ -141,46 +147,61 @@ module _ {J : Type 0} where
   IsSoundReply log told = (told.pass.session < 64) × ((told.pass.asks.number ≡ told.number) × IsAnswerIn log told.answer)
 
   -- an item is sound, by its kind
-  abbrev pub IsSoundItem : Shared → List Entry → UnderWay → Item J → Type 0
-  IsSoundItem shared log u (item.Push message) = IsSoundMessage shared u message
-  IsSoundItem shared log u (item.Report r) = IsSoundReport shared u r
-  IsSoundItem shared log u item.Ended = Unit {0}
-  IsSoundItem shared log u (item.Commit commit) = IsSoundCommit shared commit
-  IsSoundItem shared log u (item.Reply told) = IsSoundReply log told
+  abbrev pub IsSoundItem : Shared → List Entry → Courses → Item J → Type 0
+  IsSoundItem shared log at (item.Push message) = IsSoundMessage shared at message
+  IsSoundItem shared log at (item.Report r) = IsSoundReport shared (at r.slot) r
+  IsSoundItem shared log at (item.Ended slot) = Unit {0}
+  IsSoundItem shared log at (item.Commit commit) = IsSoundCommit shared commit
+  IsSoundItem shared log at (item.Reply told) = IsSoundReply log told
 
-  -- ---- the active transaction
+  -- ---- the active transactions
 
-  -- the reports of the phase that is under way, as far as they have met
+  -- the reports of the phase of the transaction in a slot, as far as they have met
   abbrev pub reported_to : Option (Active J) → List (Report J)
   reported_to None = []
   reported_to (Some (active.Acting first slots)) = reported slots
   reported_to (Some active.Committing) = []
   reported_to (Some (active.Ending left)) = []
 
-  -- what has to come back before the transaction goes on
-  abbrev pub awaited : Option (Active J) → List Token
-  awaited None = []
-  awaited (Some (active.Acting first slots)) = map Acting (awaited_from first slots)
-  awaited (Some active.Committing) = Committing ∷ []
-  awaited (Some (active.Ending left)) = replicate left Ending
+  -- and those of all
+  abbrev pub reported_to_all : List (Option (Active J)) → List (Report J)
+  reported_to_all [] = []
+  reported_to_all (a ∷ active) = reported_to a ++ reported_to_all active
 
-  -- A phase that is under way: its first place comes after those of the phases before; the request has come so far under what
+  -- what has to come back before the transaction in this slot goes on
+  abbrev pub awaited : ℕ → Option (Active J) → List Token
+  awaited slot None = []
+  awaited slot (Some (active.Acting first places)) = map (Acting slot) (awaited_from first places)
+  awaited slot (Some active.Committing) = Committing slot ∷ []
+  awaited slot (Some (active.Ending left)) = replicate left (Ending slot)
+
+  -- and for all, from this slot on
+  abbrev pub awaited_by_all : ℕ → List (Option (Active J)) → List Token
+  awaited_by_all slot [] = []
+  awaited_by_all slot (a ∷ active) = awaited slot a ++ awaited_by_all (suc slot) active
+
+  -- A phase that is under way, of the transaction in this slot: its first place comes after those of the phases before; the request has come so far under what
   -- these hold, all of which can be taken back; each of its actions has its place; what was reported is sound; and some action
   -- has not reported.
-  pub record IsSoundPhase (shared : Shared) (u : UnderWay) (first : ℕ) (slots : List (Option (Report J))) : Type 0 where
+  pub record IsSoundPhase (shared : Shared) (slot : ℕ) (u : UnderWay) (first : ℕ) (slots : List (Option (Report J))) : Type 0 where
     pub first_is : first ≡ length u.held
     pub reached : IsReached shared u.request u.progress u.held
     pub undo : All CanAllBeUndone u.held
     pub many : length slots ≡ length (works_of u.progress)
-    pub reports : (number : ℕ) (r : Report J) → slice_get slots number ≡ Some (Some r) → (r.place ≡ first + number) × IsSoundReport shared u r
+    pub reports : (number : ℕ) (r : Report J) → slice_get slots number ≡ Some (Some r) → (r.place ≡ first + number) × ((r.slot ≡ slot) × IsSoundReport shared u r)
     pub awaits : 1 ≤ length (awaited_from 0 slots)
 
-  -- the active transaction is sound, by how far it has come
-  abbrev pub IsSoundActive : Shared → UnderWay → Option (Active J) → Type 0
-  IsSoundActive shared u None = Unit {0}
-  IsSoundActive shared u (Some (active.Acting first slots)) = IsSoundPhase shared u first slots
-  IsSoundActive shared u (Some active.Committing) = Unit {0}
-  IsSoundActive shared u (Some (active.Ending left)) = (1 ≤ left) × (left ≤ MOST_ACTIONS)
+  -- the transaction in a slot is sound, by how far it has come
+  abbrev pub IsSoundActive : Shared → ℕ → UnderWay → Option (Active J) → Type 0
+  IsSoundActive shared slot u None = Unit {0}
+  IsSoundActive shared slot u (Some (active.Acting first places)) = IsSoundPhase shared slot u first places
+  IsSoundActive shared slot u (Some active.Committing) = Unit {0}
+  IsSoundActive shared slot u (Some (active.Ending left)) = (1 ≤ left) × (left ≤ MOST_ACTIONS)
+
+  -- and each, from this slot on
+  abbrev pub AreSoundActive : Shared → Courses → ℕ → List (Option (Active J)) → Type 0
+  AreSoundActive shared at slot [] = Unit {0}
+  AreSoundActive shared at slot (a ∷ active) = IsSoundActive shared slot (at slot) a × AreSoundActive shared at (suc slot) active
 
   -- ---- the sessions
 
@@ -196,25 +217,26 @@ module _ {J : Type 0} where
 
   -- all that is under way: messages, items, and reports that have met
   abbrev pub flight : Parts J → InFlight
-  flight w = join (parts part_message w.inbox) (join (parts part_item w.outbox) (parts part_met (reported_to w.desk.active)))
+  flight w = join (parts part_message w.inbox) (join (parts part_item w.outbox) (parts part_met (reported_to_all w.desk.active)))
 
-  -- Of the active transaction there is just what has to come back, whatever the tokens weigh; a session's pass is at the desk
+  -- Of the active transactions there is just what has to come back, whatever the tokens weigh; a session's pass is at the desk
   -- exactly while the session has no transaction without an answer; and there are 64 sessions.
   pub record IsBalanced (desk : Desk J) (under_way : InFlight) : Type 0 where
-    pub tokens : WeighAlike under_way.tokens (awaited desk.active)
+    pub tokens : WeighAlike under_way.tokens (awaited_by_all 0 desk.active)
     pub alone : (number : ℕ) (session : SessionDesk J) → slice_get desk.sessions.items number ≡ Some session
         → count_by (is_of number) under_way.pending + (if is_here session then 1 else 0) ≡ 1
     pub many : length under_way.pending + count_by is_here desk.sessions.items ≡ 64
 
   -- What the world keeps, with this in hand: there is a slice for each warehouse of this scale, in order, which share these items; and each thing under
-  -- way is sound, and of one transaction.
+  -- way is sound, by how far its transaction has come; and there are 64 slots.
   pub record IsSoundWith (shared : Shared) (hand : InFlight) (w : Parts J) : Type 0 where
     pub shared_is : w.catalog ≡ shared
     pub slices : AreSlicesOf w.catalog w.slices.items
-    pub under_way : UnderWay
+    pub under_way : Courses
     pub inbox : All (IsSoundMessage shared under_way) w.inbox
     pub outbox : All (IsSoundItem shared w.log under_way) w.outbox
-    pub active : IsSoundActive shared under_way w.desk.active
+    pub slots : length w.desk.active ≡ 64
+    pub active : AreSoundActive shared under_way 0 w.desk.active
     pub seats : length w.desk.sessions.items ≡ 64
     pub sessions : (number : ℕ) (session : SessionDesk J) → slice_get w.desk.sessions.items number ≡ Some session → IsSessionOf number session
     pub balance : IsBalanced w.desk (join hand (flight w))

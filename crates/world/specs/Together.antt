@@ -41,21 +41,21 @@ module _ {J : Type 0} where
   abbrev pub home_of_message : Message J → ℕ
   home_of_message (Start flow works) = home_of_request flow.transaction.request
   home_of_message (Act act) = home_of act.work
-  home_of_message (Settle claims) = home_of_claims claims
-  home_of_message (Undo claims) = home_of_claims claims
+  home_of_message (Settle slot claims) = home_of_claims claims
+  home_of_message (Undo slot claims) = home_of_claims claims
 
   -- a message of claims has some
   abbrev pub HasHome : Message J → Type 0
   HasHome (Start flow works) = Unit {0}
   HasHome (Act act) = Unit {0}
-  HasHome (Settle claims) = 1 ≤ length claims
-  HasHome (Undo claims) = 1 ≤ length claims
+  HasHome (Settle slot claims) = 1 ≤ length claims
+  HasHome (Undo slot claims) = 1 ≤ length claims
 
   -- so does the message that is pushed, if the item is a push
   abbrev pub HasHomeIn : Item J → Type 0
   HasHomeIn (item.Push message) = HasHome message
   HasHomeIn (item.Report report) = Unit {0}
-  HasHomeIn item.Ended = Unit {0}
+  HasHomeIn (item.Ended slot) = Unit {0}
   HasHomeIn (item.Commit commit) = Unit {0}
   HasHomeIn (item.Reply told) = Unit {0}
 
@@ -63,7 +63,7 @@ module _ {J : Type 0} where
   abbrev pub goes_to : Routes → ℕ → Item J → ℕ
   goes_to routing own (item.Push message) = executor_of routing (home_of_message message)
   goes_to routing own (item.Report report) = own
-  goes_to routing own item.Ended = own
+  goes_to routing own (item.Ended slot) = own
   goes_to routing own (item.Commit commit) = own
   goes_to routing own (item.Reply told) = own
 

@@ -1,5 +1,5 @@
 -- What holds of a world and its history.
-use Rattle.std.specs.Prelude.{◌≡◌, ◌⊎◌, ℕ, ◌+◌, Bool, true, false, List, [], ◌∷◌, ◌++◌, Option, Some, None, Result, Ok, Err, nat_lt, ◌&&◌, length, replicate, Vec, IsTrue, is_some, slice_set, slice_index_or, ◌<◌, ◌≤◌, ◌↔◌, count_by}
+use Rattle.std.specs.Prelude.{◌≡◌, ◌⊎◌, ℕ, ◌+◌, Bool, true, false, List, [], ◌∷◌, ◌++◌, Option, Some, None, Result, Ok, Err, nat_le, nat_lt, ◌&&◌, length, replicate, Vec, IsTrue, is_some, slice_set, slice_index_or, ◌<◌, ◌≤◌, ◌↔◌, count_by}
 use Rattle.std.specs.List.{slice_get}
 use Rattle.std.specs.declared.alloc.Global.{Global}
 use Rattle.partitions.specs.Parts.{Shared}
@@ -39,6 +39,7 @@ use Rattle.world.specs.declared.flight.Item.{Item}
 use Rattle.world.specs.declared.flight.Item.TheVariants as item
 use Rattle.world.specs.declared.world.Parts.{Parts}
 use Rattle.world.specs.declared.world.Core.{Core}
+use Rattle.world.specs.Slots.{count_active}
 use Rattle.world.specs.Flights.{InFlight}
 use Rattle.world.specs.Parted.{joined_in}
 use Rattle.world.specs.Sound.{IsSessionOf, flight}
@@ -72,13 +73,17 @@ IsIdleExactly told r = IsTrue told ↔ IsIdle r
 
 -- ---- submissions
 
--- Why the desk refuses a request at once: its session has a transaction without an answer, its check refuses it, or a
--- transaction is active.
+-- Why the desk refuses a request at once: its session has a transaction without an answer, its check refuses it, or as many
+-- transactions are active as can be.
 abbrev pub refuses : Option Passing → Result (Unit {0}) Refusal → Bool → Option Refusal
-refuses None checked active = Some refusal.SessionBusy
-refuses (Some pass) (Err why) active = Some why
+refuses None checked full = Some refusal.SessionBusy
+refuses (Some pass) (Err why) full = Some why
 refuses (Some pass) (Ok accepted) true = Some refusal.Busy
 refuses (Some pass) (Ok accepted) false = None
+
+-- 64 transactions are active
+abbrev pub is_full : {X : Type 0} → List (Option X) → Bool
+is_full slots = nat_le 64 (count_active slots)
 
 module _ {J : Type 0} where
   -- a history fits what a world consists of, with all executors' queues as one, from an opening
@@ -93,13 +98,13 @@ module _ {J : Type 0} where
 
   -- why this session's request is refused at once, if it is
   abbrev pub refusal_at : SessionDesk J → Request → Parts J → Option Refusal
-  refusal_at desk request w = refuses desk.pass (check_of w.catalog.scale request) (is_some w.desk.active)
+  refusal_at desk request w = refuses desk.pass (check_of w.catalog.scale request) (is_full w.desk.active)
 
   -- the inbox has room, and there is an age left
   abbrev pub can_admit : Parts J → Bool
   can_admit w = nat_lt (length w.inbox) 1024 && nat_lt w.desk.admitted 18446744073709551615
 
-  -- A transaction more is admitted, and active: the actions of its first phase stand at the inbox's end, and the session's
+  -- A transaction more is admitted, and active, in a slot that was free: the actions of its first phase stand at the inbox's end, and the session's
   -- pass goes with them.
   pub record Admits (session number : ℕ) (asked : Request) (desk : SessionDesk J) (old new : Parts J) : Type 0 where
     pub flow : Flow J
@@ -109,6 +114,7 @@ module _ {J : Type 0} where
     pub number_is : flow.transaction.number ≡ number
     pub request : flow.transaction.request ≡ asked
     pub held : flow.transaction.held ≡ []
+    pub free : slice_get old.desk.active flow.transaction.slot ≡ Some None
     pub begins : (shared : Shared) → IsAccepted shared.scale asked → IsReached shared asked flow.progress []
     pub here : desk.pass ≡ Some pass
     pub pass_is : flow.transaction.pass ≡ with_asks pass (asking number asked pass.seen pass.mine)
@@ -119,7 +125,7 @@ module _ {J : Type 0} where
     pub outbox : new.outbox ≡ old.outbox
     pub log : new.log ≡ old.log
     pub admitted : new.desk.admitted ≡ old.desk.admitted + 1
-    pub active : new.desk.active ≡ Some (Acting 0 (replicate (length works.items) None))
+    pub active : new.desk.active ≡ slice_set old.desk.active flow.transaction.slot (Some (Acting 0 (replicate (length works.items) None)))
     pub sessions : new.desk.sessions.items
         ≡ slice_set old.desk.sessions.items session (record { seat = seating desk.seat.session flow.transaction.pass.asks; pass = None })
 

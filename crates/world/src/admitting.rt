@@ -1,5 +1,5 @@
 //! A session submits a request.
-ghost use Rattle.std.specs.Prelude.{◌≡◌, ◌<◌, length, IfOk, IfSome, OnOk, OnErr, IsTrue, is_some, None, slice_get};
+ghost use Rattle.std.specs.Prelude.{◌≡◌, ◌<◌, length, IfOk, IfSome, OnOk, OnErr, IsTrue, is_some, None, Some, slice_get};
 ghost use Rattle.commit_log.specs.Asks.{asking};
 ghost use Rattle.commit_log.specs.Passing.{seating, with_asks};
 ghost use Rattle.world.specs.declared.desk.SessionDesk.{SessionDesk as AnyDesk};
@@ -38,26 +38,29 @@ impl<J: Names> Parts<J> {
         if let Err(refusal) = check(&self.catalog.scale(), request) {
             return refused(session, number, refusal);
         }
-        if self.desk.active.is_some() {
+        let Some(slot) = self.desk.active.first_free() else {
             return refused(session, number, Refusal::Busy);
-        }
+        };
         if self.inbox.len() >= INBOX || self.desk.admitted == u64::MAX {
             return EventAnswer::Nothing;
         }
-        match self.admit(alloc, session, number, request) {
+        match self.admit(alloc, slot, session, number, request) {
             Ok(age) => EventAnswer::Accepted { age },
             Err(NoMemory) => refused(session, number, Refusal::NoMemory),
         }
     }
 
-    // Admits a request, whose first actions go to the inbox. An error changes nothing.
+    // Admits a request in a free slot, and its first actions go to the inbox. An error changes nothing.
     fn admit(
         &mut self,
         alloc: Global,
+        slot: usize,
         session: u32,
         number: u32,
         request: &Request,
     ) -> Result<u64, NoMemory>
+        requires below { slot < 64 }
+        requires free { slice_get self.old.desk.active slot ≡ Some None }
         requires room { length self.old.inbox < 1024 }
         requires age { self.old.desk.admitted < 18446744073709551615 }
         requires sessions { CanSubmit self.old }
@@ -74,6 +77,7 @@ impl<J: Names> Parts<J> {
         let pass = ask(&mut self.desk.sessions[session as usize], number, request);
         let transaction = Transaction {
             age,
+            slot,
             number,
             request: own,
             pass,
@@ -85,7 +89,8 @@ impl<J: Names> Parts<J> {
         };
         self.inbox.put(Message::Start(flow, works));
         self.desk.admitted = age + 1;
-        self.desk.active = Some(Active::Acting { first: 0, meeting });
+        let acting = Active::Acting { first: 0, meeting };
+        self.desk.active.put(slot, Some(acting));
         Ok(age)
     }
 }

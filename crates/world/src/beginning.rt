@@ -40,12 +40,14 @@ impl<J: Names> Parts<J> {
         ensures { self.new ≡ record self.old { outbox = self.old.outbox ++ acts_of flow works.items } }
     {
         let age = flow.transaction.age;
+        let slot = flow.transaction.slot;
         let mut place = flow.transaction.held.len();
         let mut carried = Some(flow);
         for work in works {
             self.outbox.put(Item::Push(Message::Act(Act {
                 place,
                 age,
+                slot,
                 work,
                 flow: carried.take(),
             })));

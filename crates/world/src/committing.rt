@@ -33,6 +33,7 @@ impl<J: Names> Parts<J> {
         let settle = is_settled(&reply);
         let Transaction {
             age,
+            slot,
             number,
             request,
             pass,
@@ -52,6 +53,7 @@ impl<J: Names> Parts<J> {
                 };
                 let over = Release {
                     age,
+                    slot,
                     number,
                     pass,
                     answer,
@@ -64,6 +66,7 @@ impl<J: Names> Parts<J> {
                 let answer = Answer::Refused(why_refused(fault));
                 let over = Release {
                     age,
+                    slot,
                     number,
                     pass,
                     answer,

@@ -1,5 +1,6 @@
 //! The admission desk: who has a transaction under way.
 use crate::Report;
+use crate::slots::Slots;
 use commit_log::{Names, Pass, SessionSeat};
 use rendezvous::Meeting;
 
@@ -11,7 +12,7 @@ pub struct SessionDesk<J: Names> {
     pub pass: Option<Pass<J>>,
 }
 
-/// How far the transaction has come that is active.
+/// How far a transaction has come that is active.
 #[derive(Drop)]
 pub enum Active<J: Names> {
     /// The actions of a phase are under way, and meet here: each by its place, less that of the first.
@@ -25,12 +26,13 @@ pub enum Active<J: Names> {
     Ending(usize),
 }
 
-/// The desk: the sessions, how many transactions were admitted, and the one that is active.
+/// The desk: the sessions, how many transactions were admitted, and those that are active.
 #[derive(Drop)]
 pub struct Desk<J: Names> {
     /// The number of the next transaction's age.
     pub admitted: u64,
     /// By their numbers, 0 to 63.
     pub sessions: Vec<SessionDesk<J>>,
-    pub active: Option<Active<J>>,
+    /// The transactions that are active, each in its slot, 0 to 63, until all its claims are back.
+    pub active: Slots<Active<J>>,
 }

@@ -1,4 +1,4 @@
-//! What is under way: messages to the executor, and items of its outbox.
+//! What is under way: messages to an executor, and items of its outbox.
 use crate::held::HeldClaims;
 use commit_log::{Names, Pass};
 use requests::{Answer, Reply, Request};
@@ -10,6 +10,8 @@ use transactions::{Progress, Ran, Work};
 pub struct Transaction<J: Names> {
     /// How many transactions were admitted before it.
     pub age: u64,
+    /// Its slot at the desk, 0 to 63.
+    pub slot: usize,
     /// The number of the request in its session.
     pub number: u32,
     pub request: Request,
@@ -30,8 +32,9 @@ pub struct Flow<J: Names> {
 pub struct Act<J: Names> {
     /// Its place among all actions of its transaction, those of earlier phases before it, from 0.
     pub place: usize,
-    /// That of its transaction.
+    /// Those of its transaction.
     pub age: u64,
+    pub slot: usize,
     pub work: Work,
     /// With the least place of its phase, and no other.
     pub flow: Option<Flow<J>>,
@@ -43,17 +46,18 @@ pub enum Message<J: Names> {
     /// The first phase of a transaction, with what its actions do, by place.
     Start(Flow<J>, Vec<Work>),
     Act(Act<J>),
-    /// Give the claims of an action back: what they left is committed.
-    Settle(Claims<J>),
+    /// Give the claims of an action back: what they left is committed. The transaction has this slot.
+    Settle(usize, Claims<J>),
     /// Take back what an action did, and give its claims back.
-    Undo(Claims<J>),
+    Undo(usize, Claims<J>),
 }
 
 /// What an action reports where its phase meets.
 #[derive(Drop)]
 pub struct Report<J: Names> {
-    /// That of the action.
+    /// Those of the action.
     pub place: usize,
+    pub slot: usize,
     pub flow: Option<Flow<J>>,
     pub ran: Ran<J>,
 }
@@ -81,8 +85,8 @@ pub enum Item<J: Names> {
     Push(Message<J>),
     /// To where the phase meets.
     Report(Report<J>),
-    /// An action has given its claims back.
-    Ended,
+    /// An action of the transaction in this slot has given its claims back.
+    Ended(usize),
     /// To the log.
     Commit(CommitItem<J>),
     /// To the session.

@@ -1,5 +1,5 @@
 //! All actions of a phase have reported: what they found is gathered, and what follows is done.
-ghost use Rattle.std.specs.Prelude.{◌≡◌, ◌≤◌, ◌+◌, ◌++◌, [], length, vec_capacity, None, Some};
+ghost use Rattle.std.specs.Prelude.{◌≡◌, ◌≤◌, ◌<◌, ◌+◌, ◌++◌, [], length, vec_capacity, None, Some};
 ghost use Rattle.world.specs.Following as spec;
 ghost use Rattle.world.specs.Following.{CarriesFirst, found_in, held_in, holding, refusal_of};
 ghost use Rattle.world.specs.Events.{CanMeet, GathersInto, HasMet, MeetsAs};
@@ -49,6 +49,7 @@ impl<J: Names> Parts<J> {
     )
         requires room { length self.old.outbox + (MOST_ACTIONS + 1) ≤ 4096 }
         requires held { length transaction.held ≤ MOST_ACTIONS }
+        requires slot { transaction.slot < 64 }
         requires done { HasMet progress found.items }
         ensures { GathersInto progress found.items transaction self.old self.new }
     {
@@ -60,7 +61,8 @@ impl<J: Names> Parts<J> {
             Gathered::Next(progress) => match Phase::begin(alloc, &progress) {
                 Ok(Phase { works, meeting }) => {
                     let first = transaction.held.len();
-                    self.desk.active = Some(Active::Acting { first, meeting });
+                    let acting = Active::Acting { first, meeting };
+                    self.desk.active.put(transaction.slot, Some(acting));
                     let flow = Flow {
                         transaction,
                         progress,
@@ -77,9 +79,12 @@ impl<J: Names> Parts<J> {
     // The transaction was carried out, and is to be logged.
     fn put_commit(&mut self, transaction: Transaction<J>, reply: Reply)
         requires room { length self.old.outbox + 1 ≤ 4096 }
+        requires slot { transaction.slot < 64 }
         ensures { self.new ≡ spec.committing transaction reply self.old }
     {
-        self.desk.active = Some(Active::Committing);
+        self.desk
+            .active
+            .put(transaction.slot, Some(Active::Committing));
         self.outbox
             .put(Item::Commit(CommitItem { transaction, reply }));
     }
@@ -103,6 +108,7 @@ fn sort_out<J: Names>(
     };
     let Report {
         place: _,
+        slot: _,
         flow,
         ran,
     } = first;

@@ -101,7 +101,7 @@ impl<J: Names> Core<J> {
     {
         match item {
             Item::Push(message) => self.routing.route(home_of_message(message)),
-            Item::Report(_) | Item::Ended | Item::Commit(_) | Item::Reply(_) => executor,
+            Item::Report(_) | Item::Ended(_) | Item::Commit(_) | Item::Reply(_) => executor,
         }
     }
 

@@ -28,7 +28,7 @@ pub(crate) fn home_of_message<J: Names>(message: &Message<J>) -> u32
     match message {
         Message::Start(flow, _) => home_of_request(&flow.transaction.request),
         Message::Act(act) => act.work.home(),
-        Message::Settle(claims) => claims.home(),
-        Message::Undo(claims) => claims.home(),
+        Message::Settle(_, claims) => claims.home(),
+        Message::Undo(_, claims) => claims.home(),
     }
 }

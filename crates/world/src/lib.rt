@@ -23,6 +23,7 @@ mod queue;
 mod queues;
 mod sending;
 mod simulating;
+mod slots;
 mod working;
 mod world;
 
@@ -34,4 +35,5 @@ pub use queue::Queue;
 pub use queues::Queues;
 pub use sending::Release;
 pub use simulating::{Simulation, simulate};
+pub use slots::{MOST_ACTIVE, Slots};
 pub use world::{Core, GatherFault, INBOX, Parts, World};

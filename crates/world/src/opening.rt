@@ -9,6 +9,7 @@ ghost use Rattle.world.specs.Worlds.{Fits};
 use crate::desk::{Desk, SessionDesk};
 use crate::queue::Queue;
 use crate::queues::Queues;
+use crate::slots::Slots;
 use crate::world::{Core, Parts, World};
 use commit_log::{Log, LogBook, Names, Pass, SessionSeat, UnnamedLog};
 use consistency::first_broken;
@@ -118,6 +119,7 @@ impl<J: Names> World<J> {
         let outboxes = Queues::open(alloc, executors as usize)?;
         let inbox = Queue::open(alloc)?;
         let outbox = Queue::open(alloc)?;
+        let active = Slots::open(alloc)?;
         let (boxes, seats) = named_all::<J>(alloc, tables.scale().warehouses, groups)?;
         let (catalog, slices) = cut(alloc, tables, boxes)?;
         let (book, lanes) = LogBook::<J>::open(alloc, log)?;
@@ -130,7 +132,7 @@ impl<J: Names> World<J> {
             desk: Desk {
                 admitted: 0,
                 sessions,
-                active: None,
+                active,
             },
             log: Log::new(book, seats),
         };

@@ -1,5 +1,5 @@
 //! What becomes of an item of the outbox.
-ghost use Rattle.std.specs.Prelude.{◌≡◌, ◌≤◌, ◌+◌, length};
+ghost use Rattle.std.specs.Prelude.{◌≡◌, ◌≤◌, ◌<◌, ◌+◌, length};
 ghost use Rattle.world.specs.Events.{CanSend, Reports, SendsItem};
 ghost use Rattle.world.specs.Following as spec;
 ghost use Rattle.world.specs.Following.{releasing};
@@ -19,6 +19,8 @@ use transactions::MOST_ACTIONS;
 #[derive(Drop)]
 pub struct Release<J: Names> {
     pub age: u64,
+    /// The transaction's slot at the desk.
+    pub slot: usize,
     pub number: u32,
     pub pass: Pass<J>,
     pub answer: Answer,
@@ -32,6 +34,7 @@ impl<J: Names> Release<J> {
     {
         let Transaction {
             age,
+            slot,
             number,
             request: _,
             pass,
@@ -39,6 +42,7 @@ impl<J: Names> Release<J> {
         } = transaction;
         Release {
             age,
+            slot,
             number,
             pass,
             answer: Answer::Refused(why),
@@ -60,8 +64,8 @@ impl<J: Names> Parts<J> {
                 self.meet(alloc, report);
                 EventAnswer::Sent
             }
-            Item::Ended => {
-                self.end();
+            Item::Ended(slot) => {
+                self.end(slot);
                 EventAnswer::Sent
             }
             Item::Commit(commit) => self.commit(commit),
@@ -89,13 +93,17 @@ impl<J: Names> Parts<J> {
         requires awaited { CanSend J.opening (Item.Report report) self.old }
         ensures { Reports report self.old self.new }
     {
-        let Some(active) = self.desk.active.take() else {
+        let slot = report.slot;
+        let Some(active) = self.desk.active.take(slot) else {
             unreachable!()
         };
         let (first, mut meeting) = meeting_of(active);
         let place = report.place - first;
         match meeting.report(place, report) {
-            Reported::NotLast => self.desk.active = Some(Active::Acting { first, meeting }),
+            Reported::NotLast => {
+                let acting = Active::Acting { first, meeting };
+                self.desk.active.put(slot, Some(acting));
+            }
             Reported::Last(results) => self.follow(alloc, results),
         }
     }
@@ -103,21 +111,19 @@ impl<J: Names> Parts<J> {
     // A transaction is over: it is answered, and what its actions hold is settled or taken back.
     pub(crate) fn release(&mut self, over: Release<J>, settle: bool)
         requires room { length self.old.outbox + (length over.held + 1) ≤ 4096 }
+        requires slot { over.slot < 64 }
         ensures { self.new ≡ releasing settle over self.old }
     {
         let Release {
             age,
+            slot,
             number,
             pass,
             answer,
             held,
         } = over;
         let count = held.len();
-        self.desk.active = if count == 0 {
-            None
-        } else {
-            Some(Active::Ending(count))
-        };
+        self.desk.active.put(slot, ending(count));
         self.outbox.put(Item::Reply(ReplyItem {
             age,
             number,
@@ -126,9 +132,9 @@ impl<J: Names> Parts<J> {
         }));
         for claims in held.into_vec() {
             let give_back = if settle {
-                Message::Settle(claims)
+                Message::Settle(slot, claims)
             } else {
-                Message::Undo(claims)
+                Message::Undo(slot, claims)
             };
             self.outbox.put(Item::Push(give_back));
         }
@@ -154,20 +160,27 @@ impl<J: Names> Parts<J> {
         }
     }
 
-    // An action has given its claims back.
-    fn end(&mut self)
-        requires { CanSend J.opening Item.Ended self.old }
-        ensures { SendsItem Item.Ended self.old EventAnswer.Sent self.new }
+    // An action of the transaction in this slot has given its claims back.
+    fn end(&mut self, slot: usize)
+        requires { CanSend J.opening (Item.Ended slot) self.old }
+        ensures { SendsItem (Item.Ended slot) self.old EventAnswer.Sent self.new }
     {
-        let left = match self.desk.active {
+        let left = match self.desk.active.take(slot) {
             Some(Active::Ending(left)) => left,
             _ => unreachable!(),
         };
-        self.desk.active = if left == 1 {
-            None
-        } else {
-            Some(Active::Ending(left - 1))
-        };
+        self.desk.active.put(slot, ending(left - 1));
+    }
+}
+
+// While so many actions have yet to give their claims back. With none, the transaction isn't active any more.
+fn ending<J: Names>(left: usize) -> Option<Active<J>>
+    ensures { result ≡ spec.ending left }
+{
+    if left == 0 {
+        None
+    } else {
+        Some(Active::Ending(left))
     }
 }
 

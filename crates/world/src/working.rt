@@ -24,22 +24,28 @@ impl<J: Names> Parts<J> {
                 let Act {
                     place,
                     age,
+                    slot,
                     work,
                     flow,
                 } = act;
                 let home = work.home() as usize;
                 let ran = transactions::act(alloc, &mut self.slices[home - 1], age, work);
-                self.outbox.put(Item::Report(Report { place, flow, ran }));
+                self.outbox.put(Item::Report(Report {
+                    place,
+                    slot,
+                    flow,
+                    ran,
+                }));
             }
-            Message::Settle(claims) => {
+            Message::Settle(slot, claims) => {
                 let home = claims.home() as usize;
                 transactions::settle(&mut self.slices[home - 1], claims);
-                self.outbox.put(Item::Ended);
+                self.outbox.put(Item::Ended(slot));
             }
-            Message::Undo(claims) => {
+            Message::Undo(slot, claims) => {
                 let home = claims.home() as usize;
                 transactions::undo(&mut self.slices[home - 1], claims);
-                self.outbox.put(Item::Ended);
+                self.outbox.put(Item::Ended(slot));
             }
         }
     }

@@ -1,8 +1,9 @@
-ghost use Rattle.std.specs.Prelude.{◌≡◌, ◌↔◌, [], ◌∷◌, length, IfOk, IsErrAnd, IsTrue, OnErr, None, is_some};
+ghost use Rattle.std.specs.Prelude.{◌≡◌, ◌↔◌, ◌≤◌, [], ◌∷◌, length, IfOk, IsErrAnd, IsTrue, OnErr};
 ghost use Rattle.schema.specs.Database.{Database};
 ghost use Rattle.std.specs.Prelude.{List};
 ghost use Rattle.history.specs.History.{Step, step as one_step};
 ghost use Rattle.world.specs.Openings.{IsGathered};
+ghost use Rattle.world.specs.Slots.{count_active};
 ghost use Rattle.world.specs.Sound.{flight};
 ghost use Rattle.world.specs.Together.{together};
 ghost use Rattle.world.specs.Worlds.{Advances, CannotHappen, Fits, HappenInTurn, Happens, IsAtRest, IsBusyExactly, NoneDies, TakesItsOwn, steps_of, tables_now};
@@ -114,7 +115,8 @@ impl<J: Names> World<J> {
     /// it leaves are the committed ones; each transaction is whole, and stands behind those that were
     /// answered before it was submitted. What the event changes is told exactly, and what can't happen
     /// is answered `Nothing` and changes nothing. An executor works on messages of its own warehouses alone.
-    /// As one transaction is active at a time, no action of it dies.
+    /// Up to 64 transactions are active at a time: `Busy` exactly where they are. While a transaction is the only one that is
+    /// active, no action of it dies.
     pub fn step(&mut self, alloc: Global, event: &Event) -> EventAnswer
         ensures advances { Advances (together self.old) (one_step event.now result ∷ []) (together self.new) }
         ensures happens { Happens event.now self.old result self.new }
@@ -122,7 +124,7 @@ impl<J: Names> World<J> {
         ensures busy { IsBusyExactly event.now self.old result }
         ensures own { TakesItsOwn event.now self.old }
         ensures routing { self.new.routing ≡ self.old.routing }
-        ensures alone { (opening : Database) (history : List Step) → Fits opening history (together self.old) → NoneDies event.now self.old self.new }
+        ensures alone { (opening : Database) (history : List Step) → Fits opening history (together self.old) → count_active self.old.parts.desk.active ≡ 1 → NoneDies event.now self.old self.new }
     {
         claims_are_of_the_footprint();
         self.core.happen(alloc, event)
@@ -148,11 +150,11 @@ impl<J: Names> World<J> {
     /// is active.
     pub fn gather(&self, alloc: Global) -> Result<Tables, GatherFault>
         ensures tables { IfOk result (λ tables. (opening : Database) (history : List Step) → Fits opening history (together self.now) → tables ≡ tables_now opening self.now.parts.log) }
-        ensures idle { IsErrAnd result (λ fault. fault ≡ GatherFault.NotIdle) ↔ IsTrue (is_some self.now.parts.desk.active) }
-        ensures at_rest { IsAtRest self.now → self.now.parts.desk.active ≡ None }
+        ensures idle { IsErrAnd result (λ fault. fault ≡ GatherFault.NotIdle) ↔ (1 ≤ count_active self.now.parts.desk.active) }
+        ensures at_rest { IsAtRest self.now → count_active self.now.parts.desk.active ≡ 0 }
     {
         let parts = &self.core.parts;
-        if parts.desk.active.is_some() {
+        if parts.desk.active.count() > 0 {
             return Err(GatherFault::NotIdle);
         }
         match copy_whole(alloc, &parts.catalog, &parts.slices) {
@@ -166,13 +168,13 @@ impl<J: Names> World<J> {
     /// no memory for the tables, the log is given all the same.
     pub fn close(self) -> (Vec<Entry>, Result<Tables, GatherFault>)
         ensures log { result.0.items ≡ self.parts.log }
-        ensures tables { (opening : Database) (history : List Step) → Fits opening history (together self) → IsGathered (is_some self.parts.desk.active) (tables_now opening self.parts.log) result.1 }
-        ensures idle { IsErrAnd result.1 (λ fault. fault ≡ GatherFault.NotIdle) ↔ IsTrue (is_some self.parts.desk.active) }
-        ensures at_rest { IsAtRest self → self.parts.desk.active ≡ None }
+        ensures tables { (opening : Database) (history : List Step) → Fits opening history (together self) → IsGathered (count_active self.parts.desk.active) (tables_now opening self.parts.log) result.1 }
+        ensures idle { IsErrAnd result.1 (λ fault. fault ≡ GatherFault.NotIdle) ↔ (1 ≤ count_active self.parts.desk.active) }
+        ensures at_rest { IsAtRest self → count_active self.parts.desk.active ≡ 0 }
     {
         let World { core } = self;
         let Core { parts, .. } = core;
-        let is_idle = parts.desk.active.is_none();
+        let is_idle = parts.desk.active.count() == 0;
         let (entries, catalog, slices) = parts.into_log_and_slices();
         if !is_idle {
             return (entries, Err(GatherFault::NotIdle));
@@ -187,7 +189,7 @@ impl<J: Names> World<J> {
     /// out.
     pub fn is_quiet(&self) -> bool
         ensures quiet { IsTrue result ↔ IsAtRest self.now }
-        ensures rest { IsTrue result → (self.now.parts.desk.active ≡ None) × ((flight (together self.now)).claims ≡ []) }
+        ensures rest { IsTrue result → (count_active self.now.parts.desk.active ≡ 0) × ((flight (together self.now)).claims ≡ []) }
     {
         self.core.inboxes.are_empty() && self.core.outboxes.are_empty()
     }

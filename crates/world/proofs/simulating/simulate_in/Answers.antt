@@ -1,9 +1,9 @@
 use Rattle.std.proofs.Common.{ℕ, [], List, ap, sym, subst}
-use Rattle.std.specs.Prelude.{is_some}
 use Rattle.commit_log.specs.declared.entry.Entry.{Entry}
 use Rattle.history.specs.Schedules.{Plays}
 use Rattle.routing.specs.Routes.{Routes}
 use Rattle.world.specs.Openings.{IsGathered}
+use Rattle.world.specs.Slots.{count_active}
 use Rattle.world.specs.Worlds.{tables_now}
 use Rattle.world.proofs.simulating.simulate_in.Goals as goal
 
@@ -22,6 +22,6 @@ returns-clause-simulates g c = λ opening executors new fits.
       happen = played.1.1.0;
       fits = after;
       log = log;
-      tables = subst (λ (l : List Entry). IsGathered (is_some last.parts.desk.active) (tables_now opening l) c.close-log.result.1) (sym log)
+      tables = subst (λ (l : List Entry). IsGathered (count_active last.parts.desk.active) (tables_now opening l) c.close-log.result.1) (sym log)
           (c.close-log.ensures.tables opening played.0 after);
     }

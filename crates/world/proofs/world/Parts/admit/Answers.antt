@@ -18,9 +18,9 @@ returns-clause-admitted g c =
       (
         read.0,
         admits c.args.session c.args.number asked desk c.ask-pass.new.desk old _ _ _ _ read.1
-            refl refl c.in_ok-own.ensures c.in_ok-held.ensures
+            refl refl c.in_ok-own.ensures c.in_ok-held.ensures c.requires.free
             (λ shared accepted. c.begin-progress.ensures shared asked [] (record { is = sym c.in_ok-try_clone.ensures; accepted = accepted; none = refl }))
             c.ask-pass.ensures.pass c.in_ok-works.ensures.works c.in_ok-works.ensures.meeting c.ask-pass.ensures.seat c.ask-pass.ensures.away
-            refl refl c.put.ensures refl refl refl refl refl,
+            refl refl c.put.ensures refl refl refl c.put-2.ensures refl,
       ),
     )

@@ -1,6 +1,12 @@
-use Rattle.std.proofs.Common.{◌∙◌}
+use Rattle.std.proofs.Common.{◌≡◌, inr, false, ◌∙◌, ap}
+use Rattle.commit_log.specs.declared.log_book.AppendFault.TheVariants as fault
+use Rattle.world.specs.Following.{releasing}
 use Rattle.world.proofs.Logging.{logs}
 use Rattle.world.proofs.world.Parts.commit.Goals as goal
+
+pub returns-in_default : goal.returns-in_default
+returns-in_default g c =
+    (fault.NoMemory, (λ is. absurd (cc), (λ full. inr c.in_default.ensures.lines, c.release.ensures ∙ ap (λ r. releasing false r c.args.self.now) c.refused.ensures)))
 
 pub returns-in-Ok-append : goal.returns-in-Ok-append
 returns-in-Ok-append g c =

@@ -1,17 +1,23 @@
-use Rattle.std.proofs.Common.{◌≡◌, ◌⊎◌, inl, inr, false, length, None, Some, sym, ◌∙◌, ap, arith}
+use Rattle.std.proofs.Common.{◌≡◌, ◌<◌, ◌⊎◌, inl, inr, false, length, None, Some, sym, ◌∙◌, ap, subst, arith}
 use Rattle.requests.specs.declared.refusal.Refusal.TheVariants as refusal
 use Rattle.world.specs.Following.{releasing}
-use Rattle.world.proofs.Sorting.{meets_gathered, meets_refused, sorted_done, sorted_room}
+use Rattle.world.proofs.Sorting.{meets_gathered, meets_refused, sorted_done, sorted_room, sorted_slot}
 use Rattle.world.proofs.world.Parts.follow.Goals as goal
 use Rattle.world.proofs.world.Parts.follow.Goals.{in-Ok, in-Err}
 
 pub release-requires : goal.release-requires
 release-requires g c =
     let few = sorted_room c.args.results c.sort_out-flow.result.0 c.requires.can c.sort_out-flow.ensures.flow in
-    record { room = omega (arith, c.requires.room, few, ap (λ r. length r.held) c.refused.ensures) }
+    record {
+      room = omega (arith, c.requires.room, few, ap (λ r. length r.held) c.refused.ensures);
+      slot = subst (λ n. n < 64) (sym (ap (λ r. r.slot) c.refused.ensures)) (sorted_slot c.args.results c.sort_out-flow.result.0 c.requires.can c.sort_out-flow.ensures.flow);
+    }
 
 pub gather-requires-clause-held : goal.gather-requires-clause-held
 gather-requires-clause-held g c = sorted_room c.args.results c.sort_out-flow.result.0 c.requires.can c.sort_out-flow.ensures.flow
+
+pub gather-requires-clause-slot : goal.gather-requires-clause-slot
+gather-requires-clause-slot g c = sorted_slot c.args.results c.sort_out-flow.result.0 c.requires.can c.sort_out-flow.ensures.flow
 
 pub gather-requires-clause-done : goal.gather-requires-clause-done
 gather-requires-clause-done g c =

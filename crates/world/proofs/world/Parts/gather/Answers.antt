@@ -1,10 +1,11 @@
-use Rattle.std.proofs.Common.{rules, ◌≡◌, ◌≤◌, Some, None, length, replicate, inr, subst, ap, arith, ◌∙◌}
+use Rattle.std.proofs.Common.{rules, ◌≡◌, ◌≤◌, ◌++◌, Option, Some, None, length, replicate, false, inl, inr, subst, ap, arith, ◌∙◌}
 use Rattle.transactions.specs.declared.progress.Gathered.{Gathered}
 use Rattle.transactions.specs.declared.progress.Gathered.TheVariants.{Next, Finish, RollBack}
 use Rattle.transactions.specs.Progresses.{FollowsFrom, works_of}
+use Rattle.world.specs.declared.desk.Active.{Active}
 use Rattle.world.specs.declared.desk.Active.TheVariants.{Acting}
 use Rattle.world.specs.declared.flight.Flow.{Flow}
-use Rattle.world.specs.Following.{acts_of, putting}
+use Rattle.world.specs.Following.{acts_of, putting, releasing}
 use Rattle.transactions.specs.declared.laws.TheConstants.{MOST_ACTIONS}
 use Rattle.transactions.specs.declared.work.Work.{Work}
 use Rattle.std.specs.Prelude.{List}
@@ -38,6 +39,7 @@ returns-in-RollBack g c =
 pub returns-in-Ok-begin : goal.returns-in-Ok-begin
 returns-in-Ok-begin g c =
     let t = c.args.transaction in
+    let old = c.args.self.now in
     let progress = c.in-Next.progress in
     let flow : Flow g.row.J.Denot = record { transaction = t; progress = progress } in
     let works : c.in-Ok-begin.field-0.works.items ≡ works_of progress = search rules in
@@ -47,6 +49,14 @@ returns-in-Ok-begin g c =
       Next progress,
       (
         subst (λ (g : Gathered). FollowsFrom c.args.progress c.args.found.items g) c.in-Next.is c.in-Ok.ensures,
-        c.put_acts.ensures ∙ (λ i. putting (acts_of flow (works i)) (Some (Acting (first i) (meeting i))) c.args.self.now),
+        c.put_acts.ensures
+            ∙ ap (λ (l : List (Option (Active g.row.J.Denot))). record old { outbox = old.outbox ++ acts_of flow c.in-Ok-begin.field-0.works.items; desk = record old.desk { active = l } }) c.put.ensures
+            ∙ (λ i. putting (acts_of flow (works i)) t.slot (Some (Acting (first i) (meeting i))) old),
       ),
     )
+
+pub returns-in_default : goal.returns-in_default
+returns-in_default g c = inl (c.release.ensures ∙ ap (λ r. releasing false r c.args.self.now) c.refused.ensures)
+
+pub returns-in-Err : goal.returns-in-Err
+returns-in-Err g c = inl (c.release-in-Err.ensures ∙ ap (λ r. releasing false r c.args.self.now) c.refused-in-Err.ensures)

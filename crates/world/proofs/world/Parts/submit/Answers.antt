@@ -13,7 +13,7 @@ returns-then-len-ge-INBOX g c =
     let looked = c.in-Some.ensures.lookup in
     let at = found old.desk.sessions.items c.deref.result.now c.args.session desk c.deref.ensures.value looked.3.0 looked.1 in
     let there = is_there desk.pass c.is_none.result c.is_none.ensures c.if-is_none.false in
-    let none = unrefused desk asked old c.scale.result c.in_default-check.field-0 c.is_some.result there c.scale.ensures c.in_default-check.ensures.first c.is_some.ensures c.if-is_some.false in
+    let none = unrefused desk asked old c.scale.result c.in_default-check.field-0 there c.scale.ensures c.in_default-check.ensures.first c.in-Some-first_free.ensures.room.1 in
     let cannot : can_admit old ≡ false = elim c.then-len-ge-INBOX.branch [
       | then-len-ge-INBOX-via-then-len-ge-INBOX w ↦ full (length old.inbox) 1024 old.desk.admitted 18446744073709551615 (omega arith)
       | then-len-ge-INBOX-via-else-len-ge-INBOX+then-self w ↦ spent (length old.inbox) 1024 old.desk.admitted 18446744073709551615 (omega arith)
@@ -37,7 +37,7 @@ returns-in-Err-admit g c =
     let looked = c.in-Some.ensures.lookup in
     let at = found old.desk.sessions.items c.deref.result.now c.args.session desk c.deref.ensures.value looked.3.0 looked.1 in
     let there = is_there desk.pass c.is_none.result c.is_none.ensures c.if-is_none.false in
-    let none = unrefused desk asked old c.scale.result c.in_default-check.field-0 c.is_some.result there c.scale.ensures c.in_default-check.ensures.first c.is_some.ensures c.if-is_some.false in
+    let none = unrefused desk asked old c.scale.result c.in_default-check.field-0 there c.scale.ensures c.in_default-check.ensures.first c.in-Some-first_free.ensures.room.1 in
     let can : can_admit old ≡ true =
     has_both (length old.inbox) 1024 old.desk.admitted 18446744073709551615 (omega arith) (omega arith) in
     submits (slice_get old.desk.sessions.items c.args.session) desk c.args.session c.args.number asked old c.refused-in-Err-admit.result c.admit.new.self true at none can

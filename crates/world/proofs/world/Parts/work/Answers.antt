@@ -89,12 +89,13 @@ returns-in-Act g c =
     let kept = all_keep old.catalog old.slices.items c.requires.slices home slice own.0 own.1 c.index_mut.ensures.value c.act-ran.new.slice [] (claims_of_ran ran)
     (All-nil (IsClaimAt home)) at_home c.act-ran.ensures.kept in
     let comes = comes_of old.catalog old.slices.items c.requires.slices home slice own.0 own.1 c.index_mut.ensures.value act.work ran c.act-ran.new.slice (sym c.home-home.ensures) c.act-ran.ensures.done in
-    takes c.args.message (Act act) old (item.Report (record { place = act.place; flow = act.flow; ran = ran }) ∷ []) c.put.new.self _ c.in-Act.is c.put.ensures
+    takes c.args.message (Act act) old (item.Report (record { place = act.place; slot = act.slot; flow = act.flow; ran = ran }) ∷ []) c.put.new.self _ c.in-Act.is c.put.ensures
     kept.0 (acts act ran (joined_in old) _ kept.1 comes)
 
 pub returns-in-Settle : goal.returns-in-Settle
 returns-in-Settle g c =
     let old = c.args.self.now in
+    let slot = c.in-Settle.slot in
     let claims = c.in-Settle.claims in
     let slice = c.index_mut-in-Settle.result.now in
     let home = c.home-home-in-Settle.result in
@@ -102,12 +103,13 @@ returns-in-Settle g c =
     let last : home ≤ old.catalog.scale.warehouses = subst (λ n. home ≤ n) c.requires.warehouses c.home-home-in-Settle.ensures.known.1 in
     let kept = all_keep old.catalog old.slices.items c.requires.slices home slice c.home-home-in-Settle.ensures.known.0 last c.index_mut-in-Settle.ensures.value c.settle.new.slice claims []
     (claims_at_home claims home c.home-home-in-Settle.ensures.home can.1) (All-nil (IsClaimAt home)) c.settle.ensures in
-    takes c.args.message (Settle claims) old (item.Ended ∷ []) c.put-in-Settle.new.self _ c.in-Settle.is c.put-in-Settle.ensures
-    kept.0 (settles claims (joined_in old) _ kept.1)
+    takes c.args.message (Settle slot claims) old (item.Ended slot ∷ []) c.put-in-Settle.new.self _ c.in-Settle.is c.put-in-Settle.ensures
+    kept.0 (settles slot claims (joined_in old) _ kept.1)
 
 pub returns-in-Undo : goal.returns-in-Undo
 returns-in-Undo g c =
     let old = c.args.self.now in
+    let slot = c.in-Undo.slot in
     let claims = c.in-Undo.claims in
     let slice = c.index_mut-in-Undo.result.now in
     let home = c.home-home-in-Undo.result in
@@ -115,5 +117,5 @@ returns-in-Undo g c =
     let last : home ≤ old.catalog.scale.warehouses = subst (λ n. home ≤ n) c.requires.warehouses c.home-home-in-Undo.ensures.known.1 in
     let kept = all_keep old.catalog old.slices.items c.requires.slices home slice c.home-home-in-Undo.ensures.known.0 last c.index_mut-in-Undo.ensures.value c.undo.new.slice claims []
     (claims_at_home claims home c.home-home-in-Undo.ensures.home can.1) (All-nil (IsClaimAt home)) c.undo.ensures in
-    takes c.args.message (Undo claims) old (item.Ended ∷ []) c.put-in-Undo.new.self _ c.in-Undo.is c.put-in-Undo.ensures
-    kept.0 (undoes claims (joined_in old) _ kept.1)
+    takes c.args.message (Undo slot claims) old (item.Ended slot ∷ []) c.put-in-Undo.new.self _ c.in-Undo.is c.put-in-Undo.ensures
+    kept.0 (undoes slot claims (joined_in old) _ kept.1)

@@ -1,16 +1,22 @@
-use Rattle.std.proofs.Common.{◌≡◌, List, Ok, Err, inl, inr, refl, sym, ◌∙◌, ap, subst, not, false, true}
-use Rattle.std.specs.Prelude.{is_some}
+use Rattle.std.proofs.Common.{◌≡◌, ℕ, ◌≤◌, zero, suc, List, Result, Ok, Err, inl, inr, refl, sym, ◌∙◌, ap, subst, arith}
 use Rattle.partitions.specs.Parts.{Shared, shared_of}
+use Rattle.schema.specs.Database.{Database}
 use Rattle.slices.specs.Sliced.{Sliced, joined}
+use Rattle.world.specs.declared.world.GatherFault.{GatherFault}
 use Rattle.world.specs.declared.world.GatherFault.TheVariants as gather
 use Rattle.world.specs.declared.world.Core.{Core}
 use Rattle.world.specs.Openings.{IsGathered}
 use Rattle.world.specs.Parted.{joined_in}
+use Rattle.world.specs.Slots.{count_active}
 use Rattle.world.specs.Together.{together}
 use Rattle.world.specs.Worlds.{Fits, tables_now}
 use Rattle.world.proofs.Quiet.{idle_tables, rests_idle}
-use Rattle.world.proofs.Runs.{of_none}
 use Rattle.world.proofs.world.World.close.Goals as goal
+
+-- nothing is gathered while a transaction is active
+not_idle : (active : ℕ) (tables : Database) → 1 ≤ active → IsGathered active tables (Err gather.NotIdle)
+not_idle zero tables some = absurd (omega (arith, some))
+not_idle (suc n) tables some = refl
 
 pub returns-then-not-is_idle-clause-at_rest : goal.returns-then-not-is_idle-clause-at_rest
 returns-then-not-is_idle-clause-at_rest g c = rests_idle (shared_of g.J.LogNames.opening) c.self.inside.core c.args.self c.self.view_is c.self.invariant.0
@@ -25,23 +31,25 @@ pub returns-in-Ok-clause-tables : goal.returns-in-Ok-clause-tables
 returns-in-Ok-clause-tables g c opening history f =
     let w = together c.self.inside.core in
     let left = c.into_log_and_slices-entries in
-    let none : is_some w.desk.active ≡ false = c.is_none-is_idle.ensures ∙ ap not c.if-not-is_idle.false in
+    let none : count_active w.desk.active ≡ 0 = sym c.count-is_idle.ensures ∙ c.if-not-is_idle.false in
     let moved : (joined left.result.1 left.result.2.items).tables ≡ (joined_in w).tables =
     ap (λ (s : Shared). (joined s left.result.2.items).tables) left.ensures.catalog ∙ ap (λ (l : List Sliced). (joined w.catalog l).tables) left.ensures.slices in
-    let is = idle_tables (shared_of g.J.LogNames.opening) w c.self.invariant.0.all (of_none w.desk.active none) opening history (subst (λ (v : Core g.row.J.Denot). Fits opening history (together v)) (sym c.self.view_is) f) in
-    subst (λ (v : Core g.row.J.Denot). IsGathered (is_some v.parts.desk.active) (tables_now opening v.parts.log) (Ok c.in-Ok.tables)) c.self.view_is
-    (subst (λ b. IsGathered b (tables_now opening w.log) (Ok c.in-Ok.tables)) (sym none) (inl (ap Ok (c.in-Ok.ensures ∙ moved ∙ is))))
+    let is = idle_tables (shared_of g.J.LogNames.opening) w c.self.invariant.0.all none opening history (subst (λ (v : Core g.row.J.Denot). Fits opening history (together v)) (sym c.self.view_is) f) in
+    subst (λ (v : Core g.row.J.Denot). IsGathered (count_active v.parts.desk.active) (tables_now opening v.parts.log) (Ok c.in-Ok.tables)) c.self.view_is
+    (subst (λ n. IsGathered n (tables_now opening w.log) (Ok c.in-Ok.tables)) (sym none) (inl (ap Ok (c.in-Ok.ensures ∙ moved ∙ is))))
 
 pub returns-clause-tables : goal.returns-clause-tables
 returns-clause-tables g c opening history f =
     let w = together c.self.inside.core in
-    let none : is_some w.desk.active ≡ false = c.is_none-is_idle.ensures ∙ ap not c.if-not-is_idle.false in
-    subst (λ (v : Core g.row.J.Denot). IsGathered (is_some v.parts.desk.active) (tables_now opening v.parts.log) (Err gather.NoMemory)) c.self.view_is
-    (subst (λ b. IsGathered b (tables_now opening w.log) (Err gather.NoMemory)) (sym none) (inr refl))
+    let none : count_active w.desk.active ≡ 0 = sym c.count-is_idle.ensures ∙ c.if-not-is_idle.false in
+    subst (λ (v : Core g.row.J.Denot). IsGathered (count_active v.parts.desk.active) (tables_now opening v.parts.log) (Err gather.NoMemory)) c.self.view_is
+    (subst (λ n. IsGathered n (tables_now opening w.log) (Err gather.NoMemory)) (sym none) (inr refl))
 
 pub returns-then-not-is_idle-clause-tables : goal.returns-then-not-is_idle-clause-tables
 returns-then-not-is_idle-clause-tables g c opening history f =
     let w = together c.self.inside.core in
-    let some : is_some w.desk.active ≡ true = c.is_none-is_idle.ensures ∙ ap not c.if-not-is_idle.true in
-    subst (λ (v : Core g.row.J.Denot). IsGathered (is_some v.parts.desk.active) (tables_now opening v.parts.log) (Err gather.NotIdle)) c.self.view_is
-    (subst (λ b. IsGathered b (tables_now opening w.log) (Err gather.NotIdle)) (sym some) refl)
+    let is = c.count-is_idle.ensures in
+    let apart = c.if-not-is_idle.true in
+    let some : 1 ≤ count_active w.desk.active = omega (arith, is, apart) in
+    subst (λ (v : Core g.row.J.Denot). IsGathered (count_active v.parts.desk.active) (tables_now opening v.parts.log) (Err gather.NotIdle)) c.self.view_is
+    (not_idle (count_active w.desk.active) (tables_now opening w.log) some)

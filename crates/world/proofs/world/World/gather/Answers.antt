@@ -1,20 +1,20 @@
-use Rattle.std.proofs.Common.{List, sym, ◌∙◌, ap, subst}
+use Rattle.std.proofs.Common.{◌≡◌, List, sym, ◌∙◌, ap, subst, arith}
 use Rattle.partitions.specs.Parts.{shared_of}
 use Rattle.slices.specs.Sliced.{Sliced, joined}
 use Rattle.world.specs.declared.world.Core.{Core}
+use Rattle.world.specs.Slots.{count_active}
 use Rattle.world.specs.Together.{together}
 use Rattle.world.specs.Worlds.{Fits, tables_now}
 use Rattle.world.proofs.Quiet.{idle_tables, rests_idle}
-use Rattle.world.proofs.Runs.{of_none}
 use Rattle.world.proofs.world.World.gather.Goals as goal
 
 pub returns-in-Ok-clause-tables : goal.returns-in-Ok-clause-tables
 returns-in-Ok-clause-tables g c opening history f =
     let w = (together c.self.inside.core) in
-    let none = of_none w.desk.active (sym c.is_some.ensures ∙ c.if-is_some.false) in
+    let none : count_active w.desk.active ≡ 0 = omega (arith, c.count.ensures, c.if-count-gt0.false) in
     c.in-Ok.ensures ∙ ap (λ (l : List Sliced). (joined w.catalog l).tables) c.deref.ensures.value
     ∙ idle_tables (shared_of g.J.LogNames.opening) w c.self.invariant.0.all none opening history (subst (λ (v : Core g.row.J.Denot). Fits opening history (together v)) (sym c.self.view_is) f)
     ∙ ap (λ (v : Core g.row.J.Denot). tables_now opening v.parts.log) c.self.view_is
 
-pub returns-then-is_some-clause-at_rest : goal.returns-then-is_some-clause-at_rest
-returns-then-is_some-clause-at_rest g c = rests_idle (shared_of g.J.LogNames.opening) c.self.inside.core c.args.self.now c.self.view_is c.self.invariant.0
+pub returns-then-count-gt0-clause-at_rest : goal.returns-then-count-gt0-clause-at_rest
+returns-then-count-gt0-clause-at_rest g c = rests_idle (shared_of g.J.LogNames.opening) c.self.inside.core c.args.self.now c.self.view_is c.self.invariant.0

@@ -31,7 +31,7 @@ invariant_of-result g c =
     let slices = cut_slices c.args.tables cut.catalog cut.slices.items c.scale.ensures.within cut.ensures.catalog cut.ensures.slices in (
       opened_core (shared_of g.J.LogNames.opening) c.args.executors c.in_ok-book.lanes.items _ (record { many = omega (arith, c.in_ok-book.lanes.ok.0, c.in_ok-book.ensures.count); each = c.in_ok-book.ensures.sessions })
           (cut.ensures.catalog ∙ ap shared_of (sym c.requires.named.tables_are)) slices.0 (c.opening-routing.ensures ∙ ap (λ (s : Scale). record { warehouses = s.warehouses; executors = c.args.executors }) (c.scale.ensures.value ∙ sym scale))
-          c.in_ok-inboxes.ensures c.in_ok-outboxes.ensures c.in_ok-inbox.ensures c.in_ok-outbox.ensures refl c.in_ok-sessions.ensures,
+          c.in_ok-inboxes.ensures c.in_ok-outboxes.ensures c.in_ok-inbox.ensures c.in_ok-outbox.ensures c.in_ok-active.ensures c.in_ok-sessions.ensures,
       c.requires.named.warehouses ∙ sym (ap (λ s. s.warehouses) scale),
     )
 
@@ -45,14 +45,14 @@ returns-clause-fits g c =
         slices = cut.slices;
         inbox = c.in_ok-inbox.inbox;
         outbox = c.in_ok-outbox.outbox;
-        desk = record { admitted = 0; sessions = c.in_ok-sessions.sessions; active = None };
+        desk = record { admitted = 0; sessions = c.in_ok-sessions.sessions; active = c.in_ok-active.active };
         log = c.new.result;
       };
       routing = c.opening-routing.result;
       inboxes = c.in_ok-inboxes.inboxes;
       outboxes = c.in_ok-outboxes.outboxes;
     } in
-    opened_fits c.args.tables c.requires.consistent c.args.executors core slices.1 c.new.ensures c.in_ok-inboxes.ensures c.in_ok-outboxes.ensures refl refl
+    opened_fits c.args.tables c.requires.consistent c.args.executors core slices.1 c.new.ensures c.in_ok-inboxes.ensures c.in_ok-outboxes.ensures c.in_ok-active.ensures refl
 
 pub returns-clause-new : goal.returns-clause-new
 returns-clause-new g c =
@@ -64,7 +64,7 @@ returns-clause-new g c =
         slices = cut.slices;
         inbox = c.in_ok-inbox.inbox;
         outbox = c.in_ok-outbox.outbox;
-        desk = record { admitted = 0; sessions = c.in_ok-sessions.sessions; active = None };
+        desk = record { admitted = 0; sessions = c.in_ok-sessions.sessions; active = c.in_ok-active.active };
         log = c.new.result;
       };
       routing = c.opening-routing.result;
@@ -74,4 +74,4 @@ returns-clause-new g c =
     opened_new c.args.tables c.args.executors c.in_ok-book.lanes.items core
     (record { many = omega (arith, c.in_ok-book.lanes.ok.0, c.in_ok-book.ensures.count); each = c.in_ok-book.ensures.sessions })
     slices.0 slices.1 (c.opening-routing.ensures ∙ ap (λ (s : Scale). record { warehouses = s.warehouses; executors = c.args.executors }) c.scale.ensures.value)
-    c.in_ok-inboxes.ensures c.in_ok-outboxes.ensures c.new.ensures refl refl c.in_ok-sessions.ensures
+    c.in_ok-inboxes.ensures c.in_ok-outboxes.ensures c.new.ensures refl c.in_ok-active.ensures c.in_ok-sessions.ensures

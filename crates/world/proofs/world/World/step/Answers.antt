@@ -3,6 +3,7 @@ use Rattle.partitions.specs.Parts.{shared_of}
 use Rattle.schema.specs.Database.{Database}
 use Rattle.history.specs.History.{Step, step}
 use Rattle.world.specs.declared.world.Core.{Core}
+use Rattle.world.specs.Slots.{count_active}
 use Rattle.world.specs.Together.{together}
 use Rattle.world.specs.Worlds.{Advances, Fits, Happens, IsBusyExactly, NoneDies, TakesItsOwn}
 use Rattle.world.proofs.Alone.{none_dies}
@@ -28,7 +29,7 @@ returns-clause-busy g c =
 
 pub returns-clause-alone : goal.returns-clause-alone
 returns-clause-alone g c =
-    subst (λ (old : Core g.row.J.Denot). (opening : Database) (history : List Step) → Fits opening history (together old) → NoneDies c.args.event.now old c.happen.new.self) c.self.view_is
+    subst (λ (old : Core g.row.J.Denot). (opening : Database) (history : List Step) → Fits opening history (together old) → count_active old.parts.desk.active ≡ 1 → NoneDies c.args.event.now old c.happen.new.self) c.self.view_is
     (none_dies c.claims_are_of_the_footprint.ensures.once (shared_of g.J.LogNames.opening) c.args.event.now c.self.inside.core c.happen.new.self c.happen.result c.self.invariant.0 c.happen.ensures.happens)
 
 pub returns-clause-routing : goal.returns-clause-routing
