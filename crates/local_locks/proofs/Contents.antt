@@ -15,7 +15,7 @@ use Rattle.tickets.specs.Claims.{Claiming, committed_by, fresh, leaving, settled
 use Rattle.tickets.specs.Committed.{all_settled}
 use Rattle.tickets.specs.Places.{IsGroupOf}
 use Rattle.wait_die.specs.declared.deciding.Holder.{Holder}
-use Rattle.local_locks.specs.Asking.{AreHeld, Grants, IsSettled, IsTurnOf, all_kept_after, claim_for, held_by, held_for, leaving_in, left_after, waiting}
+use Rattle.local_locks.specs.Asking.{Grants, IsSettled, IsTurnOf, all_kept_after, claim_for, leaving_in, left_after, waiting}
 use Rattle.local_locks.specs.Locking.{AreStandsOf, Locking, Stand, Waiting, left_in}
 use Rattle.local_locks.specs.Wishes.{wishes}
 use Rattle.local_locks.proofs.Asks.{refilled}
@@ -25,16 +25,8 @@ abbrev pub on_one : Group → Mode → Want
 on_one group mode = record { extent = One group; mode = mode }
 
 pub one_granted : (by : Holder) (wants : List Want) (group : Group) (mode : Mode) (old new : Locking) (claims : List Claiming) → wants ≡ on_one group mode ∷ [] → Grants by wants old claims new
-    → claims ≡ fresh group mode (left_in old.stands group) ∷ []
-one_granted by wants group mode old new claims is granted = granted.claims ∙ ap (λ (ws : List Want). map (claim_for old.stands) (wishes ws)) is
-
--- it is held, whatever was left under it
-pub one_held : (by : Holder) (wants : List Want) (group : Group) (mode : Mode) (old new : Locking) (claims : List Claiming) (claim : Claiming) → wants ≡ on_one group mode ∷ [] → Grants by wants old claims new
-    → claim.group ≡ group → claim.mode ≡ mode → AreHeld new.holdings by (claim ∷ [])
-one_held by wants group mode old new claims claim is granted same alike =
-    let held : map (held_for by) (wishes wants) ≡ held_by by claim ∷ [] =
-    ap (λ (ws : List Want). map (held_for by) (wishes ws)) is ∙ (λ i. record { by = by; group = sym same i; mode = sym alike i } ∷ []) in
-    (old.holdings, subst (λ hs. IsPermutation new.holdings (hs ++ old.holdings)) held granted.holdings)
+    → claims ≡ fresh by group mode (left_in old.stands group) ∷ []
+one_granted by wants group mode old new claims is granted = granted.claims ∙ ap (λ (ws : List Want). map (claim_for by old.stands) (wishes ws)) is
 
 -- what was left in the group stands there once claims are back
 pub left_back : (warehouses w_id : ℕ) (stands : List Stand) (group : Group) (content : Content) (claims : List Claiming) → AreStandsOf warehouses w_id stands → IsGroupOf warehouses group → warehouse_of group ≡ w_id

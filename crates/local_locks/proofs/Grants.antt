@@ -121,9 +121,9 @@ one_lock warehouses w_id locks number lock new here is group agree are = record 
 stand_there : (locks : List Locked) (number : ℕ) (lock : Locked) → number < length locks → lock ≡ get_or locks number lock → stand_at (map stand_in locks) number ≡ stand_in lock
 stand_there locks number lock here is = get_or-map stand_in locks number lock _ here ∙ ap stand_in (sym is)
 
-pub claim_there : (locks : List Locked) (number : ℕ) (mode : Mode) (lock : Locked) → number < length locks → lock ≡ get_or locks number lock
-    → fresh lock.ticket_box.group mode lock.ticket_box.left ≡ claim_at (map stand_in locks) (spot number mode)
-claim_there locks number mode lock here is = ap (λ (s : Stand). fresh s.group mode s.left) (sym (stand_there locks number lock here is))
+pub claim_there : (by : Holder) (locks : List Locked) (number : ℕ) (mode : Mode) (lock : Locked) → number < length locks → lock ≡ get_or locks number lock
+    → fresh by lock.ticket_box.group mode lock.ticket_box.left ≡ claim_at by (map stand_in locks) (spot number mode)
+claim_there by locks number mode lock here is = ap (λ (s : Stand). fresh by s.group mode s.left) (sym (stand_there locks number lock here is))
 
 pub granted_one : (warehouses : ℕ) (by : Holder) (locks : List Locked) (number : ℕ) (mode : Mode) (lock new : Locked) → number < length locks → lock ≡ get_or locks number lock → IsLocked lock → IsLocked new
     → conflicting mode lock ≡ [] → new ≡ locked (given_out mode lock.ticket_box) (lock.holders ++ by ∷ []) → AreGranted warehouses by (spot number mode ∷ []) locks (set locks number new)
@@ -197,17 +197,17 @@ still_open warehouses by granted old new s a small apart clear =
 
 -- ---- the claims
 
-pub claims_none : (stands : List Stand) (wanted : List Spot) (items : List Claiming) → wanted ≡ [] → items ≡ items ++ map (claim_at stands) wanted
-claims_none stands wanted items none = sym (append-nil items) ∙ ap (λ ws. items ++ map (claim_at stands) ws) (sym none)
+pub claims_none : (by : Holder) (stands : List Stand) (wanted : List Spot) (items : List Claiming) → wanted ≡ [] → items ≡ items ++ map (claim_at by stands) wanted
+claims_none by stands wanted items none = sym (append-nil items) ∙ ap (λ ws. items ++ map (claim_at by stands) ws) (sym none)
 
-pub claims_more : (old between : List Stand) (before items new : List Claiming) (xs ys zs : List Spot) → between ≡ old → items ≡ before ++ map (claim_at old) xs → new ≡ items ++ map (claim_at between) ys → zs ≡ xs ++ ys
-    → new ≡ before ++ map (claim_at old) zs
-claims_more old between before items new xs ys zs same first second parts =
-    second ∙ ap (λ (stands : List Stand). items ++ map (claim_at stands) ys) same
-    ∙ ap (λ cs. cs ++ map (claim_at old) ys) first
-    ∙ append_assoc before (map (claim_at old) xs) (map (claim_at old) ys)
-    ∙ ap (λ cs. before ++ cs) (sym (map-append (claim_at old) xs ys))
-    ∙ ap (λ ws. before ++ map (claim_at old) ws) (sym parts)
+pub claims_more : (by : Holder) (old between : List Stand) (before items new : List Claiming) (xs ys zs : List Spot) → between ≡ old → items ≡ before ++ map (claim_at by old) xs → new ≡ items ++ map (claim_at by between) ys → zs ≡ xs ++ ys
+    → new ≡ before ++ map (claim_at by old) zs
+claims_more by old between before items new xs ys zs same first second parts =
+    second ∙ ap (λ (stands : List Stand). items ++ map (claim_at by stands) ys) same
+    ∙ ap (λ cs. cs ++ map (claim_at by old) ys) first
+    ∙ append_assoc before (map (claim_at by old) xs) (map (claim_at by old) ys)
+    ∙ ap (λ cs. before ++ cs) (sym (map-append (claim_at by old) xs ys))
+    ∙ ap (λ ws. before ++ map (claim_at by old) ws) (sym parts)
 
 -- ---- a walk over all that is wanted
 

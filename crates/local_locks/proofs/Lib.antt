@@ -12,6 +12,7 @@ pub mod Wished
 pub mod Asks
 pub mod Taken
 pub mod Returns
+pub mod Keeping
 pub mod Opened
 pub mod Stands
 pub mod Left

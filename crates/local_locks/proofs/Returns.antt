@@ -6,11 +6,13 @@ use Rattle.std.specs.List.Sorted.{IsPermutation}
 use Rattle.std.proofs.lemmas.Bool.{and_from, and_parts, eq-eqb, eqb-true}
 use Rattle.std.proofs.lemmas.Bool.Decides.{eqb_tells}
 use Rattle.std.proofs.lemmas.List.Sums.{sum_by-cons, sum_by-append}
-use Rattle.std.proofs.lemmas.List.{append-nil, get_or-map, get_or-set_same, get_or-set_other, get_or_default, length-map, map-append, same_lists}
+use Rattle.std.proofs.lemmas.List.{append-nil, nil_from_length, get_or-map, get_or-set_same, get_or-set_other, get_or_default, length-map, map-append, same_lists}
 use Rattle.std.proofs.lemmas.List.Sorted.{IsPermutation-refl, IsPermutation-sym, IsPermutation-trans, IsPermutation-append_left, IsPermutation-append_right, IsPermutation-map, length_permutation, sum_by-IsPermutation}
+use Rattle.std.proofs.lemmas.Simd.{map-map}
 use Rattle.requests.specs.declared.group.Group.{Group}
 use Rattle.groups.specs.Groups.{is_same, warehouse_of}
 use Rattle.groups.specs.declared.wishes.Mode.{Mode}
+use Rattle.groups.specs.declared.wishes.Wish.{Wish}
 use Rattle.groups.specs.declared.wishes.Mode.TheVariants.{Shared, Exclusive}
 use Rattle.groups.proofs.SameGroups.{is_same-itself, is_same-other}
 use Rattle.tickets.proofs.Apart.{by_mode, is_same-equal}
@@ -20,73 +22,115 @@ use Rattle.tickets.specs.Claims.{Claiming}
 use Rattle.tickets.specs.Places.{IsGroupOf, place_in_warehouse}
 use Rattle.wait_die.specs.declared.deciding.Holder.{Holder}
 use Rattle.local_locks.specs.Locking.{Holding, Stand, Locking, stand_of}
-use Rattle.local_locks.specs.Asking.{held_by, AreHeld, kept_after, left_after, leaving_in}
+use Rattle.local_locks.specs.Asking.{claimed, held_by, AreHeld, AreTogether, kept_after, left_after, leaving_in}
 use Rattle.local_locks.specs.Locks.{Locked, locked, Agree, IsLocked, holding, holdings_of, stand_in, IsLockAt, AreLocksOf, KeepsLocks, Parked, waiting_of, locking}
 use Rattle.local_locks.proofs.Covering.{one_group}
 use Rattle.local_locks.proofs.Grants.{one_lock}
 use Rattle.local_locks.proofs.InPlace.{in_place}
 use Rattle.local_locks.proofs.Members.{contains_here, contains_there}
+use Rattle.local_locks.proofs.Stands.{inside}
 use Rattle.local_locks.proofs.Views.{held_somewhere}
 
--- the lock at the place of a claim's group is the group's, and this one holds it
-pub record IsHome (locks : List Locked) (by : Holder) (claim : Claiming) (number : ℕ) (lock : Locked) : Type 0 where
+-- The lock at the place of a claim's group is the group's; and where the claim is out, its holder stands there.
+pub record IsHome (locks : List Locked) (claim : Claiming) (number : ℕ) (lock : Locked) : Type 0 where
   pub small : number < length locks
   pub group : claim.group ≡ lock.ticket_box.group
-  pub held : Contains lock.holders by
+  pub held : Contains (flat_map holdings_of locks) (held_by claim) → Contains lock.holders claim.by
 
-pub comes_home : (warehouses w_id : ℕ) (locks : List Locked) (by : Holder) (claim : Claiming) (number : ℕ) (lock : Locked) → AreLocksOf warehouses w_id locks → Contains (flat_map holdings_of locks) (held_by by claim)
-    → number ≡ place_in_warehouse claim.group → lock ≡ get_or locks number lock → IsHome locks by claim number lock
-comes_home warehouses w_id locks by claim number lock are c at is =
-    let found = held_somewhere locks (held_by by claim) c in
-    let other = found.1 in
-    let held = found.2 in
-    let there : IsLockAt warehouses w_id found.0 other = subst (IsLockAt warehouses w_id found.0) held.is (are.each found.0 other held.small) in
-    let place : found.0 ≡ number = sym there.place ∙ ap place_in_warehouse held.group ∙ sym at in
-    let small : number < length locks = subst (λ n. n < length locks) place held.small in
-    let same : other ≡ lock = sym held.is ∙ ap (λ (n : ℕ). get_or locks n other) place ∙ get_or_default locks number other lock small ∙ sym is in
+pub comes_home : (warehouses w_id : ℕ) (locks : List Locked) (claim : Claiming) (number : ℕ) (lock : Locked) → AreLocksOf warehouses w_id locks → IsGroupOf warehouses claim.group → warehouse_of claim.group ≡ w_id
+    → number ≡ place_in_warehouse claim.group → lock ≡ get_or locks number lock → IsHome locks claim number lock
+comes_home warehouses w_id locks claim number lock are known home at is =
+    let small : number < length locks = omega (arith, inside warehouses claim.group known, at, are.all_there) in
+    let there : IsLockAt warehouses w_id number lock = subst (IsLockAt warehouses w_id number) (sym is) (are.each number lock small) in
     record {
       small = small;
-      group = sym held.group ∙ ap (λ (l : Locked). l.ticket_box.group) same;
-      held = subst (λ (l : Locked). Contains l.holders by) same held.by;
+      group = one_group warehouses claim.group lock.ticket_box.group known there.known (home ∙ sym there.here) (sym at ∙ sym there.place);
+      held = λ c.
+          let found = held_somewhere locks (held_by claim) c in
+          let other = found.1 in
+          let held = found.2 in
+          let other_at : IsLockAt warehouses w_id found.0 other = subst (IsLockAt warehouses w_id found.0) held.is (are.each found.0 other held.small) in
+          let place : found.0 ≡ number = sym other_at.place ∙ ap place_in_warehouse held.group ∙ sym at in
+          let same : other ≡ lock = sym held.is ∙ ap (λ (n : ℕ). get_or locks n other) place ∙ get_or_default locks number other lock small ∙ sym is in
+          subst (λ (l : Locked). Contains l.holders claim.by) same held.by;
     }
 
 -- ---- one claim is back
 
 -- those who still hold the group, hold it as they did
-still_held : (old new : Locked) (by : Holder) → IsLocked old → new.ticket_box ≡ taken_back old.ticket_box → IsPermutation old.holders (by ∷ new.holders) → holdings_of new ≡ map (holding old.ticket_box.group old.ticket_box.mode) new.holders
-still_held old new by agree box moved =
+still_held : (old new : Locked) → IsLocked old → new.ticket_box ≡ taken_back old.ticket_box → length new.holders + 1 ≡ length old.holders → holdings_of new ≡ map (holding old.ticket_box.group old.ticket_box.mode) new.holders
+still_held old new agree box fewer =
     let group : new.ticket_box.group ≡ old.ticket_box.group = ap (λ (b : Boxed). b.group) box in
     let shared : new.ticket_box.mode ≡ Shared = ap (λ (b : Boxed). b.mode) box in
     by_mode old.ticket_box.mode refl
     (λ exclusive.
     let one : Agree Exclusive old.ticket_box old.holders = subst (λ m. Agree m old.ticket_box old.holders) exclusive agree in
-    let none : new.holders ≡ [] = none_of new.holders (omega (arith, one.1, length_permutation old.holders (by ∷ new.holders) moved)) in
+    let none : new.holders ≡ [] = nil_from_length new.holders (omega (arith, one.1, fewer)) in
     ap (map (holding new.ticket_box.group new.ticket_box.mode)) none ∙ sym (ap (map (holding old.ticket_box.group old.ticket_box.mode)) none))
     (λ was. (λ i. map (holding (group i) ((shared ∙ sym was) i)) new.holders))
-  where
-    none_of : (hs : List Holder) → length (by ∷ hs) ≡ 1 → hs ≡ []
-    none_of [] long = refl
-    none_of (h ∷ hs) long = absurd (omega (arith, long))
 
-pub back_held : (locks : List Locked) (number : ℕ) (old new : Locked) (by : Holder) (claim : Claiming) → number < length locks → old ≡ get_or locks number old → IsLocked old → new.ticket_box ≡ taken_back old.ticket_box
-    → IsPermutation old.holders (by ∷ new.holders) → claim.group ≡ old.ticket_box.group → claim.mode ≡ old.ticket_box.mode
-    → IsPermutation (flat_map holdings_of locks) (held_by by claim ∷ flat_map holdings_of (set locks number new))
-back_held locks number old new by claim small is agree box moved group mode =
-    let place = in_place holdings_of locks number old small in
-    let f = flat_map holdings_of in
-    let one = held_by by claim in
+-- one of all that the locks have goes, where one of those of a lock does
+one_fewer : {A : Type 0} (f : Locked → List A) (locks : List Locked) (number : ℕ) (old new : Locked) (a : A) → number < length locks → old ≡ get_or locks number old → IsPermutation (f old) (a ∷ f new)
+    → IsPermutation (flat_map f locks) (a ∷ flat_map f (set locks number new))
+one_fewer {A} f locks number old new a small is moved =
+    let place = in_place f locks number old small in
+    let all = flat_map f in
+    let before : IsPermutation (all locks) (f old ++ place.rest) = subst (λ (l : Locked). IsPermutation (all locks) (f l ++ place.rest)) (sym is) place.now in
+    let parted : IsPermutation (f old ++ place.rest) ((a ∷ f new) ++ place.rest) = IsPermutation-append_left place.rest (f old) (a ∷ f new) moved in
+    let joined : IsPermutation (a ∷ [] ++ (f new ++ place.rest)) (a ∷ [] ++ all (set locks number new)) =
+    IsPermutation-append_right (a ∷ []) (f new ++ place.rest) (all (set locks number new)) (IsPermutation-sym (all (set locks number new)) (f new ++ place.rest) (place.after new)) in
+    IsPermutation-trans (all locks) (f old ++ place.rest) (a ∷ all (set locks number new)) before
+    (IsPermutation-trans (f old ++ place.rest) ((a ∷ f new) ++ place.rest) (a ∷ all (set locks number new)) parted joined)
+
+-- A claim is back in its lock.
+pub record ComesBack (old new : Locked) (claim : Claiming) : Type 0 where
+  pub agree : IsLocked old
+  pub box : new.ticket_box ≡ taken_back old.ticket_box
+  pub fewer : length new.holders + 1 ≡ length old.holders
+  pub holders : Contains old.holders claim.by → IsPermutation old.holders (claim.by ∷ new.holders)
+  pub group : claim.group ≡ old.ticket_box.group
+  pub mode : claim.mode ≡ old.ticket_box.mode
+
+-- what its holder held with it
+pub back_held : (locks : List Locked) (number : ℕ) (old new : Locked) (claim : Claiming) → number < length locks → old ≡ get_or locks number old → ComesBack old new claim → Contains old.holders claim.by
+    → IsPermutation (flat_map holdings_of locks) (held_by claim ∷ flat_map holdings_of (set locks number new))
+back_held locks number old new claim small is back here =
     let hold = holding old.ticket_box.group old.ticket_box.mode in
-    let named : hold by ≡ one = sym (λ i. holding (group i) (mode i) by) in
-    let before : IsPermutation (f locks) (holdings_of old ++ place.rest) = subst (λ (l : Locked). IsPermutation (f locks) (holdings_of l ++ place.rest)) (sym is) place.now in
-    let parted : IsPermutation (holdings_of old ++ place.rest) ((hold by ∷ map hold new.holders) ++ place.rest) =
-    IsPermutation-append_left place.rest (holdings_of old) (hold by ∷ map hold new.holders) (IsPermutation-map hold old.holders (by ∷ new.holders) moved) in
-    let after : IsPermutation (f (set locks number new)) (map hold new.holders ++ place.rest) = subst (λ hs. IsPermutation (f (set locks number new)) (hs ++ place.rest)) (still_held old new by agree box moved) (place.after new) in
-    let joined : IsPermutation (hold by ∷ [] ++ (map hold new.holders ++ place.rest)) (hold by ∷ [] ++ f (set locks number new)) =
-    IsPermutation-append_right (hold by ∷ []) (map hold new.holders ++ place.rest) (f (set locks number new)) (IsPermutation-sym (f (set locks number new)) (map hold new.holders ++ place.rest) after) in
-    let all : IsPermutation (f locks) (hold by ∷ f (set locks number new)) =
-    IsPermutation-trans (f locks) (holdings_of old ++ place.rest) (hold by ∷ f (set locks number new)) before
-    (IsPermutation-trans (holdings_of old ++ place.rest) ((hold by ∷ map hold new.holders) ++ place.rest) (hold by ∷ f (set locks number new)) parted joined) in
-    subst (λ (h : Holding). IsPermutation (f locks) (h ∷ f (set locks number new))) named all
+    let moved : IsPermutation (holdings_of old) (hold claim.by ∷ map hold new.holders) = IsPermutation-map hold old.holders (claim.by ∷ new.holders) (back.holders here) in
+    let still : IsPermutation (holdings_of old) (hold claim.by ∷ holdings_of new) = subst (λ (hs : List Holding). IsPermutation (holdings_of old) (hold claim.by ∷ hs)) (sym (still_held old new back.agree back.box back.fewer)) moved in
+    let named : hold claim.by ≡ held_by claim = sym (λ i. holding (back.group i) (back.mode i) claim.by) in
+    one_fewer holdings_of locks number old new (held_by claim) small is (subst (λ (h : Holding). IsPermutation (holdings_of old) (h ∷ holdings_of new)) named still)
+
+-- the groups that a lock's holders claim, and how
+claims_of : Locked → List Wish
+claims_of lock = map claimed (holdings_of lock)
+
+claimed_all : (locks : List Locked) → map claimed (flat_map holdings_of locks) ≡ flat_map claims_of locks
+unfolding claims_of
+claimed_all [] = refl
+claimed_all (lock ∷ locks) = map-append claimed (holdings_of lock) (flat_map holdings_of locks) ∙ ap (λ ws. map claimed (holdings_of lock) ++ ws) (claimed_all locks)
+
+-- as many holders claim as much
+as_many : (group : Group) (mode : Mode) (hs ks : List Holder) → length hs ≡ length ks → map claimed (map (holding group mode) hs) ≡ map claimed (map (holding group mode) ks)
+as_many group mode [] [] long = refl
+as_many group mode [] (k ∷ ks) long = absurd (omega (arith, long))
+as_many group mode (h ∷ hs) [] long = absurd (omega (arith, long))
+as_many group mode (h ∷ hs) (k ∷ ks) long = ap (λ ws. record { group = group; mode = mode } ∷ ws) (as_many group mode hs ks (omega (arith, long)))
+
+-- what was claimed with it, whoever holds it
+pub back_out : (locks : List Locked) (number : ℕ) (old new : Locked) (claim : Claiming) → number < length locks → old ≡ get_or locks number old → ComesBack old new claim
+    → IsPermutation (map claimed (flat_map holdings_of locks)) (claimed (held_by claim) ∷ map claimed (flat_map holdings_of (set locks number new)))
+unfolding claims_of
+back_out locks number old new claim small is back =
+    let hold = holding old.ticket_box.group old.ticket_box.mode in
+    let one : claimed (hold claim.by) ≡ claimed (held_by claim) = sym (λ i. record { group = back.group i; mode = back.mode i }) in
+    let fewer : claims_of old ≡ claimed (held_by claim) ∷ claims_of new =
+    as_many old.ticket_box.group old.ticket_box.mode old.holders (claim.by ∷ new.holders) (omega (arith, back.fewer))
+    ∙ (λ i. one i ∷ map claimed (sym (still_held old new back.agree back.box back.fewer) i)) in
+    let moved : IsPermutation (claims_of old) (claimed (held_by claim) ∷ claims_of new) = subst (IsPermutation (claims_of old)) fewer (IsPermutation-refl (claims_of old)) in
+    let all = one_fewer claims_of locks number old new (claimed (held_by claim)) small is moved in
+    subst (λ ws. IsPermutation ws (claimed (held_by claim) ∷ map claimed (flat_map holdings_of (set locks number new)))) (sym (claimed_all locks))
+    (subst (λ ws. IsPermutation (flat_map claims_of locks) (claimed (held_by claim) ∷ ws)) (sym (claimed_all (set locks number new))) all)
 
 -- What stands in the groups, where it changes in one of them.
 pub one_stand : (warehouses w_id : ℕ) (locks : List Locked) (number : ℕ) (old new : Locked) (change : Stand → Stand) → AreLocksOf warehouses w_id locks → number < length locks → old ≡ get_or locks number old
@@ -168,9 +212,6 @@ left_table warehouses w_id table locks waiters number d new group content view a
     let stands = left_stands warehouses w_id locks number old new group content are small is made same in
     let held = left_held locks number d new small (ap holdings_of made) in
     (λ i. record { w_id = w_id; stands = stands i; holdings = held i; waiters = map waiting_of waiters }) ∙ ap (λ (t : Locking). leaving_in t group content) view
-  where
-    inside : (warehouses : ℕ) (group : Group) → IsGroupOf warehouses group → place_in_warehouse group < 105
-    inside warehouses group known = grind arith
 
 pub back_locks : (warehouses : ℕ) (locks : List Locked) (number : ℕ) (old new : Locked) → number < length locks → old ≡ get_or locks number old → new.ticket_box ≡ taken_back old.ticket_box → IsLocked new → KeepsLocks warehouses locks (set locks number new)
 back_locks warehouses locks number old new small is box agree = λ w_id are.
@@ -234,49 +275,64 @@ counted_contains h (x ∷ xs) some = by_test (is_holding h x) refl (counted_cont
     by_test true is later = subst (λ (y : Holding). Contains (y ∷ xs) h) (holding_equal h x is) (contains_here h xs)
     by_test false isnt later = contains_there x xs h (later (omega (arith, some, count_cons h x xs, ap {B = ℕ} (λ b. cond b 1 0) isnt)))
 
--- each holding is as often among all as among those of these claims
-pub AreCounted : List Holding → Holder → List Claiming → Type 0
-AreCounted holdings by claims = (h : Holding) → count_of h (map (held_by by) claims) ≤ count_of h holdings
+-- ---- what came back so far, and what is still out
 
-pub counted_held : (holdings : List Holding) (by : Holder) (claims : List Claiming) → AreHeld holdings by claims → AreCounted holdings by claims
-unfolding AreCounted
-counted_held holdings by claims held h =
-    omega (arith, count_moved h holdings (map (held_by by) claims ++ held.0) held.1, count_append h (map (held_by by) claims) held.0)
+-- what a claim is on, and how
+abbrev pub on : Claiming → Wish
+on claim = claimed (held_by claim)
 
-pub counted_first : (holdings : List Holding) (by : Holder) (claim : Claiming) (claims : List Claiming) → AreCounted holdings by (claim ∷ claims) → Contains holdings (held_by by claim)
-unfolding AreCounted
-counted_first holdings by claim claims counted =
-    let one = held_by by claim in
-    let test : cond (is_holding one one) 1 0 ≡ 1 = ap {B = ℕ} (λ b. cond b 1 0) (holding_itself one) in
-    counted_contains one holdings (omega (arith, counted one, count_cons one one (map (held_by by) claims), test))
-
-pub counted_next : (holdings left : List Holding) (by : Holder) (claim : Claiming) (claims : List Claiming) → AreCounted holdings by (claim ∷ claims) → IsPermutation holdings (held_by by claim ∷ left) → AreCounted left by claims
-unfolding AreCounted
-counted_next holdings left by claim claims counted moved h =
-    omega (arith, counted h, count_cons h (held_by by claim) (map (held_by by) claims), count_cons h (held_by by claim) left, count_moved h holdings (held_by by claim ∷ left) moved)
-
--- what came back so far, and what is still out
-pub record AreBack (holdings : List Holding) (by : Holder) (claims rest : List Claiming) (left : List Holding) : Type 0 where
+pub record AreBack (holdings : List Holding) (claims rest : List Claiming) (left : List Holding) : Type 0 where
   pub done : List Claiming
   pub parts : claims ≡ done ++ rest
-  pub moved : IsPermutation holdings (map (held_by by) done ++ left)
+  pub out : IsPermutation (map claimed holdings) (map on done ++ map claimed left)
+  pub held : AreHeld holdings claims → IsPermutation holdings (map held_by done ++ left)
 
-pub none_back : (holdings : List Holding) (by : Holder) (claims : List Claiming) → AreBack holdings by claims claims holdings
-none_back holdings by claims = record { done = []; parts = refl; moved = IsPermutation-refl holdings }
+pub none_back : (holdings : List Holding) (claims : List Claiming) → AreBack holdings claims claims holdings
+none_back holdings claims = record { done = []; parts = refl; out = IsPermutation-refl (map claimed holdings); held = λ h. IsPermutation-refl holdings }
 
-pub one_back : (holdings left next : List Holding) (by : Holder) (claim : Claiming) (claims rest : List Claiming) → AreBack holdings by claims (claim ∷ rest) left → IsPermutation left (held_by by claim ∷ next) → AreBack holdings by claims rest next
-one_back holdings left next by claim claims rest back moved =
-    let f = map (held_by by) in
-    let one = held_by by claim in
-    let parts : map (held_by by) (back.done ++ claim ∷ []) ++ next ≡ f back.done ++ (one ∷ next) =
-    ap (λ hs. hs ++ next) (map-append (held_by by) back.done (claim ∷ [])) ∙ append_assoc (f back.done) (one ∷ []) next in
-    record {
-      done = back.done ++ claim ∷ [];
-      parts = back.parts ∙ sym (append_assoc back.done (claim ∷ []) rest);
-      moved = subst (IsPermutation holdings) (sym parts) (IsPermutation-trans holdings (f back.done ++ left) (f back.done ++ (one ∷ next)) back.moved (IsPermutation-append_right (f back.done) left (one ∷ next) moved));
-    }
+-- the next of those that come back is out
+pub still_out : (holdings left : List Holding) (claim : Claiming) (claims rest : List Claiming) → AreBack holdings claims (claim ∷ rest) left → AreHeld holdings claims → Contains left (held_by claim)
+still_out holdings left claim claims rest back held =
+    let one = held_by claim in
+    let f = map held_by in
+    let test : cond (is_holding one one) 1 0 ≡ 1 = ap {B = ℕ} (λ b. cond b 1 0) (holding_itself one) in
+    let whole : f claims ≡ f back.done ++ (one ∷ f rest) = ap f back.parts ∙ map-append held_by back.done (claim ∷ rest) in
+    counted_contains one left (omega (
+      arith,
+      count_moved one holdings (f claims ++ held.0) held.1,
+      count_append one (f claims) held.0,
+      ap {B = ℕ} (count_of one) whole,
+      count_append one (f back.done) (one ∷ f rest),
+      count_cons one one (f rest),
+      test,
+      count_moved one holdings (f back.done ++ left) (back.held held),
+      count_append one (f back.done) left,
+    ))
 
-pub all_back : (holdings left : List Holding) (by : Holder) (claims rest : List Claiming) → rest ≡ [] → AreBack holdings by claims rest left → IsPermutation holdings (map (held_by by) claims ++ left)
-all_back holdings left by claims rest none back =
-    let whole : claims ≡ back.done = back.parts ∙ ap (λ cs. back.done ++ cs) none ∙ append-nil back.done in
-    subst (λ (cs : List Claiming). IsPermutation holdings (map (held_by by) cs ++ left)) (sym whole) back.moved
+-- one more of all these is one of those that are done
+one_done : {A : Type 0} (f : Claiming → A) (all left next : List A) (done : List Claiming) (claim : Claiming) → IsPermutation all (map f done ++ left) → IsPermutation left (f claim ∷ next) → IsPermutation all (map f (done ++ claim ∷ []) ++ next)
+one_done f all left next done claim before moved =
+    let parts : map f (done ++ claim ∷ []) ++ next ≡ map f done ++ (f claim ∷ next) = ap (λ rest. rest ++ next) (map-append f done (claim ∷ [])) ∙ append_assoc (map f done) (f claim ∷ []) next in
+    subst (IsPermutation all) (sym parts) (IsPermutation-trans all (map f done ++ left) (map f done ++ (f claim ∷ next)) before (IsPermutation-append_right (map f done) left (f claim ∷ next) moved))
+
+pub one_back : (holdings left next : List Holding) (claim : Claiming) (claims rest : List Claiming) → AreBack holdings claims (claim ∷ rest) left → IsPermutation (map claimed left) (claimed (held_by claim) ∷ map claimed next)
+    → (Contains left (held_by claim) → IsPermutation left (held_by claim ∷ next)) → AreBack holdings claims rest next
+one_back holdings left next claim claims rest back out held = record {
+  done = back.done ++ claim ∷ [];
+  parts = back.parts ∙ sym (append_assoc back.done (claim ∷ []) rest);
+  out = one_done on (map claimed holdings) (map claimed left) (map claimed next) back.done claim back.out out;
+  held = λ h. one_done held_by holdings left next back.done claim (back.held h) (held (still_out holdings left claim claims rest back h));
+}
+
+all_done : (holdings left : List Holding) (claims rest : List Claiming) → rest ≡ [] → (back : AreBack holdings claims rest left) → claims ≡ back.done
+all_done holdings left claims rest none back = back.parts ∙ ap (λ cs. back.done ++ cs) none ∙ append-nil back.done
+
+pub all_back : (holdings left : List Holding) (claims rest : List Claiming) → rest ≡ [] → AreBack holdings claims rest left → AreHeld holdings claims → IsPermutation holdings (map held_by claims ++ left)
+all_back holdings left claims rest none back held =
+    subst (λ (cs : List Claiming). IsPermutation holdings (map held_by cs ++ left)) (sym (all_done holdings left claims rest none back)) (back.held held)
+
+pub all_out : (holdings left : List Holding) (claims rest : List Claiming) → rest ≡ [] → AreBack holdings claims rest left → AreTogether holdings (map held_by claims) left
+all_out holdings left claims rest none back =
+    let mapped : map claimed (map held_by claims) ≡ map on claims = map-map claimed held_by claims in
+    let whole : IsPermutation (map claimed holdings) (map on claims ++ map claimed left) = subst (λ (cs : List Claiming). IsPermutation (map claimed holdings) (map on cs ++ map claimed left)) (sym (all_done holdings left claims rest none back)) back.out in
+    subst (λ ws. IsPermutation (map claimed holdings) (ws ++ map claimed left)) (sym mapped) whole

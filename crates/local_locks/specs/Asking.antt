@@ -1,9 +1,9 @@
 -- What a lock table answers, and what it leaves.
-use Rattle.std.specs.Prelude.{◌≡◌, ◌⊎◌, ◌<◌, List, [], ◌∷◌, ◌++◌, All, map, if◌then◌else◌}
+use Rattle.std.specs.Prelude.{◌≡◌, ◌⊎◌, ℕ, ◌<◌, List, [], ◌∷◌, ◌++◌, All, map, if◌then◌else◌}
 use Rattle.std.specs.List.Sorted.{IsPermutation}
 use Rattle.requests.specs.declared.group.Group.{Group}
 use Rattle.groups.specs.Content.{Content}
-use Rattle.groups.specs.Groups.{is_same}
+use Rattle.groups.specs.Groups.{is_same, warehouse_of}
 use Rattle.groups.specs.declared.wishes.Mode.TheVariants.{Exclusive}
 use Rattle.groups.specs.declared.wishes.Wish.{Wish}
 use Rattle.groups.specs.declared.wants.Want.{Want}
@@ -19,9 +19,9 @@ use Rattle.local_locks.specs.Wishes.{wishes}
 
 -- ---- grants
 
--- the claim that is granted for a wish: under it nothing was done yet, and it tells what stands in its group
-abbrev pub claim_for : List Stand → Wish → Claiming
-claim_for stands wish = fresh wish.group wish.mode (left_in stands wish.group)
+-- the claim that is granted to this one for a wish: under it nothing was done yet, and it tells what stands in its group
+abbrev pub claim_for : Holder → List Stand → Wish → Claiming
+claim_for by stands wish = fresh by wish.group wish.mode (left_in stands wish.group)
 
 -- what this holder holds for a wish
 abbrev pub held_for : Holder → Wish → Holding
@@ -30,7 +30,7 @@ held_for by wish = record { by = by; group = wish.group; mode = wish.mode }
 -- One who is free has a claim on each group that is wanted, and holds them. What stands in the groups stays.
 pub record Grants (by : Holder) (wants : List Want) (old : Locking) (granted : List Claiming) (new : Locking) : Type 0 where
   pub free : IsFree old.holdings wants
-  pub claims : granted ≡ map (claim_for old.stands) (wishes wants)
+  pub claims : granted ≡ map (claim_for by old.stands) (wishes wants)
   pub holdings : IsPermutation new.holdings (map (held_for by) (wishes wants) ++ old.holdings)
   pub stands : new.stands ≡ old.stands
   pub w_id : new.w_id ≡ old.w_id
@@ -38,12 +38,25 @@ pub record Grants (by : Holder) (wants : List Want) (old : Locking) (granted : L
 -- ---- who comes back
 
 -- who holds this claim
-abbrev pub held_by : Holder → Claiming → Holding
-held_by by claim = record { by = by; group = claim.group; mode = claim.mode }
+abbrev pub held_by : Claiming → Holding
+held_by claim = record { by = claim.by; group = claim.group; mode = claim.mode }
 
--- these are claims of the table that this one holds
-abbrev pub AreHeld : List Holding → Holder → List Claiming → Type 0
-AreHeld holdings by claims = (others : List Holding) × IsPermutation holdings (map (held_by by) claims ++ others)
+-- these are claims of the table that are out
+abbrev pub AreHeld : List Holding → List Claiming → Type 0
+AreHeld holdings claims = (others : List Holding) × IsPermutation holdings (map held_by claims ++ others)
+
+-- what a claim is on, and how, whoever holds it
+abbrev pub claimed : Holding → Wish
+claimed holding = record { group = holding.group; mode = holding.mode }
+
+-- All these claims are those and the others: of each group as many shared ones and as many exclusive ones, whoever holds
+-- them.
+abbrev pub AreTogether : List Holding → List Holding → List Holding → Type 0
+AreTogether all some others = IsPermutation (map claimed all) (map claimed some ++ map claimed others)
+
+-- the claim is on a group of this warehouse
+abbrev pub IsOfHome : ℕ → Claiming → Type 0
+IsOfHome w_id claim = warehouse_of claim.group ≡ w_id
 
 -- what an exclusive claim left is committed
 abbrev pub IsSettled : Claiming → Type 0

@@ -18,9 +18,9 @@ IsOpen locks spot = conflicting_at locks spot.mode spot.number ≡ []
 abbrev pub stand_at : List Stand → ℕ → Stand
 stand_at stands number = slice_index_or stands number (record { group = Warehouse 0; left = nothing; back = nothing })
 
--- the claim that is granted for this place: nothing was done under it yet, and it tells what stands there
-abbrev pub claim_at : List Stand → Spot → Claiming
-claim_at stands spot = fresh (stand_at stands spot.number).group spot.mode (stand_at stands spot.number).left
+-- the claim that is granted to this one for this place: nothing was done under it yet, and it tells what stands there
+abbrev pub claim_at : Holder → List Stand → Spot → Claiming
+claim_at by stands spot = fresh by (stand_at stands spot.number).group spot.mode (stand_at stands spot.number).left
 
 -- what this holder holds with it
 abbrev pub held_at : Holder → List Stand → Spot → Holding

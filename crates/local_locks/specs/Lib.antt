@@ -7,4 +7,5 @@ pub mod Rulings
 pub mod Granting
 pub mod Turns
 pub mod Laws
+pub mod Keeping
 pub mod Trials

@@ -8,9 +8,9 @@ use Rattle.wait_die.specs.declared.deciding.Holder.{Holder}
 use Rattle.local_locks.specs.Locking.{Holding, Locking}
 use Rattle.local_locks.specs.Asking.{held_by, IsSettled}
 
--- what a holder holds with the claims of a grant
+-- what is held with the claims of a grant
 abbrev pub held_of : Holder × List Claiming → List Holding
-held_of grant = map (held_by grant.0) grant.1
+held_of grant = map held_by grant.1
 
 -- the claims of a grant tell what they left
 abbrev pub AreSettled : Holder × List Claiming → Type 0

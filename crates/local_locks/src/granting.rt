@@ -2,9 +2,9 @@
 ghost use Rattle.std.specs.Prelude.{◌≡◌, ◌<◌, ◌≤◌, ◌+◌, ◌∷◌, ◌++◌, [], All, AllPairs, length, vec_len, vec_capacity, map};
 ghost use Rattle.std.specs.List.{flat_map};
 ghost use Rattle.std.specs.List.Sorted.{IsPermutation};
-ghost use Rattle.local_locks.specs.Asking.{all_kept_after, held_by, AreHeld, IsSettled};
+ghost use Rattle.local_locks.specs.Asking.{all_kept_after, held_by, AreHeld, AreTogether, IsSettled};
 ghost use Rattle.local_locks.specs.Granting.{AreElsewhere, AreGranted, IsOpen, claim_at};
-ghost use Rattle.local_locks.specs.Locks.{holdings_of, stand_in, AreLocks, KeepsLocks};
+ghost use Rattle.local_locks.specs.Locks.{holdings_of, stand_in, AreLocksAt, KeepsLocks};
 ghost use Rattle.local_locks.specs.Rulings.{spot, spots_of};
 ghost use Rattle.local_locks.specs.Wishes.{IsWanted};
 
@@ -32,7 +32,7 @@ pub(crate) fn count_of<J: GroupNames>(wants: &[Want]) -> usize
 fn grant_at<J: GroupNames>(locks: &mut [Lock<J>], number: usize, mode: Mode, by: Holder) -> Claim<J>
     requires inside { number < length locks.old }
     requires open { IsOpen locks.old (spot number mode) }
-    ensures claim { result ≡ claim_at (map stand_in locks.old) (spot number mode) }
+    ensures claim { result ≡ claim_at by (map stand_in locks.old) (spot number mode) }
     ensures granted { AreGranted J.warehouses by (spot number mode ∷ []) locks.old locks.new }
 {
     locks[number].grant(mode, by)
@@ -49,7 +49,7 @@ fn grant_want<J: GroupNames>(
     requires places { 105 ≤ length locks.old }
     requires open { All (IsOpen locks.old) (spots_of want) }
     requires room { vec_len claims.old + length (spots_of want) ≤ vec_capacity claims.old }
-    ensures claims { claims.new.items ≡ claims.old.items ++ map (claim_at (map stand_in locks.old)) (spots_of want) }
+    ensures claims { claims.new.items ≡ claims.old.items ++ map (claim_at by (map stand_in locks.old)) (spots_of want) }
     ensures count { vec_len claims.new ≡ vec_len claims.old + length (spots_of want) }
     ensures room { vec_capacity claims.new ≡ vec_capacity claims.old }
     ensures granted { AreGranted J.warehouses by (spots_of want) locks.old locks.new }
@@ -72,7 +72,7 @@ pub(crate) fn grant_all<J: GroupNames>(
     requires open { All (IsOpen locks.old) (flat_map spots_of wants.now) }
     requires once { AllPairs AreElsewhere (flat_map spots_of wants.now) }
     requires room { vec_len claims.old + length (flat_map spots_of wants.now) ≤ vec_capacity claims.old }
-    ensures claims { claims.new.items ≡ claims.old.items ++ map (claim_at (map stand_in locks.old)) (flat_map spots_of wants.now) }
+    ensures claims { claims.new.items ≡ claims.old.items ++ map (claim_at by (map stand_in locks.old)) (flat_map spots_of wants.now) }
     ensures granted { AreGranted J.warehouses by (flat_map spots_of wants.now) locks.old locks.new }
 {
     for want in wants {
@@ -80,17 +80,17 @@ pub(crate) fn grant_all<J: GroupNames>(
     }
 }
 
-/// Takes claims back that this one holds, once what they left is committed.
-pub(crate) fn take_all_back<J: GroupNames>(locks: &mut [Lock<J>], by: Holder, claims: Vec<Claim<J>>)
-    requires locks { AreLocks J.warehouses locks.old }
-    requires held { AreHeld (flat_map holdings_of locks.old) by claims.items }
+/// Takes claims back, once what they left is committed.
+pub(crate) fn take_all_back<J: GroupNames>(locks: &mut [Lock<J>], claims: Vec<Claim<J>>)
+    requires locks { AreLocksAt J.warehouses locks.old claims.items }
     requires committed { All IsSettled claims.items }
     ensures locks { KeepsLocks J.warehouses locks.old locks.new }
     ensures stands { map stand_in locks.new ≡ all_kept_after claims.items (map stand_in locks.old) }
-    ensures holdings { IsPermutation (flat_map holdings_of locks.old) (map (held_by by) claims.items ++ flat_map holdings_of locks.new) }
+    ensures out { AreTogether (flat_map holdings_of locks.old) (map held_by claims.items) (flat_map holdings_of locks.new) }
+    ensures holdings { AreHeld (flat_map holdings_of locks.old) claims.items → IsPermutation (flat_map holdings_of locks.old) (map held_by claims.items ++ flat_map holdings_of locks.new) }
 {
     for claim in claims {
         let number = place_of_claim(&claim);
-        locks[number].take_back(by, claim);
+        locks[number].take_back(claim);
     }
 }

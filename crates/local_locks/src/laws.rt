@@ -1,4 +1,5 @@
-//! What holds of who waits for whom, and of what is wanted: functions that do nothing, and are proved.
+//! What holds of who waits for whom, of what is wanted, and of what is committed: functions that do nothing, and are proved.
+ghost use Rattle.local_locks.specs.Keeping.{GrantsKeepCommitted, ReturnsKeepCommitted};
 ghost use Rattle.local_locks.specs.Laws.{EachCoveredGroupIsWished, NobodyWaitsForItself};
 
 /// Where all who wait have to wait, as when `LockTable::next_grant` has answered `None`, each is older
@@ -12,4 +13,11 @@ pub fn nobody_waits_for_itself()
 /// warehouse.
 pub fn each_covered_group_is_wished()
     ensures { EachCoveredGroupIsWished }
+{}
+
+/// What is granted and what is given back keeps what is committed, where those tickets are at home that no
+/// holder has.
+pub fn grants_and_returns_keep_committed()
+    ensures grants { GrantsKeepCommitted }
+    ensures returns { ReturnsKeepCommitted }
 {}

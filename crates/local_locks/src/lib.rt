@@ -17,7 +17,9 @@ mod rulings;
 mod table;
 mod waiting;
 
-pub use laws::{each_covered_group_is_wished, nobody_waits_for_itself};
+pub use laws::{
+    each_covered_group_is_wished, grants_and_returns_keep_committed, nobody_waits_for_itself,
+};
 pub use table::{Asked, LockTable, Turn};
 
 #[cfg(test)]

@@ -1,5 +1,5 @@
 //! The lock of a group: its ticket box, and who holds the claims on it that are out.
-ghost use Rattle.std.specs.Prelude.{◌≡◌, [], ◌∷◌, ◌++◌, Contains, slice_index_or, length, ◌<◌};
+ghost use Rattle.std.specs.Prelude.{◌≡◌, [], ◌∷◌, ◌++◌, Contains, IfNone, IfSome, slice_index_or, length, ◌<◌, ◌+◌};
 ghost use Rattle.std.specs.List.Sorted.{IsPermutation};
 ghost use Rattle.groups.specs.declared.wishes.Mode.TheVariants.{Shared, Exclusive};
 ghost use Rattle.tickets.specs.Boxes.{sharing, taken_back, with_left};
@@ -73,32 +73,34 @@ impl<J: GroupNames> Lock<J> {
     /// A claim of this mode, which this one holds.
     pub(crate) fn grant(&mut self, mode: Mode, by: Holder) -> Claim<J>
         requires { conflicting mode self.old ≡ [] }
-        ensures claim { result ≡ fresh self.old.ticket_box.group mode self.old.ticket_box.left }
+        ensures claim { result ≡ fresh by self.old.ticket_box.group mode self.old.ticket_box.left }
         ensures lock { self.new ≡ locked (given_out mode self.old.ticket_box) (self.old.holders ++ by ∷ []) }
         ensures agree { IsLocked self.old × IsLocked self.new }
     {
         let granted = match mode {
-            Mode::Shared => self.ticket_box.share(),
-            Mode::Exclusive => self.ticket_box.grant(),
+            Mode::Shared => self.ticket_box.share(by),
+            Mode::Exclusive => self.ticket_box.grant(by),
         };
         let Some(claim) = granted else { unreachable!() };
         self.holders.push(by);
         claim
     }
 
-    /// Takes back a claim that this one holds, once what it left is committed.
-    pub(crate) fn take_back(&mut self, by: Holder, claim: Claim<J>)
+    /// Takes back a claim, once what it left is committed, and with it its holder. Where that one holds none, another
+    /// goes, so that there are as many holders as claims.
+    pub(crate) fn take_back(&mut self, claim: Claim<J>)
         requires group { claim.group ≡ self.old.ticket_box.group }
-        requires held { Contains self.old.holders by }
         requires committed { claim.mode ≡ Exclusive → claim.told ≡ claim.left }
         ensures mode { claim.mode ≡ self.old.ticket_box.mode }
         ensures ticket_box { self.new.ticket_box ≡ taken_back self.old.ticket_box }
-        ensures holders { IsPermutation self.old.holders (by ∷ self.new.holders) }
+        ensures fewer { length self.new.holders + 1 ≡ length self.old.holders }
+        ensures holders { Contains self.old.holders claim.by → IsPermutation self.old.holders (claim.by ∷ self.new.holders) }
         ensures agree { IsLocked self.old × IsLocked self.new }
     {
-        let index = index_of(self.holders.as_slice(), by);
-        self.holders.remove(index);
+        let by = claim.by();
         self.ticket_box.take_back(claim);
+        let index = index_of(self.holders.as_slice(), by).unwrap_or(0);
+        self.holders.remove(index);
     }
 
     /// Learns that what a claim on the group left stands in it.
@@ -137,14 +139,11 @@ impl<J: GroupNames> Lock<J> {
     }
 }
 
-// Where one of the holders stands.
-fn index_of(holders: &[Holder], by: Holder) -> usize
-    requires { Contains holders.now by }
-    ensures inside { result < length holders.now }
-    ensures is { slice_index_or holders.now result by ≡ by }
+// Where this one stands among the holders, if it is one of them.
+fn index_of(holders: &[Holder], by: Holder) -> Option<usize>
+    ensures inside { IfSome result (λ index. index < length holders.now) }
+    ensures is { IfSome result (λ index. slice_index_or holders.now index by ≡ by) }
+    ensures none { IfNone result (Contains holders.now by → ⊥) }
 {
-    let Some(index) = holders.iter().position(|holder| *holder == by) else {
-        unreachable!()
-    };
-    index
+    holders.iter().position(|holder| *holder == by)
 }

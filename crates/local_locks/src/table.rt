@@ -4,7 +4,7 @@ ghost use Rattle.requests.specs.declared.group.Group.{Group as AnyGroup};
 ghost use Rattle.groups.specs.Groups.{warehouse_of};
 ghost use Rattle.groups.specs.declared.wishes.Mode.TheVariants.{Exclusive};
 ghost use Rattle.tickets.specs.Claims.{leaving};
-ghost use Rattle.local_locks.specs.Asking.{all_kept_after, held_by, AreHeld, Answers, IsSettled, StillWaits, TakesTurn, leaving_in};
+ghost use Rattle.local_locks.specs.Asking.{all_kept_after, held_by, AreHeld, AreTogether, Answers, IsOfHome, IsSettled, StillWaits, TakesTurn, leaving_in};
 ghost use Rattle.local_locks.specs.Conflicts.{MustDie};
 ghost use Rattle.local_locks.specs.Laws.{AreUntouched, CouldAsk, IsClaimOf, NoneConflict};
 ghost use Rattle.local_locks.specs.Locking.{back_in, left_in, opened, AreBoxesOf, AreStandsOf};
@@ -124,16 +124,19 @@ impl<J: GroupNames> LockTable<J> {
         }
     }
 
-    /// Takes claims back that this one holds, once what they left is committed. It takes no memory.
-    pub fn give_back(&mut self, by: Holder, claims: Vec<Claim<J>>)
-        requires held { AreHeld self.old.holdings by claims.items }
+    /// Takes claims back, once what they left is committed. It takes no memory. Whoever has a claim may call it:
+    /// that it is one that is out follows from its tickets, and that it is out to the one that it tells is left to
+    /// whoever gives claims away.
+    pub fn give_back(&mut self, claims: Vec<Claim<J>>)
+        requires home { All (IsOfHome self.old.w_id) claims.items }
         requires committed { All IsSettled claims.items }
-        ensures holdings { IsPermutation self.old.holdings (map (held_by by) claims.items ++ self.new.holdings) }
+        ensures out { AreTogether self.old.holdings (map held_by claims.items) self.new.holdings }
+        ensures holdings { AreHeld self.old.holdings claims.items → IsPermutation self.old.holdings (map held_by claims.items ++ self.new.holdings) }
         ensures stands { self.new.stands ≡ all_kept_after claims.items self.old.stands }
         ensures waiters { self.new.waiters ≡ self.old.waiters }
         ensures warehouse { self.new.w_id ≡ self.old.w_id }
     {
-        take_all_back(&mut self.locks, by, claims);
+        take_all_back(&mut self.locks, claims);
     }
 
     /// The turn of the oldest of those who need not wait any more, and of one age of the one of the least

@@ -141,7 +141,9 @@ impl<J: GroupNames> Trial<J> {
         requires { index < self.old }
     {
         let Grant { by, claims } = self.out.swap_remove(index);
-        self.table.give_back(by, claims);
+        // All claims that are out are on groups of the warehouse.
+        self.table.agree();
+        self.table.give_back(claims);
         by
     }
 
@@ -429,7 +431,7 @@ fn run_at_random<J: GroupNames>(
         waiters: Vec::new(alloc.clone()?),
     };
     let mut random = Random(seed);
-    for place in 0..2000_u32 {
+    for place in 0..2000_usize {
         let age = u64::from(random.below(20));
         let count = trial.count();
         if count > 0 && random.below(2) == 0 {

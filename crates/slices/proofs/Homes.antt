@@ -87,5 +87,5 @@ set_back free group held is enough =
 pub lent_back : (group : Group) (mode : Mode) (s : Sliced) (claim : Claiming) → IsTrue (is_group group) → claim.group ≡ group → claim.mode ≡ mode → tickets_held mode ≤ free_at s.free group
     → taking_back claim (lending group mode s) ≡ s
 lent_back group mode s claim is same_group same_mode enough =
-    (λ i. taking_back (record { group = same_group i; mode = same_mode i; told = claim.told; left = claim.left; back = claim.back }) (lending group mode s))
+    (λ i. taking_back (record { by = claim.by; group = same_group i; mode = same_mode i; told = claim.told; left = claim.left; back = claim.back }) (lending group mode s))
     ∙ ap (λ free. record { home = s.home; tables = s.tables; free = free }) (set_back s.free group (tickets_held mode) is enough)

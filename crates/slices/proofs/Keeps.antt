@@ -14,6 +14,7 @@ use Rattle.tickets.specs.Committed.{tickets_held, Standing, KeepsCommitted}
 use Rattle.tickets.specs.Laws.{IsGrant, IsWrite, IsGivenBack}
 use Rattle.tickets.specs.Places.{IsGroupOf, place_in_warehouse}
 use Rattle.tickets.proofs.Committed.{grant_keeps, write_keeps, give_back_keeps}
+use Rattle.wait_die.specs.declared.deciding.Holder.{Holder}
 use Rattle.slices.specs.declared.ground.Held.{Held}
 use Rattle.slices.specs.declared.kept.Kept.{Kept}
 use Rattle.slices.specs.Grounds.{Grounded, tickets_in, sliced, IsGroundOf, AreGroundsOf, IsSlice}
@@ -165,14 +166,14 @@ shares ground next (Ok claim) free box undo =
 shares ground next (Err e) free box undo = tt
 
 -- a claim is granted
-grant_keeps_slice : (mode : Mode) (p : Part) (grounds : List Grounded) (group : Group) (place : ℕ) (ground next : Grounded) (claim : Claiming) → AreGroundsOf p grounds → IsGroupOf p.tables.scale.warehouses group → warehouse_of group ≡ p.home
-    → place ≡ place_in_warehouse group → ground ≡ get_or grounds place ground → IsLent mode ground next → claim ≡ fresh ground.ticket_box.group mode ground.ticket_box.left
-    → AreGroundsOf p (set grounds place next) × (claim ≡ fresh group mode (content p.tables group)) × SliceKeeps [] (sliced p grounds) (claim ∷ []) (sliced p (set grounds place next))
-grant_keeps_slice mode p grounds group place ground next claim are known near at is out granting =
+grant_keeps_slice : (by : Holder) (mode : Mode) (p : Part) (grounds : List Grounded) (group : Group) (place : ℕ) (ground next : Grounded) (claim : Claiming) → AreGroundsOf p grounds → IsGroupOf p.tables.scale.warehouses group → warehouse_of group ≡ p.home
+    → place ≡ place_in_warehouse group → ground ≡ get_or grounds place ground → IsLent mode ground next → claim ≡ fresh by ground.ticket_box.group mode ground.ticket_box.left
+    → AreGroundsOf p (set grounds place next) × (claim ≡ fresh by group mode (content p.tables group)) × SliceKeeps [] (sliced p grounds) (claim ∷ []) (sliced p (set grounds place next))
+grant_keeps_slice by mode p grounds group place ground next claim are known near at is out granting =
     let found = ground_at p grounds group place ground are known near at is in
     let left : ground.ticket_box.left ≡ content p.tables group = found.2.left ∙ ap (content p.tables) (sym found.1) in
-    let given : Claiming = fresh group mode (content p.tables group) in
-    let same : claim ≡ given = granting ∙ (λ i. fresh (sym found.1 i) mode (left i)) in
+    let given : Claiming = fresh by group mode (content p.tables group) in
+    let same : claim ≡ given = granting ∙ (λ i. fresh by (sym found.1 i) mode (left i)) in
     let old : Standing = standing (sliced p grounds) in
     let new : Standing = standing (sliced p (set grounds place next)) in
     let grants : IsGrant given (by_itself p.home old) (by_itself p.home new) = record {
@@ -196,13 +197,13 @@ grant_keeps_slice mode p grounds group place ground next claim are known near at
     )
 
 -- a claim is granted, or nothing changes
-pub grant_outcome : {E : Type 0} (mode : Mode) (p : Part) (grounds : List Grounded) (group : Group) (place : ℕ) (ground next : Grounded) (result : Result Claiming E) → AreGroundsOf p grounds
+pub grant_outcome : {E : Type 0} (by : Holder) (mode : Mode) (p : Part) (grounds : List Grounded) (group : Group) (place : ℕ) (ground next : Grounded) (result : Result Claiming E) → AreGroundsOf p grounds
     → IsGroupOf p.tables.scale.warehouses group → warehouse_of group ≡ p.home → place ≡ place_in_warehouse group → ground ≡ get_or grounds place ground → OnOk result (IsLent mode ground next)
-    → IfOk result (λ claim. claim ≡ fresh ground.ticket_box.group mode ground.ticket_box.left) → OnErr result (next ≡ ground)
-    → AreGroundsOf p (set grounds place next) × IfOk result (λ claim. claim ≡ fresh group mode (content p.tables group)) × IfOk result (λ claim. SliceKeeps [] (sliced p grounds) (claim ∷ []) (sliced p (set grounds place next)))
-grant_outcome mode p grounds group place ground next (Ok claim) are known near at is out granting same =
-    grant_keeps_slice mode p grounds group place ground next claim are known near at is out granting
-grant_outcome mode p grounds group place ground next (Err e) are known near at is out granting same =
+    → IfOk result (λ claim. claim ≡ fresh by ground.ticket_box.group mode ground.ticket_box.left) → OnErr result (next ≡ ground)
+    → AreGroundsOf p (set grounds place next) × IfOk result (λ claim. claim ≡ fresh by group mode (content p.tables group)) × IfOk result (λ claim. SliceKeeps [] (sliced p grounds) (claim ∷ []) (sliced p (set grounds place next)))
+grant_outcome by mode p grounds group place ground next (Ok claim) are known near at is out granting same =
+    grant_keeps_slice by mode p grounds group place ground next claim are known near at is out granting
+grant_outcome by mode p grounds group place ground next (Err e) are known near at is out granting same =
     let found = ground_at p grounds group place ground are known near at is in
     (same_ground p grounds place ground next are found.0 found.2 (ap (λ g. g.ticket_box) same) (ap (λ g. g.undo) same), tt, tt)
 

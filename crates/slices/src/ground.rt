@@ -15,6 +15,7 @@ use schema::NoMemory;
 use std::alloc::Global;
 use std::marker::Model;
 use tickets::{Claim, GroupNames, TicketBox};
+use wait_die::Holder;
 
 /// A group that is not free, and the age of who was granted the last claim on it.
 #[derive(Clone, Copy, Debug, PartialEq, Eq)]
@@ -59,49 +60,49 @@ impl<J: GroupNames> Ground<J> {
         }
     }
 
-    /// An exclusive claim for a transaction of this age, unless a claim is out.
-    pub(crate) fn grant(&mut self, age: u64) -> Result<Claim<J>, Held>
+    /// An exclusive claim for this one, unless a claim is out.
+    pub(crate) fn grant(&mut self, by: Holder) -> Result<Claim<J>, Held>
         ensures free { OnOk result ((self.old.ticket_box.mode ≡ Shared) × (self.old.ticket_box.shared ≡ 0)) }
-        ensures claim { IfOk result (λ claim. claim ≡ fresh self.old.ticket_box.group Exclusive self.old.ticket_box.left) }
+        ensures claim { IfOk result (λ claim. claim ≡ fresh by self.old.ticket_box.group Exclusive self.old.ticket_box.left) }
         ensures out { OnOk result (self.new.ticket_box ≡ lent self.old.ticket_box.group self.old.ticket_box.left) }
         ensures undo { OnOk result (self.new.undo ≡ self.old.undo) }
-        ensures holder { OnOk result (self.new.holder ≡ age) }
+        ensures holder { OnOk result (self.new.holder ≡ by.age) }
         ensures held { IfErr result (λ held. (held.group ≡ self.old.ticket_box.group) × (held.holder ≡ self.old.holder)) }
         ensures busy { OnErr result ((self.old.ticket_box.mode ≡ Exclusive) ⊎ (0 < self.old.ticket_box.shared)) }
         ensures same { OnErr result (self.new ≡ self.old) }
     {
-        let claim = self.ticket_box.grant();
-        self.noted(age, claim)
+        let claim = self.ticket_box.grant(by);
+        self.noted(by, claim)
     }
 
-    /// A shared claim for a transaction of this age, unless an exclusive claim or eight shared ones are out.
-    pub(crate) fn share(&mut self, age: u64) -> Result<Claim<J>, Held>
+    /// A shared claim for this one, unless an exclusive claim or eight shared ones are out.
+    pub(crate) fn share(&mut self, by: Holder) -> Result<Claim<J>, Held>
         ensures free { OnOk result ((self.old.ticket_box.mode ≡ Shared) × (self.old.ticket_box.shared < 8)) }
-        ensures claim { IfOk result (λ claim. claim ≡ fresh self.old.ticket_box.group Shared self.old.ticket_box.left) }
+        ensures claim { IfOk result (λ claim. claim ≡ fresh by self.old.ticket_box.group Shared self.old.ticket_box.left) }
         ensures out { OnOk result (self.new.ticket_box ≡ sharing self.old.ticket_box.group self.old.ticket_box.left (self.old.ticket_box.shared + 1)) }
         ensures undo { OnOk result (self.new.undo ≡ self.old.undo) }
-        ensures holder { OnOk result (self.new.holder ≡ age) }
+        ensures holder { OnOk result (self.new.holder ≡ by.age) }
         ensures held { IfErr result (λ held. (held.group ≡ self.old.ticket_box.group) × (held.holder ≡ self.old.holder)) }
         ensures busy { OnErr result ((self.old.ticket_box.mode ≡ Exclusive) ⊎ (self.old.ticket_box.shared ≡ 8)) }
         ensures same { OnErr result (self.new ≡ self.old) }
     {
-        let claim = self.ticket_box.share();
-        self.noted(age, claim)
+        let claim = self.ticket_box.share(by);
+        self.noted(by, claim)
     }
 
     // Notes the age of who is granted this claim. With none, it tells of who was granted the last.
-    fn noted(&mut self, age: u64, claim: Option<Claim<J>>) -> Result<Claim<J>, Held>
+    fn noted(&mut self, by: Holder, claim: Option<Claim<J>>) -> Result<Claim<J>, Held>
         ensures ticket_box { self.new.ticket_box ≡ self.old.ticket_box }
         ensures undo { self.new.undo ≡ self.old.undo }
         ensures claim { IfOk result (λ granted. claim ≡ Some granted) }
-        ensures holder { OnOk result (self.new.holder ≡ age) }
+        ensures holder { OnOk result (self.new.holder ≡ by.age) }
         ensures none { OnErr result (claim ≡ None) }
         ensures held { IfErr result (λ held. (held.group ≡ self.old.ticket_box.group) × (held.holder ≡ self.old.holder)) }
         ensures same { OnErr result (self.new ≡ self.old) }
     {
         match claim {
             Some(claim) => {
-                self.holder = age;
+                self.holder = by.age;
                 Ok(claim)
             }
             None => Err(Held {

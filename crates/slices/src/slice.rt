@@ -37,6 +37,7 @@ use schema::{
 use std::alloc::Global;
 use std::marker::Model;
 use tickets::{Claim, GROUPS_PER_WAREHOUSE, GroupNames, TicketBox, place_of};
+use wait_die::Holder;
 
 /// The rows of one warehouse, who of its customers has which name and which order is the customer's latest,
 /// and the ticket boxes of its 105 groups.
@@ -122,35 +123,33 @@ impl<J: GroupNames> Slice<J> {
         self.rows.latest()
     }
 
-    /// An exclusive claim on a group of the warehouse, for a transaction of this age, unless a claim on it is
-    /// out. It takes all eight tickets of the group.
-    pub fn grant(&mut self, age: u64, group: Group) -> Result<Claim<J>, Held>
+    /// An exclusive claim on a group of the warehouse, for this one, unless a claim on it is out. It takes all eight tickets of the group.
+    pub fn grant(&mut self, by: Holder, group: Group) -> Result<Claim<J>, Held>
         requires known { IsGroupOf J.warehouses group }
         requires home { warehouse_of group ≡ self.old.home }
         ensures free { OnOk result ((standing self.old).free group ≡ 8) }
-        ensures claim { IfOk result (λ claim. claim ≡ fresh group Exclusive (content self.old.tables group)) }
+        ensures claim { IfOk result (λ claim. claim ≡ fresh by group Exclusive (content self.old.tables group)) }
         ensures kept { IfOk result (λ claim. SliceKeeps [] self.old (claim ∷ []) self.new) }
         ensures out { OnOk result (self.new ≡ lending group Exclusive self.old) }
         ensures others { (other : AnyGroup) → other ≢ group → warehouse_of other ≡ self.old.home → (standing self.new).free other ≡ (standing self.old).free other }
         ensures busy { IfErr result (λ held. (held.group ≡ group) × (self.new ≡ self.old) × ((standing self.old).free group < 8)) }
     {
         let ground = &mut self.grounds[place_at_home::<J>(group)];
-        ground.grant(age)
+        ground.grant(by)
     }
 
-    /// A shared claim on a group of the warehouse, for a transaction of this age, unless an exclusive claim on it
-    /// is out, or eight shared ones are. It takes one ticket of the group.
-    pub fn grant_shared(&mut self, age: u64, group: Group) -> Result<Claim<J>, Held>
+    /// A shared claim on a group of the warehouse, for this one, unless an exclusive claim on it is out, or eight shared ones are. It takes one ticket of the group.
+    pub fn grant_shared(&mut self, by: Holder, group: Group) -> Result<Claim<J>, Held>
         requires known { IsGroupOf J.warehouses group }
         requires home { warehouse_of group ≡ self.old.home }
         ensures free { OnOk result (1 ≤ (standing self.old).free group) }
-        ensures claim { IfOk result (λ claim. claim ≡ fresh group Shared (content self.old.tables group)) }
+        ensures claim { IfOk result (λ claim. claim ≡ fresh by group Shared (content self.old.tables group)) }
         ensures kept { IfOk result (λ claim. SliceKeeps [] self.old (claim ∷ []) self.new) }
         ensures out { OnOk result (self.new ≡ lending group Shared self.old) }
         ensures others { (other : AnyGroup) → other ≢ group → warehouse_of other ≡ self.old.home → (standing self.new).free other ≡ (standing self.old).free other }
         ensures busy { IfErr result (λ held. (held.group ≡ group) × (self.new ≡ self.old) × ((standing self.old).free group ≡ 0)) }
     {
-        self.grounds[place_at_home::<J>(group)].share(age)
+        self.grounds[place_at_home::<J>(group)].share(by)
     }
 
     /// Learns that what a claim left stands in its group. A shared claim left what it tells

@@ -11,6 +11,7 @@ use Rattle.tickets.specs.Unset.{nothing}
 use Rattle.tickets.specs.Claims.{Claiming, fresh, leaving}
 use Rattle.tickets.specs.Boxes.{Boxed, sharing, lent, with_left, taken_back, tickets_home, standing, BoxKeepsCommitted}
 use Rattle.tickets.specs.Committed.{tickets_held}
+use Rattle.wait_die.specs.declared.deciding.Holder.{Holder}
 use Rattle.tickets.proofs.Committed.{grant_keeps, write_keeps, give_back_keeps}
 
 rows_home : (b : Boxed) → (standing b).rows b.group ≡ b.left
@@ -26,9 +27,9 @@ free_elsewhere : (b : Boxed) (group : Group) → group ≢ b.group → (standing
 free_elsewhere b group differ = ap (λ (same : Bool). if same then tickets_home b.mode b.shared else 0) (is_same-other b.group group differ)
 
 -- a claim of either mode goes out
-goes_out : (old new : Boxed) (mode : Mode) → new.group ≡ old.group → new.left ≡ old.left → tickets_home new.mode new.shared + tickets_held mode ≡ tickets_home old.mode old.shared
-    → BoxKeepsCommitted [] old (fresh old.group mode old.left ∷ []) new
-goes_out old new mode group left tickets = grant_keeps (is_same old.group) (fresh old.group mode old.left) (standing old) (standing new) (record {
+goes_out : (by : Holder) (old new : Boxed) (mode : Mode) → new.group ≡ old.group → new.left ≡ old.left → tickets_home new.mode new.shared + tickets_held mode ≡ tickets_home old.mode old.shared
+    → BoxKeepsCommitted [] old (fresh by old.group mode old.left ∷ []) new
+goes_out by old new mode group left tickets = grant_keeps (is_same old.group) (fresh by old.group mode old.left) (standing old) (standing new) (record {
   tickets = omega (arith, ap (λ g. (standing new).free g) (sym group), free_home new, free_home old, tickets);
   told = sym (rows_home old);
   left = sym (rows_home old);
@@ -36,16 +37,16 @@ goes_out old new mode group left tickets = grant_keeps (is_same old.group) (fres
   others = λ g differ. free_elsewhere new g (λ e. differ (e ∙ group)) ∙ sym (free_elsewhere old g differ);
 })
 
-pub share_keeps : (old new : Boxed) (claim : Claiming) → old.mode ≡ Shared → old.shared < 8 → claim ≡ fresh old.group Shared old.left → new ≡ sharing old.group old.left (old.shared + 1) → BoxKeepsCommitted [] old (claim ∷ []) new
-share_keeps old new claim shared room is_claim is_new =
+pub share_keeps : (by : Holder) (old new : Boxed) (claim : Claiming) → old.mode ≡ Shared → old.shared < 8 → claim ≡ fresh by old.group Shared old.left → new ≡ sharing old.group old.left (old.shared + 1) → BoxKeepsCommitted [] old (claim ∷ []) new
+share_keeps by old new claim shared room is_claim is_new =
     subst (λ c. BoxKeepsCommitted [] old (c ∷ []) new) (sym is_claim)
-    (goes_out old new Shared (ap (λ b. b.group) is_new) (ap (λ b. b.left) is_new)
+    (goes_out by old new Shared (ap (λ b. b.group) is_new) (ap (λ b. b.left) is_new)
     (omega (arith, ap (λ b. tickets_home b.mode b.shared) is_new, ap (λ m. tickets_home m old.shared) shared, room)))
 
-pub lend_keeps : (old new : Boxed) (claim : Claiming) → old.mode ≡ Shared → old.shared ≡ 0 → claim ≡ fresh old.group Exclusive old.left → new ≡ lent old.group old.left → BoxKeepsCommitted [] old (claim ∷ []) new
-lend_keeps old new claim shared none is_claim is_new =
+pub lend_keeps : (by : Holder) (old new : Boxed) (claim : Claiming) → old.mode ≡ Shared → old.shared ≡ 0 → claim ≡ fresh by old.group Exclusive old.left → new ≡ lent old.group old.left → BoxKeepsCommitted [] old (claim ∷ []) new
+lend_keeps by old new claim shared none is_claim is_new =
     subst (λ c. BoxKeepsCommitted [] old (c ∷ []) new) (sym is_claim)
-    (goes_out old new Exclusive (ap (λ b. b.group) is_new) (ap (λ b. b.left) is_new)
+    (goes_out by old new Exclusive (ap (λ b. b.group) is_new) (ap (λ b. b.left) is_new)
     (omega (arith, ap (λ b. tickets_home b.mode b.shared) is_new, ap (λ m. tickets_home m old.shared) shared, none)))
 
 -- what is left in the group changes

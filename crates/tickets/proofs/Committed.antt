@@ -206,10 +206,10 @@ module _ (here : Group → Bool) where
   commit_exclusive tables slice claim claims shown near h =
       let alone = (AreCommitted-alone tables slice claim claims h near shown).1 in
       let next : Group → Content = λ group. if is_same claim.group group then claim.left else tables group in
-      let now : Claiming = record { group = claim.group; mode = claim.mode; told = claim.left; left = claim.left; back = claim.back } in
+      let now : Claiming = record { by = claim.by; group = claim.group; mode = claim.mode; told = claim.left; left = claim.left; back = claim.back } in
       let at : next claim.group ≡ claim.left = ap (λ (b : Bool). if b then claim.left else tables claim.group) (is_same-itself claim.group) in
       let rest : (group : Group) → group ≢ claim.group → next group ≡ tables group = λ group differ. ap (λ (b : Bool). if b then claim.left else tables group) (is_same-other claim.group group differ) in
-      let P : Mode → Type 0 = λ m. AreCommitted here (λ group. if is_same claim.group group then committed_by m claim.left (tables group) else tables group) slice (record { group = claim.group; mode = claim.mode; told = committed_by m claim.left claim.told; left = claim.left; back = claim.back } ∷ claims) in
+      let P : Mode → Type 0 = λ m. AreCommitted here (λ group. if is_same claim.group group then committed_by m claim.left (tables group) else tables group) slice (record { by = claim.by; group = claim.group; mode = claim.mode; told = committed_by m claim.left claim.told; left = claim.left; back = claim.back } ∷ claims) in
       subst P (sym shown) (record {
         tickets = λ group near_too. omega (arith, sum_by-cons (tickets_of group) now claims, sum_by-cons (tickets_of group) claim claims, h.tickets group near_too);
         told = All-cons (TellsHere here next) now claims (λ _. at) (λ k d in' near_too. rest (get_or claims k d).group (alone k d in') ∙ All-tail (TellsHere here tables) claim claims h.told k d in' near_too);
@@ -225,7 +225,7 @@ module _ (here : Group → Bool) where
 
   commit_shared : (tables : Group → Content) (slice : Standing) (claim : Claiming) (claims : List Claiming) → claim.mode ≡ Shared → AreCommitted here tables slice (claim ∷ claims) → AreCommitted here (after_claim tables claim) slice (settled claim ∷ claims)
   commit_shared tables slice claim claims shared h =
-      let P : Mode → Type 0 = λ m. AreCommitted here (λ group. if is_same claim.group group then committed_by m claim.left (tables group) else tables group) slice (record { group = claim.group; mode = claim.mode; told = committed_by m claim.left claim.told; left = claim.left; back = claim.back } ∷ claims) in
+      let P : Mode → Type 0 = λ m. AreCommitted here (λ group. if is_same claim.group group then committed_by m claim.left (tables group) else tables group) slice (record { by = claim.by; group = claim.group; mode = claim.mode; told = committed_by m claim.left claim.told; left = claim.left; back = claim.back } ∷ claims) in
       subst P (sym shared)
       (AreCommitted-same tables (λ group. if is_same claim.group group then tables group else tables group) slice slice (claim ∷ claims) (λ group _. either (is_same claim.group group) (tables group)) (λ _ _. refl) (λ _ _. refl) h)
 

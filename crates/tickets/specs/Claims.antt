@@ -9,23 +9,25 @@ use Rattle.groups.specs.declared.wishes.Mode.TheVariants.{Shared, Exclusive}
 use Rattle.tickets.specs.declared.work.Told.{Told}
 use Rattle.tickets.specs.declared.work.Work.{Work}
 use Rattle.tickets.specs.Seats.{committed_seat, work_seat, told_shares, work_shares, untouched}
+use Rattle.wait_die.specs.declared.deciding.Holder.{Holder}
 
--- Its group, how it is claimed, what its tickets tell as committed, what it left in the group, and what is in the group
--- again once that is taken back.
+-- Who it was granted to, its group, how it is claimed, what its tickets tell as committed, what it left in the group, and
+-- what is in the group again once that is taken back.
 pub record Claiming : Type 0 where
+  pub by : Holder
   pub group : Group
   pub mode : Mode
   pub told : Content
   pub left : Content
   pub back : Content
 
--- a claim on the group, which tells this, and under which that was done
-abbrev pub claiming : Group → Mode → Content → Work → Claiming
-claiming group mode told work = record { group = group; mode = mode; told = told; left = work.left; back = work.back }
+-- this one's claim on the group, which tells this, and under which that was done
+abbrev pub claiming : Holder → Group → Mode → Content → Work → Claiming
+claiming by group mode told work = record { by = by; group = group; mode = mode; told = told; left = work.left; back = work.back }
 
--- a claim of this mode on a group with this content, under which nothing was done yet
-abbrev pub fresh : Group → Mode → Content → Claiming
-fresh group mode content = record { group = group; mode = mode; told = content; left = content; back = content }
+-- this one's claim of this mode on a group with this content, under which nothing was done yet
+abbrev pub fresh : Holder → Group → Mode → Content → Claiming
+fresh by group mode content = record { by = by; group = group; mode = mode; told = content; left = content; back = content }
 
 -- What is committed in a group once a claim of this mode is settled: what it left, where it is exclusive. A shared claim
 -- changes nothing.
@@ -35,11 +37,11 @@ committed_by Exclusive left before = left
 
 -- the claim once what it left is committed: it tells that
 abbrev pub settled : Claiming → Claiming
-settled c = record { group = c.group; mode = c.mode; told = committed_by c.mode c.left c.told; left = c.left; back = c.back }
+settled c = record { by = c.by; group = c.group; mode = c.mode; told = committed_by c.mode c.left c.told; left = c.left; back = c.back }
 
 -- the claim once it left this in the group
 abbrev pub leaving : Claiming → Content → Claiming
-leaving c content = record { group = c.group; mode = c.mode; told = c.told; left = content; back = c.back }
+leaving c content = record { by = c.by; group = c.group; mode = c.mode; told = c.told; left = content; back = c.back }
 
 -- what a shared claim tells is all there is: nothing is done in the group
 abbrev pub IsUntouched : Mode → Content → Work → Type 0

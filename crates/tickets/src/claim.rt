@@ -9,14 +9,16 @@ use agreement::Seat;
 use groups::{Mode, warehouse_of};
 use requests::Group;
 use std::marker::{Model, PhantomData};
+use wait_die::Holder;
 
 /// A claim on a group. What it tells as committed can't change while it is held but by itself.
 ///
 /// A shared claim holds one of the group's eight tickets, and an exclusive claim all eight with the
-/// slice's seat. It can't be copied, and goes back to the `TicketBox` that gave it. The group of a claim
-/// that is dropped stays held for good.
+/// slice's seat. It tells which action it was granted to, from then on. It can't be copied, and goes back to
+/// the `TicketBox` that gave it. The group of a claim that is dropped stays held for good.
 #[derive(Drop)]
 pub struct Claim<J: GroupNames> {
+    pub(crate) by: Holder,
     pub(crate) group: Group,
     pub(crate) mode: Mode,
     pub(crate) tickets: Seat<Told>,
@@ -36,12 +38,19 @@ impl<J: GroupNames> Model for Claim<J> {
     ghost use Rattle.tickets.specs.Claims.{claiming, HoldsClaim};
     ghost use Rattle.tickets.specs.Places.{IsGroupOf};
 
-    ghost view = { λ c. claiming c.group c.mode c.tickets.value.content c.work.value };
+    ghost view = { λ c. claiming c.by c.group c.mode c.tickets.value.content c.work.value };
 
     ghost invariant = { λ c. HoldsClaim (J.committed c.group) (J.work c.group) c.mode c.tickets c.work × IsGroupOf J.warehouses c.group };
 }
 
 impl<J: GroupNames> Claim<J> {
+    /// The action that it was granted to.
+    pub fn by(&self) -> Holder
+        ensures { result ≡ self.now.by }
+    {
+        self.by
+    }
+
     /// The group that is claimed.
     pub fn group(&self) -> Group
         ensures { result ≡ self.now.group }

@@ -9,6 +9,7 @@ use agreement::{Change, Seat};
 use groups::{Content, Mode};
 use requests::Group;
 use std::marker::{Model, PhantomData};
+use wait_die::Holder;
 
 /// How many shared claims on a group can be out: a ticket each.
 pub const TICKETS: u32 = 8;
@@ -63,10 +64,10 @@ impl<J: GroupNames> TicketBox<J> {
         self.mode
     }
 
-    /// A shared claim, unless an exclusive claim or eight shared ones are out.
-    pub fn share(&mut self) -> Option<Claim<J>>
+    /// A shared claim for this one, unless an exclusive claim or eight shared ones are out.
+    pub fn share(&mut self, by: Holder) -> Option<Claim<J>>
         ensures free { IfSome result (λ _. (self.old.mode ≡ Shared) × (self.old.shared < 8)) }
-        ensures claim { IfSome result (λ c. c ≡ fresh self.old.group Shared self.old.left) }
+        ensures claim { IfSome result (λ c. c ≡ fresh by self.old.group Shared self.old.left) }
         ensures out { IfSome result (λ _. self.new ≡ sharing self.old.group self.old.left (self.old.shared + 1)) }
         ensures none { IfNone result ((self.old.mode ≡ Exclusive) ⊎ (self.old.shared ≡ 8)) }
         ensures same { IfNone result (self.new ≡ self.old) }
@@ -82,6 +83,7 @@ impl<J: GroupNames> TicketBox<J> {
         self.work.give::<1>(&mut work);
         self.shared += 1;
         Some(Claim {
+            by,
             group: self.group,
             mode: Mode::Shared,
             tickets,
@@ -90,10 +92,10 @@ impl<J: GroupNames> TicketBox<J> {
         })
     }
 
-    /// An exclusive claim, unless any claim is out.
-    pub fn grant(&mut self) -> Option<Claim<J>>
+    /// An exclusive claim for this one, unless any claim is out.
+    pub fn grant(&mut self, by: Holder) -> Option<Claim<J>>
         ensures free { IfSome result (λ _. (self.old.mode ≡ Shared) × (self.old.shared ≡ 0)) }
-        ensures claim { IfSome result (λ c. c ≡ fresh self.old.group Exclusive self.old.left) }
+        ensures claim { IfSome result (λ c. c ≡ fresh by self.old.group Exclusive self.old.left) }
         ensures out { IfSome result (λ _. self.new ≡ lent self.old.group self.old.left) }
         ensures none { IfNone result ((self.old.mode ≡ Exclusive) ⊎ (0 < self.old.shared)) }
         ensures same { IfNone result (self.new ≡ self.old) }
@@ -110,6 +112,7 @@ impl<J: GroupNames> TicketBox<J> {
         self.work.give::<8>(&mut work);
         self.mode = Mode::Exclusive;
         Some(Claim {
+            by,
             group: self.group,
             mode: Mode::Exclusive,
             tickets,
@@ -171,6 +174,7 @@ impl<J: GroupNames> TicketBox<J> {
         ensures kept { BoxKeepsCommitted (claim ∷ []) self.old [] self.new }
     {
         let Claim {
+            by: _,
             group: _,
             mode,
             tickets,

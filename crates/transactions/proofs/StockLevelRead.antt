@@ -109,7 +109,7 @@ low_is_found t s items count stock on told is = record {
   shown = λ other tells.
       let w_id = s.home.w_id in
       let alike : (residue : ℕ) → residue < 64 → content t (g.Stock w_id residue) ≡ content other (g.Stock w_id residue) = λ residue less.
-      let none : Claiming = record { group = g.Stock w_id 0; mode = Shared; told = OfDistrict None; left = OfDistrict None; back = OfDistrict None } in
+      let none : Claiming = record { by = record { age = 0; place = 0 }; group = g.Stock w_id 0; mode = Shared; told = OfDistrict None; left = OfDistrict None; back = OfDistrict None } in
       let within : residue < length stock = omega (arith, less, many w_id stock on) in
       let group = (shared_at w_id stock on residue none within).group in
       ap (content t) (sym group) ∙ sym (told residue none within) ∙ sym (tells residue none within) ∙ ap (content other) group in

@@ -16,6 +16,7 @@ use requests::Group;
 use slices::{Held, Slice};
 use std::alloc::Global;
 use tickets::{Claim, Claims, GroupNames};
+use wait_die::Holder;
 
 /// What came of an action.
 #[derive(Drop)]
@@ -28,10 +29,10 @@ pub enum Ran<J: GroupNames> {
     NoMemory,
 }
 
-/// Claims what the work needs in the slice of its warehouse, all or nothing, and does it. It dies exactly on
+/// Claims for this one what the work needs in the slice of its warehouse, all or nothing, and does it. It dies exactly on
 /// the first group, in the order of its wishes, that it can't be granted. An action that dies or finds no
 /// memory holds no claim, and has left the slice as it was.
-pub fn act<J: GroupNames>(alloc: Global, slice: &mut Slice<J>, age: u64, work: Work) -> Ran<J>
+pub fn act<J: GroupNames>(alloc: Global, slice: &mut Slice<J>, by: Holder, work: Work) -> Ran<J>
     requires warehouses { J.warehouses ≡ slice.old.tables.scale.warehouses }
     requires can { CanDo (shared_of slice.old.tables) work }
     requires home { home_of work ≡ slice.old.home }
@@ -41,7 +42,7 @@ pub fn act<J: GroupNames>(alloc: Global, slice: &mut Slice<J>, age: u64, work: W
     let Ok(mut claims) = Vec::with_capacity(alloc, work.wish_count()) else {
         return Ran::NoMemory;
     };
-    if let Err(held) = grant_all(slice, age, &work, &mut claims) {
+    if let Err(held) = grant_all(slice, by, &work, &mut claims) {
         give_back(slice, claims);
         return Ran::Died {
             group: held.group,
@@ -60,7 +61,7 @@ pub fn act<J: GroupNames>(alloc: Global, slice: &mut Slice<J>, age: u64, work: W
 // Claims one group after the other as the work wishes, up to the first that is held.
 fn grant_all<J: GroupNames>(
     slice: &mut Slice<J>,
-    age: u64,
+    by: Holder,
     work: &Work,
     claims: &mut Vec<Claim<J>>,
 ) -> Result<(), Held>
@@ -77,14 +78,14 @@ fn grant_all<J: GroupNames>(
     ensures held { IfErr result (λ held. dies_on (standing slice.old).free (wishes_of work.now) ≡ Some held.group) }
 {
     while let Some(wish) = work.wish(claims.len()) {
-        let claim = grant(slice, age, wish)?;
+        let claim = grant(slice, by, wish)?;
         claims.push_reserved(claim);
     }
     Ok(())
 }
 
 // The claim that is wished for, unless its group is held.
-fn grant<J: GroupNames>(slice: &mut Slice<J>, age: u64, wish: Wish) -> Result<Claim<J>, Held>
+fn grant<J: GroupNames>(slice: &mut Slice<J>, by: Holder, wish: Wish) -> Result<Claim<J>, Held>
     requires known { IsGroupOf J.warehouses wish.group }
     requires home { warehouse_of wish.group ≡ slice.old.home }
     ensures granted { IfOk result (λ claim. IsGrantedFor wish claim) }
@@ -95,8 +96,8 @@ fn grant<J: GroupNames>(slice: &mut Slice<J>, age: u64, wish: Wish) -> Result<Cl
     ensures held { IfErr result (λ held. (held.group ≡ wish.group) × (slice.new ≡ slice.old) × (can_be_granted (standing slice.old).free wish ≡ false)) }
 {
     match wish.mode {
-        Mode::Shared => slice.grant_shared(age, wish.group),
-        Mode::Exclusive => slice.grant(age, wish.group),
+        Mode::Shared => slice.grant_shared(by, wish.group),
+        Mode::Exclusive => slice.grant(by, wish.group),
     }
 }
 

@@ -8,7 +8,7 @@ pub type Age = u64;
 #[derive(Clone, Copy, Debug, Default, PartialEq, Eq)]
 pub struct Holder {
     pub age: Age,
-    pub place: u32,
+    pub place: usize,
 }
 
 /// What is said to a wish.

@@ -8,6 +8,7 @@ use crate::world::Parts;
 use commit_log::Names;
 use std::alloc::Global;
 use transactions::MOST_ACTIONS;
+use wait_die::Holder;
 
 impl<J: Names> Parts<J> {
     // Works on a message, at the slice of its warehouse.
@@ -29,7 +30,8 @@ impl<J: Names> Parts<J> {
                     flow,
                 } = act;
                 let home = work.home() as usize;
-                let ran = transactions::act(alloc, &mut self.slices[home - 1], age, work);
+                let by = Holder { age, place };
+                let ran = transactions::act(alloc, &mut self.slices[home - 1], by, work);
                 self.outbox.put(Item::Report(Report {
                     place,
                     slot,

@@ -9,6 +9,7 @@ use std::marker::Brand;
 use std::sync::Wait;
 use std::thread::{self, Threads};
 use tickets::{GroupNames, GroupSeats};
+use wait_die::Holder;
 
 const DISTRICT: Group = Group::History { w_id: 1, d_id: 10 };
 
@@ -22,6 +23,10 @@ impl Change<Content> for NoPayment {
     ghost changed = { λ none before. OfHistory (Some []) };
 }
 
+const FIRST: Holder = Holder { age: 1, place: 0 };
+
+const SECOND: Holder = Holder { age: 2, place: 0 };
+
 // A shared claim goes to another thread and back, while another stays.
 fn shared_by_two_threads<J: GroupNames + Send + 'static>(
     rt: &(impl Threads + Wait),
@@ -32,7 +37,7 @@ fn shared_by_two_threads<J: GroupNames + Send + 'static>(
     requires work { J.work (History 1 10) ≡ seats.work }
 {
     let (mut tickets, mut log) = seats.named::<J>(DISTRICT);
-    let (Some(mut first), Some(second)) = (tickets.share(), tickets.share()) else {
+    let (Some(mut first), Some(second)) = (tickets.share(FIRST), tickets.share(SECOND)) else {
         return Ok(None);
     };
     let child = thread::spawn(rt, move || {

@@ -11,6 +11,9 @@ use slices::{Slice, cut, open_groups, opened_groups_have_boxes};
 use std::alloc::Global;
 use std::marker::Brand;
 use tickets::{GroupNames, GroupSeats, named_all};
+use wait_die::Holder;
+
+const HOLDER: Holder = Holder { age: 63, place: 0 };
 
 // The slices of these tables, from what was opened for their groups.
 fn opened<J: GroupNames>(
@@ -48,7 +51,7 @@ fn put_and_undone<J: GroupNames>(
     let before = row.ytd.get();
     let mut row = row.try_clone().ok()?;
     row.ytd = Cents::new(7);
-    let Ok(mut claim) = slice.grant(63, group) else {
+    let Ok(mut claim) = slice.grant(HOLDER, group) else {
         return None;
     };
     slice.look(&mut claim);
@@ -56,7 +59,7 @@ fn put_and_undone<J: GroupNames>(
         return None;
     };
     let put = slice.partition().warehouse(home)?.ytd.get();
-    let holder = match slice.grant(64, group) {
+    let holder = match slice.grant(Holder { age: 64, place: 0 }, group) {
         Ok(_) => return None,
         Err(held) => held.holder,
     };
@@ -114,7 +117,7 @@ fn delivered_and_undone<J: GroupNames>(
     };
     slice.partition().order(key)?;
     let before = seen(slice.partition(), key)?;
-    let Ok(mut claim) = slice.grant(63, Group::Orders { w_id, d_id: 1 }) else {
+    let Ok(mut claim) = slice.grant(HOLDER, Group::Orders { w_id, d_id: 1 }) else {
         return None;
     };
     slice.look(&mut claim);

@@ -78,7 +78,7 @@ fn read_after_write<J: GroupNames>(
         return Ok(Vec::new(alloc));
     };
     seats.settle_all(&mut claims);
-    table.give_back(WRITER, claims);
+    table.give_back(claims);
     let Some(Turn::Granted(_, mut read)) = table.next_grant() else {
         return Ok(Vec::new(alloc));
     };
@@ -118,7 +118,7 @@ fn read_after_undo<J: GroupNames>(
     table.leave(&mut claims[0], &NoList);
     table.agree();
     table.undo(&mut claims[0]);
-    table.give_back(WRITER, claims);
+    table.give_back(claims);
     let want = one(PAYMENTS, Mode::Shared);
     let Asked::Granted(mut read) = table.ask(alloc.clone()?, READER, &[want])? else {
         return Ok(Vec::new(alloc));

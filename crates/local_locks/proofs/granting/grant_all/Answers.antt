@@ -26,7 +26,7 @@ loop-want-preserved g c =
     let walked = joined_walked spots_of wants i no_want c.loop-want-test.true in
     let P : List Spot → Type 0 = λ granted. AreGranted g.J.GroupNames.warehouses c.args.by granted c.args.locks.now c.grant_want.new.locks in
     record {
-      claims = claims_more (map stand_in c.args.locks.now) (map stand_in c.loop-want.locks) c.args.claims.now.items c.loop-want.claims.items c.grant_want.new.claims.items
+      claims = claims_more c.args.by (map stand_in c.args.locks.now) (map stand_in c.loop-want.locks) c.args.claims.now.items c.loop-want.claims.items c.grant_want.new.claims.items
           done next (flat_map spots_of (take (i + 1) wants)) c.loop-want.invariant.granted.stands c.loop-want.invariant.claims c.grant_want.ensures.claims walked;
       count = omega (arith, c.grant_want.ensures.count, c.loop-want.invariant.count, ap length walked, length-append done next);
       room = c.grant_want.ensures.room ∙ c.loop-want.invariant.room;

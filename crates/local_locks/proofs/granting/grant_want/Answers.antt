@@ -15,7 +15,7 @@ loop-number-init g c =
     let none = spots_none first (first - first) c.args.want.mode (omega arith) in
     let P : List Spot → Type 0 = λ granted. AreGranted g.J.GroupNames.warehouses c.args.by granted c.args.locks.now c.args.locks.now in
     record {
-      claims = claims_none (map stand_in c.args.locks.now) (spots first (first - first) c.args.want.mode) c.args.claims.now.items none;
+      claims = claims_none c.args.by (map stand_in c.args.locks.now) (spots first (first - first) c.args.want.mode) c.args.claims.now.items none;
       count = omega arith;
       room = refl;
       granted = subst P (sym none) (granted_none g.J.GroupNames.warehouses c.args.by c.args.locks.now);
@@ -48,7 +48,7 @@ loop-number-preserved g c =
     let walked = spots-walked first number mode from in
     let P : List Spot → Type 0 = λ granted. AreGranted g.J.GroupNames.warehouses c.args.by granted c.args.locks.now c.grant_at.new.locks in
     record {
-      claims = claims_more (map stand_in c.args.locks.now) (map stand_in c.loop-number.locks) c.args.claims.now.items c.loop-number.claims.items c.push_reserved.new.self.items
+      claims = claims_more c.args.by (map stand_in c.args.locks.now) (map stand_in c.loop-number.locks) c.args.claims.now.items c.loop-number.claims.items c.push_reserved.new.self.items
           (spots first (number - first) mode) (spot number mode ∷ []) (spots first (number + 1 - first) mode)
           c.loop-number.invariant.granted.stands c.loop-number.invariant.claims
           (c.push_reserved.ensures.items ∙ ap (λ (claim : Claiming). c.loop-number.claims.items ++ claim ∷ []) c.grant_at.ensures.claim) walked;
@@ -65,7 +65,7 @@ returns-clause-claims g c =
     let first = c.places_of-first.result.0 in
     let want = c.args.want in
     let same = same_spots first c.loop-number.number (first_place want.extent) (count_in want.extent) want.mode c.places_of-first.ensures.first (omega arith) in
-    c.loop-number.invariant.claims ∙ ap (λ (wanted : List Spot). c.args.claims.now.items ++ map (claim_at (map stand_in c.args.locks.now)) wanted) same
+    c.loop-number.invariant.claims ∙ ap (λ (wanted : List Spot). c.args.claims.now.items ++ map (claim_at c.args.by (map stand_in c.args.locks.now)) wanted) same
 
 pub returns-clause-count : goal.returns-clause-count
 returns-clause-count g c =

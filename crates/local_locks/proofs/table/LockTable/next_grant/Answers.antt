@@ -85,7 +85,7 @@ returns-in-Free-clause-turn g c =
     let back = take locks.len (c.grant_all.new.locks ++ drop (length c.grant_all.new.locks) locks.items) in
     let long : length c.grant_all.new.locks ≡ length locks.items = same_length g.J.GroupNames.warehouses next.by wanted c.deref_mut.result.now c.grant_all.new.locks c.grant_all.ensures.granted ∙ ap length c.deref_mut.ensures.value in
     let is = taken.parked_taken g.J.GroupNames.warehouses c.self.inside.w_id locks.items waiters rest p next t in
-    let P : List Want → Type 0 = λ ws. c.grant_all.new.claims.items ≡ c.wants.inside.room.items ++ map (claim_at (map stand_in c.deref_mut.result.now)) (flat_map spots_of ws) in
+    let P : List Want → Type 0 = λ ws. c.grant_all.new.claims.items ≡ c.wants.inside.room.items ++ map (claim_at next.by (map stand_in c.deref_mut.result.now)) (flat_map spots_of ws) in
     let Q : List Want → Type 0 = λ ws. AreGranted g.J.GroupNames.warehouses next.by (flat_map spots_of ws) c.deref_mut.result.now c.grant_all.new.locks in (
       p.wants,
       taken.turn_taken g.J.GroupNames.warehouses c.self.inside.w_id c.args.self.now locks.items back waiters rest p next c.self.view_is t,

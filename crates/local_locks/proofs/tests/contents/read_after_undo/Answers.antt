@@ -11,10 +11,10 @@ use Rattle.tickets.specs.Claims.{Claiming, fresh, leaving}
 use Rattle.tickets.specs.Places.{IsGroupOf}
 use Rattle.wait_die.specs.declared.deciding.Holder.{Holder}
 use Rattle.local_locks.specs.declared.table.Asked.{Asked}
-use Rattle.local_locks.specs.Asking.{AreHeld, Answers, all_kept_after, leaving_in}
-use Rattle.local_locks.specs.Locking.{Holding, Locking, Stand, left_in}
+use Rattle.local_locks.specs.Asking.{Answers, IsOfHome, all_kept_after, leaving_in}
+use Rattle.local_locks.specs.Locking.{Locking, Stand, left_in}
 use Rattle.local_locks.specs.Trials.{Tells}
-use Rattle.local_locks.proofs.Contents.{left_back, on_one, one_granted, one_held, only_left, only_one, only_set, only_undone}
+use Rattle.local_locks.proofs.Contents.{left_back, on_one, one_granted, only_left, only_one, only_set, only_undone}
 use Rattle.local_locks.proofs.tests.contents.read_after_undo.Goals as goal
 
 abbrev payments : Group
@@ -32,16 +32,16 @@ reader = record { age = 0; place = 0 }
 here : IsGroupOf 1 payments
 here = ((omega arith, omega arith), (omega arith, omega arith))
 
-pub give_back-requires-clause-held : goal.give_back-requires-clause-held
-give_back-requires-clause-held g c =
+pub give_back-requires-clause-home : goal.give_back-requires-clause-home
+give_back-requires-clause-home g c =
     let said = subst (λ (r : Asked g.row.J.Denot). Answers writer (c.one-want.result ∷ []) c.args.table.now r c.ask.new.self) c.in-Granted.is c.in_ok-claims.ensures.answers in
     let is : c.one-want.result ∷ [] ≡ on_one payments Exclusive ∷ [] = ap (λ (w : Want). w ∷ []) c.one-want.ensures in
-    let x : Claiming = fresh payments Exclusive (left_in c.args.table.now.stands payments) in
+    let x : Claiming = fresh writer payments Exclusive (left_in c.args.table.now.stands payments) in
     let granted : c.in-Granted.claims.items ≡ x ∷ [] = one_granted writer (c.one-want.result ∷ []) payments Exclusive c.args.table.now c.ask.new.self c.in-Granted.claims.items is said.0 in
     let undone = only_undone c.in-Granted.claims.items x c.index_mut.result.now c.leave.new.claim c.index_mut-2.result.now c.undo.new.claim gone granted c.index_mut.ensures.value c.leave.ensures.claim c.index_mut-2.ensures.value c.undo.ensures.claim in
-    let held : AreHeld c.ask.new.self.holdings writer (x ∷ []) = one_held writer (c.one-want.result ∷ []) payments Exclusive c.args.table.now c.ask.new.self c.in-Granted.claims.items x is said.0 refl refl in
-    let same : c.undo.new.self.holdings ≡ c.ask.new.self.holdings = ap (λ (t : Locking). t.holdings) c.undo.ensures.table ∙ ap (λ (t : Locking). t.holdings) c.leave.ensures.table in
-    subst (AreHeld c.undo.new.self.holdings writer) (sym undone) (subst (λ (hs : List Holding). AreHeld hs writer (x ∷ [])) (sym same) held)
+    let table = c.undo.new.self in
+    let home : table.w_id ≡ 1 = ap (λ (t : Locking). t.w_id) c.undo.ensures.table ∙ ap (λ (t : Locking). t.w_id) c.leave.ensures.table ∙ said.0.w_id ∙ c.requires.here in
+    subst (All (IsOfHome table.w_id)) (sym undone) (All-cons (IsOfHome table.w_id) (leaving x x.back) [] (sym home) (All-nil (IsOfHome table.w_id)))
 
 pub index_mut-requires-3 : goal.index_mut-requires-3
 index_mut-requires-3 g c =
@@ -56,7 +56,7 @@ look-requires-clause-here g c =
     let first = subst (λ (r : Asked g.row.J.Denot). Answers writer (c.one-want.result ∷ []) c.args.table.now r c.ask.new.self) c.in-Granted.is c.in_ok-claims.ensures.answers in
     let said = subst (λ (r : Asked g.row.J.Denot). Answers reader (c.one-want-2.result ∷ []) c.give_back.new.self r c.ask-2.new.self) c.in-Granted-2.is c.in_ok-read.ensures.answers in
     let is : c.one-want-2.result ∷ [] ≡ on_one payments Shared ∷ [] = ap (λ (w : Want). w ∷ []) c.one-want-2.ensures in
-    let x : Claiming = fresh payments Shared (left_in c.give_back.new.self.stands payments) in
+    let x : Claiming = fresh reader payments Shared (left_in c.give_back.new.self.stands payments) in
     let granted : c.in-Granted-2.read.items ≡ x ∷ [] = one_granted reader (c.one-want-2.result ∷ []) payments Shared c.give_back.new.self c.ask-2.new.self c.in-Granted-2.read.items is said.0 in
     let one : c.index_mut-3.result.now ≡ x = only_one c.in-Granted-2.read.items x c.index_mut-3.result.now granted c.index_mut-3.ensures.value in
     let home : c.ask-2.new.self.w_id ≡ 1 =
@@ -67,7 +67,7 @@ pub look-requires-clause-shared : goal.look-requires-clause-shared
 look-requires-clause-shared g c =
     let said = subst (λ (r : Asked g.row.J.Denot). Answers reader (c.one-want-2.result ∷ []) c.give_back.new.self r c.ask-2.new.self) c.in-Granted-2.is c.in_ok-read.ensures.answers in
     let is : c.one-want-2.result ∷ [] ≡ on_one payments Shared ∷ [] = ap (λ (w : Want). w ∷ []) c.one-want-2.ensures in
-    let x : Claiming = fresh payments Shared (left_in c.give_back.new.self.stands payments) in
+    let x : Claiming = fresh reader payments Shared (left_in c.give_back.new.self.stands payments) in
     let granted : c.in-Granted-2.read.items ≡ x ∷ [] = one_granted reader (c.one-want-2.result ∷ []) payments Shared c.give_back.new.self c.ask-2.new.self c.in-Granted-2.read.items is said.0 in
     ap (λ (k : Claiming). k.mode) (only_one c.in-Granted-2.read.items x c.index_mut-3.result.now granted c.index_mut-3.ensures.value)
 
@@ -76,14 +76,14 @@ returns g c =
     let first = subst (λ (r : Asked g.row.J.Denot). Answers writer (c.one-want.result ∷ []) c.args.table.now r c.ask.new.self) c.in-Granted.is c.in_ok-claims.ensures.answers in
     let is_first : c.one-want.result ∷ [] ≡ on_one payments Exclusive ∷ [] = ap (λ (w : Want). w ∷ []) c.one-want.ensures in
     let before = left_in c.args.table.now.stands payments in
-    let x : Claiming = fresh payments Exclusive before in
+    let x : Claiming = fresh writer payments Exclusive before in
     let granted : c.in-Granted.claims.items ≡ x ∷ [] = one_granted writer (c.one-want.result ∷ []) payments Exclusive c.args.table.now c.ask.new.self c.in-Granted.claims.items is_first first.0 in
     let left = only_left c.in-Granted.claims.items x c.index_mut.result.now c.leave.new.claim gone granted c.index_mut.ensures.value c.leave.ensures.claim in
     let two : c.index_mut-2.result.now ≡ leaving x gone = only_one (set c.in-Granted.claims.items 0 c.leave.new.claim) (leaving x gone) c.index_mut-2.result.now left c.index_mut-2.ensures.value in
     let undone : c.undo.new.self ≡ leaving_in c.leave.new.self payments before = c.undo.ensures.table ∙ ap (λ (k : Claiming). leaving_in c.leave.new.self k.group k.back) two in
     let said = subst (λ (r : Asked g.row.J.Denot). Answers reader (c.one-want-2.result ∷ []) c.give_back.new.self r c.ask-2.new.self) c.in-Granted-2.is c.in_ok-read.ensures.answers in
     let is : c.one-want-2.result ∷ [] ≡ on_one payments Shared ∷ [] = ap (λ (w : Want). w ∷ []) c.one-want-2.ensures in
-    let y : Claiming = fresh payments Shared (left_in c.give_back.new.self.stands payments) in
+    let y : Claiming = fresh reader payments Shared (left_in c.give_back.new.self.stands payments) in
     let told : c.in-Granted-2.read.items ≡ y ∷ [] = one_granted reader (c.one-want-2.result ∷ []) payments Shared c.give_back.new.self c.ask-2.new.self c.in-Granted-2.read.items is said.0 in
     let one : c.index_mut-3.result.now ≡ y = only_one c.in-Granted-2.read.items y c.index_mut-3.result.now told c.index_mut-3.ensures.value in
     let home : c.leave.new.self.w_id ≡ 1 = ap (λ (t : Locking). t.w_id) c.leave.ensures.table ∙ first.0.w_id ∙ c.requires.here in

@@ -12,10 +12,10 @@ use Rattle.tickets.specs.Places.{IsGroupOf}
 use Rattle.wait_die.specs.declared.deciding.Holder.{Holder}
 use Rattle.local_locks.specs.declared.table.Asked.{Asked}
 use Rattle.local_locks.specs.declared.table.Turn.{Turn}
-use Rattle.local_locks.specs.Asking.{AreHeld, Answers, IsSettled, TakesTurn, all_kept_after, leaving_in, waiting}
-use Rattle.local_locks.specs.Locking.{Holding, Locking, Stand, left_in}
+use Rattle.local_locks.specs.Asking.{Answers, IsOfHome, IsSettled, TakesTurn, all_kept_after, leaving_in, waiting}
+use Rattle.local_locks.specs.Locking.{Locking, Stand, left_in}
 use Rattle.local_locks.specs.Trials.{Tells}
-use Rattle.local_locks.proofs.Contents.{left_back, on_one, one_granted, one_held, only_one, only_set, only_settled, settled_is, turn_granted, waits_alone}
+use Rattle.local_locks.proofs.Contents.{left_back, on_one, one_granted, only_one, only_set, only_settled, settled_is, turn_granted, waits_alone}
 use Rattle.local_locks.proofs.tests.contents.read_after_write.Goals as goal
 
 abbrev payments : Group
@@ -33,26 +33,26 @@ reader = record { age = 0; place = 0 }
 here : IsGroupOf 1 payments
 here = ((omega arith, omega arith), (omega arith, omega arith))
 
-pub give_back-requires-clause-held : goal.give_back-requires-clause-held
-give_back-requires-clause-held g c =
+pub give_back-requires-clause-home : goal.give_back-requires-clause-home
+give_back-requires-clause-home g c =
     let first = subst (λ (r : Asked g.row.J.Denot). Answers writer (c.one-want.result ∷ []) c.in_ok-table.table r c.ask.new.self) c.in-Granted.is c.in_ok-claims.ensures.answers in
     let waits = subst (λ (r : Asked g.row.J.Denot). Answers reader (c.one-want-2.result ∷ []) c.leave.new.self r c.ask-2.new.self) c.in-Waits.is c.in_ok-ask.ensures.answers in
     let is_first : c.one-want.result ∷ [] ≡ on_one payments Exclusive ∷ [] = ap (λ (w : Want). w ∷ []) c.one-want.ensures in
-    let x : Claiming = fresh payments Exclusive (left_in c.in_ok-table.table.stands payments) in
+    let x : Claiming = fresh writer payments Exclusive (left_in c.in_ok-table.table.stands payments) in
     let granted : c.in-Granted.claims.items ≡ x ∷ [] = one_granted writer (c.one-want.result ∷ []) payments Exclusive c.in_ok-table.table c.ask.new.self c.in-Granted.claims.items is_first first.0 in
     let settled_only =
     only_settled c.in-Granted.claims.len c.in-Granted.claims.items c.deref_mut.result.now c.settle_all.new.claims x c.index_mut.result.now c.leave.new.claim gone c.in-Granted.claims.ok.0 granted
     c.index_mut.ensures.value c.leave.ensures.claim c.deref_mut.ensures.value c.settle_all.ensures.claims in
-    let claim : Claiming = settled (leaving x gone) in
-    let held : AreHeld c.ask.new.self.holdings writer (claim ∷ []) = one_held writer (c.one-want.result ∷ []) payments Exclusive c.in_ok-table.table c.ask.new.self c.in-Granted.claims.items claim is_first first.0 refl refl in
-    let same : c.next_grant.new.self.holdings ≡ c.ask.new.self.holdings = ap (λ (t : Locking). t.holdings) (c.in-None.ensures.same ∙ waits.1) ∙ ap (λ (t : Locking). t.holdings) c.leave.ensures.table in
-    subst (AreHeld c.next_grant.new.self.holdings writer) (sym settled_only) (subst (λ (hs : List Holding). AreHeld hs writer (claim ∷ [])) (sym same) held)
+    let table = c.next_grant.new.self in
+    let home : table.w_id ≡ 1 =
+    ap (λ (t : Locking). t.w_id) (c.in-None.ensures.same ∙ waits.1) ∙ ap (λ (t : Locking). t.w_id) c.leave.ensures.table ∙ first.0.w_id ∙ c.in_ok-table.ensures.here in
+    subst (All (IsOfHome table.w_id)) (sym settled_only) (All-cons (IsOfHome table.w_id) (settled (leaving x gone)) [] (sym home) (All-nil (IsOfHome table.w_id)))
 
 pub give_back-requires-clause-committed : goal.give_back-requires-clause-committed
 give_back-requires-clause-committed g c =
     let first = subst (λ (r : Asked g.row.J.Denot). Answers writer (c.one-want.result ∷ []) c.in_ok-table.table r c.ask.new.self) c.in-Granted.is c.in_ok-claims.ensures.answers in
     let is_first : c.one-want.result ∷ [] ≡ on_one payments Exclusive ∷ [] = ap (λ (w : Want). w ∷ []) c.one-want.ensures in
-    let x : Claiming = fresh payments Exclusive (left_in c.in_ok-table.table.stands payments) in
+    let x : Claiming = fresh writer payments Exclusive (left_in c.in_ok-table.table.stands payments) in
     let granted : c.in-Granted.claims.items ≡ x ∷ [] = one_granted writer (c.one-want.result ∷ []) payments Exclusive c.in_ok-table.table c.ask.new.self c.in-Granted.claims.items is_first first.0 in
     let settled_only =
     only_settled c.in-Granted.claims.len c.in-Granted.claims.items c.deref_mut.result.now c.settle_all.new.claims x c.index_mut.result.now c.leave.new.claim gone c.in-Granted.claims.ok.0 granted
@@ -70,7 +70,7 @@ index_mut-requires-2 g c =
     c.in_ok-table.ensures.idle first.1 c.leave.ensures.table waits.1 c.in-None.ensures.same c.give_back.ensures.waiters in
     let by = c.in-Some-Granted.field-0-0 in
     let grants = turn_granted reader (c.one-want-2.result ∷ []) payments Shared by c.give_back.new.self c.next_grant-2.new.self c.in-Some-Granted.read.items alone is turn in
-    let y : Claiming = fresh payments Shared (left_in c.give_back.new.self.stands payments) in
+    let y : Claiming = fresh by payments Shared (left_in c.give_back.new.self.stands payments) in
     let told : c.in-Some-Granted.read.items ≡ y ∷ [] = one_granted by (on_one payments Shared ∷ []) payments Shared c.give_back.new.self c.next_grant-2.new.self c.in-Some-Granted.read.items refl grants in
     let long : length c.in-Some-Granted.read.items ≡ 1 = ap (λ (cs : List Claiming). length cs) told in
     let count = c.in-Some-Granted.read.ok.0 in omega (arith, count, long)
@@ -86,7 +86,7 @@ look-requires-clause-here g c =
     c.in_ok-table.ensures.idle first.1 c.leave.ensures.table waits.1 c.in-None.ensures.same c.give_back.ensures.waiters in
     let by = c.in-Some-Granted.field-0-0 in
     let grants = turn_granted reader (c.one-want-2.result ∷ []) payments Shared by c.give_back.new.self c.next_grant-2.new.self c.in-Some-Granted.read.items alone is turn in
-    let y : Claiming = fresh payments Shared (left_in c.give_back.new.self.stands payments) in
+    let y : Claiming = fresh by payments Shared (left_in c.give_back.new.self.stands payments) in
     let told : c.in-Some-Granted.read.items ≡ y ∷ [] = one_granted by (on_one payments Shared ∷ []) payments Shared c.give_back.new.self c.next_grant-2.new.self c.in-Some-Granted.read.items refl grants in
     let one : c.index_mut-2.result.now ≡ y = only_one c.in-Some-Granted.read.items y c.index_mut-2.result.now told c.index_mut-2.ensures.value in
     let home : c.next_grant-2.new.self.w_id ≡ 1 =
@@ -104,7 +104,7 @@ look-requires-clause-shared g c =
     c.in_ok-table.ensures.idle first.1 c.leave.ensures.table waits.1 c.in-None.ensures.same c.give_back.ensures.waiters in
     let by = c.in-Some-Granted.field-0-0 in
     let grants = turn_granted reader (c.one-want-2.result ∷ []) payments Shared by c.give_back.new.self c.next_grant-2.new.self c.in-Some-Granted.read.items alone is turn in
-    let y : Claiming = fresh payments Shared (left_in c.give_back.new.self.stands payments) in
+    let y : Claiming = fresh by payments Shared (left_in c.give_back.new.self.stands payments) in
     let told : c.in-Some-Granted.read.items ≡ y ∷ [] = one_granted by (on_one payments Shared ∷ []) payments Shared c.give_back.new.self c.next_grant-2.new.self c.in-Some-Granted.read.items refl grants in
     ap (λ (k : Claiming). k.mode) (only_one c.in-Some-Granted.read.items y c.index_mut-2.result.now told c.index_mut-2.ensures.value)
 
@@ -113,7 +113,7 @@ returns g c =
     let first = subst (λ (r : Asked g.row.J.Denot). Answers writer (c.one-want.result ∷ []) c.in_ok-table.table r c.ask.new.self) c.in-Granted.is c.in_ok-claims.ensures.answers in
     let waits = subst (λ (r : Asked g.row.J.Denot). Answers reader (c.one-want-2.result ∷ []) c.leave.new.self r c.ask-2.new.self) c.in-Waits.is c.in_ok-ask.ensures.answers in
     let is_first : c.one-want.result ∷ [] ≡ on_one payments Exclusive ∷ [] = ap (λ (w : Want). w ∷ []) c.one-want.ensures in
-    let x : Claiming = fresh payments Exclusive (left_in c.in_ok-table.table.stands payments) in
+    let x : Claiming = fresh writer payments Exclusive (left_in c.in_ok-table.table.stands payments) in
     let granted : c.in-Granted.claims.items ≡ x ∷ [] = one_granted writer (c.one-want.result ∷ []) payments Exclusive c.in_ok-table.table c.ask.new.self c.in-Granted.claims.items is_first first.0 in
     let turn = subst (λ (t : Turn g.row.J.Denot). TakesTurn c.give_back.new.self t c.next_grant-2.new.self) c.in-Some-Granted.field-0-is c.in-Some-Granted.ensures.turn in
     let is : c.one-want-2.result ∷ [] ≡ on_one payments Shared ∷ [] = ap (λ (w : Want). w ∷ []) c.one-want-2.ensures in
@@ -122,7 +122,7 @@ returns g c =
     c.in_ok-table.ensures.idle first.1 c.leave.ensures.table waits.1 c.in-None.ensures.same c.give_back.ensures.waiters in
     let by = c.in-Some-Granted.field-0-0 in
     let grants = turn_granted reader (c.one-want-2.result ∷ []) payments Shared by c.give_back.new.self c.next_grant-2.new.self c.in-Some-Granted.read.items alone is turn in
-    let y : Claiming = fresh payments Shared (left_in c.give_back.new.self.stands payments) in
+    let y : Claiming = fresh by payments Shared (left_in c.give_back.new.self.stands payments) in
     let told : c.in-Some-Granted.read.items ≡ y ∷ [] = one_granted by (on_one payments Shared ∷ []) payments Shared c.give_back.new.self c.next_grant-2.new.self c.in-Some-Granted.read.items refl grants in
     let one : c.index_mut-2.result.now ≡ y = only_one c.in-Some-Granted.read.items y c.index_mut-2.result.now told c.index_mut-2.ensures.value in
     let wrote : c.index_mut.result.now ≡ x = only_one c.in-Granted.claims.items x c.index_mut.result.now granted c.index_mut.ensures.value in

@@ -16,7 +16,7 @@ invariant_of-self g c =
     let near = c.requires.home ∙ sym (ap (λ (s : Sliced). s.home) c.self.view_is) in
     let e = c.grant.ensures in
     let out = lends c.index_mut-ground.result.now c.grant.new.self c.grant.result e.free e.out e.undo in
-    let keeps = grant_outcome Exclusive c.self.inside.rows c.self.inside.grounds.items c.args.group c.place_at_home.result c.index_mut-ground.result.now c.grant.new.self c.grant.result c.self.invariant.grounded known near c.place_at_home.ensures
+    let keeps = grant_outcome c.args.by Exclusive c.self.inside.rows c.self.inside.grounds.items c.args.group c.place_at_home.result c.index_mut-ground.result.now c.grant.new.self c.grant.result c.self.invariant.grounded known near c.place_at_home.ensures
     c.index_mut-ground.ensures.value out e.claim e.same in
     record { many = c.self.invariant.many; grounded = keeps.0 }
 
@@ -26,9 +26,9 @@ returns-clause-claim g c =
     let near = c.requires.home ∙ sym (ap (λ (s : Sliced). s.home) c.self.view_is) in
     let e = c.grant.ensures in
     let out = lends c.index_mut-ground.result.now c.grant.new.self c.grant.result e.free e.out e.undo in
-    let keeps = grant_outcome Exclusive c.self.inside.rows c.self.inside.grounds.items c.args.group c.place_at_home.result c.index_mut-ground.result.now c.grant.new.self c.grant.result c.self.invariant.grounded known near c.place_at_home.ensures
+    let keeps = grant_outcome c.args.by Exclusive c.self.inside.rows c.self.inside.grounds.items c.args.group c.place_at_home.result c.index_mut-ground.result.now c.grant.new.self c.grant.result c.self.invariant.grounded known near c.place_at_home.ensures
     c.index_mut-ground.ensures.value out e.claim e.same in
-    subst (λ (s : Sliced). IfOk c.grant.result (λ claim. claim ≡ fresh c.args.group Exclusive (content s.tables c.args.group))) c.self.view_is keeps.1
+    subst (λ (s : Sliced). IfOk c.grant.result (λ claim. claim ≡ fresh c.args.by c.args.group Exclusive (content s.tables c.args.group))) c.self.view_is keeps.1
 
 pub returns-clause-kept : goal.returns-clause-kept
 returns-clause-kept g c =
@@ -36,7 +36,7 @@ returns-clause-kept g c =
     let near = c.requires.home ∙ sym (ap (λ (s : Sliced). s.home) c.self.view_is) in
     let e = c.grant.ensures in
     let out = lends c.index_mut-ground.result.now c.grant.new.self c.grant.result e.free e.out e.undo in
-    let keeps = grant_outcome Exclusive c.self.inside.rows c.self.inside.grounds.items c.args.group c.place_at_home.result c.index_mut-ground.result.now c.grant.new.self c.grant.result c.self.invariant.grounded known near c.place_at_home.ensures
+    let keeps = grant_outcome c.args.by Exclusive c.self.inside.rows c.self.inside.grounds.items c.args.group c.place_at_home.result c.index_mut-ground.result.now c.grant.new.self c.grant.result c.self.invariant.grounded known near c.place_at_home.ensures
     c.index_mut-ground.ensures.value out e.claim e.same in
     subst (λ (s : Sliced). IfOk c.grant.result (λ claim. SliceKeeps [] s (claim ∷ []) (sliced c.self.inside.rows (set c.self.inside.grounds.items c.place_at_home.result c.grant.new.self)))) c.self.view_is keeps.2
 

@@ -16,7 +16,7 @@ invariant_of-self g c =
     let near = c.requires.home ∙ sym (ap (λ (s : Sliced). s.home) c.self.view_is) in
     let e = c.share.ensures in
     let out = shares c.index_mut.result.now c.share.new.self c.share.result e.free e.out e.undo in
-    let keeps = grant_outcome Shared c.self.inside.rows c.self.inside.grounds.items c.args.group c.place_at_home.result c.index_mut.result.now c.share.new.self c.share.result c.self.invariant.grounded known near c.place_at_home.ensures
+    let keeps = grant_outcome c.args.by Shared c.self.inside.rows c.self.inside.grounds.items c.args.group c.place_at_home.result c.index_mut.result.now c.share.new.self c.share.result c.self.invariant.grounded known near c.place_at_home.ensures
     c.index_mut.ensures.value out e.claim e.same in
     record { many = c.self.invariant.many; grounded = keeps.0 }
 
@@ -26,9 +26,9 @@ returns-clause-claim g c =
     let near = c.requires.home ∙ sym (ap (λ (s : Sliced). s.home) c.self.view_is) in
     let e = c.share.ensures in
     let out = shares c.index_mut.result.now c.share.new.self c.share.result e.free e.out e.undo in
-    let keeps = grant_outcome Shared c.self.inside.rows c.self.inside.grounds.items c.args.group c.place_at_home.result c.index_mut.result.now c.share.new.self c.share.result c.self.invariant.grounded known near c.place_at_home.ensures
+    let keeps = grant_outcome c.args.by Shared c.self.inside.rows c.self.inside.grounds.items c.args.group c.place_at_home.result c.index_mut.result.now c.share.new.self c.share.result c.self.invariant.grounded known near c.place_at_home.ensures
     c.index_mut.ensures.value out e.claim e.same in
-    subst (λ (s : Sliced). IfOk c.share.result (λ claim. claim ≡ fresh c.args.group Shared (content s.tables c.args.group))) c.self.view_is keeps.1
+    subst (λ (s : Sliced). IfOk c.share.result (λ claim. claim ≡ fresh c.args.by c.args.group Shared (content s.tables c.args.group))) c.self.view_is keeps.1
 
 pub returns-clause-kept : goal.returns-clause-kept
 returns-clause-kept g c =
@@ -36,7 +36,7 @@ returns-clause-kept g c =
     let near = c.requires.home ∙ sym (ap (λ (s : Sliced). s.home) c.self.view_is) in
     let e = c.share.ensures in
     let out = shares c.index_mut.result.now c.share.new.self c.share.result e.free e.out e.undo in
-    let keeps = grant_outcome Shared c.self.inside.rows c.self.inside.grounds.items c.args.group c.place_at_home.result c.index_mut.result.now c.share.new.self c.share.result c.self.invariant.grounded known near c.place_at_home.ensures
+    let keeps = grant_outcome c.args.by Shared c.self.inside.rows c.self.inside.grounds.items c.args.group c.place_at_home.result c.index_mut.result.now c.share.new.self c.share.result c.self.invariant.grounded known near c.place_at_home.ensures
     c.index_mut.ensures.value out e.claim e.same in
     subst (λ (s : Sliced). IfOk c.share.result (λ claim. SliceKeeps [] s (claim ∷ []) (sliced c.self.inside.rows (set c.self.inside.grounds.items c.place_at_home.result c.share.new.self)))) c.self.view_is keeps.2
 

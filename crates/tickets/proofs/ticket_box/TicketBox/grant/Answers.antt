@@ -66,4 +66,4 @@ invariant_of-self g c =
 pub returns-clause-kept : goal.returns-clause-kept
 returns-clause-kept g c =
     let was = c.self.inside in
-    lend_keeps c.args.self.now (boxed was.group Exclusive was.shared c.give-2.new.self.value) _ (search rules) (search rules) (search rules) (search rules)
+    lend_keeps c.args.by c.args.self.now (boxed was.group Exclusive was.shared c.give-2.new.self.value) _ (search rules) (search rules) (search rules) (search rules)

@@ -9,4 +9,4 @@ returns-clause-kept g c =
     let was = c.self.inside in
     let claim = c.claim.inside in
     leave_keeps c.args.self.now (boxed was.group was.mode was.shared c.change_together.new.self.value) c.args.claim.now
-    (claiming claim.group claim.mode claim.tickets.value.content c.change_together.new.other.value) (g.C.Change.changed c.args.change.now c.args.self.now.left) c.requires.group c.requires.exclusive (search rules) (search rules)
+    (claiming claim.by claim.group claim.mode claim.tickets.value.content c.change_together.new.other.value) (g.C.Change.changed c.args.change.now c.args.self.now.left) c.requires.group c.requires.exclusive (search rules) (search rules)

@@ -49,4 +49,4 @@ invariant_of-self g c =
 pub returns-clause-kept : goal.returns-clause-kept
 returns-clause-kept g c =
     let was = c.self.inside in
-    share_keeps c.args.self.now (boxed was.group was.mode (was.shared + 1) c.give-2.new.self.value) _ (search rules) (search rules) (search rules) (search rules)
+    share_keeps c.args.by c.args.self.now (boxed was.group was.mode (was.shared + 1) c.give-2.new.self.value) _ (search rules) (search rules) (search rules) (search rules)
