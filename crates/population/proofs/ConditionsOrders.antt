@@ -73,7 +73,7 @@ known_place scale home known =
     let few : home.d_id ≤ 10 = grind (arith, nat_tests) in
     omega arith
 
-module _ (scale : Scale) (rows : TableRows) (h : IsPopulated scale rows) where
+module _ {seed now : ℕ} (scale : Scale) (rows : TableRows) (h : IsPopulated scale seed now rows) where
   -- ---- the orders of a district
 
   module _ (home : DistrictKey) (known : IsTrue (has_district scale home)) where

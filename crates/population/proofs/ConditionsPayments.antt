@@ -73,7 +73,7 @@ line_nothing None amount other h = refl
 line_nothing (Some moment) amount false h = refl
 line_nothing (Some moment) amount true h = ap pos (h (λ e. absurd cc))
 
-module _ (scale : Scale) (rows : TableRows) (h : IsPopulated scale rows) where
+module _ {seed now : ℕ} (scale : Scale) (rows : TableRows) (h : IsPopulated scale seed now rows) where
   -- ---- 1 and 8
 
   districts_same : All (λ (row : District). row.ytd ≡ pos (1000 * scale.customers)) rows.districts.items
@@ -124,8 +124,8 @@ module _ (scale : Scale) (rows : TableRows) (h : IsPopulated scale rows) where
 
   -- ---- 10 and 12
 
-  customer_row : (key : CustomerKey) (row : Customer) → table.get (database scale rows).customers key ≡ Some row → IsOpeningCustomer row
-  customer_row = dense_found customers_total customers_exact IsOpeningCustomer (customer_keys scale) rows.customers.items h.filled.customer_rows
+  pub customer_row : (key : CustomerKey) (row : Customer) → table.get (database scale rows).customers key ≡ Some row → IsOpeningCustomer now row
+  customer_row = dense_found customers_total customers_exact (IsOpeningCustomer now) (customer_keys scale) rows.customers.items h.filled.customer_rows
 
   customer_known : (key : CustomerKey) (row : Customer) → table.get (database scale rows).customers key ≡ Some row → IsTrue (has_customer scale key)
   customer_known key row found = sym (customer_keys_are scale rows (counts scale rows h) key) ∙ ap is_some found
@@ -134,7 +134,7 @@ module _ (scale : Scale) (rows : TableRows) (h : IsPopulated scale rows) where
   nothing_delivered key =
       let weight = λ (k : OrderLineKey) (line : OrderLine). cond (is_some line.delivery_d && has_ordered (database scale rows) key (order_of_line k)) (pos line.amount) (pos 0) in
       let each : All (λ (e : OrderLineKey × OrderLine). weight e.0 e.1 ≡ pos 0) rows.lines.entries =
-      All-weaker (λ (e : OrderLineKey × OrderLine). IsOpeningLine scale e.0 e.1) (λ (e : OrderLineKey × OrderLine). weight e.0 e.1 ≡ pos 0)
+      All-weaker (λ (e : OrderLineKey × OrderLine). IsOpeningLine scale now e.0 e.1) (λ (e : OrderLineKey × OrderLine). weight e.0 e.1 ≡ pos 0)
       (λ e is. line_nothing e.1.delivery_d e.1.amount (has_ordered (database scale rows) key (order_of_line e.0)) is.amount) rows.lines.entries h.filled.book.line_rows in
       ap (sum_entries weight) (entries-ordered lines_total rows.lines.entries h.filled.book.lines_ordered)
       ∙ sum_of_nothing weight rows.lines.entries (recursion_from_All (λ (e : OrderLineKey × OrderLine). weight e.0 e.1 ≡ pos 0) rows.lines.entries each)

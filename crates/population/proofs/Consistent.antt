@@ -1,4 +1,5 @@
 -- The tables of a population are consistent.
+use Rattle.std.specs.Prelude.{ℕ}
 use Rattle.schema.specs.declared.scale.Scale.{Scale}
 use Rattle.schema.specs.declared.table_rows.TableRows.{TableRows}
 use Rattle.schema.specs.Rows.{database}
@@ -7,7 +8,7 @@ use Rattle.population.specs.Filled.{IsPopulated}
 use Rattle.population.proofs.ConditionsPayments.{sums_of_districts, sums_of_payments, district_payments, balances_owed, balances_paid}
 use Rattle.population.proofs.ConditionsOrders.{next_orders, no_gaps, district_lines_counted, new_orders_wait, order_lines_counted, lines_come}
 
-pub consistent : (scale : Scale) (rows : TableRows) → IsPopulated scale rows → Consistent (database scale rows)
+pub consistent : {seed now : ℕ} (scale : Scale) (rows : TableRows) → IsPopulated scale seed now rows → Consistent (database scale rows)
 consistent scale rows h = record {
   warehouses_sum_districts = sums_of_districts scale rows h;
   next_orders_follow = next_orders scale rows h;

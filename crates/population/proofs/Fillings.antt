@@ -33,15 +33,15 @@ pushed_at P (z ∷ xs) x n is here had zero y found = had zero y found
 pushed_at P (z ∷ xs) x n is here had (suc place) y found =
     pushed_at (λ m. P (suc m)) xs x (length xs) refl (subst (λ m. P m x) is here) (λ m. had (suc m)) place y found
 
-module _ (scale : Scale) (count : ℕ) (home : DistrictKey) (at : district_at count ≡ home)
+module _ (scale : Scale) (now count : ℕ) (home : DistrictKey) (at : district_at count ≡ home)
     (districts : List District) (customers : List Customer) (histories : List (List History)) (orders : BTreeMap OrderKey Order) (new_orders : BTreeMap OrderKey NewOrder) (lines : BTreeMap OrderLineKey OrderLine)
-    (had : IsFilled scale count districts customers histories orders new_orders lines)
+    (had : IsFilled scale now count districts customers histories orders new_orders lines)
     (districts' : List District) (customers' : List Customer) (histories' : List (List History)) (orders' : BTreeMap OrderKey Order) (new_orders' : BTreeMap OrderKey NewOrder) (lines' : BTreeMap OrderLineKey OrderLine) where
   pub filled_more : (row : District) → districts' ≡ districts ++ row ∷ [] → IsOpeningDistrict scale row
-      → All IsOpeningCustomer customers' → length customers' ≡ length customers + scale.customers
-      → (payments : List History) → histories' ≡ histories ++ payments ∷ [] → AreOpeningPayments home scale.customers payments
+      → All (IsOpeningCustomer now) customers' → length customers' ≡ length customers + scale.customers
+      → (payments : List History) → histories' ≡ histories ++ payments ∷ [] → AreOpeningPayments now home scale.customers payments
       → (owners : List ℕ) → IsPermutation (range_with_len 1 scale.customers) owners → map owned orders'.entries ≡ map owned orders.entries ++ owned_by home 1 owners
-      → IsBook scale orders' new_orders' lines' → (next : ℕ) → next ≡ count + 1 → IsFilled scale next districts' customers' histories' orders' new_orders' lines'
+      → IsBook scale now orders' new_orders' lines' → (next : ℕ) → next ≡ count + 1 → IsFilled scale now next districts' customers' histories' orders' new_orders' lines'
   filled_more row pushed_row is_row customer_rows many payments pushed_list are_payments owners shuffled more book next is_next = record {
     districts_count = omega (arith, ap length pushed_row, length_push districts row, had.districts_count);
     district_rows = All-same (IsOpeningDistrict scale) _ _ pushed_row (All-push (IsOpeningDistrict scale) districts row had.district_rows is_row);
@@ -50,8 +50,8 @@ module _ (scale : Scale) (count : ℕ) (home : DistrictKey) (at : district_at co
     customer_rows = customer_rows;
     histories_count = omega (arith, ap length pushed_list, length_push histories payments, had.histories_count);
     payments = λ place list found.
-        pushed_at (λ n rows. AreOpeningPayments (district_at n) scale.customers rows) histories payments count (sym had.histories_count)
-        (subst (λ h. AreOpeningPayments h scale.customers payments) (sym at) are_payments) had.payments place list
+        pushed_at (λ n rows. AreOpeningPayments now (district_at n) scale.customers rows) histories payments count (sym had.histories_count)
+        (subst (λ h. AreOpeningPayments now h scale.customers payments) (sym at) are_payments) had.payments place list
         (ap (λ (l : List (List History)). slice_get l place) (sym pushed_list) ∙ found);
     owners = had.owners ++ owners ∷ [];
     owners_count = omega (arith, length_push had.owners owners, had.owners_count);

@@ -17,3 +17,4 @@ pub mod Populated
 pub mod ConditionsPayments
 pub mod ConditionsOrders
 pub mod Consistent
+pub mod Opening

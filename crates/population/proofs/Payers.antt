@@ -61,7 +61,7 @@ one_at_home key home first (suc count) h low high =
     ] refl
 
 -- a customer of the scale paid once at home, and nowhere else
-pub paid_times : (key : CustomerKey) (home : DistrictKey) (customers : ℕ) (payments : List History) → 1 ≤ key.c_id → key.c_id ≤ customers → AreOpeningPayments home customers payments
+pub paid_times : {now : ℕ} (key : CustomerKey) (home : DistrictKey) (customers : ℕ) (payments : List History) → 1 ≤ key.c_id → key.c_id ≤ customers → AreOpeningPayments now home customers payments
     → length (filter (is_payer key) payments) ≡ cond (is_home key home) 1 0
 paid_times key home customers payments low high are =
     payers_kept key payments ∙ ap (λ l. length (filter (is_customer key) l)) are.payers
@@ -71,7 +71,7 @@ paid_times key home customers payments low high are =
     ] refl
 
 -- and so much
-pub paid_amount : (key : CustomerKey) (home : DistrictKey) (customers : ℕ) (payments : List History) → 1 ≤ key.c_id → key.c_id ≤ customers → AreOpeningPayments home customers payments
+pub paid_amount : {now : ℕ} (key : CustomerKey) (home : DistrictKey) (customers : ℕ) (payments : List History) → 1 ≤ key.c_id → key.c_id ≤ customers → AreOpeningPayments now home customers payments
     → amounts_of (filter (is_payer key) payments) ≡ pos (cond (is_home key home) 1000 0)
 paid_amount key home customers payments low high are =
     let each = recursion_from_All (λ (row : History). row.amount ≡ pos 1000) payments are.amounts in
@@ -80,7 +80,7 @@ paid_amount key home customers payments low high are =
     ∙ elim (is_home key home) as (λ b. pos (1000 * cond b 1 0) ≡ pos (cond b 1000 0)) [ true ↦ refl | false ↦ refl ]
 
 -- what all customers paid
-pub all_paid : (home : DistrictKey) (customers : ℕ) (payments : List History) → AreOpeningPayments home customers payments → amounts_of payments ≡ pos (1000 * customers)
+pub all_paid : {now : ℕ} (home : DistrictKey) (customers : ℕ) (payments : List History) → AreOpeningPayments now home customers payments → amounts_of payments ≡ pos (1000 * customers)
 all_paid home customers payments are =
     let each = recursion_from_All (λ (row : History). row.amount ≡ pos 1000) payments are.amounts in
     let many : length payments ≡ customers = sym (length-map payments (λ (row : History). row.customer)) ∙ ap length are.payers ∙ length-map-range_with_len (customer_key home) 1 customers in
@@ -99,6 +99,6 @@ payers_all : (scale : Scale) (payments : List History) → are_payers_known scal
 payers_all scale [] = refl
 payers_all scale (row ∷ rows) = ap (λ b. has_customer scale row.customer && b) (payers_all scale rows)
 
-pub payers_known_of : (scale : Scale) (home : DistrictKey) (payments : List History) → IsTrue (has_district scale home) → AreOpeningPayments home scale.customers payments → IsTrue (are_payers_known scale payments)
+pub payers_known_of : {now : ℕ} (scale : Scale) (home : DistrictKey) (payments : List History) → IsTrue (has_district scale home) → AreOpeningPayments now home scale.customers payments → IsTrue (are_payers_known scale payments)
 payers_known_of scale home payments there are =
     payers_all scale payments ∙ ap (list_all (has_customer scale)) are.payers ∙ known_from scale home 1 scale.customers there (omega arith) (omega arith)

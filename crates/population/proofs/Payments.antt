@@ -10,16 +10,17 @@ use Rattle.schema.specs.Scale.{customer_key}
 use Rattle.population.specs.Rows.{AreOpeningPayments}
 use Rattle.population.proofs.Ranges.{numbers_more}
 
-pub no_payments : (home : DistrictKey) → AreOpeningPayments home 0 []
-no_payments home = record { payers = refl; amounts = All-nil (λ (row : History). row.amount ≡ pos 1000) }
+pub no_payments : {now : ℕ} (home : DistrictKey) → AreOpeningPayments now home 0 []
+no_payments {now} home = record { payers = refl; amounts = All-nil (λ (row : History). row.amount ≡ pos 1000); dates = All-nil (λ (row : History). row.date ≡ now) }
 
-pub payments_more : (home : DistrictKey) (count : ℕ) (payments : List History) (row : History) → row.customer ≡ customer_key home (count + 1) → row.amount ≡ pos 1000
-    → AreOpeningPayments home count payments → AreOpeningPayments home (count + 1) (payments ++ row ∷ [])
-payments_more home count payments row customer amount h = record {
+pub payments_more : {now : ℕ} (home : DistrictKey) (count : ℕ) (payments : List History) (row : History) → row.customer ≡ customer_key home (count + 1) → row.amount ≡ pos 1000 → row.date ≡ now
+    → AreOpeningPayments now home count payments → AreOpeningPayments now home (count + 1) (payments ++ row ∷ [])
+payments_more {now} home count payments row customer amount date h = record {
   payers =
       map-append (λ (row : History). row.customer) payments (row ∷ [])
       ∙ ap (λ l. l ++ row.customer ∷ []) h.payers
       ∙ ap (λ k. map (customer_key home) (range_with_len 1 count) ++ k ∷ []) customer
       ∙ sym (ap (map (customer_key home)) (numbers_more count) ∙ map-append (customer_key home) (range_with_len 1 count) ((count + 1) ∷ []));
   amounts = All-push (λ (row : History). row.amount ≡ pos 1000) payments row h.amounts amount;
+  dates = All-push (λ (row : History). row.date ≡ now) payments row h.dates date;
 }

@@ -61,7 +61,7 @@ of_each : (P : OrderKey → Type 0) (es : List (OrderKey × Order)) → AllByRec
 of_each P [] h = tt
 of_each P (e ∷ es) h = each_both (λ key. P (order_of_line key)) (line_keys e) (flat_map line_keys es) (of_one P e.0 1 e.1.ol_cnt h.0) (of_each P es h.1)
 
-module _ (scale : Scale) (rows : TableRows) (h : IsPopulated scale rows) where
+module _ {seed now : ℕ} (scale : Scale) (rows : TableRows) (h : IsPopulated scale seed now rows) where
   pub counts : HasCounts scale rows
   counts = record {
     items = h.items;
@@ -73,9 +73,9 @@ module _ (scale : Scale) (rows : TableRows) (h : IsPopulated scale rows) where
   }
 
   -- the payments of each district
-  pub list_of : (home : DistrictKey) (list : List History) → table.get (database scale rows).histories home ≡ Some list → AreOpeningPayments home scale.customers list
+  pub list_of : (home : DistrictKey) (list : List History) → table.get (database scale rows).histories home ≡ Some list → AreOpeningPayments now home scale.customers list
   list_of =
-      (each-dense districts_total districts_exact (λ home list. AreOpeningPayments home scale.customers list) (district_keys scale) rows.histories.items
+      (each-dense districts_total districts_exact (λ home list. AreOpeningPayments now home scale.customers list) (district_keys scale) rows.histories.items
       (h.filled.histories_count ∙ sym (length-district_keys scale)) district_at (place-district_at scale)).1 h.filled.payments
 
   payers_known : PayersKnown (database scale rows)
@@ -84,11 +84,11 @@ module _ (scale : Scale) (rows : TableRows) (h : IsPopulated scale rows) where
       payers_known_of scale home list there (list_of home list found)
 
   -- each order and each line
-  pub order_row : (key : OrderKey) (row : Order) → table.get (database scale rows).orders key ≡ Some row → IsOpeningOrder scale key row
-  order_row = all_found orders_total orders_exact (λ key row. IsOpeningOrder scale key row) rows.orders.entries h.filled.book.order_rows
+  pub order_row : (key : OrderKey) (row : Order) → table.get (database scale rows).orders key ≡ Some row → IsOpeningOrder scale now key row
+  order_row = all_found orders_total orders_exact (λ key row. IsOpeningOrder scale now key row) rows.orders.entries h.filled.book.order_rows
 
-  pub line_row : (key : OrderLineKey) (row : OrderLine) → table.get (database scale rows).lines key ≡ Some row → IsOpeningLine scale key row
-  line_row = all_found lines_total lines_exact (λ key row. IsOpeningLine scale key row) rows.lines.entries h.filled.book.line_rows
+  pub line_row : (key : OrderLineKey) (row : OrderLine) → table.get (database scale rows).lines key ≡ Some row → IsOpeningLine scale now key row
+  line_row = all_found lines_total lines_exact (λ key row. IsOpeningLine scale now key row) rows.lines.entries h.filled.book.line_rows
 
   -- the new orders are those orders that are new
   pub new_contained : (key : OrderKey) → table.contains_key (database scale rows).new_orders key ≡ (is_new_order scale key && table.contains_key (database scale rows).orders key)

@@ -44,18 +44,18 @@ abbrev pub line_keys : OrderKey × Order → List OrderLineKey
 line_keys entry = map (line_key entry.0) (range_with_len 1 entry.1.ol_cnt)
 
 -- these orders have their lines, and are in NEW-ORDER where they are new
-pub record IsBook (scale : Scale) (orders : BTreeMap OrderKey Order) (new_orders : BTreeMap OrderKey NewOrder) (lines : BTreeMap OrderLineKey OrderLine) : Type 0 where
+pub record IsBook (scale : Scale) (now : ℕ) (orders : BTreeMap OrderKey Order) (new_orders : BTreeMap OrderKey NewOrder) (lines : BTreeMap OrderLineKey OrderLine) : Type 0 where
   pub new_keys : keys_of new_orders.entries ≡ filter (is_new_order scale) (keys_of orders.entries)
   pub line_keys : keys_of lines.entries ≡ flat_map line_keys orders.entries
-  pub order_rows : All (λ entry. IsOpeningOrder scale entry.0 entry.1) orders.entries
-  pub line_rows : All (λ entry. IsOpeningLine scale entry.0 entry.1) lines.entries
+  pub order_rows : All (λ entry. IsOpeningOrder scale now entry.0 entry.1) orders.entries
+  pub line_rows : All (λ entry. IsOpeningLine scale now entry.0 entry.1) lines.entries
   pub orders_ordered : IsOrdered order_cmp orders
   pub new_orders_ordered : IsOrdered order_cmp new_orders
   pub lines_ordered : IsOrdered line_cmp lines
 
 -- of the three tables of an order book
-abbrev pub IsBookOf : Scale → OrderBook → Type 0
-IsBookOf scale book = IsBook scale book.orders book.new_orders book.lines
+abbrev pub IsBookOf : Scale → ℕ → OrderBook → Type 0
+IsBookOf scale now book = IsBook scale now book.orders book.new_orders book.lines
 
 -- whose the orders are
 abbrev pub all_owned : OrderBook → List Owned

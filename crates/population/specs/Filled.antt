@@ -17,32 +17,34 @@ use Rattle.population.specs.declared.districts.DistrictTables.{DistrictTables}
 use Rattle.population.specs.Keys.{district_at}
 use Rattle.population.specs.Rows.{IsOpeningWarehouse, IsOpeningDistrict, IsOpeningCustomer, AreOpeningPayments}
 use Rattle.population.specs.Book.{IsBook, owned, owned_from}
+use Rattle.population.specs.Drawn.{IsFirstDrawn}
 
 -- so many districts, the first in the order of their keys, have all their rows
-pub record IsFilled (scale : Scale) (count : ℕ) (districts : List District) (customers : List Customer) (histories : List (List History))
+pub record IsFilled (scale : Scale) (now count : ℕ) (districts : List District) (customers : List Customer) (histories : List (List History))
     (orders : BTreeMap OrderKey Order) (new_orders : BTreeMap OrderKey NewOrder) (lines : BTreeMap OrderLineKey OrderLine) : Type 0 where
   pub districts_count : length districts ≡ count
   pub district_rows : All (IsOpeningDistrict scale) districts
   pub customers_count : length customers ≡ count * scale.customers
-  pub customer_rows : All IsOpeningCustomer customers
+  pub customer_rows : All (IsOpeningCustomer now) customers
   pub histories_count : length histories ≡ count
-  pub payments : (place : ℕ) (list : List History) → slice_get histories place ≡ Some list → AreOpeningPayments (district_at place) scale.customers list
+  pub payments : (place : ℕ) (list : List History) → slice_get histories place ≡ Some list → AreOpeningPayments now (district_at place) scale.customers list
   -- whose the orders of each district are
   pub owners : List (List ℕ)
   pub owners_count : length owners ≡ count
   pub permuted : AllByRecursion (IsPermutation (range_with_len 1 scale.customers)) owners
   pub owned : map owned orders.entries ≡ owned_from 0 owners
-  pub book : IsBook scale orders new_orders lines
+  pub book : IsBook scale now orders new_orders lines
 
 -- of the tables of the districts that were filled so far
-abbrev pub AreFilled : Scale → ℕ → DistrictTables → Type 0
-AreFilled scale count tables =
-    IsFilled scale count tables.districts.items tables.customers.items tables.histories.items tables.book.orders tables.book.new_orders tables.book.lines
+abbrev pub AreFilled : Scale → ℕ → ℕ → DistrictTables → Type 0
+AreFilled scale now count tables =
+    IsFilled scale now count tables.districts.items tables.customers.items tables.histories.items tables.book.orders tables.book.new_orders tables.book.lines
 
--- all rows of a population
-pub record IsPopulated (scale : Scale) (rows : TableRows) : Type 0 where
+-- all rows of a population of that seed and moment
+pub record IsPopulated (scale : Scale) (seed now : ℕ) (rows : TableRows) : Type 0 where
   pub items : length rows.items.items ≡ scale.items
+  pub first_item : IsFirstDrawn seed (slice_get rows.items.items 0)
   pub warehouses : length rows.warehouses.items ≡ scale.warehouses
   pub warehouse_rows : All (IsOpeningWarehouse scale) rows.warehouses.items
   pub stocks : length rows.stocks.items ≡ scale.warehouses * scale.items
-  pub filled : IsFilled scale (scale.warehouses * 10) rows.districts.items rows.customers.items rows.histories.items rows.orders rows.new_orders rows.lines
+  pub filled : IsFilled scale now (scale.warehouses * 10) rows.districts.items rows.customers.items rows.histories.items rows.orders rows.new_orders rows.lines

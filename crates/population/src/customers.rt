@@ -19,10 +19,10 @@ pub(crate) fn add_customers(
     scale: Scale,
     now: Moment,
 ) -> Result<HistoryList, NoMemory>
-    requires { All IsOpeningCustomer customers.old.items }
-    ensures rows { OnOk result (All IsOpeningCustomer customers.new.items) }
+    requires { All (IsOpeningCustomer now) customers.old.items }
+    ensures rows { OnOk result (All (IsOpeningCustomer now) customers.new.items) }
     ensures count { OnOk result (length customers.new.items ≡ length customers.old.items + scale.customers) }
-    ensures payments { IfOk result (AreOpeningPayments home scale.customers) }
+    ensures payments { IfOk result (AreOpeningPayments now home scale.customers) }
 {
     let mut payments = HistoryList::new(alloc);
     for place in 0..scale.customers {
@@ -40,7 +40,7 @@ pub(crate) fn add_customers(
 // The row of a customer, who has paid 1,000 cents once.
 fn customer(draws: &mut Draws, number: u32, now: Moment) -> Customer
     requires { 1 ≤ number }
-    ensures { IsOpeningCustomer result }
+    ensures { IsOpeningCustomer now result }
 {
     Customer {
         first: draws.text(8, 16),
@@ -90,6 +90,7 @@ fn credit(draws: &mut Draws) -> Credit {
 fn payment(draws: &mut Draws, customer: CustomerKey, now: Moment) -> History
     ensures customer { result.customer ≡ customer }
     ensures amount { result.amount ≡ pos 1000 }
+    ensures date { result.date ≡ now }
 {
     History {
         customer,

@@ -1,4 +1,4 @@
-ghost use Rattle.std.specs.Prelude.{◌≡◌, ◌+◌, ◌-◌, ◌*◌, ◌≤◌, IsTrue, OnOk};
+ghost use Rattle.std.specs.Prelude.{◌≡◌, ℕ, ◌+◌, ◌-◌, ◌*◌, ◌≤◌, IsTrue, OnOk};
 ghost use Rattle.schema.specs.declared.scale.Scale as scale_kind;
 ghost use Rattle.schema.specs.Scale.{has_warehouse, has_district};
 ghost use Rattle.population.specs.Rows.{IsOpeningDistrict};
@@ -24,7 +24,7 @@ pub(crate) struct DistrictTables {
 impl DistrictTables {
     /// No rows. It takes no memory.
     pub(crate) fn new(alloc: Global) -> Self
-        ensures { (scale : scale_kind.Scale) → AreFilled scale 0 result }
+        ensures { (scale : scale_kind.Scale) (now : ℕ) → AreFilled scale now 0 result }
     {
         DistrictTables {
             districts: Vec::new(alloc),
@@ -44,8 +44,8 @@ impl DistrictTables {
         w_id: u32,
     ) -> Result<(), NoMemory>
         requires warehouse { IsTrue (has_warehouse scale w_id) }
-        requires filled { AreFilled scale ((w_id - 1) * 10) self.old }
-        ensures { OnOk result (AreFilled scale (w_id * 10) self.new) }
+        requires filled { AreFilled scale now ((w_id - 1) * 10) self.old }
+        ensures { OnOk result (AreFilled scale now (w_id * 10) self.new) }
     {
         for place in 0..10 {
             let home = DistrictKey {
@@ -67,8 +67,8 @@ impl DistrictTables {
         home: DistrictKey,
     ) -> Result<(), NoMemory>
         requires home { IsTrue (has_district scale home) }
-        requires filled { AreFilled scale ((home.w_id - 1) * 10 + (home.d_id - 1)) self.old }
-        ensures { OnOk result (AreFilled scale ((home.w_id - 1) * 10 + home.d_id) self.new) }
+        requires filled { AreFilled scale now ((home.w_id - 1) * 10 + (home.d_id - 1)) self.old }
+        ensures { OnOk result (AreFilled scale now ((home.w_id - 1) * 10 + home.d_id) self.new) }
     {
         self.districts.push(district(draws, scale))?;
         let payments = add_customers(alloc, draws, &mut self.customers, home, scale, now)?;

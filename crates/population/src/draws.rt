@@ -2,6 +2,8 @@ ghost use Rattle.std.specs.Prelude.{◌≡◌, ◌+◌, ◌<◌, ◌≤◌, ◌^
 ghost use Rattle.std.specs.List.{list_all};
 ghost use Rattle.std.specs.List.Sorted.{IsPermutation};
 ghost use Rattle.rows.specs.Text.{is_printable_byte};
+ghost use Rattle.number_draws.specs.Words.{seeded};
+ghost use Rattle.number_draws.specs.Draws.{random_of};
 
 use number_draws::NumberDraws;
 use schema::{Address, Text};
@@ -21,7 +23,9 @@ pub(crate) struct Draws {
 }
 
 impl Draws {
-    pub(crate) fn new(seed: u32) -> Self {
+    pub(crate) fn new(seed: u32) -> Self
+        ensures { result.numbers ≡ seeded seed }
+    {
         Draws {
             numbers: NumberDraws::new(u64::from(seed)),
         }
@@ -30,6 +34,7 @@ impl Draws {
     /// A whole number from `low` to `high`, both included.
     pub(crate) fn random(&mut self, low: u32, high: u32) -> u32
         requires { low ≤ high }
+        ensures value { result ≡ random_of low high self.old.numbers }
         ensures low { low ≤ result }
         ensures high { result ≤ high }
     {

@@ -1,7 +1,6 @@
-ghost use Rattle.std.specs.Prelude.{◌≡◌, IfOk};
-ghost use Rattle.schema.specs.Consistency.{Consistent};
+ghost use Rattle.std.specs.Prelude.{ℕ, IfOk};
 ghost use Rattle.population.specs.Filled.{IsPopulated};
-ghost use Rattle.population.specs.Population.{EachOrdersOnce, EachPaidOnce};
+ghost use Rattle.population.specs.Population.{IsOpening};
 
 use crate::districts::DistrictTables;
 use crate::draws::Draws;
@@ -46,10 +45,7 @@ use std::alloc::Global;
 ///
 /// `NoMemory` comes only where there is none for a row.
 pub fn populate(alloc: Global, scale: Scale, seed: u32, now: Moment) -> Result<Tables, NoMemory>
-    ensures scale { IfOk result (λ tables. tables.scale ≡ scale) }
-    ensures consistent { IfOk result Consistent }
-    ensures customers { IfOk result EachOrdersOnce }
-    ensures paid_once { IfOk result EachPaidOnce }
+    ensures { IfOk result (IsOpening scale seed now) }
 {
     let mut draws = Draws::new(seed);
     let items = items(alloc, &mut draws, scale.items)?;
@@ -77,11 +73,8 @@ pub fn populate(alloc: Global, scale: Scale, seed: u32, now: Moment) -> Result<T
 
 // The tables of all rows of a population.
 fn tables(scale: Scale, rows: TableRows) -> Tables
-    requires { IsPopulated scale rows }
-    ensures scale { result.scale ≡ scale }
-    ensures consistent { Consistent result }
-    ensures customers { EachOrdersOnce result }
-    ensures paid_once { EachPaidOnce result }
+    requires { (seed : ℕ) × (now : ℕ) × IsPopulated scale seed now rows }
+    ensures { (seed now : ℕ) → IsPopulated scale seed now rows → IsOpening scale seed now result }
 {
     match Tables::checked(scale, rows) {
         Ok(tables) => tables,

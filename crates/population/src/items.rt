@@ -1,4 +1,7 @@
-ghost use Rattle.std.specs.Prelude.{◌≡◌, IfOk, length};
+ghost use Rattle.std.specs.Prelude.{◌≡◌, IfOk, Some, length};
+ghost use Rattle.std.specs.List.{slice_get};
+ghost use Rattle.number_draws.specs.Draws.{random_of};
+ghost use Rattle.rows.specs.declared.records.Item as item_kind;
 
 use crate::draws::Draws;
 use schema::{ImageId, Item, NoMemory, Price};
@@ -6,7 +9,8 @@ use std::alloc::Global;
 
 /// The rows of ITEM, by I_ID.
 pub(crate) fn items(alloc: Global, draws: &mut Draws, count: u32) -> Result<Vec<Item>, NoMemory>
-    ensures { IfOk result (λ items. length items.items ≡ count) }
+    ensures count { IfOk result (λ items. length items.items ≡ count) }
+    ensures first { IfOk result (λ items. (row : item_kind.Item) → slice_get items.items 0 ≡ Some row → row.im_id ≡ random_of 1 10000 draws.old.numbers) }
 {
     let mut items = Vec::new(alloc);
     for _ in 0..count {
@@ -15,7 +19,9 @@ pub(crate) fn items(alloc: Global, draws: &mut Draws, count: u32) -> Result<Vec<
     Ok(items)
 }
 
-fn item(draws: &mut Draws) -> Item {
+fn item(draws: &mut Draws) -> Item
+    ensures { result.im_id ≡ random_of 1 10000 draws.old.numbers }
+{
     Item {
         im_id: ImageId::new(draws.random(1, 10_000)),
         name: draws.text(14, 24),

@@ -1,4 +1,4 @@
-ghost use Rattle.std.specs.Prelude.{◌≡◌, ◌++◌, ◌∷◌, [], ◌≤◌, IsTrue, OnOk, length};
+ghost use Rattle.std.specs.Prelude.{◌≡◌, ℕ, ◌++◌, ◌∷◌, [], ◌≤◌, IsTrue, OnOk, length};
 ghost use Rattle.std.specs.List.{All, filter};
 ghost use Rattle.std.specs.Map.{keys_of};
 ghost use Rattle.std.specs.BTreeMap.{IsOrdered};
@@ -33,7 +33,7 @@ impl OrderBook {
     /// No rows. It takes no memory.
     pub(crate) fn new(alloc: Global) -> Self
         ensures none { result.orders.entries ≡ [] }
-        ensures book { (scale : scale_kind.Scale) → IsBookOf scale result }
+        ensures book { (scale : scale_kind.Scale) (now : ℕ) → IsBookOf scale now result }
     {
         OrderBook {
             orders: BTreeMap::new(alloc),
@@ -55,9 +55,9 @@ impl OrderBook {
         requires count { length owners.now ≡ scale.customers }
         requires owners { All (λ owner. IsTrue (is_between 1 scale.customers owner)) owners.now }
         requires earlier { AreOfEarlierDistricts home self.old.orders.entries }
-        requires book { IsBookOf scale self.old }
+        requires book { IsBookOf scale now self.old }
         ensures owned { OnOk result (all_owned self.new ≡ all_owned self.old ++ owned_by home 1 owners.now) }
-        ensures book { OnOk result (IsBookOf scale self.new) }
+        ensures book { OnOk result (IsBookOf scale now self.new) }
     {
         for (place, customer) in owners.iter().enumerate() {
             let key = OrderKey {
@@ -82,9 +82,9 @@ impl OrderBook {
         requires number { IsTrue (is_order_id key.o_id) }
         requires customer { IsTrue (has_customer scale (record { w_id = key.w_id; d_id = key.d_id; c_id = customer })) }
         requires earlier { AreBefore order_cmp key self.old.orders.entries }
-        requires book { IsBookOf scale self.old }
+        requires book { IsBookOf scale now self.old }
         ensures owned { OnOk result (all_owned self.new ≡ all_owned self.old ++ (key, customer) ∷ []) }
-        ensures book { OnOk result (IsBookOf scale self.new) }
+        ensures book { OnOk result (IsBookOf scale now self.new) }
     {
         let carrier_id = carrier(draws, scale, key.o_id);
         let ol_cnt = LineCount::new(draws.random(5, 15));

@@ -40,10 +40,10 @@ pub(crate) fn add_lines(
 ) -> Result<(), NoMemory>
     requires warehouse { IsTrue (has_warehouse scale order.w_id) }
     requires before { AreOfEarlierOrders order lines.old.entries }
-    requires rows { All (λ e. IsOpeningLine scale e.0 e.1) lines.old.entries }
+    requires rows { All (λ e. IsOpeningLine scale now e.0 e.1) lines.old.entries }
     requires ordered { IsOrdered line_cmp lines.old }
     ensures keys { OnOk result (keys_of lines.new.entries ≡ keys_of lines.old.entries ++ map (line_key order) (range_with_len 1 count)) }
-    ensures rows { OnOk result (All (λ e. IsOpeningLine scale e.0 e.1) lines.new.entries) }
+    ensures rows { OnOk result (All (λ e. IsOpeningLine scale now e.0 e.1) lines.new.entries) }
     ensures ordered { IsOrdered line_cmp lines.new }
 {
     for place in 0..count.get() {
@@ -63,7 +63,7 @@ pub(crate) fn add_lines(
 fn line(draws: &mut Draws, scale: Scale, now: Moment, key: OrderLineKey) -> OrderLine
     requires warehouse { IsTrue (has_warehouse scale key.w_id) }
     requires number { IsTrue (is_line_number key.number) }
-    ensures { IsOpeningLine scale key result }
+    ensures { IsOpeningLine scale now key result }
 {
     let i_id = draws.random(1, scale.items);
     let waits = is_new(scale, key.o_id);

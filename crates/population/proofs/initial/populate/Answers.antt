@@ -1,7 +1,9 @@
-use Rattle.std.proofs.Common.{◌≡◌, ◌+◌, ◌*◌, [], length, ap, ◌∙◌, arith}
+use Rattle.std.proofs.Common.{◌≡◌, ◌+◌, ◌*◌, [], length, ap, subst, ◌∙◌, arith}
 use Rattle.std.proofs.lemmas.List.{length_push}
 use Rattle.std.proofs.lemmas.List.Elements.{All-same, All-push, All-nil}
+use Rattle.number_draws.specs.Draws.{random_of}
 use Rattle.population.specs.Rows.{IsOpeningWarehouse}
+use Rattle.population.specs.Filled.{AreFilled}
 use Rattle.population.proofs.initial.populate.Goals as goal
 
 pub loop-place-init : goal.loop-place-init
@@ -9,7 +11,7 @@ loop-place-init c = record {
   warehouses = ap length c.new-warehouses.ensures.items;
   warehouse_rows = All-same (IsOpeningWarehouse c.args.scale) _ [] c.new-warehouses.ensures.items (All-nil (IsOpeningWarehouse c.args.scale));
   stocks = ap length c.new-stocks.ensures.items ∙ (let e : 0 ≡ 0 * c.args.scale.items = grind arith in e);
-  filled = c.new-districts.ensures c.args.scale;
+  filled = c.new-districts.ensures c.args.scale c.args.now;
 }
 
 pub loop-place-preserved : goal.loop-place-preserved
@@ -24,3 +26,32 @@ loop-place-preserved c =
       stocks = c.in_ok-add_stocks.ensures ∙ ap (λ n. n + scale.items) had.stocks ∙ (let e : place * scale.items + scale.items ≡ (place + 1) * scale.items = grind arith in e);
       filled = c.in_ok-add_warehouse.ensures;
     }
+
+pub tables-requires : goal.tables-requires
+tables-requires c =
+    let scale = c.args.scale in
+    let all : c.loop-place.place ≡ scale.warehouses = omega arith in (
+      c.args.seed,
+      c.args.now,
+      record {
+        items = c.in_ok-items.ensures.count;
+        first_item = λ row found. c.in_ok-items.ensures.first row found ∙ ap (random_of 1 10000) c.new-draws.ensures;
+        warehouses = c.loop-place.invariant.warehouses ∙ all;
+        warehouse_rows = c.loop-place.invariant.warehouse_rows;
+        stocks = c.loop-place.invariant.stocks ∙ ap (λ n. n * scale.items) all;
+        filled = subst (λ n. AreFilled scale c.args.now (n * 10) c.loop-place.districts) all c.loop-place.invariant.filled;
+      },
+    )
+
+pub returns : goal.returns
+returns c =
+    let scale = c.args.scale in
+    let all : c.loop-place.place ≡ scale.warehouses = omega arith in
+    c.tables.ensures c.args.seed c.args.now (record {
+      items = c.in_ok-items.ensures.count;
+      first_item = λ row found. c.in_ok-items.ensures.first row found ∙ ap (random_of 1 10000) c.new-draws.ensures;
+      warehouses = c.loop-place.invariant.warehouses ∙ all;
+      warehouse_rows = c.loop-place.invariant.warehouse_rows;
+      stocks = c.loop-place.invariant.stocks ∙ ap (λ n. n * scale.items) all;
+      filled = subst (λ n. AreFilled scale c.args.now (n * 10) c.loop-place.districts) all c.loop-place.invariant.filled;
+    })

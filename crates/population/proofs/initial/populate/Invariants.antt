@@ -9,5 +9,5 @@ invariant-loop-place l = record {
   warehouses : length l.warehouses.items ≡ l.place;
   warehouse_rows : All (IsOpeningWarehouse l.scale) l.warehouses.items;
   stocks : length l.stocks.items ≡ l.place * l.scale.items;
-  filled : AreFilled l.scale (l.place * 10) l.districts;
+  filled : AreFilled l.scale l.now (l.place * 10) l.districts;
 }

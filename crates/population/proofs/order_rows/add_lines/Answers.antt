@@ -15,7 +15,7 @@ loop-place-preserved c =
     let order = c.args.order in
     let place = c.loop-place.place in
     let key = line_key order (place + 1) in
-    let P = λ (e : OrderLineKey × OrderLine). IsOpeningLine c.args.scale e.0 e.1 in
+    let P = λ (e : OrderLineKey × OrderLine). IsOpeningLine c.args.scale c.args.now e.0 e.1 in
     record {
       keys = one_line_more order c.args.lines.now.entries c.loop-place.lines.entries c.append.new.map.entries place c.line.result c.loop-place.invariant.keys c.in_ok-append.ensures.added;
       rows = All-same P _ _ c.in_ok-append.ensures.added (All-push P c.loop-place.lines.entries (key, c.line.result) c.loop-place.invariant.rows c.line.ensures);

@@ -10,6 +10,6 @@ use Rattle.population.proofs.order_rows.add_lines.Given as goal
 abbrev pub invariant-loop-place : goal.invariant-loop-place
 invariant-loop-place l = record {
   keys : keys_of l.lines.entries ≡ keys_of l.fn.lines.entries ++ map (line_key l.order) (range_with_len 1 l.place);
-  rows : All (λ e. IsOpeningLine l.scale e.0 e.1) l.lines.entries;
+  rows : All (λ e. IsOpeningLine l.scale l.now e.0 e.1) l.lines.entries;
   ordered : IsOrdered line_cmp l.lines;
 }

@@ -27,7 +27,7 @@ returns c =
     let home = c.args.home in
     let old = c.args.self.now in
     let owners = c.in_ok-owners.owners.items in
-    filled_more c.args.scale ((home.w_id - 1) * 10 + (home.d_id - 1)) home (home_at home c.args.scale.warehouses c.requires.home)
+    filled_more c.args.scale c.args.now ((home.w_id - 1) * 10 + (home.d_id - 1)) home (home_at home c.args.scale.warehouses c.requires.home)
     old.districts.items old.customers.items old.histories.items old.book.orders old.book.new_orders old.book.lines c.requires.filled
     _ _ _ _ _ _
     c.district.result c.in_ok-push.ensures.items c.district.ensures

@@ -3,4 +3,4 @@ use Rattle.population.specs.Filled.{AreFilled}
 use Rattle.population.proofs.districts.DistrictTables.add_warehouse.Given as goal
 
 abbrev pub invariant-loop-place : goal.invariant-loop-place
-invariant-loop-place l = AreFilled l.scale ((l.w_id - 1) * 10 + l.place) l.self
+invariant-loop-place l = AreFilled l.scale l.now ((l.w_id - 1) * 10 + l.place) l.self

@@ -7,11 +7,11 @@ use Rattle.population.specs.Rows.{IsOpeningDistrict, IsOpeningCustomer}
 use Rattle.population.proofs.districts.DistrictTables.new.Goals as goal
 
 pub returns : goal.returns
-returns c scale = record {
+returns c scale now = record {
   districts_count = ap length c.new.ensures.items;
   district_rows = All-same (IsOpeningDistrict scale) _ [] c.new.ensures.items (All-nil _);
   customers_count = omega (arith, ap length c.new-2.ensures.items);
-  customer_rows = All-same IsOpeningCustomer _ [] c.new-2.ensures.items (All-nil _);
+  customer_rows = All-same (IsOpeningCustomer now) _ [] c.new-2.ensures.items (All-nil _);
   histories_count = ap length c.new-3.ensures.items;
   payments = λ place list found.
       let nothing : None ≡ Some list = sym (ap (λ (l : List (List History)). slice_get l place) c.new-3.ensures.items) ∙ found in
@@ -20,5 +20,5 @@ returns c scale = record {
   owners_count = refl;
   permuted = tt;
   owned = ap (map owned) c.new-4.ensures.none;
-  book = c.new-4.ensures.book scale;
+  book = c.new-4.ensures.book scale now;
 }
