@@ -1,28 +1,27 @@
 -- An order of a warehouse's that is delivered, or whose delivery is taken back: the rows still make a part.
-use Rattle.std.proofs.Common.{◌≡◌, ℕ, Bool, true, false, cond, ◌&&◌, ◌==◌, ◌-◌, slice_index_or, Option, Some, None, IsTrue, is_some, refl, sym, ap, subst, ◌∙◌, arith}
+use Rattle.std.proofs.Common.{◌≡◌, ℕ, Bool, true, false, cond, ◌-◌, slice_index_or, Option, Some, None, IsTrue, is_some, refl, sym, subst, ◌∙◌}
 use Rattle.std.specs.Option.{option_map}
 use Rattle.std.specs.declared.cmp.Ordering.{Ordering}
 use Rattle.std.specs.declared.cmp.Ordering.TheVariants.{Less, Equal, Greater}
 use Rattle.std.specs.Ordering.{eq_by_cmp, is_eq}
 use Rattle.std.specs.FinMap as table
 use Rattle.std.specs.FinMap.{FinMap, get, IsAntisymmetric}
-use Rattle.std.proofs.lemmas.Bool.Decides.{nat_tests}
 use Rattle.rows.specs.declared.keys.OrderKey.{OrderKey}
 use Rattle.rows.specs.declared.keys.OrderLineKey.{OrderLineKey}
 use Rattle.rows.specs.declared.records.Order.{Order}
 use Rattle.rows.specs.declared.records.NewOrder.{NewOrder}
 use Rattle.rows.specs.declared.records.OrderLine.{OrderLine}
-use Rattle.rows.specs.Keys.{order_cmp, order_of_line, district_of_order}
+use Rattle.rows.specs.Keys.{order_cmp, order_of_line}
 use Rattle.schema.specs.EachRow.{EachRow}
 use Rattle.schema.specs.MapRows.{map_rows, put_row}
 use Rattle.schema.specs.Scale.{has_item, has_warehouse, has_customer}
-use Rattle.schema.specs.Database.{customer_of_order, is_order_id, is_line_number, is_of_district, is_of_order}
+use Rattle.schema.specs.Database.{customer_of_order, is_order_id, is_line_number, is_of_order}
 use Rattle.schema.specs.OrderRows.{with_carrier, with_moment, with_delivery, is_order, carried_by, delivered_at}
 use Rattle.schema.proofs.KeyOrders.{orders_total, orders_exact, lines_exact}
 use Rattle.schema.proofs.OrdersKept.{contains-map_rows}
 use Rattle.schema.proofs.TableWrites.{get-map_rows, get-put_row}
 use Rattle.partitions.specs.declared.delivery_rows.BeforeDelivery.{BeforeDelivery}
-use Rattle.partitions.specs.Deliveries.{new_beside, with_carrier_back, with_moments_back, without_delivery}
+use Rattle.partitions.specs.Deliveries.{with_carrier_back, with_moments_back, without_delivery}
 use Rattle.partitions.specs.Parts.{Part, IsPart, is_of}
 
 -- rows that are changed pass the test that they passed
@@ -58,25 +57,6 @@ module _ (p : Part) (h : IsPart p) where
         | None ↦ λ e f. absurd cc
         | Some order ↦ λ e f. h.orders_numbered key order e
       ] refl (h.new_orders_have_orders key row found)
-
-  -- the rows of one district's new orders are those of its number
-  pub beside_is : (order : OrderKey) → IsTrue (table.contains_key p.tables.orders order) → (q : OrderKey)
-      → new_beside order p.tables.new_orders q ≡ cond (q.d_id == order.d_id) (get p.tables.new_orders q) None
-  beside_is order there q =
-      let own : is_of p.home order.w_id ≡ true = order_here order there in
-      elim (get p.tables.new_orders q) as (λ r. get p.tables.new_orders q ≡ r → cond (is_of_district (district_of_order order) q) r None ≡ cond (q.d_id == order.d_id) r None) [
-        | None ↦ λ e. nothing (is_of_district (district_of_order order) q) (q.d_id == order.d_id)
-        | Some row ↦ λ e.
-            let here : is_of p.home q.w_id ≡ true = h.new_orders_here q row e in
-            let same : (q.w_id == order.w_id) ≡ true = grind (arith, nat_tests) in
-            ap (λ b. cond (b && (q.d_id == order.d_id)) (Some row) None) same
-      ] refl
-    where
-      nothing : (b c : Bool) → cond b None None ≡ cond {A = Option NewOrder} c None None
-      nothing true true = refl
-      nothing true false = refl
-      nothing false true = refl
-      nothing false false = refl
 
   module _ (key : OrderKey) (there : IsTrue (table.contains_key p.tables.orders key)) (row : Option NewOrder) (f : OrderKey → Order → Order) (g : OrderLineKey → OrderLine → OrderLine)
       (same_customer : (k : OrderKey) (r : Order) → has_customer p.tables.scale (customer_of_order k (f k r)) ≡ has_customer p.tables.scale (customer_of_order k r))

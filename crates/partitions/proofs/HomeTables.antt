@@ -22,7 +22,7 @@ use Rattle.partitions.specs.Splits.{chunk, AreOfWarehouses, AreRowsOfWarehouses,
 use Rattle.partitions.proofs.LastFirst.{some_left}
 use Rattle.partitions.proofs.KeyBlocks.{chunk_part, entries_part}
 use Rattle.partitions.proofs.HomeKeys.{warehouse_id_of, warehouse_ids_in_turn, warehouse_ids_owned, district_keys_in_turn, length-district_keys_of, district_keys_owned, stock_keys_in_turn, length-stock_keys_of, stock_keys_owned, customer_keys_in_turn, length-customer_keys_of, customer_keys_owned}
-use Rattle.partitions.proofs.PartLaws.{first, part_is_part, order_home, order_district}
+use Rattle.partitions.proofs.PartLaws.{first, part_is_part, order_home}
 
 -- ---- the keys of all rows are of warehouses of the scale
 
@@ -54,7 +54,6 @@ module _ (scale : Scale) (rows : TableRows) (fits : FitsScale scale rows) where
         orders = are_of_scale orders_total (λ key. key.w_id) scale rows.orders.entries (λ key row e. first _ _ (first _ _ (within.orders_have_customers key row e)));
         new_orders = are_of_scale orders_total (λ key. key.w_id) scale rows.new_orders.entries (λ key row e. order_home t within key (within.new_orders_have_orders key row e));
         lines = are_of_scale lines_total (λ key. key.w_id) scale rows.lines.entries (λ key row e. order_home t within (order_of_line key) (within.lines_have_orders key row e));
-        new_districts = λ key row e. order_district t within.orders_have_customers key (within.new_orders_have_orders key row e);
       }
 
 -- ---- a warehouse's rows

@@ -1,13 +1,11 @@
 mod TableSlots
 pub mod Wholes
-pub mod ByDistrict
 pub mod PartLaws
 pub mod WholeLaws
 pub mod LastFirst
 pub mod Chunks
 pub mod Filters
 pub mod KeyBlocks
-pub mod Parting
 pub mod HomeKeys
 pub mod HomeTables
 pub mod Cuts
@@ -15,6 +13,7 @@ pub mod EntriesAdded
 pub mod Joined
 pub mod HomePlaces
 pub mod HomeSlots
+pub mod Returned
 pub mod HomeReads
 pub mod HomeWrites
 pub mod HomeOrders

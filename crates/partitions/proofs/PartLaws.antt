@@ -12,7 +12,7 @@ use Rattle.rows.specs.Ranged.{is_between}
 use Rattle.schema.specs.declared.scale.Scale.{Scale}
 use Rattle.schema.specs.EachRow.{EachRow}
 use Rattle.schema.specs.Scale.{has_warehouse}
-use Rattle.schema.specs.Database.{Database, IsWithinScale, OrdersHaveCustomers}
+use Rattle.schema.specs.Database.{Database, IsWithinScale}
 use Rattle.schema.proofs.KeyOrders.{districts_total, districts_exact, stocks_total, stocks_exact, customers_total, customers_exact, orders_total, orders_exact, lines_total, lines_exact}
 use Rattle.partitions.specs.Parts.{shared_of, Part, IsPart, is_of, part_of, parts_of, rows_of_all, whole_of, ArePartsOf}
 use Rattle.partitions.proofs.Wholes.{get-whole_of_parts}
@@ -167,18 +167,6 @@ module _ {K X : Type 0} {R : K → K → Ordering} (o : IsTotalOrder R) (a : IsA
         | None ↦ λ e. refl
         | Some row ↦ λ e. let in_scale : has_warehouse t.scale (own q) ≡ true = each q row e in absurd cc
       ] refl
-
-second : (b c : Bool) → IsTrue (b && c) → IsTrue c
-second true c h = h
-second false c h = absurd cc
-
--- an order is of one of ten districts
-pub order_district : (t : Database) → OrdersHaveCustomers t → (key : OrderKey) → IsTrue (contains_key t.orders key) → IsTrue (is_between 1 10 key.d_id)
-order_district t customers key there =
-    elim (get t.orders key) as (λ r. get t.orders key ≡ r → IsTrue (is_some r) → IsTrue (is_between 1 10 key.d_id)) [
-      | None ↦ λ e h. absurd cc
-      | Some row ↦ λ e h. second _ _ (first _ _ (customers key row e))
-    ] refl there
 
 module _ (t : Database) (within : IsWithinScale t) where
   pub order_home : (key : OrderKey) → IsTrue (contains_key t.orders key) → IsTrue (has_warehouse t.scale key.w_id)

@@ -1,16 +1,14 @@
 -- A delivery that is taken back: what stood there before it, and the tables with that put back.
-use Rattle.std.specs.Prelude.{◌≡◌, ◌≢◌, ℕ, ◌+◌, ◌-◌, ◌<◌, if◌then◌else◌, List, length, slice_index_or, Option, None}
+use Rattle.std.specs.Prelude.{◌≡◌, ℕ, ◌+◌, ◌-◌, ◌<◌, if◌then◌else◌, List, length, slice_index_or, Option, None}
 use Rattle.std.specs.Option.{option_and_then}
-use Rattle.std.specs.BTreeMap.{BTreeMap}
 use Rattle.std.specs.FinMap as table
 use Rattle.rows.specs.declared.keys.OrderKey.{OrderKey}
 use Rattle.rows.specs.declared.keys.OrderLineKey.{OrderLineKey}
 use Rattle.rows.specs.declared.records.Order.{Order}
-use Rattle.rows.specs.declared.records.NewOrder.{NewOrder}
 use Rattle.rows.specs.declared.records.OrderLine.{OrderLine}
-use Rattle.rows.specs.Keys.{order_cmp, district_of_order}
-use Rattle.schema.specs.MapRows.{table_of, map_rows, put_row}
-use Rattle.schema.specs.Database.{Database, is_of_district, is_of_order}
+use Rattle.rows.specs.Keys.{order_cmp}
+use Rattle.schema.specs.MapRows.{map_rows, put_row}
+use Rattle.schema.specs.Database.{Database, is_of_order}
 use Rattle.schema.specs.OrderRows.{LineTable, line_key, is_order}
 use Rattle.partitions.specs.declared.delivery_rows.BeforeDelivery.{BeforeDelivery}
 
@@ -22,20 +20,12 @@ carrier_at orders key = option_and_then (λ row. row.carrier_id) (table.get orde
 abbrev pub moment_at : LineTable → OrderLineKey → Option ℕ
 moment_at lines key = option_and_then (λ row. row.delivery_d) (table.get lines key)
 
--- the row of NEW-ORDER at a key, where the key is of the order's district
-abbrev pub new_beside : OrderKey → table.FinMap order_cmp NewOrder → OrderKey → Option NewOrder
-new_beside order new_orders key = if is_of_district (district_of_order order) key then table.get new_orders key else None
-
 -- this is what stood there before the order was delivered
 pub record StoodBefore (t : Database) (order : OrderKey) (before : BeforeDelivery) : Type 0 where
   pub carrier : before.carrier_id ≡ carrier_at t.orders order
   pub fifteen : length before.moments ≡ 15
   pub moments : (n : ℕ) → n < 15 → slice_index_or before.moments n None ≡ moment_at t.lines (line_key order (n + 1))
-  pub new_orders : (key : OrderKey) → table.get (table_of order_cmp before.new_orders) key ≡ new_beside order t.new_orders key
-
--- the district's new orders are those of before, but for the order itself
-abbrev pub AreNewBeside : OrderKey → table.FinMap order_cmp NewOrder → BTreeMap OrderKey NewOrder → Type 0
-AreNewBeside order new_orders before = (key : OrderKey) → key ≢ order → table.get (table_of order_cmp before) key ≡ new_beside order new_orders key
+  pub new_order : before.new_order ≡ table.get t.new_orders order
 
 -- the order's row gets this carrier, or none
 abbrev pub with_carrier_back : OrderKey → Option ℕ → OrderKey → Order → Order
@@ -49,6 +39,6 @@ with_moments_back order moments key row = if is_of_order order key then record r
 abbrev pub without_delivery : Database → OrderKey → BeforeDelivery → Database
 without_delivery t order before = record t {
   orders = map_rows (with_carrier_back order before.carrier_id) t.orders;
-  new_orders = put_row t.new_orders order (table.get (table_of order_cmp before.new_orders) order);
+  new_orders = put_row t.new_orders order before.new_order;
   lines = map_rows (with_moments_back order before.moments) t.lines;
 }

@@ -1,22 +1,23 @@
--- The rows of NEW-ORDER of one warehouse, parted by district.
-use Rattle.std.specs.Prelude.{◌≡◌, ℕ, ◌+◌, ◌<◌, ◌==◌, List, length, slice_index_or}
-use Rattle.std.specs.List.{flat_map}
+-- The rows of NEW-ORDER of one warehouse: those of an ordered map, and those that came back.
+use Rattle.std.specs.Prelude.{ℕ, min, List, Option, Some, None}
 use Rattle.std.specs.BTreeMap.{BTreeMap}
+use Rattle.std.specs.FinMap as table
 use Rattle.rows.specs.declared.keys.OrderKey.{OrderKey}
 use Rattle.rows.specs.declared.records.NewOrder.{NewOrder}
 use Rattle.rows.specs.Keys.{order_cmp}
-use Rattle.schema.specs.EachRow.{EachRow}
 use Rattle.schema.specs.MapRows.{table_of}
+use Rattle.partitions.specs.declared.new_order_rows.Returned.{Returned, Nothing, Row'}
 
--- the rows of one district
-abbrev pub DistrictRows : Type 0
-DistrictRows = BTreeMap OrderKey NewOrder
+-- these rows, and those that came back
+abbrev pub with_returned : Returned → table.FinMap order_cmp NewOrder → table.FinMap order_cmp NewOrder
+with_returned Nothing rows = rows
+with_returned (Row' key p rest) rows = table.insert (with_returned rest rows) key (record {})
 
--- the rows of all districts with their keys, district by district
-abbrev pub all_entries : List DistrictRows → List (OrderKey × NewOrder)
-all_entries districts = flat_map (λ rows. rows.entries) districts
+-- all of them with their keys, in order
+abbrev pub entries_with : Returned → BTreeMap OrderKey NewOrder → List (OrderKey × NewOrder)
+entries_with returned rows = table.entries (with_returned returned (table_of order_cmp rows))
 
--- there are ten, and each has keys of its own district alone
-pub record AreByDistrict (districts : List DistrictRows) : Type 0 where
-  pub ten : length districts ≡ 10
-  pub own : (place : ℕ) (d : DistrictRows) → place < 10 → EachRow (λ (key : OrderKey) _. key.d_id == place + 1) (table_of order_cmp (slice_index_or districts place d))
+-- the lesser of a number and another, where there is one
+abbrev pub lesser_of : ℕ → Option ℕ → ℕ
+lesser_of number None = number
+lesser_of number (Some other) = min number other

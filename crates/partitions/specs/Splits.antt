@@ -8,10 +8,6 @@ use Rattle.schema.specs.declared.scale.Scale.{Scale}
 use Rattle.schema.specs.declared.table_rows.TableRows.{TableRows}
 use Rattle.partitions.specs.declared.home_rows.HomeRows.{HomeRows}
 use Rattle.partitions.specs.declared.homes.Homes.{Homes}
-use Rattle.std.specs.FinMap.{from_entries}
-use Rattle.rows.specs.Keys.{order_cmp}
-use Rattle.rows.specs.Ranged.{is_between}
-use Rattle.schema.specs.EachRow.{EachRow}
 use Rattle.partitions.specs.Parts.{is_of}
 
 -- the rows at a place, where each place has so many
@@ -33,12 +29,11 @@ pub record AreLastFirst {P : Type 0} (StandsAt : ℕ → P → Type 0) (first ma
 
 -- ---- the rows of all tables
 
--- each key of the three tables that have no fixed keys is of a warehouse of the scale, and a new order of one of ten districts
+-- each key of the three tables that have no fixed keys is of a warehouse of the scale
 pub record AreRowsOfWarehouses (scale : Scale) (rows : TableRows) : Type 0 where
   pub orders : AreOfWarehouses (λ (key : OrderKey). key.w_id) scale.warehouses rows.orders.entries
   pub new_orders : AreOfWarehouses (λ (key : OrderKey). key.w_id) scale.warehouses rows.new_orders.entries
   pub lines : AreOfWarehouses (λ (key : OrderLineKey). key.w_id) scale.warehouses rows.lines.entries
-  pub new_districts : EachRow {R = order_cmp} (λ key _. is_between 1 10 key.d_id) (from_entries rows.new_orders.entries)
 
 -- the rows of each table, those of the warehouses from a place on, the last warehouse's first
 pub record AreHomesFrom (scale : Scale) (rows : TableRows) (first : ℕ) (homes : Homes) : Type 0 where
@@ -48,7 +43,7 @@ pub record AreHomesFrom (scale : Scale) (rows : TableRows) (first : ℕ) (homes 
   pub customers : AreLastFirst (λ place part. part.items ≡ chunk (10 * scale.customers) place rows.customers.items) first scale.warehouses homes.customers.items
   pub histories : AreLastFirst (λ place part. part.items ≡ chunk 10 place rows.histories.items) first scale.warehouses homes.histories.items
   pub orders : AreLastFirst (λ place part. part.entries ≡ entries_at (λ (key : OrderKey). key.w_id) place rows.orders.entries) first scale.warehouses homes.orders.items
-  pub new_orders : AreLastFirst (λ place part. part ≡ entries_at (λ (key : OrderKey). key.w_id) place rows.new_orders.entries) first scale.warehouses homes.new_orders.items
+  pub new_orders : AreLastFirst (λ place part. part.entries ≡ entries_at (λ (key : OrderKey). key.w_id) place rows.new_orders.entries) first scale.warehouses homes.new_orders.items
   pub lines : AreLastFirst (λ place part. part.entries ≡ entries_at (λ (key : OrderLineKey). key.w_id) place rows.lines.entries) first scale.warehouses homes.lines.items
 
 -- the rows of the warehouse at a place

@@ -10,17 +10,19 @@ ghost use Rattle.schema.specs.Database.{is_line_number};
 ghost use Rattle.schema.specs.OrderRows.{line_key};
 ghost use Rattle.partitions.specs.Deliveries.{carrier_at, moment_at, with_carrier_back, with_moments_back};
 
+use crate::new_order_rows::RowRoom;
 use schema::{CarrierId, Moment, NewOrder, Order, OrderKey, OrderLine, OrderLineKey};
 use std::collections::BTreeMap;
 
-/// What an order, its lines and the new orders of its district were before it was delivered.
+/// What an order's rows were before it was delivered, and room for the one that went.
 #[derive(Drop)]
 pub struct BeforeDelivery {
     pub carrier_id: Option<CarrierId>,
     /// At the numbers of lines, from 1: `None` too where there is no line.
     pub moments: [Option<Moment>; 15],
-    /// The district's rows of NEW-ORDER.
-    pub new_orders: BTreeMap<OrderKey, NewOrder>,
+    /// The order's row of NEW-ORDER, which went.
+    pub new_order: Option<NewOrder>,
+    pub(crate) room: RowRoom,
 }
 
 /// The order's carrier, where it has one.

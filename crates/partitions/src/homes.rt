@@ -6,10 +6,10 @@ ghost use Rattle.partitions.specs.Splits.{AreRowsOfWarehouses, AreHomesFrom, IsH
 
 use crate::home_rows::HomeRows;
 use crate::new_order_rows::NewOrderRows;
-use crate::splits::{split, split_map, split_new_orders};
+use crate::splits::{split, split_map};
 use schema::{
-    Customer, District, HistoryList, Item, NoMemory, Order, OrderKey, OrderLine, OrderLineKey,
-    Scale, Stock, TableRows, Warehouse,
+    Customer, District, HistoryList, Item, NewOrder, NoMemory, Order, OrderKey, OrderLine,
+    OrderLineKey, Scale, Stock, TableRows, Warehouse,
 };
 use std::alloc::Global;
 use std::collections::BTreeMap;
@@ -23,7 +23,7 @@ pub(crate) struct Homes {
     pub(crate) customers: Vec<Vec<Customer>>,
     pub(crate) histories: Vec<Vec<HistoryList>>,
     pub(crate) orders: Vec<BTreeMap<OrderKey, Order>>,
-    pub(crate) new_orders: Vec<NewOrderRows>,
+    pub(crate) new_orders: Vec<BTreeMap<OrderKey, NewOrder>>,
     pub(crate) lines: Vec<BTreeMap<OrderLineKey, OrderLine>>,
 }
 
@@ -49,7 +49,7 @@ impl Homes {
             customers: split(alloc, rows.customers, 10 * scale.customers as usize, count)?,
             histories: split(alloc, rows.histories, 10, count)?,
             orders: split_map(alloc, rows.orders, scale.warehouses)?,
-            new_orders: split_new_orders(alloc, rows.new_orders, scale.warehouses)?,
+            new_orders: split_map(alloc, rows.new_orders, scale.warehouses)?,
             lines: split_map(alloc, rows.lines, scale.warehouses)?,
         };
         Ok((rows.items, homes))
@@ -67,7 +67,7 @@ impl Homes {
             customers: self.customers.pop().unwrap(),
             histories: self.histories.pop().unwrap(),
             orders: self.orders.pop().unwrap(),
-            new_orders: self.new_orders.pop().unwrap(),
+            new_orders: NewOrderRows::new(self.new_orders.pop().unwrap()),
             lines: self.lines.pop().unwrap(),
         }
     }

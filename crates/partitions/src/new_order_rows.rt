@@ -1,78 +1,88 @@
-//! The rows of NEW-ORDER of one warehouse, in a map for each of its districts. So a district's can be put back at once, with
-//! no memory.
-ghost use Rattle.std.specs.Prelude.{◌≡◌, ◌≢◌, ◌+◌, ◌-◌, ◌<◌, ◌≤◌, ◌==◌, if◌then◌else◌, ℕ, length, map, Some, None, IfOk, OnOk, OnErr, IsTrue};
+//! The rows of NEW-ORDER of one warehouse. A row that a delivery took away comes back without memory: into room that the
+//! delivery set aside for it, beside the ordered map of the others.
+ghost use Rattle.std.specs.Prelude.{◌≡◌, ◌+◌, ◌<◌, ◌≤◌, ℕ, length, map, Some, IfOk, OnOk, OnErr, IsTrue};
 ghost use Rattle.std.specs.FinMap as table;
+ghost use Rattle.rows.specs.declared.records.NewOrder as new_order;
 ghost use Rattle.rows.specs.Keys.{order_cmp, line_cmp};
-ghost use Rattle.rows.specs.Ranged.{is_between};
 ghost use Rattle.schema.specs.EachRow.{EachRow};
 ghost use Rattle.schema.specs.MapRows.{table_of, put_row, map_rows};
 ghost use Rattle.schema.specs.Database.{rows_where, is_of_district, is_order_id, is_line_number};
 ghost use Rattle.schema.specs.Consistency.{numbers};
 ghost use Rattle.schema.specs.OrderRows.{put_lines, lines_at, line_key, smallest, with_carrier, with_moment};
-ghost use Rattle.partitions.specs.Parts.{is_of};
 ghost use Rattle.partitions.specs.Appends.{AddsRows};
+ghost use Rattle.partitions.specs.NewOrders.{with_returned, lesser_of};
 
+use schema::row_writes::{put, remove};
 use schema::{
     CarrierId, DistrictKey, Moment, NewOrder, NoMemory, Order, OrderKey, OrderLine, OrderLineKey,
-    Replaced, add_order_rows, deliver_order_rows, oldest_number, take_back_order_rows,
+    Replaced, add_order_rows, deliver_order_rows, oldest_number, take_back_order_and_lines,
 };
 use std::alloc::Global;
 use std::collections::BTreeMap;
 use std::marker::Model;
 use std::mem;
 
-/// The rows of NEW-ORDER of one warehouse with their keys, district by district.
+/// Rows that came back, by their keys, the last one first.
+#[derive(Drop)]
+pub(crate) enum Returned {
+    Nothing,
+    Row(OrderKey, Box<Returned>),
+}
+
+/// Room in which one row of NEW-ORDER can come back.
+#[derive(Drop)]
+pub struct RowRoom {
+    room: Box<Returned>,
+}
+
+impl Model for RowRoom {
+    ghost use Rattle.std.specs.Prelude.{ℕ};
+
+    ghost Value = { ℕ };
+
+    ghost view = { λ _. 0 };
+}
+
+/// The rows of NEW-ORDER of one warehouse with their keys, in order: those of the map, and those that came back since the
+/// last order was added or delivered.
 #[derive(Drop)]
 pub struct NewOrderRows {
-    districts: Vec<BTreeMap<OrderKey, NewOrder>>,
+    rows: BTreeMap<OrderKey, NewOrder>,
+    returned: Returned,
 }
 
 impl Model for NewOrderRows {
     ghost use Rattle.std.specs.Prelude.{List};
     ghost use Rattle.rows.specs.declared.keys.OrderKey as order_key;
     ghost use Rattle.rows.specs.declared.records.NewOrder as new_order;
-    ghost use Rattle.partitions.specs.NewOrders.{all_entries, AreByDistrict};
+    ghost use Rattle.partitions.specs.NewOrders.{entries_with};
 
     ghost Value = { List (order_key.OrderKey × new_order.NewOrder) };
 
-    ghost view = { λ r. all_entries r.districts.items };
-
-    ghost invariant = { λ r. AreByDistrict r.districts.items };
+    ghost view = { λ r. entries_with r.returned r.rows };
 }
 
 impl NewOrderRows {
-    /// The rows of a warehouse, parted by district.
-    pub(crate) fn part(
-        alloc: Global,
-        home: u32,
-        rows: BTreeMap<OrderKey, NewOrder>,
-    ) -> Result<NewOrderRows, NoMemory>
-        requires home { EachRow (λ key _. is_of home key.w_id) (table_of order_cmp rows) }
-        requires districts { EachRow (λ key _. is_between 1 10 key.d_id) (table_of order_cmp rows) }
-        ensures { IfOk result (λ made. made ≡ rows.entries) }
+    /// These rows.
+    pub(crate) fn new(rows: BTreeMap<OrderKey, NewOrder>) -> NewOrderRows
+        ensures entries { result ≡ rows.entries }
+        ensures table { result ≡ table.entries (table_of order_cmp rows) }
     {
-        let mut districts = Vec::with_capacity(alloc, 10)?;
-        let mut rest = rows;
-        for next in 2..11 {
-            let later = rest.split_off(&OrderKey {
-                w_id: home,
-                d_id: next,
-                o_id: 0,
-            })?;
-            districts.push(mem::replace(&mut rest, later))?;
+        // For its contract: the rows stand in order.
+        let _ = rows.len();
+        NewOrderRows {
+            rows,
+            returned: Returned::Nothing,
         }
-        districts.push(rest)?;
-        Ok(NewOrderRows { districts })
     }
 
     /// Moves the rows to those of other warehouses. After an error some are left out.
     pub(crate) fn append_to(self, rows: &mut BTreeMap<OrderKey, NewOrder>) -> Result<(), NoMemory>
         ensures { OnOk result (AddsRows order_cmp rows.old.entries self rows.new.entries) }
     {
-        for district in self.districts {
-            let mut district = district;
-            rows.append(&mut district)?;
-        }
+        let mut own = self;
+        settle(&mut own.rows, &mut own.returned)?;
+        rows.append(&mut own.rows)?;
         Ok(())
     }
 
@@ -80,9 +90,9 @@ impl NewOrderRows {
     pub(crate) fn try_clone(&self) -> Result<NewOrderRows, NoMemory>
         ensures { IfOk result (λ copy. copy ≡ self.now) }
     {
-        Ok(NewOrderRows {
-            districts: self.districts.clone()?,
-        })
+        let mut rows = self.rows.clone()?;
+        put_all(&self.returned, &mut rows)?;
+        Ok(NewOrderRows::new(rows))
     }
 
     /// The number of the district's oldest new order, `None` where it has none here.
@@ -90,14 +100,11 @@ impl NewOrderRows {
         requires { EachRow (λ key _. is_order_id key.o_id) (table.from_entries {R = order_cmp} self.now) }
         ensures { result ≡ smallest (numbers (rows_where (is_of_district home) (table.from_entries {R = order_cmp} self.now))) }
     {
-        let districts = &self.districts;
-        match slot_of(home.d_id) {
-            Some(slot) => oldest_number(&districts[slot], home),
-            None => None,
-        }
+        let oldest = oldest_number(&self.rows, home);
+        oldest_with(&self.returned, home, oldest)
     }
 
-    /// As `schema::add_order_rows`, for an order of one of the ten districts.
+    /// As `schema::add_order_rows`.
     pub(crate) fn add_order(
         &mut self,
         orders: &mut BTreeMap<OrderKey, Order>,
@@ -106,8 +113,7 @@ impl NewOrderRows {
         order: Order,
         rows: Vec<OrderLine>,
     ) -> Result<Replaced, NoMemory>
-        requires district { IsTrue (is_between 1 10 key.d_id) }
-        requires few { length rows.items ≤ 15 }
+        requires { length rows.items ≤ 15 }
         ensures order { OnOk result (table_of order_cmp orders.new ≡ table.insert (table_of order_cmp orders.old) key order) }
         ensures new_order { OnOk result (table.from_entries {R = order_cmp} self.new ≡ table.insert (table.from_entries self.old) key (record {})) }
         ensures lines { OnOk result (table_of line_cmp lines.new ≡ put_lines key 1 (map Some rows.items) (table_of line_cmp lines.old)) }
@@ -118,11 +124,11 @@ impl NewOrderRows {
         ensures err_new { OnErr result (table.from_entries {R = order_cmp} self.new ≡ table.from_entries self.old) }
         ensures err_lines { OnErr result (table_of line_cmp lines.new ≡ table_of line_cmp lines.old) }
     {
-        let district = &mut self.districts[key.d_id as usize - 1];
-        add_order_rows(orders, district, lines, key, order, rows)
+        settle(&mut self.rows, &mut self.returned)?;
+        add_order_rows(orders, &mut self.rows, lines, key, order, rows)
     }
 
-    /// As `schema::take_back_order_rows`, likewise.
+    /// As `schema::take_back_order_rows`.
     pub(crate) fn take_back_order(
         &mut self,
         orders: &mut BTreeMap<OrderKey, Order>,
@@ -130,7 +136,6 @@ impl NewOrderRows {
         key: OrderKey,
         replaced: Replaced,
     )
-        requires district { IsTrue (is_between 1 10 key.d_id) }
         requires few { length replaced.lines.items ≤ 15 }
         requires order { IsTrue (table.contains_key (table_of order_cmp orders.old) key) }
         requires new_order { IsTrue (table.contains_key (table.from_entries {R = order_cmp} self.old) key) }
@@ -139,52 +144,120 @@ impl NewOrderRows {
         ensures new_order { table.from_entries {R = order_cmp} self.new ≡ put_row (table.from_entries self.old) key replaced.new_order }
         ensures lines { table_of line_cmp lines.new ≡ put_lines key 1 replaced.lines.items (table_of line_cmp lines.old) }
     {
-        let district = &mut self.districts[key.d_id as usize - 1];
-        take_back_order_rows(orders, district, lines, key, replaced);
+        // Rows of NEW-ORDER are alike: where one stood, it stands.
+        if replaced.new_order.is_none() {
+            self.remove(key);
+        }
+        take_back_order_and_lines(orders, lines, key, replaced);
     }
 
-    /// As `schema::deliver_order_rows`, likewise. It gives the rows of the order's district as they were, which are a copy.
-    /// Want of memory changes nothing.
+    /// As `schema::deliver_order_rows`. It gives the row that stood there, and room in which that can come back. Want of
+    /// memory changes nothing.
     pub(crate) fn deliver_order(
         &mut self,
+        alloc: Global,
         orders: &mut BTreeMap<OrderKey, Order>,
         lines: &mut BTreeMap<OrderLineKey, OrderLine>,
         key: OrderKey,
         carrier: CarrierId,
         moment: Moment,
-    ) -> Result<BTreeMap<OrderKey, NewOrder>, NoMemory>
-        requires district { IsTrue (is_between 1 10 key.d_id) }
-        requires numbered { EachRow (λ key _. is_line_number key.number) (table_of line_cmp lines.old) }
+    ) -> Result<(Option<NewOrder>, RowRoom), NoMemory>
+        requires { EachRow (λ key _. is_line_number key.number) (table_of line_cmp lines.old) }
         ensures order { OnOk result (table_of order_cmp orders.new ≡ map_rows (with_carrier key carrier) (table_of order_cmp orders.old)) }
         ensures new_order { OnOk result (table.from_entries {R = order_cmp} self.new ≡ table.remove (table.from_entries self.old) key) }
         ensures lines { OnOk result (table_of line_cmp lines.new ≡ map_rows (with_moment key moment) (table_of line_cmp lines.old)) }
-        ensures was { IfOk result (λ was. (q : OrderKey) → table.get (table_of order_cmp was) q ≡ (if q.d_id == key.d_id then table.get (table.from_entries {R = order_cmp} self.old) q else None)) }
+        ensures was { IfOk result (λ was. was.0 ≡ table.get (table.from_entries {R = order_cmp} self.old) key) }
         ensures err { OnErr result ((self.new ≡ self.old) × (orders.new ≡ orders.old) × (lines.new ≡ lines.old)) }
     {
-        let district = &mut self.districts[key.d_id as usize - 1];
-        let was = district.clone()?;
-        deliver_order_rows(orders, district, lines, key, carrier, moment);
-        Ok(was)
+        let room = Box::new(alloc, Returned::Nothing)?;
+        settle(&mut self.rows, &mut self.returned)?;
+        let was = self.rows.get(&key).copied();
+        deliver_order_rows(orders, &mut self.rows, lines, key, carrier, moment);
+        Ok((was, RowRoom { room }))
     }
 
-    /// Puts the rows of the key's district back, which differ from those that are here at that key alone. It takes no
-    /// memory.
-    pub(crate) fn put_district_back(&mut self, key: OrderKey, was: BTreeMap<OrderKey, NewOrder>)
-        requires district { IsTrue (is_between 1 10 key.d_id) }
-        requires rest { (q : OrderKey) → q ≢ key → table.get (table_of order_cmp was) q ≡ (if q.d_id == key.d_id then table.get (table.from_entries {R = order_cmp} self.old) q else None) }
-        ensures { table.from_entries {R = order_cmp} self.new ≡ put_row (table.from_entries self.old) key (table.get (table_of order_cmp was) key) }
+    /// Puts back what stood at the key, a row or none. It takes no memory.
+    pub(crate) fn put_back(&mut self, key: OrderKey, was: Option<NewOrder>, room: RowRoom)
+        ensures { table.from_entries {R = order_cmp} self.new ≡ put_row (table.from_entries self.old) key was }
     {
-        self.districts[key.d_id as usize - 1] = was;
+        match was {
+            Some(_) => {
+                let mut room = room.room;
+                *room = mem::replace(&mut self.returned, Returned::Nothing);
+                self.returned = Returned::Row(key, room);
+            }
+            None => self.remove(key),
+        }
+    }
+
+    // Takes the row at the key away, if there is one. It takes no memory.
+    fn remove(&mut self, key: OrderKey)
+        ensures { table.from_entries {R = order_cmp} self.new ≡ table.remove (table.from_entries self.old) key }
+    {
+        forget(&mut self.returned, key);
+        remove(&mut self.rows, key);
     }
 }
 
-// The place of the district among the ten, from 0; `None` where it is none of them.
-fn slot_of(d_id: u32) -> Option<usize>
-    ensures { result ≡ (if is_between 1 10 d_id then Some (d_id - 1) else None) }
+// Moves the rows that came back into the map. The rows are the same together, also after an error.
+fn settle(rows: &mut BTreeMap<OrderKey, NewOrder>, returned: &mut Returned) -> Result<(), NoMemory>
+    ensures same { with_returned returned.new (table_of order_cmp rows.new) ≡ with_returned returned.old (table_of order_cmp rows.old) }
+    ensures all { OnOk result ((rows : table.FinMap order_cmp new_order.NewOrder) → with_returned returned.new rows ≡ rows) }
 {
-    if (1..=10).contains(&d_id) {
-        Some(d_id as usize - 1)
+    if let Returned::Row(key, rest) = returned {
+        settle(rows, rest)?;
+        put(rows, *key, NewOrder)?;
+        *returned = Returned::Nothing;
+    }
+    Ok(())
+}
+
+// Puts the rows that came back into a map. After an error some are left out.
+fn put_all(returned: &Returned, rows: &mut BTreeMap<OrderKey, NewOrder>) -> Result<(), NoMemory>
+    ensures { OnOk result (table_of order_cmp rows.new ≡ with_returned returned.now (table_of order_cmp rows.old)) }
+{
+    if let Returned::Row(key, rest) = returned {
+        put_all(rest, rows)?;
+        put(rows, *key, NewOrder)?;
+    }
+    Ok(())
+}
+
+// Takes the row at the key out of those that came back. It takes no memory.
+fn forget(returned: &mut Returned, key: OrderKey)
+    ensures { (rows : table.FinMap order_cmp new_order.NewOrder) → with_returned returned.new (table.remove rows key) ≡ table.remove (with_returned returned.old rows) key }
+{
+    if let Returned::Row(own, rest) = returned {
+        forget(rest, key);
+        if *own == key {
+            let later = mem::replace(&mut **rest, Returned::Nothing);
+            *returned = later;
+        }
+    }
+}
+
+// The number of the district's oldest order among those that came back and the others, of which this is the oldest.
+fn oldest_with(returned: &Returned, home: DistrictKey, other: Option<u32>) -> Option<u32>
+    ensures { (rows : table.FinMap order_cmp new_order.NewOrder) → other ≡ smallest (numbers (rows_where (is_of_district home) rows))
+        → result ≡ smallest (numbers (rows_where (is_of_district home) (with_returned returned.now rows))) }
+{
+    let Returned::Row(key, rest) = returned else {
+        return other;
+    };
+    let oldest = oldest_with(rest, home, other);
+    if key.district() == home {
+        Some(lesser(key.o_id, oldest))
     } else {
-        None
+        oldest
+    }
+}
+
+// The lesser of a number and another, where there is one.
+fn lesser(number: u32, other: Option<u32>) -> u32
+    ensures { result ≡ lesser_of number other }
+{
+    match other {
+        Some(other) => number.min(other),
+        None => number,
     }
 }

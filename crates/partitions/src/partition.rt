@@ -5,7 +5,7 @@ ghost use Rattle.std.specs.List.{list_all, slice_get};
 ghost use Rattle.schema.specs.Scale.{has_customer, customer_key};
 ghost use Rattle.schema.specs.Database.{customer_of_order, is_order_id, with_payment, without_payment, rows_where, is_of_order};
 ghost use Rattle.schema.specs.OrderRows.{StoodThere, is_in_span, is_line_within, line_key, oldest_new_order, with_delivery, with_order, without_order};
-ghost use Rattle.partitions.specs.Deliveries.{AreNewBeside, StoodBefore, without_delivery};
+ghost use Rattle.partitions.specs.Deliveries.{StoodBefore, without_delivery};
 ghost use Rattle.partitions.specs.Parts.{IsPart, has_district_of};
 ghost use Rattle.partitions.specs.Slots.{customer_slot_by, home_slot, home_stock_slot};
 
@@ -284,7 +284,7 @@ impl Partition {
     }
 
     /// Delivers an order: it is new no more, it gets the carrier, and its lines get the moment (clause 2.7.4.2). It gives
-    /// what stood there before, for which the district's rows of NEW-ORDER are copied. Want of memory changes nothing.
+    /// what stood there before. Want of memory changes nothing.
     pub fn deliver_order(
         &mut self,
         key: OrderKey,
@@ -298,7 +298,8 @@ impl Partition {
     {
         let carrier_id = carrier_of(&self.rows.orders, key);
         let moments = moments_of(&self.rows.lines, key);
-        let new_orders = self.rows.new_orders.deliver_order(
+        let (new_order, room) = self.rows.new_orders.deliver_order(
+            *self.rows.districts.allocator(),
             &mut self.rows.orders,
             &mut self.rows.lines,
             key,
@@ -308,7 +309,8 @@ impl Partition {
         Ok(BeforeDelivery {
             carrier_id,
             moments,
-            new_orders,
+            new_order,
+            room,
         })
     }
 
@@ -316,14 +318,13 @@ impl Partition {
     pub fn take_back_delivery(&mut self, key: OrderKey, before: BeforeDelivery)
         requires order { IsTrue (map.contains_key self.old.tables.orders key) }
         requires fifteen { length before.moments ≡ 15 }
-        requires beside { AreNewBeside key self.old.tables.new_orders before.new_orders }
         ensures { self.new ≡ record self.old { tables = without_delivery self.old.tables key before } }
     {
         put_carrier_back(&mut self.rows.orders, key, before.carrier_id);
         put_moments_back(&mut self.rows.lines, key, before.moments);
         self.rows
             .new_orders
-            .put_district_back(key, before.new_orders);
+            .put_back(key, before.new_order, before.room);
     }
 
     /// The place of the district's row among the warehouse's, from 0; `None` where it is none of the warehouse's.

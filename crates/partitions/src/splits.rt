@@ -1,13 +1,8 @@
 //! Rows of all warehouses, split into those of each: moved, from the last warehouse to the first.
 ghost use Rattle.std.specs.Prelude.{◌≡◌, ℕ, ◌*◌, ◌≤◌, length, IfOk};
-ghost use Rattle.rows.specs.Keys.{order_cmp};
-ghost use Rattle.rows.specs.Ranged.{is_between};
-ghost use Rattle.schema.specs.EachRow.{EachRow};
-ghost use Rattle.schema.specs.MapRows.{table_of};
 ghost use Rattle.partitions.specs.Splits.{chunk, entries_at, AreOfWarehouses, AreLastFirst};
 
-use crate::new_order_rows::NewOrderRows;
-use schema::{NewOrder, NoMemory, OrderKey, OrderLineKey};
+use schema::{NoMemory, OrderKey, OrderLineKey};
 use std::alloc::Global;
 use std::collections::BTreeMap;
 
@@ -94,25 +89,5 @@ pub(crate) fn split_map<K: WarehouseKey, V: Drop>(
         warehouse -= 1;
     }
     split.push(rest)?;
-    Ok(split)
-}
-
-/// The rows of NEW-ORDER of so many warehouses, split likewise, and then by district.
-pub(crate) fn split_new_orders(
-    alloc: Global,
-    rows: BTreeMap<OrderKey, NewOrder>,
-    warehouses: u32,
-) -> Result<Vec<NewOrderRows>, NoMemory>
-    requires some { 1 ≤ warehouses }
-    requires within { AreOfWarehouses (λ (key : OrderKey). key.w_id) warehouses rows.entries }
-    requires districts { EachRow (λ key _. is_between 1 10 key.d_id) (table_of order_cmp rows) }
-    ensures { IfOk result (λ made. AreLastFirst (λ place part. part ≡ entries_at (λ (key : OrderKey). key.w_id) place rows.entries) 0 warehouses made.items) }
-{
-    let mut split = Vec::with_capacity(alloc, warehouses as usize)?;
-    let mut home = warehouses;
-    for of_home in split_map(alloc, rows, warehouses)? {
-        split.push(NewOrderRows::part(alloc, home, of_home)?)?;
-        home -= 1;
-    }
     Ok(split)
 }

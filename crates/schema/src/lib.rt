@@ -5,7 +5,7 @@ mod entries;
 mod history_list;
 mod order_rows;
 mod row_rules;
-mod row_writes;
+pub mod row_writes;
 mod scale;
 mod scale_fault;
 mod table_rows;
@@ -15,7 +15,7 @@ pub use entries::{Entries, Lines, NewOrders, Orders};
 pub use history_list::HistoryList;
 pub use order_rows::{
     Replaced, add_order_rows, deliver_order_rows, lines_in_span, oldest_number,
-    take_back_order_rows, taken_back_order_is_as_before,
+    take_back_order_and_lines, take_back_order_rows, taken_back_order_is_as_before,
 };
 pub use rows::{
     Address, BrandGeneric, CarrierId, Counter, Credit, Customer, CustomerKey, District,

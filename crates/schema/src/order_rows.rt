@@ -89,8 +89,24 @@ pub fn take_back_order_rows(
     ensures new_order { table_of order_cmp new_orders.new ≡ put_row (table_of order_cmp new_orders.old) key replaced.new_order }
     ensures lines { table_of line_cmp lines.new ≡ put_lines key 1 replaced.lines.items (table_of line_cmp lines.old) }
 {
-    put_back(orders, key, replaced.order);
     put_back(new_orders, key, replaced.new_order);
+    take_back_order_and_lines(orders, lines, key, replaced);
+}
+
+/// As `take_back_order_rows`, but for the row of NEW-ORDER.
+pub fn take_back_order_and_lines(
+    orders: &mut BTreeMap<OrderKey, Order>,
+    lines: &mut BTreeMap<OrderLineKey, OrderLine>,
+    key: OrderKey,
+    replaced: Replaced,
+)
+    requires few { length replaced.lines.items ≤ 15 }
+    requires order { IsTrue (table.contains_key (table_of order_cmp orders.old) key) }
+    requires lines { (n : ℕ) → n < length replaced.lines.items → IsTrue (table.contains_key (table_of line_cmp lines.old) (line_key key (1 + n))) }
+    ensures order { table_of order_cmp orders.new ≡ put_row (table_of order_cmp orders.old) key replaced.order }
+    ensures lines { table_of line_cmp lines.new ≡ put_lines key 1 replaced.lines.items (table_of line_cmp lines.old) }
+{
+    put_back(orders, key, replaced.order);
     take_back_lines(lines, key, replaced.lines);
 }
 

@@ -8,7 +8,7 @@ use crate::NoMemory;
 use std::collections::BTreeMap;
 
 /// Puts a row at the key, and gives the one that it replaces. An error changes nothing.
-pub(crate) fn put<K: Ord + Drop, X: Drop>(
+pub fn put<K: Ord + Drop, X: Drop>(
     rows: &mut BTreeMap<K, X>,
     key: K,
     row: X,
@@ -43,7 +43,7 @@ pub(crate) fn put_back<K: Ord + Drop, X: Drop>(rows: &mut BTreeMap<K, X>, key: K
 }
 
 /// Removes the row at the key, if there is one. It takes no memory.
-pub(crate) fn remove<K: Ord + Drop, X: Drop>(rows: &mut BTreeMap<K, X>, key: K)
+pub fn remove<K: Ord + Drop, X: Drop>(rows: &mut BTreeMap<K, X>, key: K)
     requires { IsAntisymmetric K.cmp }
     ensures { table_of K.cmp rows.new ≡ table.remove (table_of K.cmp rows.old) key }
 {

@@ -5,9 +5,9 @@ use Rattle.std.specs.Option.{option_map, option_and_then}
 use Rattle.std.specs.declared.cmp.Ordering.{Ordering}
 use Rattle.std.specs.declared.cmp.Ordering.TheVariants.{Less, Equal, Greater}
 use Rattle.std.specs.Cmp.{IsTotalOrder}
-use Rattle.std.specs.Ordering.{eq_by_cmp, is_eq, is_lt}
+use Rattle.std.specs.Ordering.{is_eq, is_lt}
 use Rattle.std.specs.FinMap as table
-use Rattle.std.specs.FinMap.{FinMap, get, get-remove, get-retain_keys, same_map, IsAntisymmetric, entries, entries_sorted, entries-from_sorted}
+use Rattle.std.specs.FinMap.{FinMap, get, get-retain_keys, same_map, IsAntisymmetric, entries, entries_sorted, entries-from_sorted}
 use Rattle.std.specs.FinMap.Entries.{is_sorted, below_all}
 use Rattle.std.proofs.lemmas.Bool.Decides.{nat_tests}
 use Rattle.rows.specs.Keys.{order_cmp, line_cmp}
@@ -18,8 +18,8 @@ use Rattle.rows.specs.declared.records.Order as order
 use Rattle.rows.specs.declared.records.NewOrder.{NewOrder}
 use Rattle.rows.specs.declared.records.OrderLine.{OrderLine}
 use Rattle.schema.specs.EachRow.{EachRow}
-use Rattle.schema.specs.MapRows.{table_of, mapped, map_rows, put_row}
-use Rattle.schema.specs.Database.{Database, is_of_district, is_of_order, is_line_number}
+use Rattle.schema.specs.MapRows.{mapped, map_rows, put_row}
+use Rattle.schema.specs.Database.{Database, is_of_order, is_line_number}
 use Rattle.schema.specs.declared.scale.Scale.{Scale}
 use Rattle.schema.specs.Consistency.{greatest, numbers}
 use Rattle.schema.specs.OrderRows.{LineTable, line_key, is_order, carried_by, delivered_at, with_carrier, with_moment, with_delivery}
@@ -27,7 +27,7 @@ use Rattle.schema.proofs.KeyOrders.{orders_total, orders_exact, lines_total, lin
 use Rattle.schema.proofs.OrdersKept.{contains-map_rows}
 use Rattle.schema.proofs.TableWrites.{get-map_rows, put_row_same, put_row_twice}
 use Rattle.partitions.specs.declared.delivery_rows.BeforeDelivery.{BeforeDelivery}
-use Rattle.partitions.specs.Deliveries.{StoodBefore, carrier_at, moment_at, new_beside, with_carrier_back, with_moments_back, without_delivery}
+use Rattle.partitions.specs.Deliveries.{StoodBefore, carrier_at, moment_at, with_carrier_back, with_moments_back, without_delivery}
 use Rattle.partitions.specs.Parts.{Part, IsPart}
 use Rattle.partitions.specs.Slots.{Slots, customer_slot_by}
 use Rattle.requests.specs.declared.group.Group.{Group}
@@ -35,7 +35,6 @@ use Rattle.requests.specs.declared.group.Group.TheVariants.{Orders}
 use Rattle.groups.specs.Groups.{group_of_order, group_of_line, is_same}
 use Rattle.groups.specs.Content.{content, rows_of}
 use Rattle.groups.specs.Content.Content.{OfOrders}
-use Rattle.groups.specs.Laws.{new_order_in}
 use Rattle.groups.proofs.Parts.{get-rows_of-own}
 use Rattle.groups.proofs.RowsInGroups.{each_row_stands_in_one_group}
 use Rattle.tickets.proofs.Apart.{apart}
@@ -142,11 +141,10 @@ delivery_changes p q key carrier moment is =
 pub delivery_back_changes : (p q : Part) (key : OrderKey) (before : BeforeDelivery) → q ≡ record p { tables = without_delivery p.tables key before }
     → ChangesGroup (group_of_order key) (with_order_undelivered key before) p q
 delivery_back_changes p q key before is =
-    let new_order = get (table_of order_cmp before.new_orders) key in
     let f = λ (row : order.Order). record row { carrier_id = before.carrier_id } in
     let g = λ (q : OrderLineKey) (row : OrderLine). record row { delivery_d = slice_index_or before.moments (q.number - 1) None } in
     changes_to (group_of_order key) (with_order_undelivered key before) p q (without_delivery p.tables key before) is
-    (record { here = rows_here p.tables key f g new_order; elsewhere = rows_elsewhere p.tables key f g new_order }) refl refl
+    (record { here = rows_here p.tables key f g before.new_order; elsewhere = rows_elsewhere p.tables key f g before.new_order }) refl refl
 
 -- ---- what stood there is there again
 
@@ -193,40 +191,6 @@ each_of_group a own group test m each key row found =
       | false ↦ λ e. absurd cc
     ] (sym (get-retain_keys m _ key (λ x e. ap (λ y. is_same (own y) group) (sym (a key x e)))) ∙ found)
 
-own_beside : (key : OrderKey) → is_of_district (record { w_id = key.w_id; d_id = key.d_id }) key ≡ true
-own_beside key = grind (arith, nat_tests)
-
-beside_group : (key other : OrderKey) → is_of_district (record { w_id = key.w_id; d_id = key.d_id }) other ≡ true → group_of_order other ≡ group_of_order key
-beside_group key other e =
-    let w : other.w_id ≡ key.w_id = grind (arith, nat_tests) in
-    let d : other.d_id ≡ key.d_id = grind (arith, nat_tests) in
-    λ i. Orders (w i) (d i)
-
-beside_other : (key other : OrderKey) → is_of_district (record { w_id = key.w_id; d_id = key.d_id }) other ≡ false → group_of_order key ≢ group_of_order other
-beside_other key other e same =
-    let w : key.w_id ≡ other.w_id = cc in
-    let d : key.d_id ≡ other.d_id = cc in
-    absurd (grind (arith, nat_tests))
-
--- the rows beside the order are those that its group has
-pub beside_in : (t : Database) (key other : OrderKey) → new_order_in (group_of_order key) (content t (group_of_order key)) other ≡ new_beside key t.new_orders other
-beside_in t key other =
-    let stands = (each_row_stands_in_one_group t).new_orders other in
-    let district : Bool = is_of_district (record { w_id = key.w_id; d_id = key.d_id }) other in
-    elim district as (λ b. district ≡ b → new_order_in (group_of_order key) (content t (group_of_order key)) other ≡ cond b (get t.new_orders other) None) [
-      | true ↦ λ e. ap (λ (g : Group). new_order_in g (content t g) other) (sym (beside_group key other e)) ∙ stands.0
-      | false ↦ λ e. stands.1 (group_of_order key) (beside_other key other e)
-    ] refl
-
--- a row that goes leaves the others
-others_new : (m : FinMap order_cmp NewOrder) (key other : OrderKey) → other ≢ key → get (table.remove m key) other ≡ get m other
-others_new m key other unlike =
-    get-remove orders_total m key other
-    ∙ elim (eq_by_cmp order_cmp other key) as (λ b. eq_by_cmp order_cmp other key ≡ b → cond b None (get m other) ≡ get m other) [
-      | true ↦ λ e. absurd (unlike (orders_exact other key (is_equal (order_cmp other key) e)))
-      | false ↦ λ e. refl
-    ] refl
-
 pub delivery_step : (p q : Part) (key : OrderKey) (carrier moment : ℕ) (before : BeforeDelivery) → IsPart p → IsTrue (table.contains_key p.tables.orders key) → StoodBefore p.tables key before
     → q ≡ record p { tables = with_delivery p.tables key carrier moment } → IsStep (group_of_order key) (with_order_delivered key carrier moment) (k.Delivery key before) p q
 delivery_step p q key carrier moment before is_part there stood is =
@@ -238,16 +202,15 @@ delivery_step p q key carrier moment before is_part there stood is =
     let lines_own : LineTable = rows_of group_of_line group t.lines in
     let here : content u group ≡ with_order_delivered key carrier moment (content t group) = rows_here t key (carried_by carrier) (λ _ row. delivered_at moment row) None in
     let orders = carrier_again orders_own key carrier before.carrier_id (stood.carrier ∙ ap (option_and_then (λ (r : order.Order). r.carrier_id)) (sym (get-rows_of-own orders_total orders_exact group_of_order t.orders key))) in
-    let new_was = stood.new_orders key ∙ ap (λ b. cond b (get t.new_orders key) None) (own_beside key) ∙ sym (get-rows_of-own orders_total orders_exact group_of_order t.new_orders key) in
-    let new_orders : put_row (table.remove new_own key) key (get (table_of order_cmp before.new_orders) key) ≡ new_own =
-    put_row_twice orders_total orders_exact new_own key None (get (table_of order_cmp before.new_orders) key) ∙ put_row_same orders_total orders_exact new_own key (get (table_of order_cmp before.new_orders) key) (sym new_was) in
+    let new_was = stood.new_order ∙ sym (get-rows_of-own orders_total orders_exact group_of_order t.new_orders key) in
+    let new_orders : put_row (table.remove new_own key) key before.new_order ≡ new_own =
+    put_row_twice orders_total orders_exact new_own key None before.new_order ∙ put_row_same orders_total orders_exact new_own key before.new_order (sym new_was) in
     let lines = moments_again lines_own key moment before.moments (each_of_group lines_exact group_of_line group (λ q _. is_line_number q.number) t.lines is_part.lines_numbered)
     (λ n low. stood.moments n low ∙ ap (option_and_then (λ (r : OrderLine). r.delivery_d)) (sym (get-rows_of-own lines_total lines_exact group_of_line t.lines (line_key key (n + 1))))) in
     let again : with_order_undelivered key before (with_order_delivered key carrier moment (content t group)) ≡ content t group = λ i. OfOrders (orders i) (new_orders i) (lines i) in
     let can : CanTakeBackDelivery key before (content u group) = record {
       order = ap is_some ((each_row_stands_in_one_group u).orders key).0 ∙ contains-map_rows orders_exact (with_carrier key carrier) t.orders key ∙ there;
       fifteen = stood.fifteen;
-      beside = λ other unlike. stood.new_orders other ∙ sym (beside_in u key other ∙ ap (λ r. cond (is_of_district (record { w_id = key.w_id; d_id = key.d_id }) other) r None) (others_new t.new_orders key other unlike));
     } in
     record {
       changes = delivery_changes p q key carrier moment is;

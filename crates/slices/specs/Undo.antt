@@ -1,9 +1,9 @@
 -- Steps in a group, and what taking them back makes of what the group has. What is asked of a step that is to be taken back
 -- speaks of what its own group has, and of the scale, and of nothing else.
-use Rattle.std.specs.Prelude.{◌≡◌, ◌≢◌, ℕ, ◌+◌, ◌<◌, ◌≤◌, Bool, List, [], ◌∷◌, ◌++◌, length, map, Option, Some, is_some, IsTrue, unwrap_or}
+use Rattle.std.specs.Prelude.{◌≡◌, ℕ, ◌+◌, ◌<◌, ◌≤◌, Bool, List, [], ◌∷◌, ◌++◌, length, map, Option, Some, is_some, IsTrue, unwrap_or}
 use Rattle.std.specs.List.{list_all}
 use Rattle.std.specs.FinMap as table
-use Rattle.rows.specs.Keys.{order_cmp, order_of_line}
+use Rattle.rows.specs.Keys.{order_of_line}
 use Rattle.rows.specs.declared.keys.CustomerKey.{CustomerKey}
 use Rattle.rows.specs.declared.keys.OrderKey.{OrderKey}
 use Rattle.rows.specs.declared.records.Customer as customer
@@ -12,7 +12,7 @@ use Rattle.rows.specs.declared.records.OrderLine.{OrderLine}
 use Rattle.rows.specs.declared.records.History.{History}
 use Rattle.schema.specs.declared.scale.Scale.{Scale}
 use Rattle.schema.specs.declared.order_rows.Replaced.{Replaced}
-use Rattle.schema.specs.MapRows.{table_of, map_rows, put_row}
+use Rattle.schema.specs.MapRows.{map_rows, put_row}
 use Rattle.schema.specs.Scale.{has_item, has_warehouse, has_customer}
 use Rattle.schema.specs.Database.{Database, without_last, customer_of_order, is_order_id, is_line_number}
 use Rattle.schema.specs.OrderRows.{is_line_within, line_key, put_lines, with_carrier, with_moment}
@@ -59,7 +59,7 @@ with_order_delivered key carrier moment other = other
 -- and with what stood there before put back
 abbrev pub with_order_undelivered : OrderKey → BeforeDelivery → Content → Content
 with_order_undelivered key before (OfOrders orders new_orders lines) =
-    OfOrders (map_rows (with_carrier_back key before.carrier_id) orders) (put_row new_orders key (table.get (table_of order_cmp before.new_orders) key)) (map_rows (with_moments_back key before.moments) lines)
+    OfOrders (map_rows (with_carrier_back key before.carrier_id) orders) (put_row new_orders key before.new_order) (map_rows (with_moments_back key before.moments) lines)
 with_order_undelivered key before other = other
 
 -- these are the C_LAST and the C_FIRST of the row
@@ -104,12 +104,10 @@ pub record CanTakeBackOrder (scale : Scale) (key : OrderKey) (replaced : Replace
   pub lines : (n : ℕ) → n < length replaced.lines.items → IsTrue (is_some (line_in (group_of_order key) content (line_key key (1 + n))))
   pub within : AreOrdersWithin scale (group_of_order key) (with_order_back key replaced content)
 
--- The order is there; of fifteen lines it is kept when they were delivered; and but for the order itself the group's new orders
--- are those of before.
+-- The order is there, and of fifteen lines it is kept when they were delivered.
 pub record CanTakeBackDelivery (key : OrderKey) (before : BeforeDelivery) (content : Content) : Type 0 where
   pub order : IsTrue (is_some (order_in (group_of_order key) content key))
   pub fifteen : length before.moments ≡ 15
-  pub beside : (other : OrderKey) → other ≢ key → table.get (table_of order_cmp before.new_orders) other ≡ new_order_in (group_of_order key) content other
 
 -- What one group has changes so. The warehouse, the scale, the items and what all other groups have stay.
 pub record ChangesGroup (group : Group) (change : Content → Content) (old new : Part) : Type 0 where
@@ -131,8 +129,7 @@ group_of_kept (Order key replaced) = group_of_order key
 group_of_kept (Delivery key before) = group_of_order key
 
 -- What is asked of what the group has: a row stands at the key, a customer's with the names of the row that comes back; or
--- there is a list; or the rows of the order are there, and without them the rules of the scale are kept; or the order is there,
--- and what is kept of its delivery fits the group.
+-- there is a list; or the rows of the order are there, and without them the rules of the scale are kept; or the order is there.
 abbrev pub CanPutBack : Scale → Kept → Content → Type 0
 CanPutBack scale (Warehouse w_id row) content = IsTrue (is_some (warehouse_in (group_of_warehouse w_id) content w_id))
 CanPutBack scale (District key row) content = IsTrue (is_some (district_in (group_of_district key) content key))

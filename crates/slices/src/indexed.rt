@@ -6,7 +6,7 @@ ghost use Rattle.rows.specs.declared.records.Order as order;
 ghost use Rattle.schema.specs.Database.{Database, with_payment, without_payment};
 ghost use Rattle.schema.specs.OrderRows.{StoodThere, line_key, with_delivery, with_order, without_order};
 ghost use Rattle.schema.specs.Scale.{has_customer};
-ghost use Rattle.partitions.specs.Deliveries.{AreNewBeside, StoodBefore, without_delivery};
+ghost use Rattle.partitions.specs.Deliveries.{StoodBefore, without_delivery};
 ghost use Rattle.partitions.specs.Parts.{IsPart};
 ghost use Rattle.partitions.specs.Slots.{home_slot};
 ghost use Rattle.indexes.specs.LatestIndex.{FitsLatestBy};
@@ -202,7 +202,6 @@ impl IndexedRows {
     pub(crate) fn take_back_delivery(&mut self, key: OrderKey, before: BeforeDelivery)
         requires order { IsTrue (map.contains_key self.old.tables.orders key) }
         requires fifteen { length before.moments ≡ 15 }
-        requires beside { AreNewBeside key self.old.tables.new_orders before.new_orders }
         ensures { self.new ≡ record self.old { tables = without_delivery self.old.tables key before } }
     {
         self.partition.take_back_delivery(key, before);

@@ -16,6 +16,6 @@ returns-clause-homes c =
       customers = c.in_ok-split-3.ensures;
       histories = c.in_ok-split-4.ensures;
       orders = c.in_ok-split_map.ensures;
-      new_orders = c.in_ok-split_new_orders.ensures;
-      lines = c.in_ok-split_map-2.ensures;
+      new_orders = c.in_ok-split_map-2.ensures;
+      lines = c.in_ok-split_map-3.ensures;
     }

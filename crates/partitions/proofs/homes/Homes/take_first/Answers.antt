@@ -1,4 +1,4 @@
-use Rattle.std.proofs.Common.{arith}
+use Rattle.std.proofs.Common.{◌∙◌, arith}
 use Rattle.partitions.proofs.LastFirst.{popped}
 use Rattle.partitions.proofs.homes.Homes.take_first.Goals as goal
 
@@ -13,6 +13,6 @@ returns c = λ scale rows place h.
     let orders = popped place scale.warehouses old.orders.items c.pop-6.new.self.items old.orders.len c.pop-6.result c.unwrap-6.result (omega (arith, old.orders.ok.0)) c.requires.orders h.orders c.pop-6.ensures.value c.unwrap-6.ensures c.pop-6.ensures.rest in
     let new_orders = popped place scale.warehouses old.new_orders.items c.pop-7.new.self.items old.new_orders.len c.pop-7.result c.unwrap-7.result (omega (arith, old.new_orders.ok.0)) c.requires.new_orders h.new_orders c.pop-7.ensures.value c.unwrap-7.ensures c.pop-7.ensures.rest in
     let lines = popped place scale.warehouses old.lines.items c.pop-8.new.self.items old.lines.len c.pop-8.result c.unwrap-8.result (omega (arith, old.lines.ok.0)) c.requires.lines h.lines c.pop-8.ensures.value c.unwrap-8.ensures c.pop-8.ensures.rest in (
-      record { warehouse = warehouses.0; districts = districts.0; stocks = stocks.0; customers = customers.0; histories = histories.0; orders = orders.0; new_orders = new_orders.0; lines = lines.0 },
+      record { warehouse = warehouses.0; districts = districts.0; stocks = stocks.0; customers = customers.0; histories = histories.0; orders = orders.0; new_orders = c.new.ensures.entries ∙ new_orders.0; lines = lines.0 },
       record { warehouses = warehouses.1; districts = districts.1; stocks = stocks.1; customers = customers.1; histories = histories.1; orders = orders.1; new_orders = new_orders.1; lines = lines.1 },
     )

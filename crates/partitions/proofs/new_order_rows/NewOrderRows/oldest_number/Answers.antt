@@ -1,26 +1,22 @@
-use Rattle.std.proofs.Common.{sym, ap, ◌∙◌}
-use Rattle.std.specs.FinMap.{from_entries}
+use Rattle.std.proofs.Common.{sym, ap, subst, ◌∙◌}
 use Rattle.rows.specs.Keys.{order_cmp}
-use Rattle.schema.specs.Database.{rows_where, is_of_district}
+use Rattle.schema.specs.EachRow.{EachRow}
+use Rattle.schema.specs.MapRows.{table_of}
+use Rattle.schema.specs.Database.{rows_where, is_of_district, is_order_id}
 use Rattle.schema.specs.Consistency.{numbers}
 use Rattle.schema.specs.OrderRows.{smallest}
-use Rattle.partitions.proofs.ByDistrict.{numbered_in_district, no_rows_of, rows_of_district, slot_found, slot_none}
+use Rattle.rows.specs.declared.keys.OrderKey.{OrderKey}
+use Rattle.partitions.proofs.Returned.{NewTable, each_of_map, seen}
 use Rattle.partitions.proofs.new_order_rows.NewOrderRows.oldest_number.Goals as goal
 
-pub oldest_number-requires : goal.oldest_number-requires
-oldest_number-requires c =
-    let at = slot_found c.args.home.d_id c.in-Some.slot (sym c.slot_of.ensures ∙ c.in-Some.is) in
-    numbered_in_district c.self.inside.districts.items c.self.invariant c.in-Some.slot c.index.result.now at.0 c.index.ensures c.args.self.now c.self.view_is c.requires
+pub oldest_number-oldest-requires : goal.oldest_number-oldest-requires
+oldest_number-oldest-requires c =
+    let own = c.self.inside in
+    each_of_map (λ key. is_order_id key.o_id) own.returned (table_of order_cmp own.rows)
+    (subst (λ (m : NewTable). EachRow (λ (key : OrderKey) _. is_order_id key.o_id) m) (seen own.returned own.rows c.args.self.now c.self.view_is) c.requires)
 
-pub returns-in-Some : goal.returns-in-Some
-returns-in-Some c =
-    let at = slot_found c.args.home.d_id c.in-Some.slot (sym c.slot_of.ensures ∙ c.in-Some.is) in
-    c.oldest_number.ensures
-    ∙ ap (λ l. smallest (numbers l)) (rows_of_district c.self.inside.districts.items c.self.invariant c.in-Some.slot c.index.result.now c.args.home at.0 at.1 c.index.ensures
-    ∙ ap (λ es. rows_where {R = order_cmp} (is_of_district c.args.home) (from_entries es)) c.self.view_is)
-
-pub returns-in-None : goal.returns-in-None
-returns-in-None c =
-    let out = slot_none c.args.home.d_id (sym c.slot_of.ensures ∙ c.in-None.is) in
-    ap (λ l. smallest (numbers l)) (sym (no_rows_of c.self.inside.districts.items c.self.invariant c.args.home out)
-    ∙ ap (λ es. rows_where {R = order_cmp} (is_of_district c.args.home) (from_entries es)) c.self.view_is)
+pub returns : goal.returns
+returns c =
+    let own = c.self.inside in
+    c.oldest_with.ensures (table_of order_cmp own.rows) c.oldest_number-oldest.ensures
+    ∙ ap (λ (m : NewTable). smallest (numbers (rows_where (is_of_district c.args.home) m))) (sym (seen own.returned own.rows c.args.self.now c.self.view_is))

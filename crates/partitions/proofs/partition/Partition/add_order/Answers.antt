@@ -1,4 +1,4 @@
-use Rattle.std.proofs.Common.{Bool, true, false, ◌&&◌, IsTrue, length, refl, sym, ap, subst, ◌∙◌}
+use Rattle.std.proofs.Common.{IsTrue, length, sym, ap, subst, ◌∙◌}
 use Rattle.std.specs.List.{list_all}
 use Rattle.schema.specs.Scale.{has_customer}
 use Rattle.schema.specs.Database.{customer_of_order}
@@ -8,17 +8,6 @@ use Rattle.partitions.specs.Parts.{Part}
 use Rattle.partitions.specs.Partitions.{part}
 use Rattle.partitions.proofs.HomeOrders.{orders_fit, other_orders, part_with_order}
 use Rattle.partitions.proofs.partition.Partition.add_order.Goals as goal
-
-second : (b c : Bool) → IsTrue (b && c) → IsTrue c
-second true c h = h
-second false c h = absurd cc
-
-first : (b c : Bool) → IsTrue (b && c) → IsTrue b
-first true c h = refl
-first false c h = h
-
-pub add_order-requires-clause-district : goal.add_order-requires-clause-district
-add_order-requires-clause-district c = second _ _ (first _ _ c.requires.customer)
 
 pub invariant_of-self : goal.invariant_of-self
 invariant_of-self c =

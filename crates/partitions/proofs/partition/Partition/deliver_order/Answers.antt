@@ -4,16 +4,9 @@ use Rattle.schema.specs.OrderRows.{with_delivery}
 use Rattle.partitions.specs.Deliveries.{StoodBefore}
 use Rattle.partitions.specs.Parts.{Part}
 use Rattle.partitions.specs.Partitions.{part}
-use Rattle.partitions.proofs.PartLaws.{order_district}
 use Rattle.partitions.proofs.HomeOrders.{orders_fit, other_orders}
-use Rattle.partitions.proofs.HomeDeliveries.{beside_is, part_delivered}
+use Rattle.partitions.proofs.HomeDeliveries.{part_delivered}
 use Rattle.partitions.proofs.partition.Partition.deliver_order.Goals as goal
-
-pub deliver_order-requires-clause-district : goal.deliver_order-requires-clause-district
-deliver_order-requires-clause-district c =
-    let p = c.self.inside in
-    order_district (part p.catalog p.home p.rows).tables c.self.invariant.is_part.orders_have_customers c.args.key
-    (subst (λ (v : Part). IsTrue (table.contains_key v.tables.orders c.args.key)) (sym c.self.view_is) c.requires)
 
 pub invariant_of-self-2 : goal.invariant_of-self-2
 invariant_of-self-2 c =
@@ -21,23 +14,21 @@ invariant_of-self-2 c =
     let call = c.deliver_order in
     let there = subst (λ (v : Part). IsTrue (table.contains_key v.tables.orders c.args.key)) (sym c.self.view_is) c.requires in
     orders_fit p.catalog p.home p.rows call.new.orders call.new.self call.new.lines c.self.invariant _
-    (other_orders p.catalog p.home p.rows call.new.orders call.new.self call.new.lines _ _ _ c.in_ok-new_orders.ensures.order c.in_ok-new_orders.ensures.new_order c.in_ok-new_orders.ensures.lines)
+    (other_orders p.catalog p.home p.rows call.new.orders call.new.self call.new.lines _ _ _ c.in_ok-new_order.ensures.order c.in_ok-new_order.ensures.new_order c.in_ok-new_order.ensures.lines)
     (part_delivered (part p.catalog p.home p.rows) c.self.invariant.is_part c.args.key there c.args.carrier c.args.moment)
 
 pub returns-clause-ok : goal.returns-clause-ok
 returns-clause-ok c =
     let p = c.self.inside in
     let call = c.deliver_order in
-    other_orders p.catalog p.home p.rows call.new.orders call.new.self call.new.lines _ _ _ c.in_ok-new_orders.ensures.order c.in_ok-new_orders.ensures.new_order c.in_ok-new_orders.ensures.lines
+    other_orders p.catalog p.home p.rows call.new.orders call.new.self call.new.lines _ _ _ c.in_ok-new_order.ensures.order c.in_ok-new_order.ensures.new_order c.in_ok-new_order.ensures.lines
     ∙ ap (λ (v : Part). record v { tables = with_delivery v.tables c.args.key c.args.carrier c.args.moment }) c.self.view_is
 
 pub returns-clause-before : goal.returns-clause-before
 returns-clause-before c =
-    let p = c.self.inside in
-    let there = subst (λ (v : Part). IsTrue (table.contains_key v.tables.orders c.args.key)) (sym c.self.view_is) c.requires in
-    subst (λ (v : Part). StoodBefore v.tables c.args.key (record { carrier_id = c.carrier_of-carrier_id.result; moments = c.moments_of-moments.result; new_orders = c.in_ok-new_orders.new_orders })) c.self.view_is (record {
+    subst (λ (v : Part). StoodBefore v.tables c.args.key (record { carrier_id = c.carrier_of-carrier_id.result; moments = c.moments_of-moments.result; new_order = c.in_ok-new_order.new_order; room = c.in_ok-new_order.room })) c.self.view_is (record {
       carrier = c.carrier_of-carrier_id.ensures;
       fifteen = c.moments_of-moments.ensures.fifteen;
       moments = c.moments_of-moments.ensures.each;
-      new_orders = λ q. c.in_ok-new_orders.ensures.was q ∙ sym (beside_is (part p.catalog p.home p.rows) c.self.invariant.is_part c.args.key there q);
+      new_order = c.in_ok-new_order.ensures.was;
     })

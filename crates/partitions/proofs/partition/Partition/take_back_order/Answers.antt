@@ -2,16 +2,8 @@ use Rattle.std.proofs.Common.{◌+◌, IsTrue, sym, ap, subst, ◌∙◌}
 use Rattle.std.specs.FinMap as table
 use Rattle.schema.specs.OrderRows.{line_key, without_order}
 use Rattle.partitions.specs.Parts.{Part}
-use Rattle.partitions.specs.Partitions.{part}
-use Rattle.partitions.proofs.PartLaws.{order_district}
 use Rattle.partitions.proofs.HomeOrders.{orders_fit, other_orders}
 use Rattle.partitions.proofs.partition.Partition.take_back_order.Goals as goal
-
-pub take_back_order-requires-clause-district : goal.take_back_order-requires-clause-district
-take_back_order-requires-clause-district c =
-    let p = c.self.inside in
-    order_district (part p.catalog p.home p.rows).tables c.self.invariant.is_part.orders_have_customers c.args.key
-    (subst (λ (v : Part). IsTrue (table.contains_key v.tables.orders c.args.key)) (sym c.self.view_is) c.requires.order)
 
 pub take_back_order-requires-clause-order : goal.take_back_order-requires-clause-order
 take_back_order-requires-clause-order c = subst (λ (v : Part). IsTrue (table.contains_key v.tables.orders c.args.key)) (sym c.self.view_is) c.requires.order

@@ -12,7 +12,7 @@ use Rattle.slices.specs.declared.kept.Kept.TheVariants as k
 use Rattle.slices.specs.Undo.{group_of_kept, CanPutBack, CanTakeBackDelivery, CanTakeBackOrder}
 use Rattle.slices.proofs.Steps.{warehouse_changes, district_changes, stock_changes, customer_changes, no_payment_changes}
 use Rattle.partitions.specs.declared.delivery_rows.BeforeDelivery.{BeforeDelivery}
-use Rattle.slices.proofs.Delivered.{beside_in, delivery_back_changes}
+use Rattle.slices.proofs.Delivered.{delivery_back_changes}
 use Rattle.slices.proofs.Orders.{part_without_order, order_back_changes}
 use Rattle.slices.proofs.kept.Kept.put_back.Goals as goal
 
@@ -82,11 +82,6 @@ take_back_delivery-requires-clause-order c =
 
 pub take_back_delivery-requires-clause-fifteen : goal.take_back_delivery-requires-clause-fifteen
 take_back_delivery-requires-clause-fifteen c = (can_take_back_delivery c.args.rows.now c.args.self c.in-Delivery.key c.in-Delivery.before c.in-Delivery.is c.requires).fifteen
-
-pub take_back_delivery-requires-clause-beside : goal.take_back_delivery-requires-clause-beside
-take_back_delivery-requires-clause-beside c = λ other unlike.
-    (can_take_back_delivery c.args.rows.now c.args.self c.in-Delivery.key c.in-Delivery.before c.in-Delivery.is c.requires).beside other unlike
-    ∙ beside_in c.args.rows.now.tables c.in-Delivery.key other
 
 pub returns-in-Delivery : goal.returns-in-Delivery
 returns-in-Delivery c = rw c.in-Delivery.is (delivery_back_changes c.args.rows.now c.take_back_delivery.new.self c.in-Delivery.key c.in-Delivery.before c.take_back_delivery.ensures)
