@@ -23,3 +23,4 @@ pub mod AllRows
 pub mod Counted
 pub mod Expecting
 pub mod Completed
+pub mod Short

@@ -106,9 +106,7 @@ fn finish<R: Read + Drop>(mut records: Records<R>, loader: Loader) -> Result<Tab
     ensures fault { IfErr result (λ error. IsFault error → (t : Database) → IsWithinScale t → Completes t loader → HasLeft R.remaining [] records → ⊥) }
 {
     let end = records.number();
-    if records.advance()? {
-        return Err(records.fault(FaultKind::AfterEnd));
-    }
+    records.expect_end()?;
     match loader.finish()? {
         Ok(tables) => Ok(tables),
         Err(_) => Err(FileError::File(FileFault {

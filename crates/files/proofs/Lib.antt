@@ -5,3 +5,10 @@ pub mod FieldsLeft
 pub mod Progress
 pub mod Texts
 pub mod Ascii
+pub mod WindowBytes
+pub mod Lines
+pub mod Sources
+pub mod Unquoting
+pub mod NextRecord
+pub mod Parts
+pub mod ShortNumbers

@@ -5,3 +5,9 @@ pub mod Word
 pub mod Taken
 pub mod Place
 pub mod Written
+pub mod Window
+pub mod Source
+pub mod Span
+pub mod Line
+pub mod ByteOrder
+pub mod Unquoted

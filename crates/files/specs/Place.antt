@@ -1,13 +1,17 @@
 -- Where a reader stands in its file.
-use Rattle.std.specs.Prelude.{◌≡◌, ℕ, List, [], ◌∷◌, ◌++◌, Bool, true, false, Option, Some}
-use Rattle.csv.specs.Reading.{AreRecords, Reached, Ready, default_config, reader_config, reader_state, reader_trim, source_of, strip_bom}
-use Rattle.csv.specs.Records.{fields_of}
+use Rattle.std.specs.Prelude.{◌≡◌, ◌≤◌, ◌<◌, ℕ, List, [], ◌∷◌, ◌++◌, Bool, true, false, Option, Some, None, drop, option_map, if◌then◌else◌}
+use Rattle.std.specs.Io.KnownBytes.{prepend_known}
+use Rattle.csv.specs.Machine.{Read, next_record}
+use Rattle.csv.specs.Reading.{AreRecords, Reached, ReadsNext, default_config, strip_bom}
+use Rattle.csv.specs.declared.parser.State.{State}
 use Rattle.csv.specs.declared.parser.State.TheVariants as state
-use Rattle.csv.specs.declared.reader.Trim.TheVariants as trim
 use Rattle.files.specs.declared.fault.FaultKind.{FaultKind}
 use Rattle.files.specs.declared.fault.FileError.{FileError}
 use Rattle.files.specs.declared.fault.FileError.TheVariants.{File}
 use Rattle.files.specs.declared.records.Records.{Records}
+use Rattle.files.specs.Line.{IsBetween}
+use Rattle.files.specs.Source.{at_hand}
+use Rattle.files.specs.Span.{parts, record_size}
 
 -- the number of the record under way
 abbrev pub record_number : {R : Type 0} → Records R → ℕ
@@ -17,9 +21,19 @@ record_number r = r.number
 abbrev pub file_fault : FaultKind → ℕ → FileError
 file_fault kind number = File (record { kind = kind; «record» = number })
 
+-- the bytes among which the fields of the record under way are
+abbrev pub record_bytes : {R : Type 0} → Records R → List ℕ
+record_bytes r = if r.is_quoted then r.unquoted.bytes.items else at_hand r.source
+
 -- the fields of the record under way
 abbrev pub record_fields : {R : Type 0} → Records R → List (List ℕ)
-record_fields r = fields_of r.«record»
+record_fields r = parts (record_bytes r) r.spans.items
+
+-- the text after the record under way, if it is known; a byte order mark at the front of a file is none of it
+abbrev pub text_left : {R : Type 0} → (R → Option (List ℕ)) → Records R → Option (List ℕ)
+text_left remaining r =
+    let left = prepend_known (drop r.taken (at_hand r.source)) (remaining r.source.reader) in
+    if r.source.is_begun then left else option_map strip_bom left
 
 -- these are all the records of a text
 abbrev pub IsCsv : List ℕ → List (List (List ℕ)) → Type 0
@@ -28,11 +42,10 @@ IsCsv text rows = AreRecords default_config state.StartRecord (strip_bom text) r
 -- these records of a text were read, and what comes after them is left
 pub record HasRead {R : Type 0} (remaining : R → Option (List ℕ)) (text : List ℕ) (rows : List (List (List ℕ))) (r : Records R) : Type 0 where
   pub left : List ℕ
-  pub source : source_of remaining r.reader ≡ Some left
-  pub reached : Reached default_config state.StartRecord (strip_bom text) rows (reader_state r.reader) left
-  pub config : reader_config r.reader ≡ default_config
-  pub whole_fields : reader_trim r.reader ≡ trim.None
-  pub is_ready : Ready r.reader
+  pub source : text_left remaining r ≡ Some left
+  pub after : State
+  pub is_between : IsBetween after
+  pub reached : Reached default_config state.StartRecord (strip_bom text) rows after left
 
 -- one more record was read, or there was none
 abbrev pub HasReadOn : {R : Type 0} → (R → Option (List ℕ)) → List ℕ → List (List (List ℕ)) → Bool → Records R → Type 0
@@ -42,13 +55,36 @@ HasReadOn remaining text rows false r = IsCsv text rows
 -- these are all the records of what is left to read
 pub record HasLeft {R : Type 0} (remaining : R → Option (List ℕ)) (rows : List (List (List ℕ))) (r : Records R) : Type 0 where
   pub left : List ℕ
-  pub source : source_of remaining r.reader ≡ Some left
-  pub are_left : AreRecords default_config (reader_state r.reader) left rows
-  pub config : reader_config r.reader ≡ default_config
-  pub whole_fields : reader_trim r.reader ≡ trim.None
-  pub is_ready : Ready r.reader
+  pub source : text_left remaining r ≡ Some left
+  pub are_left : AreRecords default_config state.StartRecord left rows
 
 -- the first of the records that were left was read, or there was none
 abbrev pub HasLeftAfter : {R : Type 0} → (R → Option (List ℕ)) → List (List (List ℕ)) → Bool → Records R → Type 0
 HasLeftAfter remaining [] found r = found ≡ false
 HasLeftAfter remaining (row ∷ rows) found r = (found ≡ true) × (record_fields r ≡ row) × HasLeft remaining rows r
+
+-- a record may have so many bytes, with one for the end of each field
+abbrev pub IsKept : List (List ℕ) → Type 0
+IsKept fields = record_size fields ≤ 65536
+
+-- the first of these records has more bytes than that
+abbrev pub FirstIsTooLong : List (List (List ℕ)) → Type 0
+FirstIsTooLong [] = ⊥
+FirstIsTooLong (row ∷ rows) = 65536 < record_size row
+
+-- a record is found, and it has more than so many bytes
+abbrev pub FindsLonger : ℕ → Option Read → Type 0
+FindsLonger size None = ⊥
+FindsLonger size (Some read) = size < record_size read.0
+
+-- the next record of a text, if that is known, has more bytes than it may have
+abbrev pub NextIsTooLong : Option (List ℕ) → Type 0
+NextIsTooLong None = Unit {0}
+NextIsTooLong (Some text) = FindsLonger 65536 (next_record default_config state.StartRecord [] [] text)
+
+-- the record under way is the next one of the text that was left before, or there was none; what comes after it is left
+pub record IsNext {R : Type 0} (remaining : R → Option (List ℕ)) (before : Option (List ℕ)) (found : Bool) (r : Records R) : Type 0 where
+  pub after : State
+  pub is_between : IsBetween after
+  pub reads : ReadsNext default_config state.StartRecord before (text_left remaining r) found (record_fields r) after
+  pub is_kept : found ≡ true → IsKept (record_fields r)

@@ -1,13 +1,13 @@
 -- What is known of a record while its fields are taken.
 use Rattle.std.specs.Prelude.{◌≡◌, ℕ, List, ◌∷◌, ◌++◌, drop, Option, Some, None}
-use Rattle.csv.specs.Records.{fields_of}
+use Rattle.files.specs.Span.{parts}
 use Rattle.files.specs.declared.fault.FaultKind.{FaultKind}
 use Rattle.files.specs.declared.fields.Fields.{Fields}
 use Rattle.files.specs.Fault.{least_fault}
 
 -- the fields that are left
 abbrev pub fields_left : Fields → List (List ℕ)
-fields_left f = drop f.place (fields_of f.record.now)
+fields_left f = drop f.place (parts f.bytes.now f.spans.now)
 
 -- the least fault so far
 abbrev pub fault_of : Fields → Option FaultKind

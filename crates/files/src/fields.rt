@@ -1,17 +1,16 @@
 ghost use Rattle.std.specs.Prelude.{◌≡◌, ◌≢◌, ◌↔◌, ◌<◌, ◌≤◌, ℕ, ℤ, List, [], ◌∷◌, length, drop, IsTrue, None, Some, MatchOption, IfNone, IfSome, IfOk, IfErr, IsUtf8};
 ghost use Rattle.std.specs.Fmt.{decimal, signed_decimal};
 ghost use Rattle.amounts.specs.Money.{IsMoney};
-ghost use Rattle.csv.specs.Records.{fields_of};
+ghost use Rattle.files.specs.Span.{parts};
 ghost use Rattle.rows.specs.Text.{IsText};
 ghost use Rattle.files.specs.MomentText.{IsMomentText};
 ghost use Rattle.files.specs.Word.{credit_text};
 
-use crate::{
-    FaultKind, parse_cents, parse_credit, parse_moment, parse_ranged, parse_rate, parse_text,
-    parse_whole,
-};
+use crate::numbers::{read_ranged, read_rate, read_whole};
+use crate::span::{Span, part};
+use crate::words::read_text;
+use crate::{FaultKind, parse_cents, parse_credit, parse_moment};
 use amounts::{Cents, Rate};
-use csv::ByteRecord;
 use rows::{Credit, Moment, Ranged, Text};
 use std::str::from_utf8;
 
@@ -20,7 +19,9 @@ use std::str::from_utf8;
 /// for its fault.
 #[derive(Drop)]
 pub struct Fields<'r> {
-    record: &'r ByteRecord,
+    bytes: &'r [u8],
+    // Where each field is among the bytes.
+    spans: &'r [Span],
     // The place of the next field.
     place: usize,
     fault: Option<FaultKind>,
@@ -30,12 +31,13 @@ impl<'r> Fields<'r> {
     ghost use Rattle.files.specs.Taken.{fields_left, fault_of, with_fault, TakesWell};
 
     /// All fields of the record, none taken and without a fault.
-    pub fn new(record: &'r ByteRecord) -> Self
-        ensures left { fields_left result ≡ fields_of «record».now }
+    pub(crate) fn new(bytes: &'r [u8], spans: &'r [Span]) -> Self
+        ensures left { fields_left result ≡ parts bytes.now spans.now }
         ensures fault { fault_of result ≡ None }
     {
         Fields {
-            record,
+            bytes,
+            spans,
             place: 0,
             fault: None,
         }
@@ -43,21 +45,21 @@ impl<'r> Fields<'r> {
 
     /// How many fields the record has.
     pub fn count(&self) -> usize {
-        self.record.len()
+        self.spans.len()
     }
 
     /// How many fields are left.
     pub fn left(&self) -> usize
         ensures { result ≡ length (fields_left self.now) }
     {
-        self.record.len().saturating_sub(self.place)
+        self.spans.len().saturating_sub(self.place)
     }
 
     /// Whether the next field is there and is empty.
     pub fn next_is_empty(&self) -> bool
         ensures { IsTrue result ↔ ((rest : List (List ℕ)) × (fields_left self.now ≡ [] ∷ rest)) }
     {
-        match self.record.get(self.place) {
+        match self.peek() {
             Some(bytes) => bytes.is_empty(),
             None => false,
         }
@@ -89,10 +91,40 @@ impl<'r> Fields<'r> {
         ensures none_left { fields_left self.old ≡ [] → fault_of self.new ≡ fault_of self.old }
         ensures some_left { fields_left self.old ≢ [] → fault_of self.new ≡ Some (with_fault (fault_of self.old) FaultKind.WrongShape) }
     {
-        if self.place < self.record.len() {
+        if self.place < self.spans.len() {
             self.note(FaultKind::WrongShape);
         }
         self.fault
+    }
+
+    // The next field, which is not taken, if there is one.
+    fn peek(&self) -> Option<&'r [u8]>
+        ensures some { IfSome result (λ bytes. fields_left self.now ≡ bytes.now ∷ drop 1 (fields_left self.now)) }
+        ensures none { IfNone result (fields_left self.now ≡ []) }
+    {
+        match self.spans.get(self.place) {
+            Some(&span) => Some(part(self.bytes, span)),
+            None => None,
+        }
+    }
+
+    /// The bytes of the next field; none where there is none, which is noted as `WrongShape`.
+    pub fn bytes(&mut self) -> &'r [u8]
+        ensures left { fields_left self.new ≡ drop 1 (fields_left self.old) }
+        ensures none { fields_left self.old ≡ [] → (result.now ≡ []) × (fault_of self.new ≡ Some (with_fault (fault_of self.old) FaultKind.WrongShape)) }
+        ensures some { (field : List ℕ) (rest : List (List ℕ)) → fields_left self.old ≡ field ∷ rest → (result.now ≡ field) × (fault_of self.new ≡ fault_of self.old) }
+        ensures taken { TakesWell self.old self.new result.now }
+    {
+        match self.peek() {
+            Some(bytes) => {
+                self.place += 1;
+                bytes
+            }
+            None => {
+                self.note(FaultKind::WrongShape);
+                &[]
+            }
+        }
     }
 
     /// The next field as it stands. `""` where there is none, which is noted as `WrongShape`, and where
@@ -104,19 +136,11 @@ impl<'r> Fields<'r> {
         ensures text { (field : List ℕ) (rest : List (List ℕ)) → fields_left self.old ≡ field ∷ rest → IsUtf8 field → (result.now ≡ field) × (fault_of self.new ≡ fault_of self.old) }
         ensures taken { TakesWell self.old self.new result.now }
     {
-        match self.record.get(self.place) {
-            Some(bytes) => {
-                self.place += 1;
-                match from_utf8(bytes) {
-                    Ok(word) => word,
-                    Err(_) => {
-                        self.note(FaultKind::NotOfKind);
-                        ""
-                    }
-                }
-            }
-            None => {
-                self.note(FaultKind::WrongShape);
+        let bytes = self.bytes();
+        match from_utf8(bytes) {
+            Ok(word) => word,
+            Err(_) => {
+                self.note(FaultKind::NotOfKind);
                 ""
             }
         }
@@ -129,7 +153,7 @@ impl<'r> Fields<'r> {
         ensures left { fields_left self.new ≡ drop 1 (fields_left self.old) }
         ensures taken { TakesWell self.old self.new (decimal result) }
     {
-        match parse_whole(self.word(), u64::from(low), u64::from(high)) {
+        match read_whole(self.bytes(), u64::from(low), u64::from(high)) {
             Ok(number) => number as u32,
             Err(kind) => {
                 self.note(kind);
@@ -145,7 +169,7 @@ impl<'r> Fields<'r> {
         ensures left { fields_left self.new ≡ drop 1 (fields_left self.old) }
         ensures taken { TakesWell self.old self.new (decimal result) }
     {
-        let number = parse_ranged(self.word());
+        let number = read_ranged(self.bytes());
         self.or_note(number, Ranged::new(LOW))
     }
 
@@ -156,11 +180,11 @@ impl<'r> Fields<'r> {
         ensures left { fields_left self.new ≡ drop 1 (fields_left self.old) }
         ensures taken { MatchOption result (TakesWell self.old self.new []) (λ number. TakesWell self.old self.new (decimal number)) }
     {
-        let word = self.word();
-        if word.is_empty() {
+        let bytes = self.bytes();
+        if bytes.is_empty() {
             return None;
         }
-        match parse_ranged(word) {
+        match read_ranged(bytes) {
             Ok(number) => Some(number),
             Err(kind) => {
                 self.note(kind);
@@ -175,7 +199,7 @@ impl<'r> Fields<'r> {
         ensures reads { (text : List ℕ) (rest : List (List ℕ)) → fields_left self.old ≡ text ∷ rest → IsText WIDTH text → (result ≡ text) × (fault_of self.new ≡ fault_of self.old) }
         ensures taken { TakesWell self.old self.new result }
     {
-        let text = parse_text(self.word());
+        let text = read_text(self.bytes());
         self.or_note(text, Text::new())
     }
 
@@ -195,7 +219,7 @@ impl<'r> Fields<'r> {
         ensures left { fields_left self.new ≡ drop 1 (fields_left self.old) }
         ensures taken { TakesWell self.old self.new (decimal result) }
     {
-        let rate = parse_rate(self.word());
+        let rate = read_rate(self.bytes());
         self.or_note(rate, Rate::new(0))
     }
 
@@ -246,7 +270,7 @@ impl<'r> Fields<'r> {
         ensures left { fields_left self.new ≡ drop 1 (fields_left self.old) }
         ensures taken { TakesWell self.old self.new (decimal count) }
     {
-        match parse_whole(self.word(), count, count) {
+        match read_whole(self.bytes(), count, count) {
             Ok(_) => {}
             Err(FaultKind::OutOfRange) => self.note(FaultKind::WrongCount),
             Err(kind) => self.note(kind),

@@ -4,18 +4,23 @@
 
 mod fault;
 mod fields;
+mod line;
 mod moment;
 mod new_record;
 mod numbers;
 mod record_writer;
 mod records;
+mod source;
+mod span;
+mod unquoted;
+mod window;
 mod words;
 
 pub use fault::{FaultKind, FileError, FileFault};
 pub use fields::Fields;
 pub use moment::{moment_text, parse_moment};
 pub use new_record::NewRecord;
-pub use numbers::{parse_cents, parse_ranged, parse_rate, parse_whole};
+pub use numbers::{parse_cents, parse_whole};
 pub use record_writer::RecordWriter;
 pub use records::Records;
 pub use words::{credit_word, parse_credit, parse_text};

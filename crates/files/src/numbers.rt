@@ -1,4 +1,4 @@
-ghost use Rattle.std.specs.Prelude.{◌≡◌, ◌↔◌, ℕ, ℤ, ◌≤◌, ◌<◌, ◌⊎◌, false, IfOk, IfErr};
+ghost use Rattle.std.specs.Prelude.{◌≡◌, ◌↔◌, ℕ, ℤ, ◌≤◌, ◌<◌, ◌⊎◌, ◌+◌, ◌^◌, false, IfOk, IfErr, IfSome};
 ghost use Rattle.std.specs.Char.{is_ascii_digit};
 ghost use Rattle.std.specs.Fmt.{decimal, signed_decimal};
 ghost use Rattle.std.specs.List.{list_all};
@@ -8,6 +8,7 @@ ghost use Rattle.files.specs.Number.{is_positive, is_number};
 use crate::FaultKind;
 use amounts::{Cents, Rate};
 use rows::Ranged;
+use std::str::from_utf8;
 
 /// The number from `low` to `high` that the field spells: decimal digits without leading zeros.
 /// `NotOfKind` where the field spells no whole number at all, else `OutOfRange`.
@@ -18,44 +19,107 @@ pub fn parse_whole(field: &str, low: u64, high: u64) -> Result<u64, FaultKind>
     ensures not_of_kind { (result ≡ Err FaultKind.NotOfKind) ↔ (is_number field.now ≡ false) }
     ensures faults { IfErr result (λ kind. (kind ≡ FaultKind.NotOfKind) ⊎ (kind ≡ FaultKind.OutOfRange)) }
 {
+    read_whole(field.as_bytes(), low, high)
+}
+
+/// The same of the bytes of a field.
+pub(crate) fn read_whole(field: &[u8], low: u64, high: u64) -> Result<u64, FaultKind>
+    ensures value { IfOk result (λ number. decimal number ≡ field.now) }
+    ensures range { IfOk result (λ number. (low ≤ number) × (number ≤ high)) }
+    ensures reads { (number : ℕ) → decimal number ≡ field.now → low ≤ number → number ≤ high → result ≡ Ok number }
+    ensures not_of_kind { (result ≡ Err FaultKind.NotOfKind) ↔ (is_number field.now ≡ false) }
+    ensures faults { IfErr result (λ kind. (kind ≡ FaultKind.NotOfKind) ⊎ (kind ≡ FaultKind.OutOfRange)) }
+{
+    match short_number(field) {
+        Some(number) => within(number, low, high),
+        None => match from_utf8(field) {
+            Ok(word) => parse_any(word, low, high),
+            Err(_) => Err(FaultKind::NotOfKind),
+        },
+    }
+}
+
+// The number, where it is from `low` to `high`.
+fn within(number: u64, low: u64, high: u64) -> Result<u64, FaultKind>
+    ensures range { IfOk result (λ same. (same ≡ number) × (low ≤ number) × (number ≤ high)) }
+    ensures reads { low ≤ number → number ≤ high → result ≡ Ok number }
+    ensures faults { IfErr result (λ kind. kind ≡ FaultKind.OutOfRange) }
+{
+    if (low..=high).contains(&number) {
+        Ok(number)
+    } else {
+        Err(FaultKind::OutOfRange)
+    }
+}
+
+// The number that the digits spell, which are looked at once; `None` where they spell none, and where
+// there are more than a `u64` has for sure.
+fn short_number(field: &[u8]) -> Option<u64>
+    ensures { IfSome result (λ number. (decimal number ≡ field.now) × (number < 2 ^ 64)) }
+{
+    let [first, rest @ ..] = field else {
+        return None;
+    };
+    let mut number = digit_of(*first)?;
+    for &byte in rest {
+        if number == 0 || number >= 1_000_000_000_000_000_000 {
+            return None;
+        }
+        number = number * 10 + digit_of(byte)?;
+    }
+    Some(number)
+}
+
+fn digit_of(byte: u8) -> Option<u64>
+    ensures { IfSome result (λ digit. (digit < 10) × (byte ≡ 48 + digit)) }
+{
+    if byte >= b'0' && byte <= b'9' {
+        Some(u64::from(byte - b'0'))
+    } else {
+        None
+    }
+}
+
+// The number that a field of any length spells.
+fn parse_any(field: &str, low: u64, high: u64) -> Result<u64, FaultKind>
+    ensures value { IfOk result (λ number. decimal number ≡ field.now) }
+    ensures range { IfOk result (λ number. (low ≤ number) × (number ≤ high)) }
+    ensures reads { (number : ℕ) → decimal number ≡ field.now → low ≤ number → number ≤ high → result ≡ Ok number }
+    ensures not_of_kind { (result ≡ Err FaultKind.NotOfKind) ↔ (is_number field.now ≡ false) }
+    ensures faults { IfErr result (λ kind. (kind ≡ FaultKind.NotOfKind) ⊎ (kind ≡ FaultKind.OutOfRange)) }
+{
     if !is_number(field.as_bytes()) {
         return Err(FaultKind::NotOfKind);
     }
     match field.parse::<u64>() {
-        Ok(number) => {
-            if (low..=high).contains(&number) {
-                Ok(number)
-            } else {
-                Err(FaultKind::OutOfRange)
-            }
-        }
+        Ok(number) => within(number, low, high),
         Err(_) => Err(FaultKind::OutOfRange),
     }
 }
 
 /// The number that the field spells, within the column's range. Its faults are those of `parse_whole`.
-pub fn parse_ranged<const LOW: u32, const HIGH: u32>(
-    field: &str,
+pub(crate) fn read_ranged<const LOW: u32, const HIGH: u32>(
+    field: &[u8],
 ) -> Result<Ranged<LOW, HIGH>, FaultKind>
     ensures value { IfOk result (λ number. decimal number ≡ field.now) }
     ensures reads { (number : ℕ) → decimal number ≡ field.now → LOW ≤ number → number ≤ HIGH → result ≡ Ok number }
     ensures not_of_kind { (result ≡ Err FaultKind.NotOfKind) ↔ (is_number field.now ≡ false) }
     ensures faults { IfErr result (λ kind. (kind ≡ FaultKind.NotOfKind) ⊎ (kind ≡ FaultKind.OutOfRange)) }
 {
-    match parse_whole(field, u64::from(LOW), u64::from(HIGH)) {
+    match read_whole(field, u64::from(LOW), u64::from(HIGH)) {
         Ok(number) => Ok(Ranged::new(number as u32)),
         Err(kind) => Err(kind),
     }
 }
 
 /// The rate in ten-thousandths, from 0 to 9,999. Its faults are those of `parse_whole`.
-pub fn parse_rate(field: &str) -> Result<Rate, FaultKind>
+pub(crate) fn read_rate(field: &[u8]) -> Result<Rate, FaultKind>
     ensures value { IfOk result (λ number. decimal number ≡ field.now) }
     ensures reads { (number : ℕ) → decimal number ≡ field.now → number < 10000 → result ≡ Ok number }
     ensures not_of_kind { (result ≡ Err FaultKind.NotOfKind) ↔ (is_number field.now ≡ false) }
     ensures faults { IfErr result (λ kind. (kind ≡ FaultKind.NotOfKind) ⊎ (kind ≡ FaultKind.OutOfRange)) }
 {
-    match parse_whole(field, 0, 9_999) {
+    match read_whole(field, 0, 9_999) {
         Ok(number) => Ok(Rate::new(number as u16)),
         Err(kind) => Err(kind),
     }

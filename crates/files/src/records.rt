@@ -1,22 +1,65 @@
-ghost use Rattle.std.specs.Prelude.{◌≡◌, ◌⊎◌, ◌+◌, ◌-◌, ◌^◌, ◌<◌, ℕ, List, [], Some, None, IfOk, IfErr};
+ghost use Rattle.std.specs.Prelude.{◌≡◌, ◌≢◌, ◌≤◌, ◌⊎◌, ◌+◌, ◌-◌, ◌^◌, ◌<◌, ◌↔◌, ◌++◌, ℕ, List, [], length, drop, Option, Some, None, true, false, IfOk, IfErr, OnOk, IsTrue};
+ghost use Rattle.std.specs.Io.KnownBytes.{IsAtEnd};
+ghost use Rattle.csv.specs.Reading.{default_config};
+ghost use Rattle.csv.specs.declared.parser.State.TheVariants as state;
+ghost use Rattle.csv.proofs.ReadFacts.{Tracks};
 ghost use Rattle.files.specs.Taken.{fields_left, fault_of};
+ghost use Rattle.files.specs.Line.{BeginsRecord, IsOpen};
+ghost use Rattle.files.specs.Source.{ahead, at_hand, is_begun};
+ghost use Rattle.files.specs.Unquoted.{machine_state, fields_ended, field_begun, IsInTurn};
 
+use crate::line::{Line, add, cut_line};
+use crate::source::{Source, Unreadable};
+use crate::span::Span;
+use crate::unquoted::{Fed, Unquoted};
 use crate::{FaultKind, Fields, FileError, FileFault};
-use csv::{ByteRecord, Error, ErrorKind, Reader, ReaderBuilder};
-use std::alloc::Global;
+use std::alloc::{AllocError, Global};
 use std::io::Read;
 
 /// The records of a file, one after the other, with their numbers from 1. Blank lines and a byte order
 /// mark at the front are no records.
 #[derive(Drop)]
 pub struct Records<R> {
-    reader: Reader<R>,
-    record: ByteRecord,
+    source: Source<R>,
+    // How many of the bytes at hand are those of the record under way and its end. Its fields are among
+    // them, or among those of `unquoted` where it has quotation marks; then none are.
+    taken: usize,
+    spans: Vec<Span>,
+    unquoted: Unquoted,
+    is_quoted: bool,
     number: u64,
 }
 
+// Why the next record was not read.
+#[derive(Clone, Copy, Debug)]
+enum Stop {
+    NoMemory,
+    Unreadable,
+    TooLong,
+}
+
+impl From<AllocError> for Stop {
+    ghost use Rattle.files.specs.declared.records.Stop.TheVariants.{NoMemory};
+
+    ghost from_gives = { λ _ stop. stop ≡ NoMemory };
+
+    fn from(_error: AllocError) -> Stop {
+        Stop::NoMemory
+    }
+}
+
+impl From<Unreadable> for Stop {
+    ghost use Rattle.files.specs.declared.records.Stop.TheVariants as stop;
+
+    ghost from_gives = { λ _ why. why ≡ stop.Unreadable };
+
+    fn from(_error: Unreadable) -> Stop {
+        Stop::Unreadable
+    }
+}
+
 impl<R: Read> Records<R> {
-    ghost use Rattle.files.specs.Place.{record_number, record_fields, file_fault, IsCsv, HasRead, HasReadOn, HasLeft, HasLeftAfter};
+    ghost use Rattle.files.specs.Place.{record_number, record_fields, text_left, file_fault, IsCsv, HasRead, HasReadOn, HasLeft, HasLeftAfter, IsKept, IsNext, FirstIsTooLong, NextIsTooLong};
 
     /// The records that `source` gives, before the first.
     pub fn new(alloc: Global, source: R) -> Self
@@ -24,30 +67,174 @@ impl<R: Read> Records<R> {
         ensures none_read { (text : List ℕ) → R.remaining source ≡ Some text → HasRead R.remaining text [] result }
         ensures all_left { (text : List ℕ) (rows : List (List (List ℕ))) → R.remaining source ≡ Some text → IsCsv text rows → HasLeft R.remaining rows result }
     {
-        let reader = ReaderBuilder::new()
-            .has_headers(false)
-            .flexible(true)
-            .from_reader(alloc, source);
         Records {
-            reader,
-            record: ByteRecord::new(alloc),
+            source: Source::new(source),
+            taken: 0,
+            spans: Vec::new(alloc),
+            unquoted: Unquoted::new(alloc),
+            is_quoted: false,
             number: 0,
         }
     }
 
     /// Goes on to the next record, and says whether there is one. A failure of the source is the fault
-    /// `Io` at the record under way; after it and after want of memory there are no more records.
+    /// `Io` at the record under way. A record of more than 65,536 bytes is the fault `WrongShape`, and is
+    /// not kept: its fields count with a byte for the end of each, and without the quotation marks around
+    /// them. After an error nothing is said of the records to come.
     pub fn advance(&mut self) -> Result<bool, FileError>
         ensures reads { IfOk result (λ found. (text : List ℕ) (rows : List (List (List ℕ))) → HasRead R.remaining text rows self.old → HasReadOn R.remaining text rows found self.new) }
         ensures reads_next { IfOk result (λ found. (rows : List (List (List ℕ))) → HasLeft R.remaining rows self.old → HasLeftAfter R.remaining rows found self.new) }
+        ensures kept { IfOk result (λ found. found ≡ true → IsKept (record_fields self.new)) }
         ensures number { record_number self.old < 2 ^ 64 - 1 → record_number self.new ≡ record_number self.old + 1 }
-        ensures faults { IfErr result (λ fault. (fault ≡ FileError.NoMemory) ⊎ (fault ≡ file_fault FaultKind.Io (record_number self.new))) }
+        ensures faults { IfErr result (λ fault. (fault ≡ FileError.NoMemory) ⊎ (fault ≡ file_fault FaultKind.Io (record_number self.new)) ⊎ (fault ≡ file_fault FaultKind.WrongShape (record_number self.new))) }
+        ensures too_long { IfErr result (λ fault. fault ≡ file_fault FaultKind.WrongShape (record_number self.new) → (rows : List (List (List ℕ))) → HasLeft R.remaining rows self.old → FirstIsTooLong rows) }
+    {
+        match self.next_record() {
+            Ok(found) => Ok(found),
+            Err(Stop::NoMemory) => Err(FileError::NoMemory),
+            Err(Stop::Unreadable) => Err(self.fault(FaultKind::Io)),
+            Err(Stop::TooLong) => Err(self.fault(FaultKind::WrongShape)),
+        }
+    }
+
+    /// Asks that no record is left: another one, whatever it holds, is the fault `AfterEnd`. The other
+    /// faults are those of `advance`.
+    pub fn expect_end(&mut self) -> Result<(), FileError>
+        ensures reads { OnOk result ((text : List ℕ) (rows : List (List (List ℕ))) → HasRead R.remaining text rows self.old → IsCsv text rows) }
+        ensures none_left { OnOk result ((rows : List (List (List ℕ))) → HasLeft R.remaining rows self.old → rows ≡ []) }
+        ensures number { record_number self.old < 2 ^ 64 - 1 → record_number self.new ≡ record_number self.old + 1 }
+        ensures faults { IfErr result (λ fault. (fault ≡ FileError.NoMemory) ⊎ (fault ≡ file_fault FaultKind.Io (record_number self.new)) ⊎ (fault ≡ file_fault FaultKind.AfterEnd (record_number self.new))) }
+        ensures after_end { IfErr result (λ fault. fault ≡ file_fault FaultKind.AfterEnd (record_number self.new) → HasLeft R.remaining [] self.old → ⊥) }
+    {
+        match self.next_record() {
+            Ok(false) => Ok(()),
+            Ok(true) => Err(self.fault(FaultKind::AfterEnd)),
+            Err(Stop::TooLong) => Err(self.fault(FaultKind::AfterEnd)),
+            Err(Stop::NoMemory) => Err(FileError::NoMemory),
+            Err(Stop::Unreadable) => Err(self.fault(FaultKind::Io)),
+        }
+    }
+
+    // Reads the next record.
+    fn next_record(&mut self) -> Result<bool, Stop>
+        ensures next { IfOk result (λ found. IsNext R.remaining (text_left R.remaining self.old) found self.new) }
+        ensures too_long { IfErr result (λ stop. stop ≡ Stop.TooLong → NextIsTooLong (text_left R.remaining self.old)) }
+        ensures number { record_number self.old < 2 ^ 64 - 1 → record_number self.new ≡ record_number self.old + 1 }
     {
         self.number = self.number.saturating_add(1);
-        match self.reader.read_byte_record(&mut self.record) {
-            Ok(found) => Ok(found),
-            Err(error) => Err(self.failure(error)),
+        self.leave();
+        self.source.begin()?;
+        if self.source.skip_line_ends()? {
+            self.cut()
+        } else {
+            Ok(false)
         }
+    }
+
+    // Takes the bytes of the record under way.
+    fn leave(&mut self)
+        ensures left { text_left R.remaining self.new ≡ text_left R.remaining self.old }
+        ensures none_taken { self.new.taken ≡ 0 }
+        ensures number { record_number self.new ≡ record_number self.old }
+    {
+        let taken = self.taken.min(self.source.at_hand().len());
+        self.source.consume(taken);
+        self.taken = 0;
+    }
+
+    // Finds the fields of the record whose first byte is at hand.
+    fn cut(&mut self) -> Result<bool, Stop>
+        requires first { BeginsRecord (at_hand self.old.source) }
+        requires none_taken { self.old.taken ≡ 0 }
+        requires begun { is_begun self.old.source ≡ true }
+        ensures next { IfOk result (λ found. IsNext R.remaining (ahead R.remaining self.old.source) found self.new) }
+        ensures too_long { IfErr result (λ stop. stop ≡ Stop.TooLong → NextIsTooLong (ahead R.remaining self.old.source)) }
+        ensures number { record_number self.new ≡ record_number self.old }
+    {
+        self.is_quoted = false;
+        for _ in 0..u64::MAX {
+            match cut_line(self.source.at_hand(), &mut self.spans)? {
+                Line::Ends(count) => {
+                    self.taken = count;
+                    return Ok(true);
+                }
+                Line::Quoted => return self.unquote(),
+                Line::Open(from) => {
+                    if !self.source.more()? {
+                        return self.cut_last(from);
+                    }
+                }
+            }
+        }
+        Err(Stop::NoMemory)
+    }
+
+    // Ends the last record, which has no line end; its last field begins there.
+    fn cut_last(&mut self, from: usize) -> Result<bool, Stop>
+        requires open { IsOpen (at_hand self.old.source) self.old.spans.items from }
+        requires plain { self.old.is_quoted ≡ false }
+        requires begun { is_begun self.old.source ≡ true }
+        requires ended { length (at_hand self.old.source) < 65536 → IsAtEnd (R.remaining self.old.source.reader) }
+        ensures next { IfOk result (λ found. IsNext R.remaining (ahead R.remaining self.old.source) found self.new) }
+        ensures too_long { IfErr result (λ stop. stop ≡ Stop.TooLong → NextIsTooLong (ahead R.remaining self.old.source)) }
+        ensures number { record_number self.new ≡ record_number self.old }
+    {
+        if self.source.is_full() {
+            return Err(Stop::TooLong);
+        }
+        let count = self.source.at_hand().len();
+        add(&mut self.spans, from, count)?;
+        self.taken = count;
+        Ok(true)
+    }
+
+    // Takes the record whose first byte is at hand, byte by byte.
+    fn unquote(&mut self) -> Result<bool, Stop>
+        requires none_taken { self.old.taken ≡ 0 }
+        requires begun { is_begun self.old.source ≡ true }
+        ensures next { IfOk result (λ found. IsNext R.remaining (ahead R.remaining self.old.source) found self.new) }
+        ensures too_long { IfErr result (λ stop. stop ≡ Stop.TooLong → NextIsTooLong (ahead R.remaining self.old.source)) }
+        ensures number { record_number self.new ≡ record_number self.old }
+    {
+        self.is_quoted = true;
+        self.unquoted.restart(&mut self.spans);
+        for _ in 0..u64::MAX {
+            match self.source.next_byte() {
+                Some(byte) => match self.unquoted.feed(byte, &mut self.spans)? {
+                    Fed::GoesOn => {}
+                    Fed::Ends => return Ok(true),
+                    Fed::TooLong => return Err(Stop::TooLong),
+                },
+                None => {
+                    if !self.source.more()? {
+                        return self.unquote_last();
+                    }
+                }
+            }
+        }
+        Err(Stop::NoMemory)
+    }
+
+    // Ends the last record, where it was begun.
+    fn unquote_last(&mut self) -> Result<bool, Stop>
+        requires in_turn { IsInTurn self.old.unquoted self.old.spans.items }
+        requires quoted { self.old.is_quoted ≡ true }
+        requires none_taken { self.old.taken ≡ 0 }
+        requires begun { is_begun self.old.source ≡ true }
+        requires none_left { at_hand self.old.source ≡ [] }
+        requires ended { IsAtEnd (R.remaining self.old.source.reader) }
+        ensures next { IfOk result (λ found. (before : Option (List ℕ)) → Tracks default_config state.StartRecord before (machine_state self.old.unquoted.state) (fields_ended self.old.unquoted self.old.spans.items) (field_begun self.old.unquoted) (ahead R.remaining self.old.source) → IsNext R.remaining before found self.new) }
+        ensures too_long { IfErr result (λ stop. stop ≡ Stop.TooLong → (before : Option (List ℕ)) → Tracks default_config state.StartRecord before (machine_state self.old.unquoted.state) (fields_ended self.old.unquoted self.old.spans.items) (field_begun self.old.unquoted) (ahead R.remaining self.old.source) → NextIsTooLong before) }
+        ensures number { record_number self.new ≡ record_number self.old }
+    {
+        if self.unquoted.is_too_long(&self.spans) {
+            return Err(Stop::TooLong);
+        }
+        if !self.unquoted.is_begun() {
+            return Ok(false);
+        }
+        self.unquoted.end_field(&mut self.spans)?;
+        Ok(true)
     }
 
     /// The number of the record under way; after the last one, the number past it.
@@ -62,7 +249,11 @@ impl<R: Read> Records<R> {
         ensures left { fields_left result ≡ record_fields self.now }
         ensures fault { fault_of result ≡ None }
     {
-        Fields::new(&self.record)
+        if self.is_quoted {
+            Fields::new(self.unquoted.bytes.as_slice(), self.spans.as_slice())
+        } else {
+            Fields::new(self.source.at_hand(), self.spans.as_slice())
+        }
     }
 
     /// The fault at the record under way.
@@ -73,14 +264,5 @@ impl<R: Read> Records<R> {
             kind,
             record: self.number,
         })
-    }
-
-    fn failure(&self, error: Error) -> FileError
-        ensures { (result ≡ FileError.NoMemory) ⊎ (result ≡ file_fault FaultKind.Io (record_number self.now)) }
-    {
-        match error.into_kind() {
-            ErrorKind::OutOfMemory => FileError::NoMemory,
-            _ => self.fault(FaultKind::Io),
-        }
     }
 }

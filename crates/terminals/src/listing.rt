@@ -36,9 +36,7 @@ pub fn read<T: Listed, R: Read + Drop>(alloc: Global, source: R) -> Result<Vec<T
 {
     let mut records = Records::new(alloc, source);
     let items = read_items(alloc, &mut records)?;
-    if records.advance()? {
-        return Err(records.fault(FaultKind::AfterEnd));
-    }
+    records.expect_end()?;
     Ok(items)
 }
 

@@ -4,6 +4,8 @@ use Rattle.dataset.specs.Records.{AreSpelt, header_fields}
 use Rattle.dataset.proofs.Expecting.{no_row, same_ok, ok_err}
 use Rattle.dataset.specs.Taking.{Awaits}
 use Rattle.std.proofs.Common.{◌∷◌, length, sym, ap, ◌∙◌, arith}
+use Rattle.dataset.proofs.Short.{no_fault_short, header_kept}
+use Rattle.std.proofs.lemmas.Result.{err_from_is_err_and}
 use Rattle.dataset.proofs.reader.read_header.Goals as goal
 
 pub returns-in-Ok-clause-read : goal.returns-in-Ok-clause-read
@@ -33,3 +35,10 @@ returns-in-Err-clause-fault g c = λ fault s header rows spelt left.
     let awaits : Awaits (header_fields s) c.fields.result = record { faultless = c.fields.ensures.fault; are_spelt = subst (AreSpelt (header_fields s)) (sym (c.fields.ensures.left ∙ after.1)) spelt } in
     let read = c.parse.ensures.reads s awaits in
     ok_err c.parse.result s c.in-Err.kind read c.in-Err.is
+
+pub returns-in_err-advance-clause-fault : goal.returns-in_err-advance-clause-fault
+returns-in_err-advance-clause-fault g c =
+    let p = err_from_is_err_and c.from_residual.result c.from_residual.ensures.1 in
+    let failed = c.in_err-advance.ensures in
+    rw (p.1, p.2) (λ fault s header rows spelt left.
+    no_fault_short _ _ (header ∷ rows) failed.faults (λ long. failed.too_long long (header ∷ rows) left) (header_kept s header spelt) fault)

@@ -9,6 +9,7 @@ use Rattle.dataset.specs.Expecting.{Expects}
 use Rattle.files.specs.Place.{HasLeft}
 use Rattle.std.proofs.lemmas.Result.{err_from_is_err_and}
 use Rattle.std.proofs.Common.{◌+◌, length, ap, arith}
+use Rattle.dataset.proofs.Short.{no_fault_short, expected_kept}
 use Rattle.dataset.proofs.reader.read_rows.Goals as goal
 
 pub returns-in-End-clause-read : goal.returns-in-End-clause-read
@@ -73,3 +74,11 @@ returns-clause-fault g c = λ fault t rows few expects left.
           let none = no_row g.R.Read.remaining inv.0 w.in_ok-advance.field-0 w.advance.new.self w.if-not-branch.true (w.in_ok-advance.ensures.reads_next inv.0 inv.3) in
           expects_more t c.loop.loader (subst (Expects t c.loop.loader) none inv.2)
     ]
+
+pub returns-in_err-advance-clause-fault : goal.returns-in_err-advance-clause-fault
+returns-in_err-advance-clause-fault g c =
+    let p = err_from_is_err_and c.from_residual.result c.from_residual.ensures.1 in
+    let failed = c.in_err-advance.ensures in
+    rw (p.1, p.2) (λ fault t rows few expects left.
+    let inv = c.loop.invariant.1 t rows expects left in
+    no_fault_short _ _ inv.0 failed.faults (λ long. failed.too_long long inv.0 inv.3) (expected_kept t c.loop.loader inv.0 inv.2) fault)

@@ -1,13 +1,12 @@
 use Rattle.std.proofs.Common.{◌∷◌}
 use Rattle.std.proofs.lemmas.Result.{IfOk-weaker, MatchResult-weaker}
-use Rattle.csv.specs.Reading.{reader_state}
 use Rattle.dataset.proofs.reader.read_scale.Goals as goal
 
 pub returns-clause-scale : goal.returns-clause-scale
 returns-clause-scale g c =
     IfOk-weaker c.read_header.result _ _ (λ scale gives text known.
     let header = gives text (c.new-records.ensures.none_read text known) in
-    (header.0, header.1, (reader_state c.read_header.new.records.reader, header.2.left, header.2.reached))) c.read_header.ensures.read
+    (header.0, header.1, (header.2.after, header.2.left, header.2.reached))) c.read_header.ensures.read
 
 pub returns-clause-fault : goal.returns-clause-fault
 returns-clause-fault g c =

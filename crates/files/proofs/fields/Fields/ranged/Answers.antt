@@ -1,11 +1,10 @@
 use Rattle.std.proofs.Common.{◌<◌, ◌^◌, decimal, sym, ◌∙◌, arith}
-use Rattle.files.proofs.Ascii.{utf8_number}
 use Rattle.files.proofs.fields.Fields.ranged.Goals as goal
 
 pub returns-clause-reads : goal.returns-clause-reads
 returns-clause-reads g c = λ number rest next low high.
     let small : number < 2 ^ 64 = omega arith in
-    let word = c.word.ensures.text (decimal number) rest next (utf8_number number small) in
-    let read = c.parse_ranged-number.ensures.reads number (sym word.0) low high in
+    let word = c.bytes.ensures.some (decimal number) rest next in
+    let read = c.read_ranged-number.ensures.reads number (sym word.0) low high in
     let note = rw read at c.or_note.ensures.ok in
     (note.0, note.1 ∙ word.1)

@@ -1,0 +1,10 @@
+use Rattle.std.proofs.Common.{◌-◌, length}
+use Rattle.std.specs.Io.KnownBytes.{Keeps}
+use Rattle.files.specs.Source.{ahead, at_hand}
+use Rattle.files.proofs.source.Source.three_bytes.Given as goal
+
+abbrev pub invariant-loop-self : goal.invariant-loop-self
+invariant-loop-self g l = Keeps (ahead g.R.Read.remaining l.fn.self) (ahead g.R.Read.remaining l.self)
+
+abbrev pub decreases-loop-self : goal.decreases-loop-self
+decreases-loop-self g l = 3 - length (at_hand l.self)

@@ -1,0 +1,170 @@
+ghost use Rattle.std.specs.Prelude.{◌≡◌, ◌↔◌, IsTrue, ℕ, ◌<◌, ◌≤◌, List, [], ◌∷◌, ◌++◌, drop, length, Some, true, false, IfOk, IfSome, IfNone, IfErr, OnOk, option_map, is_some};
+ghost use Rattle.std.specs.Io.KnownBytes.{Keeps, Consumes, IsAtEnd, prepend_known};
+ghost use Rattle.csv.specs.Reading.{default_config, strip_bom};
+ghost use Rattle.csv.specs.declared.parser.State.TheVariants as state;
+ghost use Rattle.csv.proofs.ReadFacts.{Tracks};
+ghost use Rattle.files.specs.ByteOrder.{is_marked};
+ghost use Rattle.files.specs.Line.{BeginsRecord, IsFirst};
+
+use crate::window::{MOST_BYTES, Window};
+use std::io::Read;
+
+/// Why there are no more bytes of a file: reading failed.
+#[derive(Clone, Copy, Debug, PartialEq, Eq)]
+pub struct Unreadable;
+
+/// The text of a file, from left to right. A byte order mark at its front is none of it.
+#[derive(Drop)]
+pub struct Source<R> {
+    reader: R,
+    window: Window,
+    // Whether a byte order mark was looked for.
+    is_begun: bool,
+}
+
+impl<R: Read> Source<R> {
+    ghost use Rattle.files.specs.Source.{at_hand, ahead, unread, is_begun};
+
+    /// All text that `reader` gives.
+    pub fn new(reader: R) -> Self
+        ensures { unread R.remaining result ≡ option_map strip_bom (R.remaining reader) }
+    {
+        Source {
+            reader,
+            window: Window::new(),
+            is_begun: false,
+        }
+    }
+
+    /// The bytes of it that are in memory.
+    pub fn at_hand(&self) -> &[u8]
+        ensures value { result.now ≡ at_hand self.now }
+        ensures fits { length result.now ≤ 65536 }
+    {
+        self.window.as_slice()
+    }
+
+    /// Whether there is no room for more bytes in memory.
+    pub fn is_full(&self) -> bool
+        ensures { IsTrue result ↔ (length (at_hand self.now) ≡ 65536) }
+    {
+        self.window.as_slice().len() == MOST_BYTES
+    }
+
+    /// Takes the first so many bytes.
+    pub fn consume(&mut self, count: usize)
+        requires { count ≤ length (at_hand self.old) }
+        ensures left { at_hand self.new ≡ drop count (at_hand self.old) }
+        ensures behind { R.remaining self.new.reader ≡ R.remaining self.old.reader }
+        ensures begun { is_begun self.new ≡ is_begun self.old }
+    {
+        self.window.consume(count);
+    }
+
+    /// Takes the next byte, if one is in memory.
+    pub fn next_byte(&mut self) -> Option<u8>
+        ensures some { IfSome result (λ byte. at_hand self.old ≡ byte ∷ at_hand self.new) }
+        ensures none { IfNone result ((at_hand self.old ≡ []) × (at_hand self.new ≡ [])) }
+        ensures behind { R.remaining self.new.reader ≡ R.remaining self.old.reader }
+        ensures begun { is_begun self.new ≡ is_begun self.old }
+    {
+        let byte = self.at_hand().first().copied();
+        if byte.is_some() {
+            self.consume(1);
+        }
+        byte
+    }
+
+    /// Brings more bytes into memory; says whether any came. None come at the end of the file, and where
+    /// there is no room.
+    pub fn more(&mut self) -> Result<bool, Unreadable>
+        ensures keeps { OnOk result (Keeps (ahead R.remaining self.old) (ahead R.remaining self.new)) }
+        ensures grows { IfOk result (λ came. (bytes : List ℕ) × (at_hand self.new ≡ at_hand self.old ++ bytes) × (came ≡ true → 0 < length bytes)) }
+        ensures none { IfOk result (λ came. came ≡ false → (at_hand self.new ≡ at_hand self.old) × (length (at_hand self.new) < 65536 → IsAtEnd (R.remaining self.new.reader))) }
+        ensures begun { is_begun self.new ≡ is_begun self.old }
+    {
+        self.window.move_to_front();
+        match self.window.read_from(&mut self.reader) {
+            Ok(count) => Ok(count > 0),
+            Err(_) => Err(Unreadable),
+        }
+    }
+
+    /// Leaves a byte order mark out, before anything is taken.
+    pub fn begin(&mut self) -> Result<(), Unreadable>
+        ensures unread { OnOk result (Keeps (unread R.remaining self.old) (ahead R.remaining self.new)) }
+        ensures begun { OnOk result (is_begun self.new ≡ true) }
+    {
+        if self.is_begun {
+            return Ok(());
+        }
+        self.three_bytes()?;
+        if is_marked(self.at_hand()) {
+            self.consume(3);
+        }
+        self.is_begun = true;
+        Ok(())
+    }
+
+    /// Takes the ends of lines up to the next record; says whether there is one, whose first byte is in
+    /// memory then.
+    pub fn skip_line_ends(&mut self) -> Result<bool, Unreadable>
+        ensures tracks { OnOk result (Tracks default_config state.StartRecord (ahead R.remaining self.old) state.StartRecord [] [] (ahead R.remaining self.new)) }
+        ensures first { IfOk result (λ found. found ≡ true → BeginsRecord (at_hand self.new)) }
+        ensures none { IfOk result (λ found. found ≡ false → (at_hand self.new ≡ []) × IsAtEnd (R.remaining self.new.reader)) }
+        ensures begun { is_begun self.new ≡ is_begun self.old }
+    {
+        for _ in 0..u64::MAX {
+            match first_of(self.at_hand()) {
+                First::LineEnd => self.consume(1),
+                First::OfRecord => return Ok(true),
+                First::None => {
+                    if !self.more()? {
+                        return Ok(false);
+                    }
+                }
+            }
+        }
+        Err(Unreadable)
+    }
+
+    // Brings three bytes into memory, where the file has as many.
+    fn three_bytes(&mut self) -> Result<(), Unreadable>
+        ensures keeps { OnOk result (Keeps (ahead R.remaining self.old) (ahead R.remaining self.new)) }
+        ensures three { OnOk result (length (at_hand self.new) < 3 → IsAtEnd (R.remaining self.new.reader)) }
+    {
+        while self.at_hand().len() < 3 {
+            if !self.more()? {
+                break;
+            }
+        }
+        Ok(())
+    }
+}
+
+// Whether a byte order mark stands first.
+fn is_marked(bytes: &[u8]) -> bool
+    ensures { result ≡ is_marked bytes.now }
+{
+    match bytes {
+        [first, second, third, ..] => *first == 0xEF && *second == 0xBB && *third == 0xBF,
+        _ => false,
+    }
+}
+
+// What stands first among bytes.
+enum First {
+    LineEnd,
+    OfRecord,
+    None,
+}
+
+fn first_of(bytes: &[u8]) -> First
+    ensures { IsFirst bytes.now result }
+{
+    match bytes {
+        [] => First::None,
+        [b'\n' | b'\r', ..] => First::LineEnd,
+        _ => First::OfRecord,
+    }
+}

@@ -1,0 +1,74 @@
+ghost use Rattle.std.specs.Prelude.{◌≡◌, ℕ, ◌+◌, ◌≤◌, ◌<◌, List, [], ◌++◌, length, drop, IfOk, OnErr};
+ghost use Rattle.std.specs.Io.KnownBytes.{Keeps, Consumes, IsAtEnd};
+
+use std::io;
+use std::io::Read;
+
+/// How many bytes of a file are in memory at a time, and the most that a record may have.
+pub const MOST_BYTES: usize = 65_536;
+
+/// Bytes of a file: those from `start` to `end` were read and not taken yet.
+#[derive(Drop)]
+pub struct Window {
+    bytes: [u8; MOST_BYTES],
+    start: usize,
+    end: usize,
+    ghost ordered: { start ≤ end },
+    ghost within: { end ≤ 65536 },
+}
+
+impl Window {
+    ghost use Rattle.files.specs.Window.{items, room};
+
+    /// No bytes.
+    pub fn new() -> Window
+        ensures { items result ≡ [] }
+    {
+        Window {
+            bytes: [0; MOST_BYTES],
+            start: 0,
+            end: 0,
+        }
+    }
+
+    /// The bytes that were read and not taken yet.
+    pub fn as_slice(&self) -> &[u8]
+        ensures value { result.now ≡ items self.now }
+        ensures fits { length result.now ≤ 65536 }
+    {
+        &self.bytes[self.start..self.end]
+    }
+
+    /// Takes the first so many bytes.
+    pub fn consume(&mut self, count: usize)
+        requires { count ≤ length (items self.old) }
+        ensures { items self.new ≡ drop count (items self.old) }
+    {
+        self.start += count;
+    }
+
+    /// Makes all room that there can be.
+    pub fn move_to_front(&mut self)
+        ensures items { items self.new ≡ items self.old }
+        ensures room { room self.new + length (items self.new) ≡ 65536 }
+    {
+        let (start, end) = (self.start, self.end);
+        self.bytes.copy_within(start..end, 0);
+        self.start = 0;
+        self.end = end - start;
+    }
+
+    /// Reads once, behind the bytes that are there, as many bytes as come and have room; says how many.
+    pub fn read_from<R: Read>(&mut self, reader: &mut R) -> io::Result<usize>
+        ensures ok { IfOk result (λ n. (more : List ℕ) × (length more ≡ n) × (items self.new ≡ items self.old ++ more)
+            × Consumes (R.remaining reader.old) (R.remaining reader.new) more) }
+        ensures end { IfOk result (λ n. n ≡ 0 → 0 < room self.old → IsAtEnd (R.remaining reader.new)) }
+        ensures err { OnErr result ((items self.new ≡ items self.old)
+            × Keeps (R.remaining reader.old) (R.remaining reader.new)) }
+    {
+        let end = self.end;
+        let count = reader.read(&mut self.bytes[end..])?;
+        self.end = end + count;
+        Ok(count)
+    }
+}
