@@ -92,15 +92,15 @@ all_open age locks wanted free =
     none_of [] none = refl
     none_of (x ∷ xs) none = absurd (none x (contains_here x xs))
 
-pub granted_all : (warehouses w_id : ℕ) (by : Holder) (wants : List Want) (locks new : List Locked) (waiters later : List Parked) (claims : List Claiming) → AreLocksOf warehouses w_id locks → All (IsOwn warehouses w_id) wants
-    → IsRuling by.age locks (flat_map spots_of wants) Free → claims ≡ map (claim_at by (map stand_in locks)) (flat_map spots_of wants) → AreGranted warehouses by (flat_map spots_of wants) locks new
+pub granted_all : (warehouses w_id age : ℕ) (by : Holder) (wants : List Want) (locks new : List Locked) (waiters later : List Parked) (claims : List Claiming) → AreLocksOf warehouses w_id locks → All (IsOwn warehouses w_id) wants
+    → IsRuling age locks (flat_map spots_of wants) Free → claims ≡ map (claim_at by (map stand_in locks)) (flat_map spots_of wants) → AreGranted warehouses by (flat_map spots_of wants) locks new
     → Grants by wants (locking w_id locks waiters) claims (locking w_id new later)
-granted_all warehouses w_id by wants locks new waiters later claims are own free made granted =
+granted_all warehouses w_id age by wants locks new waiters later claims are own free made granted =
     let home = home_there warehouses w_id locks are in
     let holdings : map (held_at by (map stand_in locks)) (flat_map spots_of wants) ≡ map (held_for by) (wishes wants) =
     wished_same warehouses w_id wants (held_at by (map stand_in locks)) (held_for by) home own (same_holding warehouses w_id by locks are) in
     record {
-      free = tells_free warehouses w_id locks wants by.age are free;
+      free = tells_free warehouses w_id locks wants age are free;
       claims = made ∙ wished_same warehouses w_id wants (claim_at by (map stand_in locks)) (claim_for by (map stand_in locks)) home own (same_claim warehouses w_id by locks are);
       holdings = subst (λ hs. IsPermutation (flat_map holdings_of new) (hs ++ flat_map holdings_of locks)) holdings granted.holdings;
       stands = granted.stands;
@@ -132,12 +132,12 @@ pub still_locks : (warehouses w_id : ℕ) (by : Holder) (wanted : List Spot) (lo
 still_locks warehouses w_id by wanted locks shown new back showing same are granted =
     subst (AreLocksOf warehouses w_id) (sym same) (granted.locks w_id (subst (AreLocksOf warehouses w_id) (sym showing) are))
 
-pub answered_free : (warehouses w_id : ℕ) (by : Holder) (wants : List Want) (table : Locking) (locks shown new back : List Locked) (waiters later : List Parked) (before claims : List Claiming) → locking w_id locks waiters ≡ table
-    → shown ≡ locks → back ≡ new → before ≡ [] → AreLocksOf warehouses w_id locks → All (IsOwn warehouses w_id) wants → IsRuling by.age locks (flat_map spots_of wants) Free
+pub answered_free : (warehouses w_id age : ℕ) (by : Holder) (wants : List Want) (table : Locking) (locks shown new back : List Locked) (waiters later : List Parked) (before claims : List Claiming) → locking w_id locks waiters ≡ table
+    → shown ≡ locks → back ≡ new → before ≡ [] → AreLocksOf warehouses w_id locks → All (IsOwn warehouses w_id) wants → IsRuling age locks (flat_map spots_of wants) Free
     → claims ≡ before ++ map (claim_at by (map stand_in shown)) (flat_map spots_of wants) → AreGranted warehouses by (flat_map spots_of wants) shown new → Grants by wants table claims (locking w_id back later)
-answered_free warehouses w_id by wants table locks shown new back waiters later before claims view showing same none are own free made granted =
+answered_free warehouses w_id age by wants table locks shown new back waiters later before claims view showing same none are own free made granted =
     let P : List Locked → Type 0 = λ ls. Grants by wants (locking w_id locks waiters) claims (locking w_id ls later) in
     let Q : Locking → Type 0 = λ t. Grants by wants t claims (locking w_id back later) in
     let spelt : claims ≡ map (claim_at by (map stand_in locks)) (flat_map spots_of wants) = made ∙ (λ i. none i ++ map (claim_at by (map stand_in (showing i))) (flat_map spots_of wants)) in
     let R : List Locked → Type 0 = λ ls. AreGranted warehouses by (flat_map spots_of wants) ls new in
-    subst Q view (subst P (sym same) (granted_all warehouses w_id by wants locks new waiters later claims are own free spelt (subst R showing granted)))
+    subst Q view (subst P (sym same) (granted_all warehouses w_id age by wants locks new waiters later claims are own free spelt (subst R showing granted)))

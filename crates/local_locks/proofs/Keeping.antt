@@ -1,7 +1,6 @@
 -- What a lock table grants and takes back keeps what is committed.
-use Rattle.std.proofs.Common.{◌≡◌, ◌⊎◌, ℕ, zero, suc, ◌+◌, ◌-◌, ◌*◌, ◌<◌, ◌≤◌, true, false, List, [], ◌∷◌, ◌++◌, refl, sym, ◌∙◌, ap, subst, cond, ⊎_elim, arith}
+use Rattle.std.proofs.Common.{◌≡◌, ◌⊎◌, ℕ, suc, ◌+◌, ◌-◌, ◌*◌, ◌≤◌, true, false, List, [], ◌∷◌, ◌++◌, refl, sym, ◌∙◌, ap, subst, cond, ⊎_elim, arith}
 use Rattle.std.specs.Prelude.{Bool, All, AllPairs, IsTrue, map, sum_by, if◌then◌else◌, ◌&&◌}
-use Rattle.std.specs.List.Sorted.{IsPermutation}
 use Rattle.std.proofs.lemmas.List.Elements.{All-nil, All-cons, All-head, All-tail, All-append}
 use Rattle.std.proofs.lemmas.List.Sorted.{sum_by-IsPermutation}
 use Rattle.std.proofs.lemmas.List.Sums.{sum_by-cons, sum_by-append}
@@ -13,13 +12,13 @@ use Rattle.groups.specs.declared.wishes.Mode.TheVariants.{Shared, Exclusive}
 use Rattle.groups.specs.declared.wishes.Wish.{Wish}
 use Rattle.groups.proofs.SameGroups.{is_same-itself}
 use Rattle.tickets.specs.Claims.{Claiming}
-use Rattle.tickets.specs.Committed.{Standing, AreCommitted, LeavesHere, TellsHere, exclusive_held, exclusive_of, exclusive_out, tickets_held, tickets_of, tickets_out}
+use Rattle.tickets.specs.Committed.{LeavesHere, TellsHere, exclusive_held, exclusive_of, exclusive_out, tickets_held, tickets_of, tickets_out}
 use Rattle.tickets.proofs.Apart.{by_bool, by_mode, is_same-equal}
 use Rattle.local_locks.specs.Locking.{Holding}
 use Rattle.local_locks.specs.Conflicts.{is_shared, shared_on}
 use Rattle.local_locks.specs.Asking.{claimed, held_by, AreTogether, IsSettled}
 use Rattle.local_locks.specs.Laws.{AreCompatible, NoneConflict}
-use Rattle.local_locks.specs.Keeping.{tickets_by, tickets_on, standing_of, IsNewOn, GrantsKeepCommitted, ReturnsKeepCommitted}
+use Rattle.local_locks.specs.Keeping.{tickets_by, tickets_on, IsNewOn, GrantsKeepCommitted, ReturnsKeepCommitted}
 
 -- ---- the tickets of claims, and of their holders
 

@@ -52,7 +52,7 @@ claims_home warehouses w_id holdings claims all held = each claims held.0 (All-p
 
 -- ---- as tests have it
 
-granted_held : (stands : List Stand) (by : Holder) (ws : List Wish) → map held_by (map (claim_for by stands) ws) ≡ map (held_for by) ws
+pub granted_held : (stands : List Stand) (by : Holder) (ws : List Wish) → map held_by (map (claim_for by stands) ws) ≡ map (held_for by) ws
 granted_held stands by [] = refl
 granted_held stands by (w ∷ ws) = ap (λ hs. held_for by w ∷ hs) (granted_held stands by ws)
 

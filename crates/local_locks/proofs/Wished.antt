@@ -1,5 +1,5 @@
 -- A wish stands for each group that is covered.
-use Rattle.std.proofs.Common.{◌≡◌, ◌⊎◌, ℕ, zero, suc, ◌+◌, ◌<◌, ◌≤◌, List, [], ◌∷◌, map, refl, sym, ap, subst, ◌∙◌, ⊎_elim, arith}
+use Rattle.std.proofs.Common.{◌≡◌, ◌⊎◌, ℕ, zero, suc, ◌+◌, ◌<◌, ◌≤◌, [], ◌∷◌, refl, sym, ap, subst, ◌∙◌, ⊎_elim, arith}
 use Rattle.std.specs.Prelude.{Contains}
 use Rattle.requests.specs.declared.group.Group.{Group}
 use Rattle.requests.specs.declared.group.Group.TheVariants as g
@@ -10,7 +10,6 @@ use Rattle.groups.specs.declared.wants.Kind.{Kind}
 use Rattle.groups.specs.declared.wants.Kind.TheVariants as kind
 use Rattle.groups.specs.declared.wants.Extent.{Extent}
 use Rattle.groups.specs.declared.wants.Extent.TheVariants.{One, Every}
-use Rattle.groups.specs.declared.wants.Want.{Want}
 use Rattle.tickets.specs.Places.{IsGroupOf}
 use Rattle.local_locks.specs.Laws.{EachCoveredGroupIsWished}
 use Rattle.local_locks.specs.Wishes.{groups_in, groups_under, numbered, wish_of}

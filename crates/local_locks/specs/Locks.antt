@@ -1,5 +1,5 @@
 -- How a table keeps what it has: a lock for each group, in the order of groups, and who waits.
-use Rattle.std.specs.Prelude.{◌≡◌, ℕ, ◌+◌, ◌<◌, ◌≤◌, List, [], Bool, true, All, map, length, slice_index_or, ◌==◌, if◌then◌else◌}
+use Rattle.std.specs.Prelude.{◌≡◌, ℕ, ◌+◌, ◌<◌, ◌≤◌, List, [], Bool, true, map, length, slice_index_or, ◌==◌, if◌then◌else◌}
 use Rattle.std.specs.List.{flat_map}
 use Rattle.requests.specs.declared.group.Group.{Group}
 use Rattle.groups.specs.Groups.{warehouse_of}
@@ -7,12 +7,10 @@ use Rattle.groups.specs.declared.wishes.Mode.{Mode}
 use Rattle.groups.specs.declared.wishes.Mode.TheVariants.{Shared, Exclusive}
 use Rattle.groups.specs.declared.wants.Want.{Want}
 use Rattle.tickets.specs.Boxes.{Boxed, sharing, lent}
-use Rattle.tickets.specs.Claims.{Claiming}
 use Rattle.tickets.specs.Places.{IsGroupOf, place_in_warehouse}
 use Rattle.wait_die.specs.declared.deciding.Holder.{Holder}
 use Rattle.local_locks.specs.Locking.{Holding, Waiting, Stand, Locking, stand_of}
 use Rattle.local_locks.specs.Wishes.{CanAsk, wishes}
-use Rattle.local_locks.specs.Asking.{IsOfHome}
 
 -- a group's ticket box, and who holds the claims that are out
 pub record Locked : Type 0 where
@@ -95,10 +93,6 @@ pub record IsLockAt (warehouses w_id number : ℕ) (lock : Locked) : Type 0 wher
 pub record AreLocksOf (warehouses w_id : ℕ) (locks : List Locked) : Type 0 where
   pub all_there : length locks ≡ 105
   pub each : (place : ℕ) (d : Locked) → place < length locks → IsLockAt warehouses w_id place (slice_index_or locks place d)
-
--- there is a lock for each group of some warehouse, and these claims are on groups of it
-abbrev pub AreLocksAt : ℕ → List Locked → List Claiming → Type 0
-AreLocksAt warehouses locks claims = (w_id : ℕ) × AreLocksOf warehouses w_id locks × All (IsOfHome w_id) claims
 
 -- of whatever warehouse the locks were, there still is one for each of its groups
 abbrev pub KeepsLocks : ℕ → List Locked → List Locked → Type 0

@@ -1,15 +1,13 @@
 //! Groups that are wanted, and free, are granted.
 ghost use Rattle.std.specs.Prelude.{◌≡◌, ◌<◌, ◌≤◌, ◌+◌, ◌∷◌, ◌++◌, [], All, AllPairs, length, vec_len, vec_capacity, map};
 ghost use Rattle.std.specs.List.{flat_map};
-ghost use Rattle.std.specs.List.Sorted.{IsPermutation};
-ghost use Rattle.local_locks.specs.Asking.{all_kept_after, held_by, AreHeld, AreTogether, IsSettled};
 ghost use Rattle.local_locks.specs.Granting.{AreElsewhere, AreGranted, IsOpen, claim_at};
-ghost use Rattle.local_locks.specs.Locks.{holdings_of, stand_in, AreLocksAt, KeepsLocks};
+ghost use Rattle.local_locks.specs.Locks.{stand_in};
 ghost use Rattle.local_locks.specs.Rulings.{spot, spots_of};
 ghost use Rattle.local_locks.specs.Wishes.{IsWanted};
 
 use crate::lock::Lock;
-use crate::places::{place_of_claim, places_of};
+use crate::places::places_of;
 use groups::{Mode, Want};
 use tickets::{Claim, GroupNames};
 use wait_die::Holder;
@@ -77,20 +75,5 @@ pub(crate) fn grant_all<J: GroupNames>(
 {
     for want in wants {
         grant_want(locks, *want, by, claims);
-    }
-}
-
-/// Takes claims back, once what they left is committed.
-pub(crate) fn take_all_back<J: GroupNames>(locks: &mut [Lock<J>], claims: Vec<Claim<J>>)
-    requires locks { AreLocksAt J.warehouses locks.old claims.items }
-    requires committed { All IsSettled claims.items }
-    ensures locks { KeepsLocks J.warehouses locks.old locks.new }
-    ensures stands { map stand_in locks.new ≡ all_kept_after claims.items (map stand_in locks.old) }
-    ensures out { AreTogether (flat_map holdings_of locks.old) (map held_by claims.items) (flat_map holdings_of locks.new) }
-    ensures holdings { AreHeld (flat_map holdings_of locks.old) claims.items → IsPermutation (flat_map holdings_of locks.old) (map held_by claims.items ++ flat_map holdings_of locks.new) }
-{
-    for claim in claims {
-        let number = place_of_claim(&claim);
-        locks[number].take_back(claim);
     }
 }

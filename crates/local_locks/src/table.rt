@@ -1,16 +1,17 @@
-ghost use Rattle.std.specs.Prelude.{◌≡◌, ◌++◌, ◌∷◌, [], All, IfNone, IfOk, IfSome, IsOk, OnErr, map, slice_set, slice_index_or, ℕ};
+ghost use Rattle.std.specs.Prelude.{◌≡◌, ◌++◌, ◌∷◌, [], All, Contains, IfNone, IfOk, IfSome, IsOk, OnErr, map, slice_set, slice_index_or, ℕ};
 ghost use Rattle.std.specs.List.Sorted.{IsPermutation};
 ghost use Rattle.requests.specs.declared.group.Group.{Group as AnyGroup};
 ghost use Rattle.groups.specs.Groups.{warehouse_of};
 ghost use Rattle.groups.specs.declared.wishes.Mode.TheVariants.{Exclusive};
 ghost use Rattle.tickets.specs.Claims.{leaving};
-ghost use Rattle.local_locks.specs.Asking.{all_kept_after, held_by, AreHeld, AreTogether, Answers, IsOfHome, IsSettled, StillWaits, TakesTurn, leaving_in};
+ghost use Rattle.tickets.specs.Places.{IsGroupOf};
+ghost use Rattle.local_locks.specs.Asking.{all_kept_after, held_by, kept_after, AreHeld, AreTogether, Answers, AnswersAs, IsNoWait, IsOfHome, IsSettled, StillWaits, TakesTurn, leaving_in};
 ghost use Rattle.local_locks.specs.Conflicts.{MustDie};
 ghost use Rattle.local_locks.specs.Laws.{AreUntouched, CouldAsk, IsClaimOf, NoneConflict};
 ghost use Rattle.local_locks.specs.Locking.{back_in, left_in, opened, AreBoxesOf, AreStandsOf};
 ghost use Rattle.local_locks.specs.Wishes.{CanAsk};
 
-use crate::granting::{count_of, grant_all, take_all_back};
+use crate::granting::{count_of, grant_all};
 use crate::lock::Lock;
 use crate::places::place_of_claim;
 use crate::rulings::{Ruling, ruling_on};
@@ -22,7 +23,7 @@ use schema::NoMemory;
 use std::alloc::Global;
 use std::marker::Model;
 use tickets::{Claim, GroupNames, TicketBox};
-use wait_die::{Age, Holder};
+use wait_die::{Age, Holder, YOUNGEST};
 
 /// What is answered to an action that asks for groups.
 #[derive(Drop)]
@@ -106,7 +107,42 @@ impl<J: GroupNames> LockTable<J> {
         ensures death_takes_none { OnErr result ((group : AnyGroup) (age : ℕ) → MustDie self.old.holdings by.age wants.now group age → ⊥) }
         ensures nothing_takes_none { wants.now ≡ [] → IsOk result }
     {
-        match ruling_on(&self.locks, by.age, wants) {
+        self.answer(alloc, by, by.age, wants)
+    }
+
+    /// An action that can't wait asks for all its groups at once, as one that is younger than all: it is granted
+    /// all exactly where each is free, and else dies. Want of memory changes nothing.
+    pub fn ask_at_once(
+        &mut self,
+        alloc: Global,
+        by: Holder,
+        wants: &[Want],
+    ) -> Result<Asked<J>, NoMemory>
+        requires { CanAsk J.warehouses self.old.w_id wants.now }
+        ensures answers { IfOk result (λ asked. AnswersAs YOUNGEST by wants.now self.old asked self.new) }
+        ensures never_waits { IfOk result IsNoWait }
+        ensures err { OnErr result (self.new ≡ self.old) }
+        ensures death_takes_none { OnErr result ((group : AnyGroup) (age : ℕ) → MustDie self.old.holdings YOUNGEST wants.now group age → ⊥) }
+    {
+        self.answer(alloc, by, YOUNGEST, wants)
+    }
+
+    // What is answered to an action that is taken for so old.
+    fn answer(
+        &mut self,
+        alloc: Global,
+        by: Holder,
+        age: Age,
+        wants: &[Want],
+    ) -> Result<Asked<J>, NoMemory>
+        requires { CanAsk J.warehouses self.old.w_id wants.now }
+        ensures answers { IfOk result (λ asked. AnswersAs age by wants.now self.old asked self.new) }
+        ensures youngest { age ≡ YOUNGEST → IfOk result IsNoWait }
+        ensures err { OnErr result (self.new ≡ self.old) }
+        ensures death_takes_none { OnErr result ((group : AnyGroup) (oldest : ℕ) → MustDie self.old.holdings age wants.now group oldest → ⊥) }
+        ensures nothing_takes_none { wants.now ≡ [] → IsOk result }
+    {
+        match ruling_on(&self.locks, age, wants) {
             Ruling::Free => {
                 let mut claims = Vec::with_capacity(alloc, count_of::<J>(wants))?;
                 grant_all(&mut self.locks, wants, by, &mut claims);
@@ -124,9 +160,23 @@ impl<J: GroupNames> LockTable<J> {
         }
     }
 
-    /// Takes claims back, once what they left is committed. It takes no memory. Whoever has a claim may call it:
-    /// that it is one that is out follows from its tickets, and that it is out to the one that it tells is left to
-    /// whoever gives claims away.
+    /// Takes a claim back, once what it left is committed. It takes no memory. Whoever has a claim may call it:
+    /// that it is out follows from its tickets (`out`), and that it is out to the one that it tells is left to
+    /// whoever passes claims on (`holdings`).
+    pub fn take_back(&mut self, claim: Claim<J>)
+        requires home { IsOfHome self.old.w_id claim }
+        requires committed { IsSettled claim }
+        ensures out { AreTogether self.old.holdings (held_by claim ∷ []) self.new.holdings }
+        ensures holdings { Contains self.old.holdings (held_by claim) → IsPermutation self.old.holdings (held_by claim ∷ self.new.holdings) }
+        ensures stands { self.new.stands ≡ map (kept_after claim) self.old.stands }
+        ensures waiters { self.new.waiters ≡ self.old.waiters }
+        ensures warehouse { self.new.w_id ≡ self.old.w_id }
+    {
+        let number = place_of_claim(&claim);
+        self.locks[number].take_back(claim);
+    }
+
+    /// Takes claims back, each as `take_back` does. It takes no memory.
     pub fn give_back(&mut self, claims: Vec<Claim<J>>)
         requires home { All (IsOfHome self.old.w_id) claims.items }
         requires committed { All IsSettled claims.items }
@@ -136,7 +186,9 @@ impl<J: GroupNames> LockTable<J> {
         ensures waiters { self.new.waiters ≡ self.old.waiters }
         ensures warehouse { self.new.w_id ≡ self.old.w_id }
     {
-        take_all_back(&mut self.locks, claims);
+        for claim in claims {
+            self.take_back(claim);
+        }
     }
 
     /// The turn of the oldest of those who need not wait any more, and of one age of the one of the least
@@ -166,6 +218,7 @@ impl<J: GroupNames> LockTable<J> {
     /// Learns that what a claim on one of the groups left stands in it.
     pub fn look(&mut self, claim: &mut Claim<J>)
         requires { warehouse_of claim.old.group ≡ self.old.w_id }
+        ensures known { IsGroupOf J.warehouses claim.old.group }
         ensures left { claim.old.left ≡ left_in self.old.stands claim.old.group }
         ensures back { claim.old.back ≡ back_in self.old.stands claim.old.group }
         ensures same { (self.new ≡ self.old) × (claim.new ≡ claim.old) }
@@ -178,6 +231,7 @@ impl<J: GroupNames> LockTable<J> {
     pub fn leave<C: Change<Content>>(&mut self, claim: &mut Claim<J>, change: &C)
         requires here { warehouse_of claim.old.group ≡ self.old.w_id }
         requires exclusive { claim.old.mode ≡ Exclusive }
+        ensures known { IsGroupOf J.warehouses claim.old.group }
         ensures left { claim.old.left ≡ left_in self.old.stands claim.old.group }
         ensures claim { claim.new ≡ leaving claim.old (C.changed change.now claim.old.left) }
         ensures table { self.new ≡ leaving_in self.old claim.old.group (C.changed change.now claim.old.left) }
@@ -190,6 +244,7 @@ impl<J: GroupNames> LockTable<J> {
     pub fn undo(&mut self, claim: &mut Claim<J>)
         requires here { warehouse_of claim.old.group ≡ self.old.w_id }
         requires exclusive { claim.old.mode ≡ Exclusive }
+        ensures known { IsGroupOf J.warehouses claim.old.group }
         ensures back { claim.old.back ≡ back_in self.old.stands claim.old.group }
         ensures claim { claim.new ≡ leaving claim.old claim.old.back }
         ensures table { self.new ≡ leaving_in self.old claim.old.group claim.old.back }

@@ -1,8 +1,8 @@
 -- What one slice keeps, all slices keep; and the slices of tables that were cut are those tables.
-use Rattle.std.proofs.Common.{◌≡◌, ◌≢◌, ◌⊎◌, ℕ, zero, suc, ◌+◌, ◌<◌, ◌≤◌, List, [], ◌∷◌, ◌++◌, Bool, true, false, length, get_or, set, map, replicate, refl, sym, ap, subst, ◌∙◌, arith, ⊎_elim, length-set}
+use Rattle.std.proofs.Common.{◌≡◌, ◌≢◌, ℕ, zero, suc, ◌+◌, ◌<◌, List, [], ◌∷◌, ◌++◌, Bool, true, false, length, get_or, set, map, refl, sym, ap, subst, ◌∙◌, arith, ⊎_elim, length-set}
 use Rattle.std.specs.Prelude.{All, IsTrue, ◌==◌, if◌then◌else◌}
 use Rattle.std.proofs.lemmas.Bool.Decides.{eqb_tells}
-use Rattle.std.proofs.lemmas.List.{get_or-set_same, get_or-set_other, get_or-map, get_or-replicate, get_or_past, map-set, length-map, length-replicate}
+use Rattle.std.proofs.lemmas.List.{get_or-set_same, get_or-set_other, get_or-map, map-set, length-map}
 use Rattle.std.proofs.lemmas.List.Elements.{All-weaker}
 use Rattle.requests.specs.declared.group.Group.{Group}
 use Rattle.groups.specs.Content.{Content, content}
@@ -12,11 +12,10 @@ use Rattle.partitions.proofs.PartLaws.{parts_are, tables_again}
 use Rattle.tickets.specs.Claims.{Claiming}
 use Rattle.tickets.specs.Committed.{Standing, AreCommitted, KeepsCommitted}
 use Rattle.tickets.specs.Laws.{IsElsewhere}
-use Rattle.tickets.specs.Places.{place_in_warehouse}
 use Rattle.tickets.proofs.Apart.{by_bool}
 use Rattle.tickets.proofs.Committed.{elsewhere_keeps}
 use Rattle.slices.specs.Joining.{OneSliceKeepsAll, CutSlicesAreAtRest}
-use Rattle.slices.specs.Sliced.{Sliced, AreSlicesOf, IsClaimAt, part_in, at_home, at_rest, is_group, free_at, free_in, standing, joined, all_standing, everywhere}
+use Rattle.slices.specs.Sliced.{Sliced, AreSlicesOf, IsClaimAt, part_in, at_home, at_rest, free_at, free_in, standing, joined, all_standing, everywhere}
 use Rattle.slices.proofs.Alike.{content_alike}
 use Rattle.slices.proofs.Seen.{AreAlike, seen, home_tells, not_home, home_told}
 use Rattle.slices.proofs.Wholes.{whole_has_part, whole_keeps_others}
@@ -74,14 +73,14 @@ AreHomedFrom first slices = (place : ℕ) (d : Sliced) → place < length slices
 
 -- with the slice of the group's warehouse
 free_here : (first : ℕ) (slices : List Sliced) (group : Group) (place : ℕ) (d : Sliced) → AreHomedFrom first slices → place < length slices → warehouse_of group ≡ first + place
-    → free_in slices group ≡ free_at (get_or slices place d).free group
+    → free_in slices group ≡ free_at (get_or slices place d).holdings group
 free_here first [] group place d homed here at = absurd (omega (arith, here))
 free_here first (s ∷ slices) group zero d homed here at =
-    ap (λ (b : Bool). if b then free_at s.free group else free_in slices group) (home_tells s.home group (omega (arith, at, homed zero d here)))
+    ap (λ (b : Bool). if b then free_at s.holdings group else free_in slices group) (home_tells s.home group (omega (arith, at, homed zero d here)))
 free_here first (s ∷ slices) group (suc place) d homed here at =
     let first_home : s.home ≡ first = omega (arith, homed zero d (omega arith)) in
     let apart : warehouse_of group ≢ s.home = λ e. omega (arith, e, at, first_home) in
-    ap (λ (b : Bool). if b then free_at s.free group else free_in slices group) (not_home s.home group apart)
+    ap (λ (b : Bool). if b then free_at s.holdings group else free_in slices group) (not_home s.home group apart)
     ∙ free_here (first + 1) slices group place d (λ k other small. omega (arith, homed (suc k) other (omega (arith, small)))) (omega (arith, here)) (omega (arith, at))
 
 -- and another slice's don't matter
@@ -89,10 +88,10 @@ free_elsewhere : (slices : List Sliced) (group : Group) (place : ℕ) (d new : S
     → free_in (set slices place new) group ≡ free_in slices group
 free_elsewhere [] group place d new here at apart = refl
 free_elsewhere (s ∷ slices) group zero d new here at apart =
-    ap (λ (b : Bool). if b then free_at new.free group else free_in slices group) (not_home new.home group apart)
-    ∙ sym (ap (λ (b : Bool). if b then free_at s.free group else free_in slices group) (not_home s.home group (λ e. apart (e ∙ sym at))))
+    ap (λ (b : Bool). if b then free_at new.holdings group else free_in slices group) (not_home new.home group apart)
+    ∙ sym (ap (λ (b : Bool). if b then free_at s.holdings group else free_in slices group) (not_home s.home group (λ e. apart (e ∙ sym at))))
 free_elsewhere (s ∷ slices) group (suc place) d new here at apart =
-    ap (λ n. if at_home s.home group then free_at s.free group else n) (free_elsewhere slices group place d new (omega (arith, here)) at apart)
+    ap (λ n. if at_home s.home group then free_at s.holdings group else n) (free_elsewhere slices group place d new (omega (arith, here)) at apart)
 
 -- ---- one slice changes
 
@@ -101,7 +100,7 @@ parts_of_slices shared slices are = record {
   many = length-map slices part_in ∙ are.many;
   each = λ k d small.
       let inside : k < length slices = omega (arith, small, length-map slices part_in) in
-      let s : Sliced = record { home = d.home; tables = d.tables; free = [] } in
+      let s : Sliced = at_rest d in
       subst (IsPartAt shared k) (sym (get_or-map part_in slices k s d inside)) (are.each k s inside);
 }
 
@@ -176,35 +175,14 @@ one_slice_keeps_all shared slices place d new before after are here at_before at
 
 -- ---- the slices of cut tables
 
--- all tickets of a warehouse's groups
-abbrev all : List ℕ
-all = replicate 105 8
-
 either : (b : Bool) (n : ℕ) → (if b then n else n) ≡ n
 either true n = refl
 either false n = refl
 
-all_at_home : (group : Group) → free_at all group ≡ 8
-all_at_home group = ap (λ n. if is_group group then n else 8) (eight (place_in_warehouse group)) ∙ either (is_group group) 8
-  where
-    lt_or_le : (a b : ℕ) → (a < b) ⊎ (b ≤ a)
-    lt_or_le a b = grind arith
-
-    eight_tickets : ℕ
-    eight_tickets = 8
-
-    eight : (place : ℕ) → get_or all place 8 ≡ 8
-    eight place = ⊎_elim
-        (λ (small : place < 105). get_or-replicate 105 place 8 8 small)
-        (λ (past : 105 ≤ place). get_or_past all place 8 (let long : length all ≡ 105 = length-replicate 105 eight_tickets in omega (arith, long, past)))
-        (lt_or_le place 105)
-
 free_of_all : (parts : List Part) (group : Group) → free_in (map at_rest parts) group ≡ 8
 free_of_all [] group = refl
 free_of_all (p ∷ parts) group =
-    let own : free_at all group ≡ 8 = all_at_home group in
-    ap (λ n. if at_home p.home group then n else free_in (map at_rest parts) group) own
-    ∙ ap (λ n. if at_home p.home group then 8 else n) (free_of_all parts group)
+    ap (λ n. if at_home p.home group then 8 else n) (free_of_all parts group)
     ∙ either (at_home p.home group) 8
 
 pub parts_at_rest : (parts : List Part) → map part_in (map at_rest parts) ≡ parts

@@ -12,3 +12,4 @@ pub mod Wholes
 pub mod Joined
 pub mod HomeBoxes
 pub mod Cuts
+pub mod Asking

@@ -1,30 +1,26 @@
 -- A new slice, and what is opened for its groups.
-use Rattle.std.proofs.Common.{◌≡◌, ℕ, ◌+◌, ◌*◌, ◌<◌, ◌≤◌, List, [], ◌∷◌, ◌++◌, length, get_or, replicate, map, refl, sym, ap, subst, ◌∙◌, arith, ⊎_elim, length-append, append_assoc}
+use Rattle.std.proofs.Common.{◌≡◌, ℕ, ◌+◌, ◌*◌, ◌<◌, ◌≤◌, List, [], ◌∷◌, ◌++◌, length, get_or, map, refl, sym, ap, subst, ◌∙◌, arith, ⊎_elim, length-append}
 use Rattle.std.specs.Prelude.{All}
 use Rattle.std.proofs.Math.Nat.{eq-or-lt_of_le}
 use Rattle.std.proofs.Math.Seq.{get_or-append_seam}
-use Rattle.std.proofs.lemmas.List.{get_or_append_left, get_or-map, get_or-replicate, length-map, length-replicate, map-append, same_lists}
+use Rattle.std.proofs.lemmas.List.{get_or_append_left, get_or-map, length-map}
 use Rattle.std.proofs.lemmas.List.Elements.{All-nil, All-cons, All-append}
 use Rattle.schema.specs.Database.{Database}
 use Rattle.partitions.specs.Parts.{Part}
 use Rattle.requests.specs.declared.group.Group.{Group}
-use Rattle.requests.specs.declared.group.Group.TheVariants.{Warehouse}
 use Rattle.groups.specs.Content.{content}
-use Rattle.tickets.specs.Boxes.{Boxed, sharing, tickets_home}
+use Rattle.tickets.specs.Boxes.{Boxed, sharing}
+use Rattle.local_locks.specs.Locking.{AreBoxesOf, Locking, Stand, opened, stand_of}
 use Rattle.tickets.specs.LogSeats.{Committed, committed}
 use Rattle.tickets.specs.Openings.{Opened, box_beside}
 use Rattle.tickets.specs.Places.{IsGroupOf, place_of}
 use Rattle.tickets.specs.Unset.{no_table}
 use Rattle.tickets.proofs.OnePlace.{place_injective, place_inside}
-use Rattle.slices.specs.Grounds.{Grounded, grounded, tickets_in, sliced, IsGroundOf, AreGroundsOf}
-use Rattle.slices.specs.Openings.{AreOpenedFor, IsBoxOf, IsHomeBoxOf, AreHomeBoxesOf, OpenedGroupsHaveBoxes}
-use Rattle.slices.specs.Sliced.{at_rest}
-use Rattle.slices.specs.Undo.{all_put_back_in, AreKept}
+use Rattle.slices.specs.declared.kept.Kept.{Kept}
+use Rattle.slices.specs.Grounds.{Grounded, grounded, IsGroundOf, IsSlice}
+use Rattle.slices.specs.Openings.{AreOpenedFor, IsBoxOf, AreHomeBoxesOf, OpenedGroupsHaveBoxes}
 
--- ---- the grounds of a new slice
-
-abbrev pub box_of : Grounded → Boxed
-box_of ground = ground.ticket_box
+-- ---- the groups of a new slice
 
 -- no step is to be taken back
 abbrev pub IsIdle : Grounded → Type 0
@@ -34,60 +30,38 @@ pub none_left : {X : Type 0} (xs : List X) → length xs ≡ 0 → xs ≡ []
 none_left [] none = refl
 none_left (x ∷ xs) none = absurd (omega (arith, none))
 
--- the first boxes have a ground, in order, and the rest have none yet
-pub one_ground_more : (boxes rest more : List Boxed) (grounds later : List Grounded) (ticket_box : Boxed) (ground : Grounded) → map box_of grounds ++ rest ≡ boxes → rest ≡ ticket_box ∷ more
-    → later ≡ grounds ++ ground ∷ [] → ground.ticket_box ≡ ticket_box → map box_of later ++ more ≡ boxes
-one_ground_more boxes rest more grounds later ticket_box ground so_far next longer same =
-    ap (λ l. map box_of l ++ more) longer
-    ∙ ap (λ l. l ++ more) (map-append box_of grounds (ground ∷ []))
-    ∙ append_assoc (map box_of grounds) (ground.ticket_box ∷ []) more
-    ∙ ap (λ b. map box_of grounds ++ (b ∷ more)) same
-    ∙ ap (λ l. map box_of grounds ++ l) (sym next) ∙ so_far
-
 pub idle_more : (grounds later : List Grounded) (ground : Grounded) → All IsIdle grounds → IsIdle ground → later ≡ grounds ++ ground ∷ [] → All IsIdle later
 idle_more grounds later ground all one longer = subst (All IsIdle) (sym longer) (All-append IsIdle grounds (ground ∷ []) all (All-cons IsIdle ground [] one (All-nil IsIdle)))
 
-module _ (p : Part) (boxes : List Boxed) (grounds : List Grounded) (are : AreHomeBoxesOf p boxes) (same : map box_of grounds ≡ boxes) (idle : All IsIdle grounds) where
-  as_long : length grounds ≡ length boxes
-  as_long = sym (length-map grounds box_of) ∙ ap length same
+-- the boxes of the warehouse's groups are those that its lock table is opened with
+pub boxes_at_home : (p : Part) (boxes : List Boxed) → AreHomeBoxesOf p boxes → AreBoxesOf p.tables.scale.warehouses p.home boxes
+boxes_at_home p boxes are = record {
+  all_there = are.all_there;
+  each = λ place d small.
+      let is = are.each place d (omega (arith, small, are.all_there)) in
+      record { known = is.known; here = is.here; place = is.place; idle = is.has ∙ ap (λ c. sharing (get_or boxes place d).group c 0) (sym (ap (λ b. b.left) is.has)) };
+}
 
-  box_at : (place : ℕ) (d : Grounded) → place < length grounds → IsHomeBoxOf p place (get_or grounds place d).ticket_box
-  box_at place d small =
-      let inside : place < length boxes = omega (arith, as_long) in
-      subst (IsHomeBoxOf p place) (ap (λ l. get_or l place d.ticket_box) (sym same) ∙ get_or-map box_of grounds place d d.ticket_box small) (are.each place d.ticket_box inside)
-
-  ground_of : (place : ℕ) (ground : Grounded) → IsHomeBoxOf p place ground.ticket_box → IsIdle ground → IsGroundOf p place ground
-  ground_of place ground is none = record {
-    known = is.known;
-    here = is.here;
-    place = is.place;
-    left = ap (λ b. b.left) is.has;
-    back = ap (λ b. b.back) is.has ∙ sym (ap (λ b. b.left) is.has) ∙ sym (ap (λ undo. all_put_back_in undo ground.ticket_box.left) none);
-    kept = subst (λ undo. AreKept p.tables.scale ground.ticket_box.group undo ground.ticket_box.left) (sym none) tt;
-    idle = λ _. none;
-  }
-
-  pub opened_grounds : AreGroundsOf p grounds
-  opened_grounds = record {
-    all_there = as_long ∙ are.all_there;
-    each = λ place d small. ground_of place (get_or grounds place d) (box_at place d small) (idle place d small);
-  }
-
-  pub opened_at_rest : sliced p grounds ≡ at_rest p
-  opened_at_rest =
-      ap (λ free. record { home = p.home; tables = p.tables; free = free })
-      (same_lists (map tickets_in grounds) (replicate 105 8) (length-map grounds tickets_in ∙ as_long ∙ are.all_there ∙ sym (length-replicate 105 eight_tickets)) each)
-    where
-      eight_tickets : ℕ
-      eight_tickets = 8
-
-      each : (k d : ℕ) → k < length (map tickets_in grounds) → get_or (map tickets_in grounds) k d ≡ get_or (replicate 105 8) k d
-      each k d small =
-          let some : Grounded = grounded (sharing (Warehouse 0) (content p.tables (Warehouse 0)) 0) [] 0 0 in
-          let inside : k < length grounds = omega (arith, small, length-map grounds tickets_in) in
-          get_or-map tickets_in grounds k some d inside
-          ∙ ap (λ b. tickets_home b.mode b.shared) (box_at k some inside).has
-          ∙ sym (get_or-replicate 105 k 8 d (omega (arith, inside, as_long, are.all_there)))
+-- with no step to be taken back, what stands in the groups is what the rows have
+pub opened_slice : (warehouses : ℕ) (p : Part) (boxes : List Boxed) (table : Locking) (grounds : List Grounded) → warehouses ≡ p.tables.scale.warehouses → AreHomeBoxesOf p boxes → table ≡ opened p.home boxes
+    → length grounds ≡ 105 → All IsIdle grounds → IsSlice warehouses p table grounds
+opened_slice warehouses p boxes table grounds many are is long idle =
+    subst (λ (t : Locking). IsSlice warehouses p t grounds) (sym is) (record {
+      many = sym many;
+      home = refl;
+      grounded = record { all_there = long; each = each };
+    })
+  where
+    each : (place : ℕ) (s : Stand) (d : Grounded) → place < 105 → IsGroundOf p (get_or (map stand_of boxes) place s) (get_or grounds place d)
+    each place s d small =
+        let b : Boxed = sharing s.group s.left 0 in
+        let inside : place < length boxes = omega (arith, small, are.all_there) in
+        let has = (are.each place b inside).has in
+        let stand : Stand = stand_of (get_or boxes place b) in
+        let none : (get_or grounds place d).undo ≡ [] = idle place d (omega (arith, small, long)) in
+        let P : List Kept → Type 0 = λ undo. IsGroundOf p stand (grounded undo (get_or grounds place d).room) in
+        let h : P [] = record { left = ap (λ b. b.left) has; back = ap (λ b. b.back) has ∙ sym (ap (λ b. b.left) has); kept = tt } in
+        subst (λ (x : Stand). IsGroundOf p x (get_or grounds place d)) (sym (get_or-map stand_of boxes place b s inside)) (subst P (sym none) h)
 
 -- ---- what is opened
 

@@ -1,5 +1,6 @@
 -- What a contract sees of a slice, and of all slices together.
-use Rattle.std.specs.Prelude.{◌≡◌, ℕ, ◌+◌, ◌-◌, ◌<◌, List, [], ◌∷◌, Bool, true, ◌==◌, if◌then◌else◌, All, length, map, slice_index_or, slice_set, replicate}
+use Rattle.std.specs.Prelude.{◌≡◌, ℕ, ◌-◌, ◌<◌, List, [], ◌∷◌, ◌++◌, Bool, true, ◌==◌, if◌then◌else◌, All, length, map, slice_index_or}
+use Rattle.std.specs.List.Sorted.{IsPermutation}
 use Rattle.rows.specs.Ranged.{is_between}
 use Rattle.schema.specs.Database.{Database}
 use Rattle.partitions.specs.Parts.{Shared, Part, IsPartAt, whole_of}
@@ -7,19 +8,21 @@ use Rattle.requests.specs.declared.group.Group.{Group}
 use Rattle.requests.specs.declared.group.Group.TheVariants.{Warehouse, District, Customers, Orders, History, Stock}
 use Rattle.groups.specs.Content.{content}
 use Rattle.groups.specs.Groups.{warehouse_of}
-use Rattle.groups.specs.declared.wishes.Mode.{Mode}
 use Rattle.tickets.specs.Claims.{Claiming}
-use Rattle.tickets.specs.Committed.{Standing, KeepsCommitted, tickets_held}
-use Rattle.tickets.specs.Places.{place_in_warehouse}
+use Rattle.tickets.specs.Committed.{Standing, KeepsCommitted}
+use Rattle.local_locks.specs.Locking.{Holding, Waiting}
+use Rattle.local_locks.specs.Asking.{held_by}
+use Rattle.local_locks.specs.Keeping.{standing_of, tickets_on}
 
 -- ---- one slice
 
--- Its warehouse; the warehouse's rows as they stand, with what open transactions have done to them; and how many of each
--- group's tickets are at home, by the group's place in the warehouse.
+-- Its warehouse; the warehouse's rows as they stand, with what open transactions have done to them; all claims on its groups
+-- that are out, in any order; and all who wait for some.
 pub record Sliced : Type 0 where
   pub home : ℕ
   pub tables : Database
-  pub free : List ℕ
+  pub holdings : List Holding
+  pub waiters : List Waiting
 
 -- its rows
 abbrev pub part_in : Sliced → Part
@@ -38,29 +41,33 @@ is_group (Orders w_id d_id) = is_between 1 10 d_id
 is_group (History w_id d_id) = is_between 1 10 d_id
 is_group (Stock w_id residue) = is_between 0 63 residue
 
--- how many tickets of a group of the warehouse are at home: of a group that there isn't, all
-abbrev pub free_at : List ℕ → Group → ℕ
-free_at free group = if is_group group then slice_index_or free (place_in_warehouse group) 8 else 8
+-- how many tickets of a group are at home, while these claims are out: those that no holder has
+abbrev pub free_at : List Holding → Group → ℕ
+free_at holdings group = 8 - tickets_on group holdings
 
 -- the slice as the laws of what is committed see it
 abbrev pub standing : Sliced → Standing
-standing s = record { rows = content s.tables; free = free_at s.free }
+standing s = standing_of (content s.tables) s.holdings
 
--- a slice no claim of which is out
+-- a slice no claim of which is out, and for which nobody waits
 abbrev pub at_rest : Part → Sliced
-at_rest part = record { home = part.home; tables = part.tables; free = replicate 105 8 }
+at_rest part = record { home = part.home; tables = part.tables; holdings = []; waiters = [] }
 
--- the slice with so many tickets of the group at home
-abbrev pub with_free : Group → ℕ → Sliced → Sliced
-with_free group tickets s = record s { free = slice_set s.free (place_in_warehouse group) tickets }
+-- the slice with these who wait
+abbrev pub with_waiters : List Waiting → Sliced → Sliced
+with_waiters waiters s = record s { waiters = waiters }
 
--- the slice once a claim of this mode on the group is granted: the tickets that it holds are out
-abbrev pub lending : Group → Mode → Sliced → Sliced
-lending group mode s = with_free group (free_at s.free group - tickets_held mode) s
+-- the same claims are out, and the same wait
+pub record HasLocksOf (old new : Sliced) : Type 0 where
+  pub holdings : new.holdings ≡ old.holdings
+  pub waiters : new.waiters ≡ old.waiters
 
--- the slice once the claim is back: the tickets that it held are at home
-abbrev pub taking_back : Claiming → Sliced → Sliced
-taking_back claim s = with_free claim.group (free_at s.free claim.group + tickets_held claim.mode) s
+-- the slice is as it was: so many claims of each holder on each group are out, and all else is the same
+pub record IsAsBefore (old new : Sliced) : Type 0 where
+  pub home : new.home ≡ old.home
+  pub tables : new.tables ≡ old.tables
+  pub holdings : IsPermutation new.holdings old.holdings
+  pub waiters : new.waiters ≡ old.waiters
 
 -- the claim is on a group of the warehouse
 abbrev pub IsClaimAt : ℕ → Claiming → Type 0
@@ -71,10 +78,17 @@ abbrev pub AreOfOneHome : List Claiming → Type 0
 AreOfOneHome [] = ⊥
 AreOfOneHome (claim ∷ claims) = All (IsClaimAt (warehouse_of claim.group)) (claim ∷ claims)
 
--- With these claims where those were: what is committed in the warehouse's groups is kept, whatever it is, and the warehouse,
--- the scale and the items stay.
+-- With these claims where those were, no other claim comes or goes: if all that were out are those and some others, all that
+-- are out now are these and the same others.
+abbrev pub KeepsHeld : List Claiming → List Holding → List Claiming → List Holding → Type 0
+KeepsHeld before old after new = (others : List Holding) → IsPermutation old (map held_by before ++ others) → IsPermutation new (map held_by after ++ others)
+
+-- With these claims where those were: what is committed in the warehouse's groups is kept, whatever it is; all other claims
+-- that were out still are, and the same wait; and the warehouse, the scale and the items stay.
 pub record SliceKeeps (before : List Claiming) (old : Sliced) (after : List Claiming) (new : Sliced) : Type 0 where
   pub committed : KeepsCommitted (at_home old.home) before (standing old) after (standing new)
+  pub holdings : KeepsHeld before old.holdings after new.holdings
+  pub waiters : new.waiters ≡ old.waiters
   pub home : new.home ≡ old.home
   pub scale : new.tables.scale ≡ old.tables.scale
   pub items : new.tables.items ≡ old.tables.items
@@ -93,7 +107,7 @@ everywhere group = true
 -- a group's tickets are with the slice of its warehouse: of a warehouse that there isn't, all are at home
 abbrev pub free_in : List Sliced → Group → ℕ
 free_in [] group = 8
-free_in (s ∷ slices) group = if at_home s.home group then free_at s.free group else free_in slices group
+free_in (s ∷ slices) group = if at_home s.home group then free_at s.holdings group else free_in slices group
 
 -- what the slices have together, with what they share
 abbrev pub joined : Shared → List Sliced → Joined

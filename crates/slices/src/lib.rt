@@ -21,7 +21,6 @@ mod slice;
 mod step;
 
 pub use cutting::{copy_whole, cut, whole};
-pub use ground::Held;
 pub use laws::{
     cut_slices_are_at_rest, groups_are_told, one_slice_keeps_all, opened_groups_have_boxes,
 };

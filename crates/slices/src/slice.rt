@@ -1,4 +1,4 @@
-ghost use Rattle.std.specs.Prelude.{◌≡◌, ◌≢◌, ◌<◌, ◌≤◌, ◌%◌, [], ◌∷◌, length, IsTrue, IfOk, IfErr, OnOk, OnErr};
+ghost use Rattle.std.specs.Prelude.{◌≡◌, ◌<◌, ◌≤◌, ◌%◌, ℕ, [], ◌∷◌, All, length, IfNone, IfOk, IfSome, IsTrue, OnErr, OnOk};
 ghost use Rattle.std.specs.List.{list_all};
 ghost use Rattle.std.specs.FinMap as map;
 ghost use Rattle.schema.specs.Database.{customer_of_order, is_order_id, with_payment};
@@ -8,46 +8,52 @@ ghost use Rattle.partitions.specs.Parts.{IsPart};
 ghost use Rattle.partitions.specs.Slots.{home_slot};
 ghost use Rattle.requests.specs.declared.group.Group.{Group as AnyGroup};
 ghost use Rattle.requests.specs.declared.group.Group.TheVariants as group;
-ghost use Rattle.groups.specs.declared.wishes.Mode.TheVariants.{Shared, Exclusive};
+ghost use Rattle.groups.specs.declared.wishes.Mode.TheVariants.{Exclusive};
 ghost use Rattle.groups.specs.Content.{content};
-ghost use Rattle.groups.specs.Groups.{warehouse_of};
 ghost use Rattle.groups.specs.Laws.{ChangesOneGroup, with_warehouse, with_district, with_customer, with_stock};
 ghost use Rattle.indexes.specs.LatestIndex.{FitsLatestBy};
 ghost use Rattle.indexes.specs.NameOrder.{FitsNamesBy};
-ghost use Rattle.tickets.specs.Claims.{fresh, leaving};
+ghost use Rattle.tickets.specs.Claims.{leaving};
 ghost use Rattle.tickets.specs.Places.{IsGroupOf, place_in_warehouse};
+ghost use Rattle.local_locks.specs.Asking.{IsNoWait, StillWaits};
+ghost use Rattle.local_locks.specs.Conflicts.{MustDie};
+ghost use Rattle.local_locks.specs.Laws.{CouldAsk, IsClaimOf, NoneConflict};
+ghost use Rattle.local_locks.specs.Wishes.{CanAsk};
+ghost use Rattle.slices.specs.Asked.{claims_asked, claims_of_turn, AnswersIn, TakesTurnIn};
 ghost use Rattle.slices.specs.Openings.{AreHomeBoxesOf};
-ghost use Rattle.slices.specs.Sliced.{at_rest, lending, part_in, standing, taking_back, IsClaimAt, SliceKeeps};
+ghost use Rattle.slices.specs.Sliced.{at_rest, part_in, with_waiters, HasLocksOf, IsClaimAt, SliceKeeps};
 ghost use Rattle.slices.specs.Undo.{with_order_delivered, with_order_more, with_payment_more, AreNamesAt};
 
 use crate::changes::ContentOf;
-use crate::ground::{Ground, Held};
+use crate::ground::Ground;
 use crate::indexed::IndexedRows;
 use crate::row_steps::{
     AddOrder, AddPayment, DeliverOrder, PutCustomer, PutDistrict, PutStock, PutWarehouse,
 };
 use crate::step::Step;
+use groups::Want;
 use indexes::{LatestOrders, NameIndex};
+use local_locks::{Asked, LockTable, Turn};
 use partitions::Partition;
-use requests::Group;
 use schema::{
     CarrierId, Customer, CustomerKey, District, DistrictKey, History, Moment, NoMemory, Order,
     OrderKey, OrderLine, Stock, StockKey, Warehouse,
 };
 use std::alloc::Global;
 use std::marker::Model;
-use tickets::{Claim, GROUPS_PER_WAREHOUSE, GroupNames, TicketBox, place_of};
-use wait_die::Holder;
+use tickets::{Claim, GROUPS_PER_WAREHOUSE, GroupNames, TicketBox};
+use wait_die::{Holder, YOUNGEST};
 
-/// The rows of one warehouse, who of its customers has which name and which order is the customer's latest,
-/// and the ticket boxes of its 105 groups.
+/// The rows of one warehouse, who of its customers has which name and which order is the customer's latest, the
+/// lock table of its 105 groups, and what takes back what was done in each.
 ///
-/// Contracts see the warehouse, its rows as they stand, with what open transactions have done to them, and how
-/// many of each group's tickets are at home.
+/// Contracts see the warehouse, its rows as they stand, with what open transactions have done to them, all claims
+/// that are out, in any order, and all who wait.
 #[derive(Drop)]
 pub struct Slice<J: GroupNames> {
     rows: IndexedRows,
-    grounds: Vec<Ground<J>>,
+    locks: LockTable<J>,
+    grounds: Vec<Ground>,
 }
 
 impl<J: GroupNames> Model for Slice<J> {
@@ -61,9 +67,9 @@ impl<J: GroupNames> Model for Slice<J> {
 
     ghost use Rattle.slices.specs.Grounds.{sliced, IsSlice};
 
-    ghost view = { λ s. sliced s.rows s.grounds.items };
+    ghost view = { λ s. sliced s.rows s.locks };
 
-    ghost invariant = { λ s. IsSlice J.warehouses s.rows s.grounds.items };
+    ghost invariant = { λ s. IsSlice J.warehouses s.rows s.locks s.grounds.items };
 }
 
 impl<J: GroupNames> Slice<J> {
@@ -78,12 +84,18 @@ impl<J: GroupNames> Slice<J> {
         requires boxes { AreHomeBoxesOf partition boxes.items }
         ensures { IfOk result (λ slice. slice ≡ at_rest partition) }
     {
+        let home = partition.home();
         let rows = IndexedRows::build(alloc, partition)?;
-        let mut grounds = Vec::with_capacity(alloc, boxes.len())?;
-        for ticket_box in boxes {
-            grounds.push(Ground::new(alloc, ticket_box))?;
+        let locks = LockTable::open(alloc, home, boxes)?;
+        let mut grounds = Vec::with_capacity(alloc, GROUPS_PER_WAREHOUSE)?;
+        for _ in 0..GROUPS_PER_WAREHOUSE {
+            grounds.push(Ground::new(alloc))?;
         }
-        Ok(Slice { rows, grounds })
+        Ok(Slice {
+            rows,
+            locks,
+            grounds,
+        })
     }
 
     /// The W_ID of the warehouse.
@@ -123,33 +135,55 @@ impl<J: GroupNames> Slice<J> {
         self.rows.latest()
     }
 
-    /// An exclusive claim on a group of the warehouse, for this one, unless a claim on it is out. It takes all eight tickets of the group.
-    pub fn grant(&mut self, by: Holder, group: Group) -> Result<Claim<J>, Held>
-        requires known { IsGroupOf J.warehouses group }
-        requires home { warehouse_of group ≡ self.old.home }
-        ensures free { OnOk result ((standing self.old).free group ≡ 8) }
-        ensures claim { IfOk result (λ claim. claim ≡ fresh by group Exclusive (content self.old.tables group)) }
-        ensures kept { IfOk result (λ claim. SliceKeeps [] self.old (claim ∷ []) self.new) }
-        ensures out { OnOk result (self.new ≡ lending group Exclusive self.old) }
-        ensures others { (other : AnyGroup) → other ≢ group → warehouse_of other ≡ self.old.home → (standing self.new).free other ≡ (standing self.old).free other }
-        ensures busy { IfErr result (λ held. (held.group ≡ group) × (self.new ≡ self.old) × ((standing self.old).free group < 8)) }
+    /// An action asks for all its groups at once, as `LockTable::ask` has it: it is granted a claim on each, waits
+    /// for younger holders alone, or dies of one that is not younger. Want of memory changes nothing.
+    pub fn ask(&mut self, alloc: Global, by: Holder, wants: &[Want]) -> Result<Asked<J>, NoMemory>
+        requires { CanAsk J.warehouses self.old.home wants.now }
+        ensures answers { IfOk result (λ asked. AnswersIn by.age by wants.now self.old asked self.new) }
+        ensures kept { IfOk result (λ asked. SliceKeeps [] (with_waiters self.new.waiters self.old) (claims_asked asked) self.new) }
+        ensures err { OnErr result (self.new ≡ self.old) }
+        ensures death_takes_none { OnErr result ((group : AnyGroup) (age : ℕ) → MustDie self.old.holdings by.age wants.now group age → ⊥) }
     {
-        let ground = &mut self.grounds[place_at_home::<J>(group)];
-        ground.grant(by)
+        // What stands in the groups is known before; that no two claims conflict, is so after.
+        self.locks.agree();
+        let asked = self.locks.ask(alloc, by, wants)?;
+        self.locks.agree();
+        Ok(asked)
     }
 
-    /// A shared claim on a group of the warehouse, for this one, unless an exclusive claim on it is out, or eight shared ones are. It takes one ticket of the group.
-    pub fn grant_shared(&mut self, by: Holder, group: Group) -> Result<Claim<J>, Held>
-        requires known { IsGroupOf J.warehouses group }
-        requires home { warehouse_of group ≡ self.old.home }
-        ensures free { OnOk result (1 ≤ (standing self.old).free group) }
-        ensures claim { IfOk result (λ claim. claim ≡ fresh by group Shared (content self.old.tables group)) }
-        ensures kept { IfOk result (λ claim. SliceKeeps [] self.old (claim ∷ []) self.new) }
-        ensures out { OnOk result (self.new ≡ lending group Shared self.old) }
-        ensures others { (other : AnyGroup) → other ≢ group → warehouse_of other ≡ self.old.home → (standing self.new).free other ≡ (standing self.old).free other }
-        ensures busy { IfErr result (λ held. (held.group ≡ group) × (self.new ≡ self.old) × ((standing self.old).free group ≡ 0)) }
+    /// An action that can't wait asks for all its groups at once, as one that is younger than all: it is granted
+    /// all exactly where each is free, and else dies. Want of memory changes nothing.
+    pub fn ask_at_once(
+        &mut self,
+        alloc: Global,
+        by: Holder,
+        wants: &[Want],
+    ) -> Result<Asked<J>, NoMemory>
+        requires { CanAsk J.warehouses self.old.home wants.now }
+        ensures answers { IfOk result (λ asked. AnswersIn YOUNGEST by wants.now self.old asked self.new) }
+        ensures never_waits { IfOk result IsNoWait }
+        ensures kept { IfOk result (λ asked. SliceKeeps [] self.old (claims_asked asked) self.new) }
+        ensures err { OnErr result (self.new ≡ self.old) }
+        ensures death_takes_none { OnErr result ((group : AnyGroup) (age : ℕ) → MustDie self.old.holdings YOUNGEST wants.now group age → ⊥) }
     {
-        self.grounds[place_at_home::<J>(group)].share(by)
+        self.locks.agree();
+        let asked = self.locks.ask_at_once(alloc, by, wants)?;
+        self.locks.agree();
+        Ok(asked)
+    }
+
+    /// The turn of the oldest of those who need not wait any more, and of one age of the one of the least
+    /// place: it is granted or dies. `None` where all have to wait. It takes no memory.
+    pub fn next_grant(&mut self) -> Option<Turn<J>>
+        ensures turn { IfSome result (λ turn. TakesTurnIn self.old turn self.new) }
+        ensures kept { IfSome result (λ turn. SliceKeeps [] (with_waiters self.new.waiters self.old) (claims_of_turn turn) self.new) }
+        ensures none { IfNone result (All (StillWaits self.old.holdings) self.old.waiters) }
+        ensures same { IfNone result (self.new ≡ self.old) }
+    {
+        self.locks.agree();
+        let turn = self.locks.next_grant()?;
+        self.locks.agree();
+        Some(turn)
     }
 
     /// Learns that what a claim left stands in its group. A shared claim left what it tells
@@ -159,8 +193,8 @@ impl<J: GroupNames> Slice<J> {
         ensures left { claim.old.left ≡ content self.old.tables claim.old.group }
         ensures same { (self.new ≡ self.old) × (claim.new ≡ claim.old) }
     {
-        let ground = &mut self.grounds[place_of_claim(claim)];
-        ground.look(claim);
+        self.locks.agree();
+        self.locks.look(claim);
     }
 
     /// Puts a row in place of the warehouse's, under an exclusive claim on it. Want of memory changes
@@ -317,8 +351,9 @@ impl<J: GroupNames> Slice<J> {
         ensures rows { OnOk result (self.new ≡ record self.old { tables = S.done step self.old.tables }) }
         ensures err { OnErr result ((self.new ≡ self.old) × (claim.new ≡ claim.old)) }
     {
-        // The rows that are here are the warehouse's.
+        // The rows that are here are the warehouse's, and so are the groups of its lock table.
         let _ = self.rows.partition();
+        self.locks.agree();
         let ground = &mut self.grounds[place_of_claim(claim)];
         ground.make_room()?;
         let kept = step.run(&mut self.rows)?;
@@ -326,7 +361,8 @@ impl<J: GroupNames> Slice<J> {
             rows: self.rows.partition(),
             group: claim.group(),
         };
-        ground.leave(claim, kept, &now);
+        self.locks.leave(claim, &now);
+        ground.keep(kept);
         Ok(())
     }
 
@@ -338,30 +374,36 @@ impl<J: GroupNames> Slice<J> {
         ensures claim { claim.new ≡ leaving claim.old claim.old.back }
         ensures kept { SliceKeeps (claim.old ∷ []) self.old (claim.new ∷ []) self.new }
         ensures rows { ChangesOneGroup claim.old.group (λ before. claim.old.back) self.old.tables self.new.tables }
-        ensures free { self.new.free ≡ self.old.free }
+        ensures locks { HasLocksOf self.old self.new }
     {
+        self.locks.agree();
         let ground = &mut self.grounds[place_of_claim(claim)];
-        ground.undo(claim, &mut self.rows);
+        ground.put_back(&mut self.rows);
+        self.locks.undo(claim);
     }
 
     /// Takes a claim back, once what it left is committed; a shared claim left nothing. It takes no memory.
+    /// Whoever has a claim may call it: what is committed is kept, whether or not it is out to the one that it tells.
     pub fn take_back(&mut self, claim: Claim<J>)
         requires home { IsClaimAt self.old.home claim }
         requires committed { claim.mode ≡ Exclusive → claim.told ≡ claim.left }
         ensures kept { SliceKeeps (claim ∷ []) self.old [] self.new }
-        ensures back { self.new ≡ taking_back claim self.old }
+        ensures tables { self.new.tables ≡ self.old.tables }
     {
-        let ground = &mut self.grounds[place_of_claim(&claim)];
-        ground.take_back(claim);
+        self.locks.agree();
+        self.grounds[place_of_claim(&claim)].forget();
+        self.locks.take_back(claim);
     }
-}
 
-// The place of a group among those of its warehouse.
-fn place_at_home<J: GroupNames>(group: Group) -> usize
-    requires { IsGroupOf J.warehouses group }
-    ensures { result ≡ place_in_warehouse group }
-{
-    place_of::<J>(group) % GROUPS_PER_WAREHOUSE
+    /// No two claims that are out conflict, and all are on groups of the warehouse. All who wait do so for what can
+    /// be asked.
+    pub fn agree(&self)
+        ensures claims { All (IsClaimOf J.warehouses self.now.home) self.now.holdings }
+        ensures none_conflict { NoneConflict self.now.holdings }
+        ensures waiters { All (CouldAsk J.warehouses self.now.home) self.now.waiters }
+    {
+        self.locks.agree();
+    }
 }
 
 // The place of a claim's group among those of its warehouse.

@@ -5,7 +5,7 @@ use Rattle.groups.specs.Content.{content}
 use Rattle.groups.specs.Laws.{ChangesOneGroup}
 use Rattle.groups.specs.declared.wishes.Wish.{Wish}
 use Rattle.tickets.specs.Claims.{Claiming, leaving}
-use Rattle.slices.specs.Sliced.{Sliced, SliceKeeps}
+use Rattle.slices.specs.Sliced.{Sliced, SliceKeeps, HasLocksOf}
 use Rattle.transactions.specs.Granted.{AreGrantedFor, AreLeft, IsFresh}
 use Rattle.transactions.proofs.Kept as kept
 use Rattle.transactions.proofs.Returned.{put_back}
@@ -43,7 +43,7 @@ module _ (claims : List Claiming) (first : Claiming) (others : List Claiming) (p
   pub undone_all : IsFresh first → content start.tables first.group ≡ first.left → put ≡ leaving first put.left → mid ≡ record start { tables = mid.tables }
       → ((other : Group) → other ≢ first.group → content mid.tables other ≡ content start.tables other) → SliceKeeps (first ∷ []) start (put ∷ []) mid
       → (late new : Sliced) (undone : Claiming) (after : List Claiming) → (late ≡ mid) × (after ≡ others) → undone ≡ leaving put put.back → SliceKeeps (put ∷ []) late (undone ∷ []) new
-      → ChangesOneGroup put.group (λ before. put.back) late.tables new.tables → new.free ≡ late.free → (new ≡ start) × (undone ∷ after ≡ claims)
+      → ChangesOneGroup put.group (λ before. put.back) late.tables new.tables → HasLocksOf late new → (new ≡ start) × (undone ∷ after ≡ claims)
   undone_all fresh was made rows elsewhere done late new undone after same back back_kept changes free =
       let group : put.group ≡ first.group = ap (λ (k : Claiming). k.group) made in
       let had : content start.tables first.group ≡ put.back = was ∙ fresh.left ∙ sym fresh.back ∙ sym (ap (λ (k : Claiming). k.back) made) in

@@ -1,8 +1,8 @@
 -- A warehouse's customers, and claims on its groups.
 use Rattle.std.proofs.Common.{◌≡◌, ℕ, ◌≤◌, true, List, [], ◌∷◌, IsTrue, sym, ap, subst, ◌∙◌, arith}
-use Rattle.std.specs.Prelude.{All, length, map, take}
+use Rattle.std.specs.Prelude.{All, length, map}
 use Rattle.std.proofs.lemmas.Bool.{and_parts, and_from, eqb-true}
-use Rattle.std.proofs.lemmas.List.Elements.{All-nil, All-cons, All-head, All-tail, All-map, All-take}
+use Rattle.std.proofs.lemmas.List.Elements.{All-nil, All-cons, All-head, All-tail, All-map}
 use Rattle.std.specs.FinMap as table
 use Rattle.rows.specs.Keys.{district_of_customer}
 use Rattle.rows.specs.Ranged.{is_between}
@@ -31,18 +31,13 @@ customer_known p key part there =
 -- ---- claims on groups of one warehouse
 
 -- claims that were granted for wishes are where the wishes are
-granted_each : (home : ℕ) (wishes : List Wish) (claims : List Claiming) → AreGrantedFor wishes claims → AreWishesAt home wishes → All (IsClaimAt home) claims
+pub granted_each : (home : ℕ) (wishes : List Wish) (claims : List Claiming) → AreGrantedFor wishes claims → AreWishesAt home wishes → All (IsClaimAt home) claims
 granted_each home [] [] granted here = All-nil (IsClaimAt home)
 granted_each home [] (claim ∷ claims) granted here = absurd granted
 granted_each home (wish ∷ wishes) [] granted here = absurd granted
 granted_each home (wish ∷ wishes) (claim ∷ claims) granted here =
     All-cons (IsClaimAt home) claim claims (ap warehouse_of granted.0.group ∙ All-head (λ (w : Wish). warehouse_of w.group ≡ home) wish wishes here)
     (granted_each home wishes claims granted.1 (All-tail (λ (w : Wish). warehouse_of w.group ≡ home) wish wishes here))
-
--- also where the first of the wishes were granted
-pub granted_here : (home k : ℕ) (wishes : List Wish) (claims : List Claiming) → AreGrantedFor (take k wishes) claims → AreWishesAt home wishes → All (IsClaimAt home) claims
-granted_here home k wishes claims granted here =
-    granted_each home (take k wishes) claims granted (All-take (λ (wish : Wish). warehouse_of wish.group ≡ home) k wishes here)
 
 -- claims are where their groups are
 each_here : (home : ℕ) (claims : List Claiming) → All (λ group. warehouse_of group ≡ home) (map (λ (claim : Claiming). claim.group) claims) → All (IsClaimAt home) claims

@@ -1,15 +1,18 @@
 -- What is committed is kept: by doing nothing, by one call, by calls beside other claims, and claim by claim.
-use Rattle.std.proofs.Common.{◌≡◌, [], ◌∷◌, ◌++◌, List, Result, Ok, Err, OnOk, OnErr, append_assoc, refl, sym, subst, ◌∙◌}
-use Rattle.std.proofs.lemmas.List.{append-nil}
-use Rattle.std.proofs.lemmas.List.Sorted.{IsPermutation-append_comm}
+use Rattle.std.proofs.Common.{◌≡◌, [], ◌∷◌, ◌++◌, List, Result, Ok, Err, OnOk, OnErr, append_assoc, map, refl, sym, ap, subst, ◌∙◌}
+use Rattle.std.specs.List.Sorted.{IsPermutation}
+use Rattle.std.proofs.lemmas.List.{append-nil, map-append}
+use Rattle.std.proofs.lemmas.List.Sorted.{IsPermutation-append_comm, IsPermutation-append_left, IsPermutation-map, IsPermutation-trans}
 use Rattle.partitions.specs.Parts.{shared_of}
 use Rattle.tickets.specs.Claims.{Claiming}
 use Rattle.tickets.specs.Committed.{AreCommitted, KeepsCommitted}
 use Rattle.tickets.proofs.Committed.{keeps_permuted}
+use Rattle.local_locks.specs.Asking.{held_by}
+use Rattle.local_locks.specs.Locking.{Holding}
 use Rattle.slices.specs.Sliced.{Sliced, SliceKeeps, standing, at_home}
 
 pub stays : (claims : List Claiming) (slice : Sliced) → SliceKeeps claims slice claims slice
-stays claims slice = record { committed = λ tables others h. h; home = refl; scale = refl; items = refl }
+stays claims slice = record { committed = λ tables others h. h; holdings = λ others h. h; waiters = refl; home = refl; scale = refl; items = refl }
 
 pub then : (first between last : List Claiming) (old slice new : Sliced)
     → SliceKeeps first old between slice → SliceKeeps between slice last new → SliceKeeps first old last new
@@ -17,6 +20,8 @@ then first between last old slice new one two = record {
   committed = λ tables others h.
       let more = subst (λ home. KeepsCommitted (at_home home) between (standing slice) last (standing new)) one.home two.committed in
       more tables others (one.committed tables others h);
+  holdings = λ others h. two.holdings others (one.holdings others h);
+  waiters = two.waiters ∙ one.waiters;
   home = two.home ∙ one.home;
   scale = two.scale ∙ one.scale;
   items = two.items ∙ one.items;
@@ -33,12 +38,20 @@ pub by_call : {T E : Type 0} (result : Result T E) (was now : Claiming) (old new
 by_call (Ok x) was now old new kept same = kept
 by_call (Err fault) was now old new kept same = unchanged (was ∷ []) (now ∷ []) old new (λ i. same.1 i ∷ []) same.0
 
+-- who holds claims, and more, and others
+held_with : (claims more : List Claiming) (others : List Holding) → map held_by (claims ++ more) ++ others ≡ map held_by claims ++ (map held_by more ++ others)
+held_with claims more others = ap (λ hs. hs ++ others) (map-append held_by claims more) ∙ append_assoc (map held_by claims) (map held_by more) others
+
 -- beside more claims, which come after its own or before them
 pub with_more : (before after more : List Claiming) (old new : Sliced) → SliceKeeps before old after new → SliceKeeps (before ++ more) old (after ++ more) new
 with_more before after more old new kept = record {
   committed = λ tables others h.
       subst (λ claims. AreCommitted (at_home old.home) tables (standing new) claims) (sym (append_assoc after more others))
       (kept.committed tables (more ++ others) (subst (λ claims. AreCommitted (at_home old.home) tables (standing old) claims) (append_assoc before more others) h));
+  holdings = λ others h.
+      subst (IsPermutation new.holdings) (sym (held_with after more others))
+      (kept.holdings (map held_by more ++ others) (subst (IsPermutation old.holdings) (held_with before more others) h));
+  waiters = kept.waiters;
   home = kept.home;
   scale = kept.scale;
   items = kept.items;
@@ -50,6 +63,12 @@ after_more more before after old new kept =
     record {
       committed = keeps_permuted (at_home old.home) (before ++ more) (more ++ before) (after ++ more) (more ++ after) (standing old) (standing new)
           (IsPermutation-append_comm more before) (IsPermutation-append_comm after more) wide.committed;
+      holdings = λ others h.
+          let f = map held_by in
+          let swap = λ (first last : List Claiming). IsPermutation-append_left others (f (first ++ last)) (f (last ++ first)) (IsPermutation-map held_by (first ++ last) (last ++ first) (IsPermutation-append_comm first last)) in
+          IsPermutation-trans new.holdings (f (after ++ more) ++ others) (f (more ++ after) ++ others)
+          (wide.holdings others (IsPermutation-trans old.holdings (f (more ++ before) ++ others) (f (before ++ more) ++ others) h (swap more before))) (swap after more);
+      waiters = kept.waiters;
       home = kept.home;
       scale = kept.scale;
       items = kept.items;

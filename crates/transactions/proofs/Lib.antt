@@ -45,3 +45,5 @@ pub mod DeliveryAmount
 pub mod DeliveryDone
 pub mod DeliveryWorks
 pub mod DeliverySteps
+pub mod Wanted
+pub mod Held

@@ -1,24 +1,18 @@
 -- What actions wish for: claims that were granted for it, one after another, how many they are, and at which warehouse.
-use Rattle.std.proofs.Common.{◌≡◌, ◌≢◌, ℕ, zero, suc, Bool, true, false, cond, not, List, [], ◌∷◌, ◌++◌, length, refl, sym, ap, subst, ◌∙◌, arith}
+use Rattle.std.proofs.Common.{◌≡◌, ℕ, zero, suc, List, [], ◌∷◌, ◌++◌, length, refl, sym, ap, ◌∙◌, arith}
 use Rattle.std.specs.Prelude.{◌+◌, Some, None, All, map, take, slice_get}
-use Rattle.std.specs.Option.{option_or}
 use Rattle.std.specs.List.{AllByRecursion}
 use Rattle.std.proofs.lemmas.List.{length-map, take_more}
-use Rattle.std.proofs.lemmas.List.Elements.{All-head, All-tail, All-from_recursion}
-use Rattle.std.proofs.lemmas.List.Folds.{find-append}
+use Rattle.std.proofs.lemmas.List.Elements.{All-from_recursion}
 use Rattle.std.proofs.lemmas.Option.{slice_get_within, get_or_from_slice_get}
-use Rattle.requests.specs.declared.group.Group.{Group}
 use Rattle.groups.specs.Footprint.{groups_of}
-use Rattle.groups.specs.Groups.{warehouse_of}
 use Rattle.groups.specs.declared.wishes.Wish.{Wish}
 use Rattle.tickets.specs.Claims.{Claiming}
-use Rattle.tickets.proofs.Committed.{All-front}
-use Rattle.slices.proofs.Steps.{All-last}
 use Rattle.transactions.specs.declared.work.Work.TheVariants.{NewOrder, Payment, OrderStatus, Delivery, StockLevel}
 use Rattle.transactions.specs.declared.work.Work.{Work}
-use Rattle.transactions.specs.Granted.{AreWishesAt, IsGrantedFor, AreGrantedFor, AreLeft}
+use Rattle.transactions.specs.Granted.{AreGrantedFor, AreLeft}
 use Rattle.transactions.specs.Works.{home_of, wishes_of}
-use Rattle.transactions.specs.Acting.{can_be_granted, first_held, CanBeSettled, CanBeUndone}
+use Rattle.transactions.specs.Acting.{CanBeSettled, CanBeUndone}
 use Rattle.transactions.specs.Laws.{WorksAreAtWarehouses, WorksAreDoneAtHome, WorksClaimAtHome, WorksHaveAClaimForEachWish, WorksHaveTheirGroups, WorksHaveWishes}
 use Rattle.transactions.proofs.Footprints.{AreApart}
 use Rattle.transactions.proofs.Homes.{claims_here, of_one_home}
@@ -30,48 +24,20 @@ use Rattle.transactions.proofs.StockLevelWorks as stock_level
 
 -- ---- the wish of a number
 
--- what holds of the groups of all wishes holds of its group
-pub wished_at : (P : Group → Type 0) (wishes : List Wish) (k : ℕ) (wish : Wish) → All P (groups_of wishes) → slice_get wishes k ≡ Some wish → P wish.group
-wished_at P [] k wish all is = absurd cc
-wished_at P (w ∷ ws) zero wish all is = let same : w ≡ wish = cc in subst (λ (x : Wish). P x.group) same (All-head P w.group (groups_of ws) all)
-wished_at P (w ∷ ws) (suc k) wish all is = wished_at P ws k wish (All-tail P w.group (groups_of ws) all) is
-
--- and it is for a group of the warehouse that all are for
-pub wished_here : (home : ℕ) (wishes : List Wish) (k : ℕ) (wish : Wish) → AreWishesAt home wishes → slice_get wishes k ≡ Some wish → warehouse_of wish.group ≡ home
-wished_here home wishes k wish here is =
-    subst (λ (w : Wish). warehouse_of w.group ≡ home) (get_or_from_slice_get wishes k wish wish is) (here k wish (slice_get_within wishes k wish is))
-
 -- it comes after those before it
-wishes_more : (wishes : List Wish) (k n : ℕ) (wish : Wish) → slice_get wishes k ≡ Some wish → n ≡ k + 1 → take n wishes ≡ take k wishes ++ wish ∷ []
+pub wishes_more : (wishes : List Wish) (k n : ℕ) (wish : Wish) → slice_get wishes k ≡ Some wish → n ≡ k + 1 → take n wishes ≡ take k wishes ++ wish ∷ []
 wishes_more wishes k n wish is next =
     ap (λ m. take m wishes) next ∙ take_more wishes k wish (slice_get_within wishes k wish is)
     ∙ ap (λ (w : Wish). take k wishes ++ w ∷ []) (get_or_from_slice_get wishes k wish wish is)
 
 -- with none of this number, those before it are all
-take_all : (wishes : List Wish) (k : ℕ) → slice_get wishes k ≡ None → take k wishes ≡ wishes
+pub take_all : (wishes : List Wish) (k : ℕ) → slice_get wishes k ≡ None → take k wishes ≡ wishes
 take_all [] zero none = refl
 take_all [] (suc k) none = refl
 take_all (w ∷ ws) zero none = absurd cc
 take_all (w ∷ ws) (suc k) none = ap (λ xs. w ∷ xs) (take_all ws k none)
 
 -- ---- claims that are granted
-
--- one more
-one_granted : (wishes : List Wish) (claims : List Claiming) (wish : Wish) (claim : Claiming)
-    → AreGrantedFor wishes claims → IsGrantedFor wish claim → AreGrantedFor (wishes ++ wish ∷ []) (claims ++ claim ∷ [])
-one_granted [] [] wish claim granted more = (more, tt)
-one_granted [] (c ∷ cs) wish claim granted more = absurd granted
-one_granted (w ∷ ws) [] wish claim granted more = absurd granted
-one_granted (w ∷ ws) (c ∷ cs) wish claim granted more = (granted.0, one_granted ws cs wish claim granted.1 more)
-
-pub granted_more : (wishes : List Wish) (k n : ℕ) (wish : Wish) (claims items : List Claiming) (claim : Claiming) → slice_get wishes k ≡ Some wish → n ≡ k + 1
-    → items ≡ claims ++ claim ∷ [] → AreGrantedFor (take k wishes) claims → IsGrantedFor wish claim → AreGrantedFor (take n wishes) items
-granted_more wishes k n wish claims items claim is next made granted more =
-    subst (λ ws. AreGrantedFor ws items) (sym (wishes_more wishes k n wish is next))
-    (subst (λ cs. AreGrantedFor (take k wishes ++ wish ∷ []) cs) (sym made) (one_granted (take k wishes) claims wish claim granted more))
-
-pub all_granted : (wishes : List Wish) (k : ℕ) (claims : List Claiming) → slice_get wishes k ≡ None → AreGrantedFor (take k wishes) claims → AreGrantedFor wishes claims
-all_granted wishes k claims none granted = subst (λ ws. AreGrantedFor ws claims) (take_all wishes k none) granted
 
 -- nothing was done under them, so that nothing is to be committed
 settled_each : (wishes : List Wish) (claims : List Claiming) → AreGrantedFor wishes claims → AllByRecursion CanBeSettled claims
@@ -96,51 +62,12 @@ pub left_undone : (wishes : List Wish) (olds news : List Claiming) → AreGrante
 left_undone wishes olds news granted left = All-from_recursion CanBeUndone news (undone_each wishes olds news granted left)
 
 -- before each of an action's wishes none is for its group
-works_wish_once : (work : Work) → AreApart (wishes_of work)
+pub works_wish_once : (work : Work) → AreApart (wishes_of work)
 works_wish_once (NewOrder work) = new_order.works_wish_once work
 works_wish_once (Payment work) = payment.works_wish_once work
 works_wish_once (OrderStatus work) = order_status.works_wish_once work
 works_wish_once (Delivery work) = delivery.works_wish_once work
 works_wish_once (StockLevel work) = stock_level.works_wish_once work
-
-pub apart_at : (work : Work) (k : ℕ) (wish : Wish) → slice_get (wishes_of work) k ≡ Some wish → All (λ (before : Wish). before.group ≢ wish.group) (take k (wishes_of work))
-apart_at work k wish is =
-    subst (λ (w : Wish). All (λ (before : Wish). before.group ≢ w.group) (take k (wishes_of work)))
-    (get_or_from_slice_get (wishes_of work) k wish wish is) (works_wish_once work k wish (slice_get_within (wishes_of work) k wish is))
-
--- a group for which none of the wishes is up to this one
-pub others_more : (wishes : List Wish) (k n : ℕ) (wish : Wish) (other : Group) → slice_get wishes k ≡ Some wish → n ≡ k + 1
-    → All (λ (w : Wish). w.group ≢ other) (take n wishes) → All (λ (w : Wish). w.group ≢ other) (take k wishes) × (wish.group ≢ other)
-others_more wishes k n wish other is next all =
-    let parts = subst (All (λ (w : Wish). w.group ≢ other)) (wishes_more wishes k n wish is next) all in
-    (All-front (λ (w : Wish). w.group ≢ other) (take k wishes) (wish ∷ []) parts, All-last (λ (w : Wish). w.group ≢ other) (take k wishes) wish parts)
-
--- where none of the first wishes is held, and the next can be granted, none of the first and the next is
-pub none_held_more : (free : Group → ℕ) (wishes : List Wish) (k n : ℕ) (wish : Wish) → slice_get wishes k ≡ Some wish → n ≡ k + 1
-    → first_held free (take k wishes) ≡ None → can_be_granted free wish ≡ true → first_held free (take n wishes) ≡ None
-none_held_more free wishes k n wish is next none can =
-    ap (first_held free) (wishes_more wishes k n wish is next)
-    ∙ find-append (λ (w : Wish). not (can_be_granted free w)) (take k wishes) (wish ∷ [])
-    ∙ (λ i. option_or (none i) (cond (not (can i)) (Some wish) None))
-
--- and where the next can't be granted, it is the first that is held
-pub first_held_at : (free : Group → ℕ) (wishes : List Wish) (k : ℕ) (wish : Wish) → slice_get wishes k ≡ Some wish
-    → first_held free (take k wishes) ≡ None → can_be_granted free wish ≡ false → first_held free wishes ≡ Some wish
-first_held_at free [] k wish is none cannot = absurd cc
-first_held_at free (w ∷ ws) zero wish is none cannot =
-    let same : w ≡ wish = cc in
-    (λ i. cond (not (can_be_granted free (same i))) (Some (same i)) (first_held free ws)) ∙ ap (λ b. cond (not b) (Some wish) (first_held free ws)) cannot
-first_held_at free (w ∷ ws) (suc k) wish is none cannot =
-    elim (can_be_granted free w) as (λ (b : Bool). cond (not b) (Some w) (first_held free (take k ws)) ≡ None → cond (not b) (Some w) (first_held free ws) ≡ Some wish) [
-      | true ↦ λ later. first_held_at free ws k wish is later cannot
-      | false ↦ λ no. absurd cc
-    ] none
-
--- with none of this number, none of all is held
-pub none_held : (free : Group → ℕ) (wishes : List Wish) (k : ℕ) → slice_get wishes k ≡ None → first_held free (take k wishes) ≡ None → first_held free wishes ≡ None
-none_held free wishes k none held = ap (first_held free) (sym (take_all wishes k none)) ∙ held
-
--- ---- how many they are
 
 pub works_have_wishes : WorksHaveWishes
 works_have_wishes (NewOrder work) = new_order.works_have_wishes work

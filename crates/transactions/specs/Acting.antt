@@ -1,16 +1,21 @@
 -- What comes of an action, from its claims to their return.
-use Rattle.std.specs.Prelude.{◌≡◌, ℕ, Bool, not, nat_le, List, [], ◌∷◌, Option, Some, None, option_map, find, All}
+use Rattle.std.specs.Prelude.{◌≡◌, ℕ, Bool, false, not, nat_le, List, [], Option, option_map, find, All, Contains}
 use Rattle.partitions.specs.Parts.{shared_of}
 use Rattle.requests.specs.declared.group.Group.{Group}
 use Rattle.groups.specs.declared.wishes.Mode.TheVariants.{Exclusive}
 use Rattle.groups.specs.declared.wishes.Wish.{Wish}
 use Rattle.tickets.specs.Claims.{Claiming}
 use Rattle.tickets.specs.Committed.{tickets_held}
-use Rattle.slices.specs.Sliced.{Sliced, standing, taking_back}
+use Rattle.wait_die.specs.declared.deciding.Holder.{Holder}
+use Rattle.wait_die.specs.declared.deciding.TheConstants.{YOUNGEST}
+use Rattle.local_locks.specs.Conflicts.{IsFree, MustDie}
+use Rattle.slices.specs.Sliced.{Sliced, IsAsBefore}
+use Rattle.transactions.specs.declared.work.Found.{Found}
 use Rattle.transactions.specs.declared.work.Work.{Work}
 use Rattle.transactions.specs.declared.acting.Ran.{Ran}
 use Rattle.transactions.specs.declared.acting.Ran.TheVariants.{Done, Died, NoMemory}
-use Rattle.transactions.specs.Works.{wishes_of, HasDone}
+use Rattle.transactions.specs.Granted.{AreLeft}
+use Rattle.transactions.specs.Works.{wants_of, HasDone}
 
 -- What was done under the claim can be taken back, and then there is what it tells. Of a shared claim nothing is asked,
 -- since nothing was done.
@@ -36,10 +41,12 @@ first_held free wishes = find (λ wish. not (can_be_granted free wish)) wishes
 abbrev pub dies_on : (Group → ℕ) → List Wish → Option Group
 dies_on free wishes = option_map (λ wish. wish.group) (first_held free wishes)
 
--- the slice once all these claims are back, the last one first
-abbrev pub giving_back : List Claiming → Sliced → Sliced
-giving_back [] slice = slice
-giving_back (claim ∷ claims) slice = taking_back claim (giving_back claims slice)
+-- one of these wishes is for the group, and can't be granted
+pub record IsRefusedOn (free : Group → ℕ) (wishes : List Wish) (group : Group) : Type 0 where
+  pub wish : Wish
+  pub wished : Contains wishes wish
+  pub on : wish.group ≡ group
+  pub cannot : can_be_granted free wish ≡ false
 
 -- ---- what comes of an action
 
@@ -49,11 +56,27 @@ claims_of_ran (Done claims found) = claims
 claims_of_ran (Died group holder) = []
 claims_of_ran NoMemory = []
 
--- What comes of this work in this slice: all that it wished for could be granted, and it was done under the claims, all of
--- which can be undone; or it died on the group of the first wish that could not, or there was no memory, and then the slice is
--- as it was.
-abbrev pub IsRanOf : {J : Type 0} → Sliced → Work → Ran J → Sliced → Type 0
-IsRanOf old work (Done claims found) new =
-    (dies_on (standing old).free (wishes_of work) ≡ None) × HasDone (shared_of old.tables) work found claims × All CanBeUndone claims
-IsRanOf old work (Died group holder) new = (dies_on (standing old).free (wishes_of work) ≡ Some group) × (new ≡ old)
-IsRanOf old work NoMemory new = new ≡ old
+-- the claim is this one's
+abbrev pub IsBy : Holder → Claiming → Type 0
+IsBy by claim = claim.by ≡ by
+
+-- Nobody was in its way, and the work was done under claims of its own, all of which can be undone.
+pub record IsDoneBy (by : Holder) (old : Sliced) (work : Work) (claims : List Claiming) (found : Found) : Type 0 where
+  pub free : IsFree old.holdings (wants_of work)
+  pub done : HasDone (shared_of old.tables) work found claims
+  pub undone : All CanBeUndone claims
+  pub own : All (IsBy by) claims
+
+-- What comes of this work in this slice: it was done; or it died, as one that is younger than all would; or there was no
+-- memory. Then the slice is as it was.
+abbrev pub IsRanOf : {J : Type 0} → Holder → Sliced → Work → Ran J → Sliced → Type 0
+IsRanOf by old work (Done claims found) new = IsDoneBy by old work claims found
+IsRanOf by old work (Died group holder) new = MustDie old.holdings YOUNGEST (wants_of work) group holder × (new ≡ old)
+IsRanOf by old work NoMemory new = IsAsBefore old new
+
+-- What comes of work under claims that were granted for it: it was done under these claims, whatever was left under them; or
+-- there was no memory, and the rows are as they were.
+abbrev pub IsRanUnder : {J : Type 0} → Sliced → Work → List Claiming → Ran J → Sliced → Type 0
+IsRanUnder old work granted (Done claims found) new = HasDone (shared_of old.tables) work found claims × AreLeft granted claims
+IsRanUnder old work granted (Died group holder) new = ⊥
+IsRanUnder old work granted NoMemory new = new.tables ≡ old.tables

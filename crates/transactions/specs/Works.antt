@@ -1,7 +1,9 @@
 -- What the actions of all transactions do, and what they claim for it, by kind.
-use Rattle.std.specs.Prelude.{◌≡◌, ℕ, List, [], ◌∷◌, ◌++◌}
+use Rattle.std.specs.Prelude.{◌≡◌, ℕ, List, [], ◌∷◌, ◌++◌, map}
 use Rattle.partitions.specs.Parts.{Shared}
 use Rattle.groups.specs.declared.wishes.Wish.{Wish}
+use Rattle.groups.specs.declared.wants.Extent.TheVariants.{One}
+use Rattle.groups.specs.declared.wants.Want.{Want}
 use Rattle.tickets.specs.Claims.{Claiming}
 use Rattle.transactions.specs.declared.new_order.work.Found.{Found as NewOrderFound}
 use Rattle.transactions.specs.declared.payment.Found.{Found as PaymentFound}
@@ -33,6 +35,14 @@ wishes_of (Payment work) = payment.wishes_of work
 wishes_of (OrderStatus work) = order_status.wishes_of work
 wishes_of (Delivery work) = delivery.wishes_of work
 wishes_of (StockLevel work) = stock_level.wishes_of work
+
+-- a want of one group by itself, as a wish has it
+abbrev pub want_of : Wish → Want
+want_of wish = record { extent = One wish.group; mode = wish.mode }
+
+-- what the action wants of the lock table of its warehouse
+abbrev pub wants_of : Work → List Want
+wants_of work = map want_of (wishes_of work)
 
 -- what the work needs
 abbrev pub CanDo : Shared → Work → Type 0

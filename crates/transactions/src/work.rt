@@ -3,10 +3,10 @@ ghost use Rattle.std.specs.Prelude.{◌≡◌, length, slice_get, IfOk, OnErr};
 ghost use Rattle.partitions.specs.Parts.{shared_of};
 ghost use Rattle.slices.specs.Sliced.{SliceKeeps};
 ghost use Rattle.transactions.specs.Granted.{AreGrantedFor, AreLeft};
-ghost use Rattle.transactions.specs.Works.{CanDo, HasDone, home_of, wishes_of};
+ghost use Rattle.transactions.specs.Works.{CanDo, HasDone, home_of, wants_of, wishes_of};
 
 use crate::{delivery, new_order, order_status, payment, stock_level};
-use groups::Wish;
+use groups::{Extent, Want, Wish};
 use schema::NoMemory;
 use slices::Slice;
 use std::alloc::Global;
@@ -71,6 +71,21 @@ impl Work {
             Work::Delivery(work) => work.wish(number),
             Work::StockLevel(work) => work.wish(number),
         }
+    }
+
+    /// What the action wants of the lock table of its warehouse: each group of its wishes by itself, in turn.
+    /// Want of memory leaves nothing behind.
+    pub fn wants(&self, alloc: Global) -> Result<Vec<Want>, NoMemory>
+        ensures { IfOk result (λ wants. wants.items ≡ wants_of self.now) }
+    {
+        let mut wants = Vec::with_capacity(alloc, self.wish_count())?;
+        while let Some(wish) = self.wish(wants.len()) {
+            wants.push_reserved(Want {
+                extent: Extent::One(wish.group),
+                mode: wish.mode,
+            });
+        }
+        Ok(wants)
     }
 }
 

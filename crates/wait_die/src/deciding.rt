@@ -1,8 +1,11 @@
-ghost use Rattle.std.specs.Prelude.{◌≡◌, MatchOption, [], All, Any, ◌≤◌};
+ghost use Rattle.std.specs.Prelude.{◌≡◌, ◌≢◌, MatchOption, [], All, Any, ◌≤◌};
 ghost use Rattle.wait_die.specs.Verdicts.{IsOldest, IsVerdict};
 
 /// The age of a transaction: how many were admitted before it. Of two ages the lesser is the older.
 pub type Age = u64;
+
+/// No age is younger.
+pub const YOUNGEST: Age = Age::MAX;
 
 /// An action that holds a claim: its transaction's age, and its place among the transaction's actions.
 #[derive(Clone, Copy, Debug, Default, PartialEq, Eq)]
@@ -22,9 +25,10 @@ pub enum Decision {
     Dies(Age),
 }
 
-/// What is said to a wish of a transaction of this age, by the holders that conflict with it.
+/// What is said to a wish of a transaction of this age, by the holders that conflict with it. The youngest never waits.
 pub fn verdict(age: Age, conflicting: &[Holder]) -> Decision
-    ensures { IsVerdict age conflicting.now result }
+    ensures verdict { IsVerdict age conflicting.now result }
+    ensures youngest { age ≡ YOUNGEST → result ≢ Decision.Waits }
 {
     match oldest(conflicting) {
         None => Decision::Free,

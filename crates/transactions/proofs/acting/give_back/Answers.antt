@@ -1,13 +1,12 @@
-use Rattle.std.proofs.Common.{◌≡◌, [], ◌∷◌, List, ap, subst, sym, ◌∙◌, arith}
+use Rattle.std.proofs.Common.{◌≡◌, [], ◌∷◌, List, subst, sym, ◌∙◌, arith}
 use Rattle.std.specs.Prelude.{All}
 use Rattle.tickets.specs.Claims.{Claiming}
 use Rattle.tickets.proofs.Committed.{All-front}
 use Rattle.slices.specs.Sliced.{IsClaimAt, SliceKeeps}
 use Rattle.slices.proofs.Opened.{none_left}
 use Rattle.slices.proofs.Steps.{All-last}
-use Rattle.transactions.specs.Acting.{giving_back, CanBeSettled}
+use Rattle.transactions.specs.Acting.{CanBeSettled}
 use Rattle.transactions.proofs.Kept as kept
-use Rattle.transactions.proofs.Returned.{one_back}
 use Rattle.transactions.proofs.acting.give_back.Goals as goal
 
 pub take_back-requires : goal.take_back-requires
@@ -25,7 +24,7 @@ loop-claim-preserved g c =
     record {
       kept = kept.one_fewer rest c.in-Some.claim c.args.claims.items c.args.slice.now c.loop-claim.slice c.take_back.new.self
           (subst (λ (claims : List Claiming). SliceKeeps c.args.claims.items c.args.slice.now claims c.loop-claim.slice) c.in-Some.ensures.items c.loop-claim.invariant.kept) c.take_back.ensures.kept;
-      back = one_back c.loop-claim.claims.items rest c.in-Some.claim _ c.loop-claim.slice c.take_back.new.self c.in-Some.ensures.items c.take_back.ensures.back c.loop-claim.invariant.back;
+      tables = c.take_back.ensures.tables ∙ c.loop-claim.invariant.tables;
       settled = All-front CanBeSettled rest (c.in-Some.claim ∷ []) (subst (All CanBeSettled) c.in-Some.ensures.items c.loop-claim.invariant.settled);
       home = All-front (IsClaimAt start) rest (c.in-Some.claim ∷ []) (subst (All (IsClaimAt start)) c.in-Some.ensures.items c.loop-claim.invariant.home);
     }
@@ -34,8 +33,3 @@ pub returns-clause-kept : goal.returns-clause-kept
 returns-clause-kept g c =
     let none : c.loop-claim.claims.items ≡ [] = none_left c.loop-claim.claims.items (let long = c.loop-claim.claims.ok in omega (arith, c.in_default.ensures.cases.0, long)) in
     subst (λ (claims : List Claiming). SliceKeeps c.args.claims.items c.args.slice.now claims c.loop-claim.slice) none c.loop-claim.invariant.kept
-
-pub returns-clause-back : goal.returns-clause-back
-returns-clause-back g c =
-    let none : c.loop-claim.claims.items ≡ [] = none_left c.loop-claim.claims.items (let long = c.loop-claim.claims.ok in omega (arith, c.in_default.ensures.cases.0, long)) in
-    sym (ap (λ claims. giving_back claims c.loop-claim.slice) none) ∙ c.loop-claim.invariant.back

@@ -1,13 +1,13 @@
 use Rattle.std.proofs.Common.{◌≡◌, All, vec_len}
 use Rattle.slices.specs.Sliced.{IsClaimAt, SliceKeeps}
-use Rattle.transactions.specs.Acting.{giving_back, CanBeSettled}
+use Rattle.transactions.specs.Acting.{CanBeSettled}
 use Rattle.transactions.proofs.acting.give_back.Given as goal
 
 -- what is given back so far keeps what is committed, and so can the rest be, in the same warehouse
 abbrev pub invariant-loop-claim : goal.invariant-loop-claim
 invariant-loop-claim g l = record {
   kept : SliceKeeps l.initial.claims.items l.initial.slice l.claims.items l.slice;
-  back : giving_back l.claims.items l.slice ≡ giving_back l.initial.claims.items l.initial.slice;
+  tables : l.slice.tables ≡ l.initial.slice.tables;
   settled : All CanBeSettled l.claims.items;
   home : All (IsClaimAt l.initial.slice.home) l.claims.items;
 }

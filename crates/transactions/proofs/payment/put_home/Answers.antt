@@ -44,7 +44,7 @@ returns-in-Err-clause-err g c =
     let before : leaving was was.back ≡ was = ap (leaving was) (fresh.back ∙ sym fresh.left) in (
       put_back own put.back c.args.slice.now c.put_district.new.self c.undo.new.self _ put c.undo.new.claim (same.0 ∙ c.in_ok-put_warehouse.ensures.rows) refl refl
           ((each_put_changes_one_group t).warehouses c.args.payment.now.home.w_id c.args.warehouse_row).elsewhere had c.undo.ensures.kept
-          (subst (λ (group : Group). ChangesOneGroup group (λ before. put.back) c.put_district.new.self.tables c.undo.new.self.tables) on c.undo.ensures.rows) c.undo.ensures.free,
+          (subst (λ (group : Group). ChangesOneGroup group (λ before. put.back) c.put_district.new.self.tables c.undo.new.self.tables) on c.undo.ensures.rows) c.undo.ensures.locks,
       c.undo.ensures.claim ∙ (λ i. leaving (made i) (made i).back) ∙ before,
       same.1,
     )

@@ -89,7 +89,7 @@ returns-in-Free-clause-turn g c =
     let Q : List Want → Type 0 = λ ws. AreGranted g.J.GroupNames.warehouses next.by (flat_map spots_of ws) c.deref_mut.result.now c.grant_all.new.locks in (
       p.wants,
       taken.turn_taken g.J.GroupNames.warehouses c.self.inside.w_id c.args.self.now locks.items back waiters rest p next c.self.view_is t,
-      asks.answered_free g.J.GroupNames.warehouses c.self.inside.w_id next.by p.wants c.args.self.now locks.items c.deref_mut.result.now c.grant_all.new.locks back waiters rest c.wants.inside.room.items c.grant_all.new.claims.items c.self.view_is
+      asks.answered_free g.J.GroupNames.warehouses c.self.inside.w_id next.by.age next.by p.wants c.args.self.now locks.items c.deref_mut.result.now c.grant_all.new.locks back waiters rest c.wants.inside.room.items c.grant_all.new.claims.items c.self.view_is
           c.deref_mut.ensures.value (asks.refilled locks.len locks.items c.grant_all.new.locks locks.ok.0 long) c.wants.invariant c.self.invariant.0 is.can.own
           (taken.said_taken g.J.GroupNames.warehouses c.self.inside.w_id locks.items waiters rest p next Free t c.in-Free.is) (subst P wants c.grant_all.ensures.claims) (subst Q wants c.grant_all.ensures.granted),
     )

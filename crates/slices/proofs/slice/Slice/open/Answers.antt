@@ -1,32 +1,29 @@
-use Rattle.std.proofs.Common.{rules, ◌≡◌, [], ◌∷◌, ◌++◌, map, ap, subst, ◌∙◌, sym, arith}
-use Rattle.std.proofs.lemmas.List.{append-nil}
+use Rattle.std.proofs.Common.{◌≡◌, [], ◌∷◌, ℕ, length, length-append, ap, subst, sym, ◌∙◌, arith}
 use Rattle.partitions.specs.Parts.{Part}
+use Rattle.local_locks.specs.Locking.{AreBoxesOf, Locking, opened}
 use Rattle.slices.specs.Grounds.{sliced, IsSlice}
-use Rattle.slices.proofs.Opened.{none_left, box_of, one_ground_more, idle_more, opened_grounds, opened_at_rest}
+use Rattle.slices.proofs.Opened.{boxes_at_home, idle_more, opened_slice}
 use Rattle.slices.proofs.slice.Slice.open.Goals as goal
 
-pub loop-ticket_box-preserved : goal.loop-ticket_box-preserved
-loop-ticket_box-preserved g c =
-    let grounds = c.loop-ticket_box.grounds.items in
-    let rest : c.loop-ticket_box.ticket_box-iterator.rest.items ≡ c.in-Some.ticket_box ∷ c.next.new.self.rest.items = search rules in
-    record {
-      can_next = tt;
-      finite = tt;
-      boxes = one_ground_more c.args.boxes.items c.loop-ticket_box.ticket_box-iterator.rest.items c.next.new.self.rest.items grounds c.push.new.self.items c.in-Some.ticket_box c.new.result c.loop-ticket_box.invariant.boxes rest c.in_ok-push.ensures.items c.new.ensures.ticket_box;
-      idle = idle_more grounds c.push.new.self.items c.new.result c.loop-ticket_box.invariant.idle c.new.ensures.undo c.in_ok-push.ensures.items;
-    }
+pub open-requires : goal.open-requires
+open-requires g c =
+    subst (λ (n : ℕ). AreBoxesOf n c.home-home.result c.args.boxes.items) (sym c.requires.warehouses)
+    (subst (λ (n : ℕ). AreBoxesOf c.args.partition.tables.scale.warehouses n c.args.boxes.items) (sym c.home-home.ensures.home) (boxes_at_home c.args.partition c.args.boxes.items c.requires.boxes))
+
+pub loop-preserved : goal.loop-preserved
+loop-preserved g c = record {
+  many = omega (arith, c.loop.invariant.many, ap length c.in_ok-push.ensures.items, length-append c.loop.grounds.items (c.new.result ∷ []));
+  idle = idle_more c.loop.grounds.items c.push.new.self.items c.new.result c.loop.invariant.idle c.new.ensures c.in_ok-push.ensures.items;
+}
 
 pub invariant_of-result : goal.invariant_of-result
 invariant_of-result g c =
-    let grounds = c.loop-ticket_box.grounds.items in
-    let none : c.loop-ticket_box.ticket_box-iterator.rest.items ≡ [] = none_left c.loop-ticket_box.ticket_box-iterator.rest.items (let long = c.loop-ticket_box.ticket_box-iterator.rest.ok in omega (arith, c.in-None.ensures.steps.0, long)) in
-    let all = sym (append-nil (map box_of grounds)) ∙ sym (ap (λ l. map box_of grounds ++ l) none) ∙ c.loop-ticket_box.invariant.boxes in
-    subst (λ (p : Part). IsSlice g.J.GroupNames.warehouses p grounds) (sym c.in_ok-rows.ensures)
-    (record { many = sym c.requires.warehouses; grounded = opened_grounds c.args.partition c.args.boxes.items grounds c.requires.boxes all c.loop-ticket_box.invariant.idle })
+    let table : c.in_ok-locks.locks ≡ opened c.args.partition.home c.args.boxes.items = c.in_ok-locks.ensures ∙ ap (λ (n : ℕ). opened n c.args.boxes.items) c.home-home.ensures.home in
+    let long : length c.loop.grounds.items ≡ 105 = omega (arith, c.loop.invariant.many, c.loop-test.false, c.loop.auto.counter-end) in
+    subst (λ (p : Part). IsSlice g.J.GroupNames.warehouses p c.in_ok-locks.locks c.loop.grounds.items) (sym c.in_ok-rows.ensures)
+    (opened_slice g.J.GroupNames.warehouses c.args.partition c.args.boxes.items c.in_ok-locks.locks c.loop.grounds.items c.requires.warehouses c.requires.boxes table long c.loop.invariant.idle)
 
 pub returns : goal.returns
 returns g c =
-    let grounds = c.loop-ticket_box.grounds.items in
-    let none : c.loop-ticket_box.ticket_box-iterator.rest.items ≡ [] = none_left c.loop-ticket_box.ticket_box-iterator.rest.items (let long = c.loop-ticket_box.ticket_box-iterator.rest.ok in omega (arith, c.in-None.ensures.steps.0, long)) in
-    let all = sym (append-nil (map box_of grounds)) ∙ sym (ap (λ l. map box_of grounds ++ l) none) ∙ c.loop-ticket_box.invariant.boxes in
-    ap (λ (p : Part). sliced p grounds) c.in_ok-rows.ensures ∙ opened_at_rest c.args.partition c.args.boxes.items grounds c.requires.boxes all c.loop-ticket_box.invariant.idle
+    let table : c.in_ok-locks.locks ≡ opened c.args.partition.home c.args.boxes.items = c.in_ok-locks.ensures ∙ ap (λ (n : ℕ). opened n c.args.boxes.items) c.home-home.ensures.home in
+    ap (λ (p : Part). sliced p c.in_ok-locks.locks) c.in_ok-rows.ensures ∙ ap (λ (t : Locking). sliced c.args.partition t) table

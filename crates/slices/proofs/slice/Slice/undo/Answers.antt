@@ -1,34 +1,57 @@
 use Rattle.std.proofs.Common.{[], ◌∷◌, set, ap, subst, sym, ◌∙◌}
+use Rattle.groups.specs.Content.{content}
 use Rattle.groups.specs.Laws.{ChangesOneGroup}
+use Rattle.local_locks.specs.Locking.{Locking}
 use Rattle.slices.specs.Grounds.{sliced}
 use Rattle.slices.specs.Sliced.{Sliced, SliceKeeps}
-use Rattle.slices.proofs.Keeps.{IsWritten, undo_keeps}
+use Rattle.slices.specs.Undo.{AreKept}
+use Rattle.slices.proofs.Keeps.{IsWritten, kept_there, undo_keeps}
 use Rattle.slices.proofs.slice.Slice.undo.Given as given
 use Rattle.slices.proofs.slice.Slice.undo.Goals as goal
-use Rattle.slices.proofs.slice.Slice.undo.Goals.{After-undo}
+use Rattle.slices.proofs.slice.Slice.undo.Goals.{After-undo, After-index_mut-ground}
+
+-- the steps of the claim's group can be taken back
+can : (g : given.Over) (c : After-index_mut-ground g) → AreKept c.self.inside.rows.tables.scale c.args.claim.now.group c.index_mut-ground.result.now.undo (content c.self.inside.rows.tables c.args.claim.now.group)
+can g c =
+    let near = c.requires.home ∙ sym (ap (λ (s : Sliced). s.home) c.self.view_is) in
+    kept_there g.J.GroupNames.warehouses c.self.inside.rows c.self.inside.locks c.self.inside.grounds.items c.place_of_claim.result c.index_mut-ground.result.now c.args.claim.now.group c.self.invariant c.agree.ensures.stands
+    c.place_of_claim.ensures.known near c.place_of_claim.ensures.place c.index_mut-ground.ensures.value
+
+pub put_back-requires : goal.put_back-requires
+put_back-requires g c = record { kept = (c.args.claim.now.group, can g (goal.at.put_back-requires g c).After-index_mut-ground) }
+
+pub undo-requires-clause-here : goal.undo-requires-clause-here
+undo-requires-clause-here g c = c.requires.home ∙ sym (ap (λ (s : Sliced). s.home) c.self.view_is) ∙ sym c.self.invariant.home
 
 -- all that was done is taken back
-undone : (g : given.Over) (c : After-undo g)
-    → IsWritten g.J.GroupNames.warehouses c.self.inside.rows c.undo.new.rows c.self.inside.grounds.items (set c.self.inside.grounds.items c.place_of_claim.result c.undo.new.self) c.args.claim.now c.undo.new.claim c.args.claim.now.back
-undone g c =
+undone : (g : given.Over) (c : After-undo g) → AreKept c.self.inside.rows.tables.scale c.args.claim.now.group c.index_mut-ground.result.now.undo (content c.self.inside.rows.tables c.args.claim.now.group)
+    → IsWritten g.J.GroupNames.warehouses c.self.inside.rows c.put_back.new.rows c.self.inside.locks c.undo.new.self (set c.self.inside.grounds.items c.place_of_claim.result c.put_back.new.self) c.args.claim.now c.undo.new.claim c.args.claim.now.back
+undone g c kept =
     let near = c.requires.home ∙ sym (ap (λ (s : Sliced). s.home) c.self.view_is) in
     let e = c.undo.ensures in
-    undo_keeps g.J.GroupNames.warehouses c.self.inside.rows c.undo.new.rows c.self.inside.grounds.items c.place_of_claim.result c.index_mut-ground.result.now c.undo.new.self c.args.claim.now c.undo.new.claim c.self.invariant c.place_of_claim.ensures.known near c.place_of_claim.ensures.place
-    c.index_mut-ground.ensures.value e.rows c.requires.exclusive e.back e.claim e.ticket_box e.undo
+    undo_keeps g.J.GroupNames.warehouses c.self.inside.rows c.put_back.new.rows c.self.inside.locks c.undo.new.self c.self.inside.grounds.items c.place_of_claim.result c.index_mut-ground.result.now c.put_back.new.self
+    c.args.claim.now c.undo.new.claim c.self.invariant c.agree.ensures.stands c.place_of_claim.ensures.known near c.place_of_claim.ensures.place c.index_mut-ground.ensures.value
+    (c.put_back.ensures.rows c.args.claim.now.group kept) c.requires.exclusive e.back e.claim e.table c.put_back.ensures.none
 
 pub invariant_of-self : goal.invariant_of-self
-invariant_of-self g c = (undone g (goal.at.invariant_of-self g c).After-undo).invariant
+invariant_of-self g c = let at = goal.at.invariant_of-self g c in (undone g at.After-undo (can g at.After-index_mut-ground)).invariant
 
 pub returns-clause-kept : goal.returns-clause-kept
 returns-clause-kept g c =
-    let later = set c.self.inside.grounds.items c.place_of_claim.result c.undo.new.self in
-    subst (λ (s : Sliced). SliceKeeps (c.args.claim.now ∷ []) s (c.undo.new.claim ∷ []) (sliced c.undo.new.rows later)) c.self.view_is
-    (undone g (goal.at.returns-clause-kept g c).After-undo).keeps
+    let at = goal.at.returns-clause-kept g c in
+    subst (λ (s : Sliced). SliceKeeps (c.args.claim.now ∷ []) s (c.undo.new.claim ∷ []) (sliced c.put_back.new.rows c.undo.new.self)) c.self.view_is
+    (undone g at.After-undo (can g at.After-index_mut-ground)).keeps
 
 pub returns-clause-rows : goal.returns-clause-rows
 returns-clause-rows g c =
-    subst (λ (s : Sliced). ChangesOneGroup c.args.claim.now.group (λ before. c.args.claim.now.back) s.tables c.undo.new.rows.tables) c.self.view_is
-    (undone g (goal.at.returns-clause-rows g c).After-undo).rows
+    let at = goal.at.returns-clause-rows g c in
+    subst (λ (s : Sliced). ChangesOneGroup c.args.claim.now.group (λ before. c.args.claim.now.back) s.tables c.put_back.new.rows.tables) c.self.view_is
+    (undone g at.After-undo (can g at.After-index_mut-ground)).rows
 
-pub returns-clause-free : goal.returns-clause-free
-returns-clause-free g c = (undone g (goal.at.returns-clause-free g c).After-undo).free ∙ ap (λ (s : Sliced). s.free) c.self.view_is
+pub returns-clause-locks : goal.returns-clause-locks
+returns-clause-locks g c =
+    let same = c.undo.ensures.table in
+    record {
+      holdings = ap (λ (t : Locking). t.holdings) same ∙ ap (λ (s : Sliced). s.holdings) c.self.view_is;
+      waiters = ap (λ (t : Locking). t.waiters) same ∙ ap (λ (s : Sliced). s.waiters) c.self.view_is;
+    }

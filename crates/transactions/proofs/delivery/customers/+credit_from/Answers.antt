@@ -40,4 +40,4 @@ returns-in-Err-clause-err g t c =
     let fresh = one.first_fresh _ c.args.customers.now split.claim.now split.others.now split.ensures.cases.0 c.requires.granted in
     one.undone_all c.args.customers.now split.claim.now split.others.now split.ensures.cases.0 c.args.slice.now c.credit.new.slice c.credit.new.customers
     fresh c.credit.ensures.was c.credit.ensures.customers c.credit.ensures.rows c.credit.ensures.elsewhere c.credit.ensures.kept
-    c.credit_from.new.slice c.undo.new.self c.undo.new.claim c.credit_from.new.customers c.in-Err.ensures.err c.undo.ensures.claim c.undo.ensures.kept c.undo.ensures.rows c.undo.ensures.free
+    c.credit_from.new.slice c.undo.new.self c.undo.new.claim c.credit_from.new.customers c.in-Err.ensures.err c.undo.ensures.claim c.undo.ensures.kept c.undo.ensures.rows c.undo.ensures.locks

@@ -30,4 +30,4 @@ returns-in-Err-clause-err g t c =
     let fresh = one.first_fresh _ c.args.orders.now split.claim.now split.others.now split.ensures.cases.0 c.requires.granted in
     one.undone_all c.args.orders.now split.claim.now split.others.now split.ensures.cases.0 c.args.slice.now c.deliver_oldest.new.slice c.deliver_oldest.new.orders
     fresh c.deliver_oldest.ensures.was c.deliver_oldest.ensures.orders c.deliver_oldest.ensures.rows c.deliver_oldest.ensures.elsewhere c.deliver_oldest.ensures.kept
-    c.deliver_from.new.slice c.undo.new.self c.undo.new.claim c.deliver_from.new.orders c.in-Err.ensures.err c.undo.ensures.claim c.undo.ensures.kept c.undo.ensures.rows c.undo.ensures.free
+    c.deliver_from.new.slice c.undo.new.self c.undo.new.claim c.deliver_from.new.orders c.in-Err.ensures.err c.undo.ensures.claim c.undo.ensures.kept c.undo.ensures.rows c.undo.ensures.locks

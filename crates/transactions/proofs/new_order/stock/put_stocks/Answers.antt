@@ -65,6 +65,6 @@ returns-in-Err-clause-err g c =
       put_back was.group put.back start c.put_stock.new.self c.undo.new.self c.loop-put.slice.tables put c.undo.new.claim still
           (ap (λ (s : Sliced). s.tables.scale) known.slice) (ap (λ (s : Sliced). s.tables.items) known.slice) known.elsewhere had c.undo.ensures.kept
           (subst (λ (group : Group). ChangesOneGroup group (λ before. put.back) c.put_stock.new.self.tables c.undo.new.self.tables) (ap (λ (k : Claiming). k.group) made) c.undo.ensures.rows)
-          c.undo.ensures.free,
+          c.undo.ensures.locks,
       c.undo.ensures.claim ∙ (λ i. leaving (made i) (made i).back) ∙ before,
     )

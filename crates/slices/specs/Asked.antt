@@ -1,0 +1,60 @@
+-- What a slice answers to an action that asks for groups, and what it is then.
+use Rattle.std.specs.Prelude.{◌≡◌, ℕ, List, [], ◌∷◌, ◌++◌, map}
+use Rattle.std.specs.List.Sorted.{IsPermutation}
+use Rattle.groups.specs.Content.{content}
+use Rattle.groups.specs.declared.wishes.Wish.{Wish}
+use Rattle.groups.specs.declared.wants.Want.{Want}
+use Rattle.tickets.specs.Claims.{Claiming, fresh}
+use Rattle.wait_die.specs.declared.deciding.Holder.{Holder}
+use Rattle.local_locks.specs.declared.table.Asked.{Asked}
+use Rattle.local_locks.specs.declared.table.Asked.TheVariants as asked
+use Rattle.local_locks.specs.declared.table.Turn.{Turn}
+use Rattle.local_locks.specs.declared.table.Turn.TheVariants as turn
+use Rattle.local_locks.specs.Locking.{Locking}
+use Rattle.local_locks.specs.Conflicts.{IsFree, MustWait, MustDie}
+use Rattle.local_locks.specs.Asking.{IsTurnOf, held_by, waiting}
+use Rattle.local_locks.specs.Wishes.{wishes}
+use Rattle.slices.specs.Sliced.{Sliced}
+
+-- who holds what and who waits for what in the slice, whatever stands in its groups
+abbrev pub locking_in : Sliced → Locking
+locking_in s = record { w_id = s.home; stands = []; holdings = s.holdings; waiters = s.waiters }
+
+-- the claim that is granted to this one for a wish: under it nothing was done yet, and it tells what stands in its group
+abbrev pub granted_in : Holder → Sliced → Wish → Claiming
+granted_in by s wish = fresh by wish.group wish.mode (content s.tables wish.group)
+
+-- One who is free has a claim on each group that is wanted, want by want, and they are out besides those that were. The rows
+-- stay.
+pub record GrantsIn (by : Holder) (wants : List Want) (old : Sliced) (granted : List Claiming) (new : Sliced) : Type 0 where
+  pub free : IsFree old.holdings wants
+  pub claims : granted ≡ map (granted_in by old) (wishes wants)
+  pub holdings : IsPermutation new.holdings (map held_by granted ++ old.holdings)
+  pub home : new.home ≡ old.home
+  pub tables : new.tables ≡ old.tables
+
+module _ {J : Type 0} where
+  -- what is answered to one who asks and is taken for so old, and what the slice is then
+  abbrev pub AnswersIn : ℕ → Holder → List Want → Sliced → Asked J → Sliced → Type 0
+  AnswersIn age by wants old (asked.Granted claims) new = GrantsIn by wants old claims.items new × (new.waiters ≡ old.waiters)
+  AnswersIn age by wants old asked.Waits new = MustWait old.holdings age wants × (new ≡ record old { waiters = old.waiters ++ waiting by wants ∷ [] })
+  AnswersIn age by wants old (asked.Dies group holder) new = MustDie old.holdings age wants group holder × (new ≡ old)
+
+  -- the claims that are granted with the answer
+  abbrev pub claims_asked : Asked J → List Claiming
+  claims_asked (asked.Granted claims) = claims.items
+  claims_asked asked.Waits = []
+  claims_asked (asked.Dies group holder) = []
+
+  -- whose turn it is and what is said to that one, and what the slice is then
+  abbrev pub TakesTurnIn : Sliced → Turn J → Sliced → Type 0
+  TakesTurnIn old (turn.Granted by claims) new =
+      (wants : List Want) × IsTurnOf (waiting by wants) (locking_in old) (locking_in new) × GrantsIn by wants old claims.items new
+  TakesTurnIn old (turn.Dies by group holder) new =
+      (wants : List Want) × IsTurnOf (waiting by wants) (locking_in old) (locking_in new) × MustDie old.holdings by.age wants group holder
+      × (new ≡ record old { waiters = new.waiters })
+
+  -- the claims that are granted with the turn
+  abbrev pub claims_of_turn : Turn J → List Claiming
+  claims_of_turn (turn.Granted by claims) = claims.items
+  claims_of_turn (turn.Dies by group holder) = []
