@@ -1,6 +1,6 @@
 -- While an action is to run, no claim is out on a group for which it wishes: so it doesn't die.
-use Rattle.std.proofs.Common.{◌≡◌, ℕ, ◌+◌, ◌-◌, ◌<◌, ◌≤◌, ◌==◌, cond, zero, suc, List, [], ◌∷◌, ◌++◌, length, Option, Some, None, refl, sym, ◌∙◌, ap, subst, arith}
-use Rattle.std.specs.Prelude.{All, map, option_map, slice_index_or}
+use Rattle.std.proofs.Common.{◌≡◌, ℕ, ◌+◌, ◌-◌, ◌<◌, ◌≤◌, ◌==◌, zero, suc, List, [], ◌∷◌, ◌++◌, length, Option, Some, None, refl, sym, ◌∙◌, ap, subst, arith, Bool, true, false, cond, ⊎_elim}
+use Rattle.std.specs.Prelude.{All, Contains, map, not, option_map, slice_index_or}
 use Rattle.std.specs.List.{slice_get, sum_by}
 use Rattle.std.proofs.lemmas.List.{append_cancel_left, get_or-set_same}
 use Rattle.std.proofs.lemmas.List.Elements.{All-head, All-tail}
@@ -13,6 +13,8 @@ use Rattle.requests.specs.declared.group.Group.{Group}
 use Rattle.groups.specs.declared.wishes.Wish.{Wish}
 use Rattle.groups.specs.Groups.{is_same}
 use Rattle.tickets.specs.Claims.{Claiming, all_claims}
+use Rattle.tickets.proofs.Apart.{by_bool}
+use Rattle.local_locks.proofs.Members.{contains_cases, contains_none}
 use Rattle.commit_log.specs.declared.entry.Entry.{Entry}
 use Rattle.history.specs.declared.event.Event.{Event}
 use Rattle.history.specs.declared.event.Event.TheVariants.{Submit, Take, Send}
@@ -21,7 +23,7 @@ use Rattle.history.specs.History.{Step}
 use Rattle.transactions.specs.declared.work.Work.{Work}
 use Rattle.transactions.specs.declared.acting.Ran.{Ran}
 use Rattle.transactions.specs.declared.acting.Ran.TheVariants as ran
-use Rattle.transactions.specs.Acting.{claims_of_ran, dies_on}
+use Rattle.transactions.specs.Acting.{can_be_granted, claims_of_ran, dies_on, first_held}
 use Rattle.transactions.specs.Granted.{wish_of}
 use Rattle.transactions.specs.Laws.{TransactionsClaimEachGroupOnce}
 use Rattle.transactions.specs.Progresses.{IsReached, works_of}
@@ -359,13 +361,38 @@ module _ {J : Type 0} (once : TransactionsClaimEachGroupOnce) (shared : Shared) 
       omega (arith, fits.committed.tickets wish.group refl, none) in
       ap (λ (o : Option Wish). option_map (λ (wish : Wish). wish.group) o) (none_held (joined_in w).free wishes free)
 
+-- where none of the wishes is the first that can't be granted, each can be
+none_refused : (free : Group → ℕ) (wishes : List Wish) → first_held free wishes ≡ None → (wish : Wish) → Contains wishes wish → can_be_granted free wish ≡ false → ⊥
+none_refused free [] none wish wished cannot = contains_none wish wished
+none_refused free (first ∷ wishes) none wish wished cannot =
+    by_bool (can_be_granted free first) refl
+    (λ can. ⊎_elim
+    (λ (same : first ≡ wish). unlike (sym can ∙ ap (can_be_granted free) same ∙ cannot))
+    (λ (rest : Contains wishes wish). none_refused free wishes (sym (here can) ∙ none) wish rest cannot)
+    (contains_cases first wishes wish wished))
+    (λ can. some_not (sym (here can) ∙ none))
+  where
+    here : {b : Bool} → can_be_granted free first ≡ b → first_held free (first ∷ wishes) ≡ cond (not b) (Some first) (first_held free wishes)
+    here is = ap (λ b. cond (not b) (Some first) (first_held free wishes)) is
+
+    unlike : true ≡ false → ⊥
+    unlike e = cc
+
+    some_not : Some first ≡ None → ⊥
+    some_not e = cc
+
+-- and so it is where it dies on none
+none_first : (o : Option Wish) → option_map (λ (wish : Wish). wish.group) o ≡ None → o ≡ None
+none_first None is = refl
+none_first (Some wish) is = absurd (cc)
+
 -- ---- the event
 
 module _ {J : Type 0} where
   not_died : (old new : Joined) (work : Work) (one : Ran J)
       → dies_on old.free (wishes_of work) ≡ None → ComesOf old work one new → HasNotDied one
   not_died old new work (ran.Done claims found) none of = tt
-  not_died old new work (ran.Died group holder) none of = let held = of.0 in absurd (cc)
+  not_died old new work (ran.Died group holder) none of = none_refused old.free (wishes_of work) (none_first (first_held old.free (wishes_of work)) none) of.0.wish of.0.wished of.0.cannot
   not_died old new work ran.NoMemory none of = tt
 
   pub none_dies : TransactionsClaimEachGroupOnce → (shared : Shared) (event : Event) (old new : Core J) (answer : EventAnswer)

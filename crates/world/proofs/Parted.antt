@@ -1,25 +1,30 @@
 -- The slice of a warehouse, and all slices.
-use Rattle.std.proofs.Common.{◌≡◌, ℕ, ◌+◌, ◌-◌, ◌<◌, ◌≤◌, zero, suc, true, false, not, List, [], ◌∷◌, Some, length, refl, sym, ap, subst, ◌∙◌, cond, leb, arith}
+use Rattle.std.proofs.Common.{◌≡◌, ℕ, ◌+◌, ◌-◌, ◌<◌, ◌≤◌, zero, suc, true, false, not, List, [], ◌∷◌, Some, length, refl, sym, ap, subst, ◌∙◌, cond, leb, map, arith}
 use Rattle.std.specs.Prelude.{All, IsTrue, option_map, slice_index_or, slice_set}
 use Rattle.std.proofs.lemmas.Bool.{and_parts, eq-eqb, leb-true, ne_eqb}
 use Rattle.std.proofs.lemmas.List.{set-get_or}
-use Rattle.std.proofs.lemmas.List.Elements.{All-head, All-nil, All-tail}
+use Rattle.std.proofs.lemmas.List.Sorted.{sum_by-IsPermutation}
+use Rattle.std.proofs.lemmas.List.Elements.{All-contains, All-head, All-nil, All-tail}
 use Rattle.schema.specs.declared.scale.Scale.{Scale}
 use Rattle.schema.specs.Scale.{has_warehouse}
-use Rattle.partitions.specs.Parts.{Shared, IsPartAt, shared_of}
+use Rattle.partitions.specs.Parts.{Part, Shared, IsPartAt, shared_of, whole_of}
 use Rattle.requests.specs.declared.group.Group.{Group}
 use Rattle.groups.specs.declared.wishes.Wish.{Wish}
 use Rattle.groups.specs.Groups.{warehouse_of}
 use Rattle.tickets.specs.Claims.{Claiming}
 use Rattle.tickets.specs.Committed.{tickets_held}
-use Rattle.slices.specs.Sliced.{AreOfOneHome, AreSlicesOf, IsClaimAt, SliceKeeps, Sliced, SlicesKeep, at_home, free_at, free_in, joined, part_in}
+use Rattle.wait_die.specs.declared.deciding.Holder.{Holder}
+use Rattle.wait_die.specs.declared.deciding.TheConstants.{YOUNGEST}
+use Rattle.local_locks.specs.Keeping.{tickets_by}
+use Rattle.slices.specs.Sliced.{AreOfOneHome, IsAsBefore, AreSlicesOf, IsClaimAt, SliceKeeps, Sliced, SlicesKeep, at_home, free_at, free_in, joined, part_in}
 use Rattle.slices.proofs.Joined.{one_slice_keeps_all}
 use Rattle.transactions.specs.declared.acting.Ran.{Ran}
 use Rattle.transactions.specs.declared.acting.Ran.TheVariants as ran
 use Rattle.transactions.specs.declared.work.Work.{Work}
-use Rattle.transactions.specs.Acting.{IsRanOf, claims_of_ran, dies_on, first_held}
+use Rattle.transactions.specs.Acting.{IsRanOf, IsRefusedOn, claims_of_ran, first_held}
 use Rattle.transactions.specs.Granted.{AreWishesAt}
 use Rattle.transactions.specs.Works.{HasDone, home_of, wishes_of}
+use Rattle.transactions.proofs.Held.{deaths_are_on_held_groups, free_wishes_can_be_granted}
 use Rattle.transactions.proofs.Wished.{works_are_done_at_home, works_claim_at_home}
 use Rattle.world.specs.Events.{ComesOf}
 
@@ -29,15 +34,15 @@ use Rattle.world.specs.Events.{ComesOf}
 free_at_home : (slices : List Sliced) (first place : ℕ) (d : Sliced) (group : Group)
     → ((k : ℕ) (d : Sliced) → k < length slices → (slice_index_or slices k d).home ≡ first + k)
     → place < length slices → warehouse_of group ≡ first + place
-    → free_in slices group ≡ free_at (slice_index_or slices place d).free group
+    → free_in slices group ≡ free_at (slice_index_or slices place d).holdings group
 free_at_home [] first place d group homes inside here = absurd (omega (arith, inside))
 free_at_home (s ∷ slices) first zero d group homes inside here =
     let own : at_home s.home group ≡ true = eq-eqb (warehouse_of group) s.home (here ∙ sym (homes 0 d inside)) in
-    ap (λ b. cond b (free_at s.free group) (free_in slices group)) own
+    ap (λ b. cond b (free_at s.holdings group) (free_in slices group)) own
 free_at_home (s ∷ slices) first (suc place) d group homes inside here =
     let other : at_home s.home group ≡ false = ne_eqb (warehouse_of group) s.home (λ same. absurd (omega (arith, same, here, homes 0 d (omega (arith, inside))))) in
     let later : (k : ℕ) → first + suc k ≡ suc first + k = λ k. omega arith in
-    ap (λ b. cond b (free_at s.free group) (free_in slices group)) other
+    ap (λ b. cond b (free_at s.holdings group) (free_in slices group)) other
     ∙ free_at_home slices (suc first) place d group (λ k e below. homes (suc k) e (omega (arith, below)) ∙ later k) (omega (arith, inside)) (here ∙ later place)
 
 -- A warehouse of the scale, and its slice.
@@ -64,34 +69,70 @@ module _ (shared : Shared) (slices : List Sliced) (are : AreSlicesOf shared slic
       (subst (λ (s : Sliced). SliceKeeps before s after new) is keeps)
 
   -- as many of its groups' tickets are at home as with it
-  free_here : (group : Group) → warehouse_of group ≡ home → free_in slices group ≡ free_at slice.free group
+  free_here : (group : Group) → warehouse_of group ≡ home → free_in slices group ≡ free_at slice.holdings group
   free_here group own =
       let homes : (k : ℕ) (d : Sliced) → k < length slices → (slice_index_or slices k d).home ≡ 1 + k = λ k d below. omega (arith, (are.each k d below).home) in
-      free_at_home slices 1 (home - 1) slice group homes inside (omega (arith, own, next)) ∙ ap (λ (s : Sliced). free_at s.free group) (sym is)
+      free_at_home slices 1 (home - 1) slice group homes inside (omega (arith, own, next)) ∙ ap (λ (s : Sliced). free_at s.holdings group) (sym is)
 
-  -- so it dies there on the group on which it dies among all
-  dies_here : (wishes : List Wish) → AreWishesAt home wishes → dies_on (free_in slices) wishes ≡ dies_on (free_at slice.free) wishes
-  dies_here wishes own = ap (option_map (λ (wish : Wish). wish.group)) (held wishes own)
-    where
-      held : (wishes : List Wish) → AreWishesAt home wishes → first_held (free_in slices) wishes ≡ first_held (free_at slice.free) wishes
-      held [] own = refl
-      held (wish ∷ wishes) own =
-          let same = free_here wish.group (All-head (λ (w : Wish). warehouse_of w.group ≡ home) wish wishes own) in
-          (λ i. cond (not (leb (tickets_held wish.mode) (same i))) (Some wish) (held wishes (All-tail (λ (w : Wish). warehouse_of w.group ≡ home) wish wishes own) i))
+  -- so what can be granted there can be granted among all
+  granted_here : (wishes : List Wish) → AreWishesAt home wishes → first_held (free_in slices) wishes ≡ first_held (free_at slice.holdings) wishes
+  granted_here [] own = refl
+  granted_here (wish ∷ wishes) own =
+      let same = free_here wish.group (All-head (λ (w : Wish). warehouse_of w.group ≡ home) wish wishes own) in
+      (λ i. cond (not (leb (tickets_held wish.mode) (same i))) (Some wish) (granted_here wishes (All-tail (λ (w : Wish). warehouse_of w.group ≡ home) wish wishes own) i))
+
+  -- and who is refused there is refused among all
+  refused_here : (wishes : List Wish) (group : Group) → AreWishesAt home wishes → IsRefusedOn (free_at slice.holdings) wishes group → IsRefusedOn (free_in slices) wishes group
+  refused_here wishes group own refused =
+      let same = free_here refused.wish.group (All-contains (λ (w : Wish). warehouse_of w.group ≡ home) wishes own refused.wish refused.wished) in
+      record {
+        wish = refused.wish;
+        wished = refused.wished;
+        on = refused.on;
+        cannot = ap (λ n. leb (tickets_held refused.wish.mode) n) same ∙ refused.cannot;
+      }
 
   -- where it is as it was, all are
-  stays_all : (new : Sliced) → new ≡ slice → joined shared (slice_set slices (home - 1) new) ≡ joined shared slices
-  stays_all new same = ap (joined shared) (ap (slice_set slices (home - 1)) (same ∙ is) ∙ set-get_or slices (home - 1) slice)
+  stays_all : (new : Sliced) → IsAsBefore slice new → joined shared (slice_set slices (home - 1) new) ≡ joined shared slices
+  stays_all new same =
+      let others : slice_set slices (home - 1) slice ≡ slices = ap (slice_set slices (home - 1)) is ∙ set-get_or slices (home - 1) slice in
+      (λ i. record {
+        tables = whole_of shared (parts_stay slices (home - 1) i);
+        free = λ group. free_stays slices (home - 1) group i;
+      })
+      ∙ ap (joined shared) others
+    where
+      same_part : part_in new ≡ part_in slice
+      same_part = λ i. record { home = same.home i; tables = same.tables i }
+
+      parts_stay : (all : List Sliced) (place : ℕ) → map part_in (slice_set all place new) ≡ map part_in (slice_set all place slice)
+      parts_stay [] place = refl
+      parts_stay (s ∷ all) zero = ap (λ (p : Part). p ∷ map part_in all) same_part
+      parts_stay (s ∷ all) (suc place) = ap (λ (ps : List Part). part_in s ∷ ps) (parts_stay all place)
+
+      free_same : (group : Group) → free_at new.holdings group ≡ free_at slice.holdings group
+      free_same group = ap (λ n. 8 - n) (sym (sum_by-IsPermutation (tickets_by group) new.holdings slice.holdings same.holdings))
+
+      free_stays : (all : List Sliced) (place : ℕ) (group : Group) → free_in (slice_set all place new) group ≡ free_in (slice_set all place slice) group
+      free_stays [] place group = refl
+      free_stays (s ∷ all) zero group = λ i. cond (at_home (same.home i) group) (free_same group i) (free_in all group)
+      free_stays (s ∷ all) (suc place) group = ap (λ n. cond (at_home s.home group) (free_at s.holdings group) n) (free_stays all place group)
 
   -- what comes of work there, comes of it in all
-  pub comes_of : {J : Type 0} (work : Work) (one : Ran J) (new : Sliced) → home_of work ≡ home → IsRanOf slice work one new
+  pub comes_of : {J : Type 0} (by : Holder) (work : Work) (one : Ran J) (new : Sliced) → home_of work ≡ home → IsRanOf by slice work one new
       → ComesOf (joined shared slices) work one (joined shared (slice_set slices (home - 1) new))
-  comes_of work (ran.Done claims found) new own of =
-      let done = subst (λ (s : Shared). HasDone s work found claims) shared_is of.1 in
-      (dies_here (wishes_of work) (subst (λ n. AreWishesAt n (wishes_of work)) own (works_claim_at_home work)) ∙ of.0, (done, (of.2, (works_are_done_at_home shared work found claims done).1)))
-  comes_of work (ran.Died group holder) new own of =
-      (dies_here (wishes_of work) (subst (λ n. AreWishesAt n (wishes_of work)) own (works_claim_at_home work)) ∙ of.0, stays_all new of.1)
-  comes_of work ran.NoMemory new own of = stays_all new of
+  comes_of by work (ran.Done claims found) new own of =
+      let done = subst (λ (s : Shared). HasDone s work found claims) shared_is of.done in
+      let at = subst (λ n. AreWishesAt n (wishes_of work)) own (works_claim_at_home work) in (
+        ap (option_map (λ (wish : Wish). wish.group)) (granted_here (wishes_of work) at ∙ free_wishes_can_be_granted slice.holdings (wishes_of work) of.free),
+        (done, (of.undone, (works_are_done_at_home shared work found claims done).1)),
+      )
+  comes_of by work (ran.Died group holder) new own of =
+      let at = subst (λ n. AreWishesAt n (wishes_of work)) own (works_claim_at_home work) in (
+        refused_here (wishes_of work) group at (deaths_are_on_held_groups slice.holdings YOUNGEST (wishes_of work) group holder of.0),
+        ap (joined shared) (ap (slice_set slices (home - 1)) (of.1 ∙ is) ∙ set-get_or slices (home - 1) slice),
+      )
+  comes_of by work ran.NoMemory new own of = stays_all new of
 
 -- the warehouses of the scale are numbered from 1
 pub warehouse_within : (scale : Scale) (home : ℕ) → IsTrue (has_warehouse scale home) → (1 ≤ home) × (home ≤ scale.warehouses)
@@ -102,10 +143,10 @@ warehouse_within scale home has =
 -- ---- the claims of one action
 
 -- those of an action that ran are on groups of its warehouse
-pub ran_at_home : {J : Type 0} (slice new : Sliced) (work : Work) (one : Ran J) → IsRanOf slice work one new → All (IsClaimAt (home_of work)) (claims_of_ran one)
-ran_at_home slice new work (ran.Done claims found) of = (works_are_done_at_home (shared_of slice.tables) work found claims of.1).0
-ran_at_home slice new work (ran.Died group holder) of = All-nil (IsClaimAt (home_of work))
-ran_at_home slice new work ran.NoMemory of = All-nil (IsClaimAt (home_of work))
+pub ran_at_home : {J : Type 0} (by : Holder) (slice new : Sliced) (work : Work) (one : Ran J) → IsRanOf by slice work one new → All (IsClaimAt (home_of work)) (claims_of_ran one)
+ran_at_home by slice new work (ran.Done claims found) of = (works_are_done_at_home (shared_of slice.tables) work found claims of.done).0
+ran_at_home by slice new work (ran.Died group holder) of = All-nil (IsClaimAt (home_of work))
+ran_at_home by slice new work ran.NoMemory of = All-nil (IsClaimAt (home_of work))
 
 -- where they are on groups of one warehouse, all are on groups of that of the first
 pub claims_at_home : (claims : List Claiming) (home : ℕ) → ((d : Claiming) → home ≡ warehouse_of (slice_index_or claims 0 d).group) → AreOfOneHome claims

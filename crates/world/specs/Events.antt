@@ -21,7 +21,7 @@ use Rattle.commit_log.specs.Passing.{after_item, after_refusal}
 use Rattle.history.specs.declared.event.EventAnswer.{EventAnswer}
 use Rattle.history.specs.declared.event.EventAnswer.TheVariants.{Sent, Full, Logged, Answered}
 use Rattle.slices.specs.Sliced.{AreSlicesOf, Joined, Sliced, SlicesKeep, joined}
-use Rattle.transactions.specs.Acting.{dies_on}
+use Rattle.transactions.specs.Acting.{IsRefusedOn, dies_on}
 use Rattle.transactions.specs.Works.{HaveAllDone, CanDo, HasDone, wishes_of}
 use Rattle.transactions.specs.Progresses.{FollowsFrom, IsReached, works_of}
 use Rattle.transactions.specs.declared.laws.TheConstants.{MOST_ACTIONS}
@@ -65,11 +65,11 @@ module _ {J : Type 0} where
   -- ---- a message is worked on
 
   -- What comes of this work in the slice of its warehouse: all that it wished for could be granted, and it was done under the
-  -- claims, all of which can be undone; or it died on the group of the first wish that could not, or there was no memory, and
-  -- then the slices are as they were.
+  -- claims, all of which can be undone; or it died on the group of a wish that could not, or there was no memory, and then
+  -- the slices are as they were.
   abbrev pub ComesOf : Joined → Work → Ran J → Joined → Type 0
   ComesOf old work (ran.Done claims found) new = (dies_on old.free (wishes_of work) ≡ None) × (HasDone (shared_of old.tables) work found claims × CanAllBeUndone claims)
-  ComesOf old work (ran.Died group holder) new = (dies_on old.free (wishes_of work) ≡ Some group) × (new ≡ old)
+  ComesOf old work (ran.Died group holder) new = IsRefusedOn old.free (wishes_of work) group × (new ≡ old)
   ComesOf old work ran.NoMemory new = new ≡ old
 
   -- Which items a message's work puts: the actions of the first phase, in the order of their places; the report of an

@@ -1,16 +1,23 @@
-ghost use Rattle.std.specs.Prelude.{◌≡◌};
+ghost use Rattle.std.specs.Prelude.{◌≡◌, IfOk};
+ghost use Rattle.groups.specs.Content.{content};
+ghost use Rattle.groups.specs.Groups.{warehouse_of};
+ghost use Rattle.groups.specs.declared.wishes.Mode.TheVariants.{Exclusive};
 ghost use Rattle.slices.specs.Openings.{AreOpenedFor};
+ghost use Rattle.tickets.specs.Claims.{fresh};
 ghost use Rattle.tickets.specs.Openings.{AreNamed};
+ghost use Rattle.tickets.specs.Places.{IsGroupOf};
 
 use super::*;
 use amounts::Cents;
+use groups::{Extent, Mode, Want};
+use local_locks::Asked;
 use partitions::Partition;
 use requests::Group;
 use schema::{CarrierId, OrderKey};
 use slices::{Slice, cut, open_groups, opened_groups_have_boxes};
 use std::alloc::Global;
 use std::marker::Brand;
-use tickets::{GroupNames, GroupSeats, named_all};
+use tickets::{Claim, GroupNames, GroupSeats, named_all};
 use wait_die::Holder;
 
 const HOLDER: Holder = Holder { age: 63, place: 0 };
@@ -32,6 +39,31 @@ fn opened<J: GroupNames>(
     Ok(slices)
 }
 
+// An exclusive claim on a group of the slice; or the age of the oldest who is in the way, if there was memory.
+fn claimed<J: GroupNames>(
+    alloc: Global,
+    slice: &mut Slice<J>,
+    by: Holder,
+    group: Group,
+) -> Result<Claim<J>, Option<u64>>
+    requires known { IsGroupOf J.warehouses group }
+    requires home { warehouse_of group ≡ slice.old.home }
+    ensures claim { IfOk result (λ claim. claim ≡ fresh by group Exclusive (content slice.old.tables group)) }
+    ensures tables { slice.new.tables ≡ slice.old.tables }
+    ensures home { slice.new.home ≡ slice.old.home }
+{
+    let want = Want {
+        extent: Extent::One(group),
+        mode: Mode::Exclusive,
+    };
+    match slice.ask_at_once(alloc, by, &[want]) {
+        Ok(Asked::Granted(mut claims)) => claims.pop().ok_or(None),
+        Ok(Asked::Waits) => Err(None),
+        Ok(Asked::Dies { holder, .. }) => Err(Some(holder)),
+        Err(_) => Err(None),
+    }
+}
+
 // The row of the first warehouse is put back as it was: its sum before, under the claim, and after the undo; and the
 // age of who holds it meanwhile.
 fn put_and_undone<J: GroupNames>(
@@ -51,7 +83,7 @@ fn put_and_undone<J: GroupNames>(
     let before = row.ytd.get();
     let mut row = row.try_clone().ok()?;
     row.ytd = Cents::new(7);
-    let Ok(mut claim) = slice.grant(HOLDER, group) else {
+    let Ok(mut claim) = claimed(alloc, slice, HOLDER, group) else {
         return None;
     };
     slice.look(&mut claim);
@@ -59,9 +91,9 @@ fn put_and_undone<J: GroupNames>(
         return None;
     };
     let put = slice.partition().warehouse(home)?.ytd.get();
-    let holder = match slice.grant(Holder { age: 64, place: 0 }, group) {
-        Ok(_) => return None,
-        Err(held) => held.holder,
+    let younger = Holder { age: 64, place: 0 };
+    let Err(Some(holder)) = claimed(alloc, slice, younger, group) else {
+        return None;
     };
     slice.undo(&mut claim);
     slice.take_back(claim);
@@ -117,7 +149,7 @@ fn delivered_and_undone<J: GroupNames>(
     };
     slice.partition().order(key)?;
     let before = seen(slice.partition(), key)?;
-    let Ok(mut claim) = slice.grant(HOLDER, Group::Orders { w_id, d_id: 1 }) else {
+    let Ok(mut claim) = claimed(alloc, slice, HOLDER, Group::Orders { w_id, d_id: 1 }) else {
         return None;
     };
     slice.look(&mut claim);

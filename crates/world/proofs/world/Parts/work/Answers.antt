@@ -85,10 +85,10 @@ returns-in-Act g c =
     let home = c.home-home.result in
     let can : CanDo old.catalog act.work = subst (λ (m : Message g.row.J.Denot). CanWork old.catalog m) c.in-Act.is c.requires.can in
     let own = within old.catalog act.work home c.home-home.ensures can in
-    let at_home : All (IsClaimAt home) (claims_of_ran ran) = subst (λ n. All (IsClaimAt n) (claims_of_ran ran)) (sym c.home-home.ensures) (ran_at_home slice c.act-ran.new.slice act.work ran c.act-ran.ensures.done) in
+    let at_home : All (IsClaimAt home) (claims_of_ran ran) = subst (λ n. All (IsClaimAt n) (claims_of_ran ran)) (sym c.home-home.ensures) (ran_at_home (record { age = act.age; place = act.place }) slice c.act-ran.new.slice act.work ran c.act-ran.ensures.done) in
     let kept = all_keep old.catalog old.slices.items c.requires.slices home slice own.0 own.1 c.index_mut.ensures.value c.act-ran.new.slice [] (claims_of_ran ran)
     (All-nil (IsClaimAt home)) at_home c.act-ran.ensures.kept in
-    let comes = comes_of old.catalog old.slices.items c.requires.slices home slice own.0 own.1 c.index_mut.ensures.value act.work ran c.act-ran.new.slice (sym c.home-home.ensures) c.act-ran.ensures.done in
+    let comes = comes_of old.catalog old.slices.items c.requires.slices home slice own.0 own.1 c.index_mut.ensures.value (record { age = act.age; place = act.place }) act.work ran c.act-ran.new.slice (sym c.home-home.ensures) c.act-ran.ensures.done in
     takes c.args.message (Act act) old (item.Report (record { place = act.place; slot = act.slot; flow = act.flow; ran = ran }) ∷ []) c.put.new.self _ c.in-Act.is c.put.ensures
     kept.0 (acts act ran (joined_in old) _ kept.1 comes)
 
