@@ -25,7 +25,7 @@ nothing_counted [] same = refl
 nothing_counted (y ∷ ys) same = absurd (omega (arith, same y, count_cons y y ys, ap {B = ℕ} (λ b. cond b 1 0) (holding_itself y)))
 
 -- two lists that have each claim as often are one in another order
-moved_by_counts : (xs ys : List Holding) → ((h : Holding) → count_of h xs ≡ count_of h ys) → IsPermutation xs ys
+pub moved_by_counts : (xs ys : List Holding) → ((h : Holding) → count_of h xs ≡ count_of h ys) → IsPermutation xs ys
 moved_by_counts [] ys same = subst (IsPermutation []) (sym (nothing_counted ys same)) (IsPermutation-refl [])
 moved_by_counts (x ∷ xs) ys same =
     let one : cond (is_holding x x) 1 0 ≡ 1 = ap {B = ℕ} (λ b. cond b 1 0) (holding_itself x) in

@@ -1,6 +1,8 @@
 -- What one slice keeps, all slices keep; and the slices of tables that were cut are those tables.
 use Rattle.std.proofs.Common.{◌≡◌, ◌≢◌, ℕ, zero, suc, ◌+◌, ◌<◌, List, [], ◌∷◌, ◌++◌, Bool, true, false, length, get_or, set, map, refl, sym, ap, subst, ◌∙◌, arith, ⊎_elim, length-set}
 use Rattle.std.specs.Prelude.{All, IsTrue, ◌==◌, if◌then◌else◌}
+use Rattle.std.specs.List.Sorted.{IsPermutation}
+use Rattle.std.proofs.lemmas.Bool.{eq-eqb, ne_eqb}
 use Rattle.std.proofs.lemmas.Bool.Decides.{eqb_tells}
 use Rattle.std.proofs.lemmas.List.{get_or-set_same, get_or-set_other, get_or-map, map-set, length-map}
 use Rattle.std.proofs.lemmas.List.Elements.{All-weaker}
@@ -14,9 +16,12 @@ use Rattle.tickets.specs.Committed.{Standing, AreCommitted, KeepsCommitted}
 use Rattle.tickets.specs.Laws.{IsElsewhere}
 use Rattle.tickets.proofs.Apart.{by_bool}
 use Rattle.tickets.proofs.Committed.{elsewhere_keeps}
+use Rattle.local_locks.specs.Asking.{held_by}
+use Rattle.local_locks.specs.Locking.{Holding}
 use Rattle.slices.specs.Joining.{OneSliceKeepsAll, CutSlicesAreAtRest}
-use Rattle.slices.specs.Sliced.{Sliced, AreSlicesOf, IsClaimAt, part_in, at_home, at_rest, free_at, free_in, standing, joined, all_standing, everywhere}
+use Rattle.slices.specs.Sliced.{Sliced, AreSlicesOf, IsClaimAt, KeepsAllHeld, KeepsHeld, part_in, at_home, at_rest, free_at, held_at, holdings_in, standing, joined, all_standing, everywhere}
 use Rattle.slices.proofs.Alike.{content_alike}
+use Rattle.slices.proofs.Held.{none_of, own_first}
 use Rattle.slices.proofs.Seen.{AreAlike, seen, home_tells, not_home, home_told}
 use Rattle.slices.proofs.Wholes.{whole_has_part, whole_keeps_others}
 
@@ -66,32 +71,31 @@ one_home_keeps home before after old all_old new all_new here_before here_after 
             (λ (other : ((warehouse_of claim.group == home) ≡ false) × (warehouse_of claim.group ≢ home)). absurd (other.1 at))
             (eqb_tells (warehouse_of claim.group) home)
 
--- ---- the tickets at home
+-- ---- the claims that are out
 
-abbrev AreHomedFrom : ℕ → List Sliced → Type 0
+abbrev pub AreHomedFrom : ℕ → List Sliced → Type 0
 AreHomedFrom first slices = (place : ℕ) (d : Sliced) → place < length slices → (get_or slices place d).home ≡ first + place
 
--- with the slice of the group's warehouse
-free_here : (first : ℕ) (slices : List Sliced) (group : Group) (place : ℕ) (d : Sliced) → AreHomedFrom first slices → place < length slices → warehouse_of group ≡ first + place
-    → free_in slices group ≡ free_at (get_or slices place d).holdings group
-free_here first [] group place d homed here at = absurd (omega (arith, here))
-free_here first (s ∷ slices) group zero d homed here at =
-    ap (λ (b : Bool). if b then free_at s.holdings group else free_in slices group) (home_tells s.home group (omega (arith, at, homed zero d here)))
-free_here first (s ∷ slices) group (suc place) d homed here at =
+-- a warehouse's are those of its slice
+pub held_here : (first : ℕ) (slices : List Sliced) (w_id place : ℕ) (d : Sliced) → AreHomedFrom first slices → place < length slices → w_id ≡ first + place
+    → holdings_in slices w_id ≡ (get_or slices place d).holdings
+held_here first [] w_id place d homed here at = absurd (omega (arith, here))
+held_here first (s ∷ slices) w_id zero d homed here at =
+    ap (λ (b : Bool). if b then s.holdings else holdings_in slices w_id) (eq-eqb w_id s.home (omega (arith, at, homed zero d here)))
+held_here first (s ∷ slices) w_id (suc place) d homed here at =
     let first_home : s.home ≡ first = omega (arith, homed zero d (omega arith)) in
-    let apart : warehouse_of group ≢ s.home = λ e. omega (arith, e, at, first_home) in
-    ap (λ (b : Bool). if b then free_at s.holdings group else free_in slices group) (not_home s.home group apart)
-    ∙ free_here (first + 1) slices group place d (λ k other small. omega (arith, homed (suc k) other (omega (arith, small)))) (omega (arith, here)) (omega (arith, at))
+    ap (λ (b : Bool). if b then s.holdings else holdings_in slices w_id) (ne_eqb w_id s.home (λ e. omega (arith, e, at, first_home)))
+    ∙ held_here (first + 1) slices w_id place d (λ k other small. omega (arith, homed (suc k) other (omega (arith, small)))) (omega (arith, here)) (omega (arith, at))
 
 -- and another slice's don't matter
-free_elsewhere : (slices : List Sliced) (group : Group) (place : ℕ) (d new : Sliced) → place < length slices → new.home ≡ (get_or slices place d).home → warehouse_of group ≢ new.home
-    → free_in (set slices place new) group ≡ free_in slices group
-free_elsewhere [] group place d new here at apart = refl
-free_elsewhere (s ∷ slices) group zero d new here at apart =
-    ap (λ (b : Bool). if b then free_at new.holdings group else free_in slices group) (not_home new.home group apart)
-    ∙ sym (ap (λ (b : Bool). if b then free_at s.holdings group else free_in slices group) (not_home s.home group (λ e. apart (e ∙ sym at))))
-free_elsewhere (s ∷ slices) group (suc place) d new here at apart =
-    ap (λ n. if at_home s.home group then free_at s.holdings group else n) (free_elsewhere slices group place d new (omega (arith, here)) at apart)
+held_elsewhere : (slices : List Sliced) (w_id place : ℕ) (d new : Sliced) → place < length slices → new.home ≡ (get_or slices place d).home → w_id ≢ new.home
+    → holdings_in (set slices place new) w_id ≡ holdings_in slices w_id
+held_elsewhere [] w_id place d new here at apart = refl
+held_elsewhere (s ∷ slices) w_id zero d new here at apart =
+    ap (λ (b : Bool). if b then new.holdings else holdings_in slices w_id) (ne_eqb w_id new.home apart)
+    ∙ sym (ap (λ (b : Bool). if b then s.holdings else holdings_in slices w_id) (ne_eqb w_id s.home (λ e. apart (e ∙ sym at))))
+held_elsewhere (s ∷ slices) w_id (suc place) d new here at apart =
+    ap (λ (hs : List Holding). if w_id == s.home then s.holdings else hs) (held_elsewhere slices w_id place d new (omega (arith, here)) at apart)
 
 -- ---- one slice changes
 
@@ -104,6 +108,9 @@ parts_of_slices shared slices are = record {
       subst (IsPartAt shared k) (sym (get_or-map part_in slices k s d inside)) (are.each k s inside);
 }
 
+pub homed_from_one : (shared : Shared) (slices : List Sliced) → AreSlicesOf shared slices → AreHomedFrom 1 slices
+homed_from_one shared slices are k d small = omega (arith, (are.each k d small).home)
+
 -- what all slices have in a group of a warehouse is what its slice has
 as_in_one : (shared : Shared) (slices : List Sliced) (place : ℕ) (d : Sliced) → AreSlicesOf shared slices → place < length slices
     → AreAlike (at_home (place + 1)) (standing (get_or slices place d)) (all_standing (joined shared slices))
@@ -114,7 +121,7 @@ as_in_one shared slices place d are here group near =
     let rows = content_alike (place + 1) (whole_of shared (map part_in slices)) (get_or (map part_in slices) place (part_in d)).tables
     (whole_has_part shared (map part_in slices) place (part_in d) (parts_of_slices shared slices are) inside) group at in (
       rows ∙ ap (λ (p : Part). content p.tables group) (get_or-map part_in slices place d (part_in d) here),
-      free_here 1 slices group place d (λ k other small. omega (arith, (are.each k other small).home)) here (omega (arith, at)),
+      ap (λ hs. free_at hs group) (held_here 1 slices (warehouse_of group) place d (homed_from_one shared slices are) here (omega (arith, at))),
     )
 
 -- the slice of a warehouse makes way for another of it
@@ -145,8 +152,33 @@ others_stay shared slices place d new are are_now here home group far =
       ap (λ parts. content (whole_of shared parts) group) (map-set part_in slices place new)
           ∙ content_alike (warehouse_of group) (whole_of shared (set (map part_in slices) place (part_in new))) (whole_of shared (map part_in slices))
           (whole_keeps_others shared (map part_in slices) place (part_in new) (warehouse_of group) (parts_of_slices shared slices are) parts_now apart) group refl,
-      free_elsewhere slices group place d new here (home ∙ sym (are.each place d here).home) (λ e. apart (e ∙ home)),
+      ap (λ hs. free_at hs group) (held_elsewhere slices (warehouse_of group) place d new here (home ∙ sym (are.each place d here).home) (λ e. apart (e ∙ home))),
     )
+
+-- with claims of one warehouse where others of it were, all other claims that were out still are
+all_held : (shared : Shared) (slices : List Sliced) (place : ℕ) (d new : Sliced) (before after : List Claiming)
+    → AreSlicesOf shared slices → AreSlicesOf shared (set slices place new) → place < length slices → new.home ≡ place + 1
+    → All (IsClaimAt (place + 1)) before → All (IsClaimAt (place + 1)) after → KeepsHeld before (get_or slices place d).holdings after new.holdings
+    → KeepsAllHeld before (holdings_in slices) after (holdings_in (set slices place new))
+all_held shared slices place d new before after are are_now here home at_before at_after keeps others held w_id =
+    ⊎_elim
+    (λ (same : ((w_id == place + 1) ≡ true) × (w_id ≡ place + 1)).
+    let inside : place < length (set slices place new) = omega (arith, here, length-set slices place new) in
+    let was : holdings_in slices w_id ≡ (get_or slices place d).holdings = held_here 1 slices w_id place d (homed_from_one shared slices are) here (omega (arith, same.1)) in
+    let now : holdings_in (set slices place new) w_id ≡ new.holdings =
+    held_here 1 (set slices place new) w_id place d (homed_from_one shared (set slices place new) are_now) inside (omega (arith, same.1))
+    ∙ ap (λ (s : Sliced). s.holdings) (get_or-set_same slices place new d here) in
+    let first : IsPermutation (get_or slices place d).holdings (map held_by before ++ held_at w_id others) =
+    subst (λ (hs : List Holding). IsPermutation hs (map held_by before ++ held_at w_id others)) was
+    (subst (IsPermutation (holdings_in slices w_id)) (own_first (place + 1) w_id before others same.1 at_before) (held w_id)) in
+    subst (IsPermutation (holdings_in (set slices place new) w_id)) (sym (own_first (place + 1) w_id after others same.1 at_after))
+    (subst (λ (hs : List Holding). IsPermutation hs (map held_by after ++ held_at w_id others)) (sym now) (keeps (held_at w_id others) first)))
+    (λ (other : ((w_id == place + 1) ≡ false) × (w_id ≢ place + 1)).
+    let stays : holdings_in (set slices place new) w_id ≡ holdings_in slices w_id =
+    held_elsewhere slices w_id place d new here (home ∙ sym (are.each place d here).home) (λ e. other.1 (e ∙ home)) in
+    subst (λ (hs : List Holding). IsPermutation hs (held_at w_id (after ++ others))) (sym stays)
+    (subst (IsPermutation (holdings_in slices w_id)) (none_of (place + 1) w_id before others other.1 at_before ∙ sym (none_of (place + 1) w_id after others other.1 at_after)) (held w_id)))
+    (eqb_tells w_id (place + 1))
 
 pub one_slice_keeps_all : OneSliceKeepsAll
 one_slice_keeps_all shared slices place d new before after are here at_before at_after keeps =
@@ -168,6 +200,7 @@ one_slice_keeps_all shared slices place d new before after are here at_before at
       record {
         committed = one_home_keeps (place + 1) before after (standing old) (all_standing (joined shared slices)) (standing new) (all_standing (joined shared (set slices place new))) at_before at_after
             before_alike after_alike (others_stay shared slices place d new are are_now here home) kept;
+        holdings = all_held shared slices place d new before after are are_now here home at_before at_after keeps.holdings;
         scale = refl;
         items = refl;
       },
@@ -175,15 +208,15 @@ one_slice_keeps_all shared slices place d new before after are here at_before at
 
 -- ---- the slices of cut tables
 
-either : (b : Bool) (n : ℕ) → (if b then n else n) ≡ n
-either true n = refl
-either false n = refl
-
-free_of_all : (parts : List Part) (group : Group) → free_in (map at_rest parts) group ≡ 8
-free_of_all [] group = refl
-free_of_all (p ∷ parts) group =
-    ap (λ n. if at_home p.home group then 8 else n) (free_of_all parts group)
-    ∙ either (at_home p.home group) 8
+none_of_all : (parts : List Part) (w_id : ℕ) → holdings_in (map at_rest parts) w_id ≡ []
+none_of_all [] w_id = refl
+none_of_all (p ∷ parts) w_id =
+    ap (λ (hs : List Holding). if w_id == p.home then [] else hs) (none_of_all parts w_id)
+    ∙ either (w_id == p.home) []
+  where
+    either : (b : Bool) (hs : List Holding) → (if b then hs else hs) ≡ hs
+    either true hs = refl
+    either false hs = refl
 
 pub parts_at_rest : (parts : List Part) → map part_in (map at_rest parts) ≡ parts
 parts_at_rest [] = refl
@@ -201,5 +234,5 @@ cut_slices_are_at_rest t within =
             let inside : place < length parts = omega (arith, small, length-map parts at_rest) in
             subst (λ (s : Sliced). IsPartAt shared place (part_in s)) (sym (get_or-map at_rest parts place (part_in d) d inside)) (are.each place (part_in d) inside);
       },
-      (λ i. record { tables = whole i; free = λ group. free_of_all parts group i }),
+      (λ i. record { tables = whole i; holdings = λ w_id. none_of_all parts w_id i }),
     )

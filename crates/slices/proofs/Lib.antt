@@ -9,6 +9,7 @@ pub mod Keeps
 pub mod Opened
 pub mod Alike
 pub mod Wholes
+pub mod Held
 pub mod Joined
 pub mod HomeBoxes
 pub mod Cuts

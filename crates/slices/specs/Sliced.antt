@@ -1,5 +1,6 @@
 -- What a contract sees of a slice, and of all slices together.
 use Rattle.std.specs.Prelude.{◌≡◌, ℕ, ◌-◌, ◌<◌, List, [], ◌∷◌, ◌++◌, Bool, true, ◌==◌, if◌then◌else◌, All, length, map, slice_index_or}
+use Rattle.std.specs.List.{filter}
 use Rattle.std.specs.List.Sorted.{IsPermutation}
 use Rattle.rows.specs.Ranged.{is_between}
 use Rattle.schema.specs.Database.{Database}
@@ -95,39 +96,60 @@ pub record SliceKeeps (before : List Claiming) (old : Sliced) (after : List Clai
 
 -- ---- all slices
 
--- the rows of all warehouses as they stand, and how many of each group's tickets are at home
+-- the rows of all warehouses as they stand; and for each warehouse, by its number, all claims on its groups that are out, in
+-- any order
 pub record Joined : Type 0 where
   pub tables : Database
-  pub free : Group → ℕ
+  pub holdings : ℕ → List Holding
 
 -- all slices have every group
 abbrev pub everywhere : Group → Bool
 everywhere group = true
 
--- a group's tickets are with the slice of its warehouse: of a warehouse that there isn't, all are at home
-abbrev pub free_in : List Sliced → Group → ℕ
-free_in [] group = 8
-free_in (s ∷ slices) group = if at_home s.home group then free_at s.holdings group else free_in slices group
+-- the claims on a warehouse's groups are those of its slice: of a warehouse that there isn't, none are out
+abbrev pub holdings_in : List Sliced → ℕ → List Holding
+holdings_in [] w_id = []
+holdings_in (s ∷ slices) w_id = if w_id == s.home then s.holdings else holdings_in slices w_id
 
 -- what the slices have together, with what they share
 abbrev pub joined : Shared → List Sliced → Joined
-joined shared slices = record { tables = whole_of shared (map part_in slices); free = free_in slices }
+joined shared slices = record { tables = whole_of shared (map part_in slices); holdings = holdings_in slices }
 
 -- all slices, as the laws of what is committed see them
 abbrev pub all_standing : Joined → Standing
-all_standing j = record { rows = content j.tables; free = j.free }
+all_standing j = record { rows = content j.tables; free = λ group. free_at (j.holdings (warehouse_of group)) group }
 
 -- all slices, no claim of which is out
 abbrev pub all_at_rest : Database → Joined
-all_at_rest tables = record { tables = tables; free = λ group. 8 }
+all_at_rest tables = record { tables = tables; holdings = λ w_id. [] }
+
+-- the slices are as they were: so many claims of each holder on each group are out, and the rows are the same
+pub record AreAsBefore (old new : Joined) : Type 0 where
+  pub tables : new.tables ≡ old.tables
+  pub holdings : (w_id : ℕ) → IsPermutation (new.holdings w_id) (old.holdings w_id)
+
+-- those of these claims that are on groups of the warehouse
+abbrev pub held_at : ℕ → List Claiming → List Holding
+held_at w_id claims = map held_by (filter (λ claim. at_home w_id claim.group) claims)
+
+-- these are all the claims that are out
+abbrev pub AreAllHeld : (ℕ → List Holding) → List Claiming → Type 0
+AreAllHeld holdings claims = (w_id : ℕ) → IsPermutation (holdings w_id) (held_at w_id claims)
+
+-- With these claims where those were, no other claim comes or goes: if all that were out are those and some others, all that
+-- are out now are these and the same others.
+abbrev pub KeepsAllHeld : List Claiming → (ℕ → List Holding) → List Claiming → (ℕ → List Holding) → Type 0
+KeepsAllHeld before old after new = (others : List Claiming) → AreAllHeld old (before ++ others) → AreAllHeld new (after ++ others)
 
 -- the slices of all warehouses, in order, which share these
 pub record AreSlicesOf (shared : Shared) (slices : List Sliced) : Type 0 where
   pub many : length slices ≡ shared.scale.warehouses
   pub each : (place : ℕ) (d : Sliced) → place < length slices → IsPartAt shared place (part_in (slice_index_or slices place d))
 
--- With these claims where those were: what is committed anywhere is kept, and the scale and the items stay.
+-- With these claims where those were: what is committed anywhere is kept; all other claims that were out still are; and the
+-- scale and the items stay.
 pub record SlicesKeep (before : List Claiming) (old : Joined) (after : List Claiming) (new : Joined) : Type 0 where
   pub committed : KeepsCommitted everywhere before (all_standing old) after (all_standing new)
+  pub holdings : KeepsAllHeld before old.holdings after new.holdings
   pub scale : new.tables.scale ≡ old.tables.scale
   pub items : new.tables.items ≡ old.tables.items

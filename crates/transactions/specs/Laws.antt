@@ -1,5 +1,5 @@
 -- What the transactions of all kinds keep.
-use Rattle.std.specs.Prelude.{◌≡◌, ℕ, ◌≤◌, ◌+◌, List, ◌++◌, None, All, IsTrue, length, map, count_by}
+use Rattle.std.specs.Prelude.{◌≡◌, ◌≤◌, ◌+◌, List, ◌++◌, All, IsTrue, length, map, count_by}
 use Rattle.partitions.specs.Parts.{Shared}
 use Rattle.schema.specs.declared.scale.Scale.{Scale}
 use Rattle.schema.specs.Scale.{has_warehouse}
@@ -14,17 +14,13 @@ use Rattle.groups.specs.Groups.{is_same}
 use Rattle.tickets.specs.Claims.{Claiming, all_claims, leaving}
 use Rattle.tickets.specs.Places.{IsGroupOf}
 use Rattle.commit_log.specs.Claimed.{IsCarriedOut}
-use Rattle.local_locks.specs.Conflicts.{IsFree, MustDie}
-use Rattle.local_locks.specs.Locking.{Holding}
-use Rattle.slices.specs.Sliced.{IsClaimAt, AreOfOneHome, free_at}
+use Rattle.slices.specs.Sliced.{IsClaimAt, AreOfOneHome}
 use Rattle.transactions.specs.declared.laws.TheConstants.{MOST_ACTIONS}
 use Rattle.transactions.specs.declared.work.Work.{Work}
 use Rattle.transactions.specs.declared.work.Found.{Found}
 use Rattle.transactions.specs.declared.progress.Progress.{Progress}
-use Rattle.groups.specs.declared.wishes.Wish.{Wish}
-use Rattle.transactions.specs.Acting.{first_held, IsRefusedOn}
 use Rattle.transactions.specs.Granted.{AreSomeOf, AreWishesAt, wish_of}
-use Rattle.transactions.specs.Works.{CanDo, HasDone, all_wishes, home_of, want_of, wishes_of}
+use Rattle.transactions.specs.Works.{CanDo, HasDone, all_wishes, home_of, wishes_of}
 use Rattle.transactions.specs.Progresses.{IsReached, works_of}
 
 -- the claim once what was done under it is taken back
@@ -58,18 +54,6 @@ abbrev pub WorksHaveAClaimForEachWish : Type 0
 WorksHaveAClaimForEachWish =
     (shared : Shared) (work : Work) (found : Found) (claims : List Claiming)
     → HasDone shared work found claims → map (λ (claim : Claiming). claim.group) claims ≡ groups_of (wishes_of work)
-
--- ---- who is in the way of it
-
--- Where nobody is in the way of what an action wishes, there are tickets at home for each wish.
-abbrev pub FreeWishesCanBeGranted : Type 0
-FreeWishesCanBeGranted = (holdings : List Holding) (wishes : List Wish) → IsFree holdings (map want_of wishes) → first_held (free_at holdings) wishes ≡ None
-
--- Where an action dies, it is for a group that it wishes for, and there are too few tickets at home for that wish.
-abbrev pub DeathsAreOnHeldGroups : Type 0
-DeathsAreOnHeldGroups =
-    (holdings : List Holding) (age : ℕ) (wishes : List Wish) (group : Group) (oldest : ℕ)
-    → MustDie holdings age (map want_of wishes) group oldest → IsRefusedOn (free_at holdings) wishes group
 
 -- ---- at which warehouse an action does its work
 

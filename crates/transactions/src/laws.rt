@@ -1,5 +1,5 @@
 //! Laws of all kinds of transactions: functions that do nothing, and are proved.
-ghost use Rattle.transactions.specs.Laws.{AcceptedRequestsHaveTheirGroups, ActionsCanDoTheirWork, ClaimsAreOfTheFootprint, DeathsAreOnHeldGroups, FreeWishesCanBeGranted, PhasesHaveActions, ReachedRequestsAreAccepted, RolledBackClaimsCanBeUndone, TransactionsClaimEachGroupOnce, TransactionsHaveFewActions, WorksAreAtWarehouses, WorksAreDoneAtHome, WorksClaimAtHome, WorksHaveAClaimForEachWish, WorksHaveTheirGroups, WorksHaveWishes};
+ghost use Rattle.transactions.specs.Laws.{AcceptedRequestsHaveTheirGroups, ActionsCanDoTheirWork, ClaimsAreOfTheFootprint, PhasesHaveActions, ReachedRequestsAreAccepted, RolledBackClaimsCanBeUndone, TransactionsClaimEachGroupOnce, TransactionsHaveFewActions, WorksAreAtWarehouses, WorksAreDoneAtHome, WorksClaimAtHome, WorksHaveAClaimForEachWish, WorksHaveTheirGroups, WorksHaveWishes};
 
 use groups::footprints_name_each_group_once;
 
@@ -25,13 +25,6 @@ pub fn works_have_their_groups()
 pub fn works_have_wishes()
     ensures some { WorksHaveWishes }
     ensures claims { WorksHaveAClaimForEachWish }
-{}
-
-/// Nobody is in the way of what an action wishes for only where there are tickets at home for all of it; and where
-/// it dies, it is for a group that it wishes for, of which too few are.
-pub fn who_is_in_the_way_has_tickets()
-    ensures free { FreeWishesCanBeGranted }
-    ensures deaths { DeathsAreOnHeldGroups }
 {}
 
 /// Work that can be done is at a warehouse of the scale, and so an action's slice is there.

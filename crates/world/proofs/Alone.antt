@@ -1,10 +1,10 @@
 -- While an action is to run, no claim is out on a group for which it wishes: so it doesn't die.
-use Rattle.std.proofs.Common.{◌≡◌, ℕ, ◌+◌, ◌-◌, ◌<◌, ◌≤◌, ◌==◌, zero, suc, List, [], ◌∷◌, ◌++◌, length, Option, Some, None, refl, sym, ◌∙◌, ap, subst, arith, Bool, true, false, cond, ⊎_elim}
-use Rattle.std.specs.Prelude.{All, Contains, map, not, option_map, slice_index_or}
+use Rattle.std.proofs.Common.{◌≡◌, ℕ, ◌+◌, ◌-◌, ◌<◌, ◌≤◌, ◌==◌, zero, suc, List, [], ◌∷◌, ◌++◌, length, Option, Some, None, refl, sym, ◌∙◌, ap, subst, arith, cond}
+use Rattle.std.specs.Prelude.{All, map, slice_index_or}
 use Rattle.std.specs.List.{slice_get, sum_by}
 use Rattle.std.proofs.lemmas.List.{append_cancel_left, get_or-set_same}
 use Rattle.std.proofs.lemmas.List.Elements.{All-head, All-tail}
-use Rattle.std.proofs.lemmas.List.Sorted.{sum_by-IsPermutation}
+use Rattle.std.proofs.lemmas.List.Sorted.{Contains-permutation, sum_by-IsPermutation}
 use Rattle.std.proofs.lemmas.List.Sums.{sum_by-cons, sum_by-append}
 use Rattle.std.proofs.lemmas.Map.Views.{exact_unsigned_eq}
 use Rattle.partitions.specs.Parts.{Shared}
@@ -13,8 +13,8 @@ use Rattle.requests.specs.declared.group.Group.{Group}
 use Rattle.groups.specs.declared.wishes.Wish.{Wish}
 use Rattle.groups.specs.Groups.{is_same}
 use Rattle.tickets.specs.Claims.{Claiming, all_claims}
-use Rattle.tickets.proofs.Apart.{by_bool}
-use Rattle.local_locks.proofs.Members.{contains_cases, contains_none}
+use Rattle.wait_die.specs.declared.deciding.Holder.{Holder}
+use Rattle.wait_die.specs.declared.deciding.TheConstants.{YOUNGEST}
 use Rattle.commit_log.specs.declared.entry.Entry.{Entry}
 use Rattle.history.specs.declared.event.Event.{Event}
 use Rattle.history.specs.declared.event.Event.TheVariants.{Submit, Take, Send}
@@ -23,14 +23,15 @@ use Rattle.history.specs.History.{Step}
 use Rattle.transactions.specs.declared.work.Work.{Work}
 use Rattle.transactions.specs.declared.acting.Ran.{Ran}
 use Rattle.transactions.specs.declared.acting.Ran.TheVariants as ran
-use Rattle.transactions.specs.Acting.{can_be_granted, claims_of_ran, dies_on, first_held}
+use Rattle.transactions.specs.Acting.{claims_of_ran}
 use Rattle.transactions.specs.Granted.{wish_of}
 use Rattle.transactions.specs.Laws.{TransactionsClaimEachGroupOnce}
 use Rattle.transactions.specs.Progresses.{IsReached, works_of}
-use Rattle.transactions.specs.Works.{all_wishes, wishes_of}
+use Rattle.transactions.specs.Works.{all_wishes, home_of, wishes_of}
+use Rattle.transactions.proofs.Held.{HoldsWished, dies_of_holder}
 use Rattle.transactions.proofs.Reached.{counted, some_actions}
 use Rattle.rendezvous.specs.Awaited.{awaited_from, reported}
-use Rattle.slices.specs.Sliced.{Joined}
+use Rattle.slices.specs.Sliced.{Joined, held_at}
 use Rattle.world.specs.declared.desk.Active.{Active}
 use Rattle.world.specs.declared.desk.Active.TheVariants as active
 use Rattle.world.specs.declared.flight.Act.{Act as AnyAct}
@@ -46,13 +47,13 @@ use Rattle.world.specs.Parted.{joined_in}
 use Rattle.world.specs.Slots.{count_active}
 use Rattle.world.specs.Flights.{Token, Acting, Committing, Ending, InFlight, nothing, parts, part_carried, part_message, part_item, part_met, acting_from, claims_reported}
 use Rattle.world.specs.Sound.{IsSoundWith, IsSoundAct, IsSoundItem, IsSoundMessage, IsSoundPhase, IsSoundRan, IsCarriedAt, IsPlaceOf, UnderWay, awaited_by_all, flight, reported_to_all}
-use Rattle.world.specs.Events.{ComesOf, TakesMessage}
+use Rattle.world.specs.Events.{ComesOf, TakesMessage, holder_of}
 use Rattle.world.specs.Together.{IsSound, in_hand, together}
 use Rattle.world.specs.Worlds.{Fits, HasNotDied, Happens, NoneDies, TakesFirst}
 use Rattle.world.proofs.Balances.{in_inbox, in_outbox, in_meeting, message_taken}
 use Rattle.world.proofs.Executing.{fits_first, first_sound, has_queue, taken_from}
 use Rattle.world.proofs.Apart.{others}
-use Rattle.world.proofs.OnGroups.{wishes_on, claims_on, one_wish_on, one_claim_on, done_on, no_tickets, wished, none_held}
+use Rattle.world.proofs.OnGroups.{wishes_on, claims_on, one_wish_on, one_claim_on, done_on, claimed, wished}
 use Rattle.world.proofs.Reported.{met_tokens}
 use Rattle.world.proofs.Taking.{message_in_hand}
 use Rattle.world.proofs.Courses.{messages_stay, items_stay}
@@ -351,49 +352,27 @@ module _ {J : Type 0} (once : TransactionsClaimEachGroupOnce) (shared : Shared) 
         ap {B = ℕ} (work_on u group) sound.work,
       )
 
-  -- so all tickets of each group that it wishes for are at home
-  all_free : (opening : Database) (history : List Step)
-      → Fits opening history w → dies_on (joined_in w).free (wishes_of act.work) ≡ None
-  all_free opening history fits =
-      let wishes = wishes_of act.work in
-      let free : (k : ℕ) (wish : Wish) → slice_get wishes k ≡ Some wish → (joined_in w).free wish.group ≡ 8 = λ k wish there.
-      let none = no_tickets wish.group (flight w).claims (omega (arith, few_on wish.group, wished wishes k wish there)) in
-      omega (arith, fits.committed.tickets wish.group refl, none) in
-      ap (λ (o : Option Wish). option_map (λ (wish : Wish). wish.group) o) (none_held (joined_in w).free wishes free)
-
--- where none of the wishes is the first that can't be granted, each can be
-none_refused : (free : Group → ℕ) (wishes : List Wish) → first_held free wishes ≡ None → (wish : Wish) → Contains wishes wish → can_be_granted free wish ≡ false → ⊥
-none_refused free [] none wish wished cannot = contains_none wish wished
-none_refused free (first ∷ wishes) none wish wished cannot =
-    by_bool (can_be_granted free first) refl
-    (λ can. ⊎_elim
-    (λ (same : first ≡ wish). unlike (sym can ∙ ap (can_be_granted free) same ∙ cannot))
-    (λ (rest : Contains wishes wish). none_refused free wishes (sym (here can) ∙ none) wish rest cannot)
-    (contains_cases first wishes wish wished))
-    (λ can. some_not (sym (here can) ∙ none))
-  where
-    here : {b : Bool} → can_be_granted free first ≡ b → first_held free (first ∷ wishes) ≡ cond (not b) (Some first) (first_held free wishes)
-    here is = ap (λ b. cond (not b) (Some first) (first_held free wishes)) is
-
-    unlike : true ≡ false → ⊥
-    unlike e = cc
-
-    some_not : Some first ≡ None → ⊥
-    some_not e = cc
-
--- and so it is where it dies on none
-none_first : (o : Option Wish) → option_map (λ (wish : Wish). wish.group) o ≡ None → o ≡ None
-none_first None is = refl
-none_first (Some wish) is = absurd (cc)
+  -- so nobody has a claim on a group that it wishes for
+  none_holds : (opening : Database) (history : List Step) (w_id : ℕ) → Fits opening history w → HoldsWished ((joined_in w).holdings w_id) (wishes_of act.work) → ⊥
+  none_holds opening history w_id fits of =
+      let claims = (flight w).claims in
+      let out = Contains-permutation ((joined_in w).holdings w_id) (held_at w_id claims) of.holding (fits.held w_id) of.held in
+      omega (
+        arith,
+        few_on of.wish.group,
+        wished (wishes_of act.work) of.wish of.wished,
+        claimed w_id claims of.holding out,
+        ap {B = ℕ} (λ (group : Group). claims_on group claims) of.on,
+      )
 
 -- ---- the event
 
 module _ {J : Type 0} where
-  not_died : (old new : Joined) (work : Work) (one : Ran J)
-      → dies_on old.free (wishes_of work) ≡ None → ComesOf old work one new → HasNotDied one
-  not_died old new work (ran.Done claims found) none of = tt
-  not_died old new work (ran.Died group holder) none of = none_refused old.free (wishes_of work) (none_first (first_held old.free (wishes_of work)) none) of.0.wish of.0.wished of.0.cannot
-  not_died old new work ran.NoMemory none of = tt
+  not_died : (by : Holder) (old new : Joined) (work : Work) (one : Ran J)
+      → (HoldsWished (old.holdings (home_of work)) (wishes_of work) → ⊥) → ComesOf by old work one new → HasNotDied one
+  not_died by old new work (ran.Done claims found) none of = tt
+  not_died by old new work (ran.Died group holder) none of = absurd (none (dies_of_holder (old.holdings (home_of work)) YOUNGEST (wishes_of work) group holder of.0))
+  not_died by old new work ran.NoMemory none of = tt
 
   pub none_dies : TransactionsClaimEachGroupOnce → (shared : Shared) (event : Event) (old new : Core J) (answer : EventAnswer)
       → IsSound shared old → Happens event old answer new
@@ -419,6 +398,6 @@ module _ {J : Type 0} where
       let is_told : told ≡ report = cc in
       let from = taken_from shared old h executor executor from_there to_there (Act act) rest is in
       subst (λ (r : Report J). HasNotDied r.ran) is_told
-      (not_died (joined_in old.parts) _ act.work one.0
-      (all_free once shared from act (rest ++ others executor old.inboxes) refl (first_sound shared old h executor executor from_there to_there (Act act) rest is) alone opening history
-      (fits_first shared old h executor executor from_there to_there (Act act) rest is opening history fits)) one.1.1)
+      (not_died (holder_of act) (joined_in old.parts) _ act.work one.0
+      (none_holds once shared from act (rest ++ others executor old.inboxes) refl (first_sound shared old h executor executor from_there to_there (Act act) rest is) alone opening history
+      (home_of act.work) (fits_first shared old h executor executor from_there to_there (Act act) rest is opening history fits)) one.1.1)

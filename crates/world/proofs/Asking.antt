@@ -20,7 +20,7 @@ use Rattle.history.specs.Laws.{new_one}
 use Rattle.groups.specs.Content.{content}
 use Rattle.tickets.specs.Claims.{Claiming, all_claims}
 use Rattle.tickets.specs.Committed.{AreCommitted}
-use Rattle.slices.specs.Sliced.{all_standing, everywhere}
+use Rattle.slices.specs.Sliced.{AreAllHeld, all_standing, everywhere}
 use Rattle.transactions.specs.declared.work.Work.{Work}
 use Rattle.transactions.specs.Works.{CanDo}
 use Rattle.transactions.specs.Progresses.{IsReached}
@@ -294,6 +294,7 @@ module _ {J : Type 0} where
         let with_t : FitsPart opening steps w.log (joined_in w) (w.desk.admitted + 1) (join (part_message message) rest) = record {
           told = subst (λ (x : Unanswered). HistoryFits opening steps w.log (tables_now opening w.log) (w.desk.admitted + 1) (x ∷ rest.pending)) (sym is_t) after.told;
           committed = subst (λ (cs : List Claiming). AreCommitted everywhere (content (tables_now opening w.log)) (all_standing (joined_in w)) (cs ++ rest.claims)) (sym none_held) after.committed;
+          held = subst (λ (cs : List Claiming). AreAllHeld (joined_in w).holdings (cs ++ rest.claims)) (sym none_held) after.held;
           scale = after.scale;
           items = after.items;
         } in

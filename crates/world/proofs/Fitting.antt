@@ -27,7 +27,9 @@ use Rattle.history.specs.History.{Step, step, Unanswered, is_of}
 use Rattle.history.specs.Fits.{Fits as HistoryFits}
 use Rattle.history.specs.Laws.{IsQuiet, IsEntryOf, IsAnswerTo, new_one, with_place}
 use Rattle.history.proofs.Fitting.{unanswered_in_any_order, quiet_event_fits, admission_fits, answer_fits, entry_fits}
-use Rattle.slices.specs.Sliced.{Joined, SlicesKeep, all_standing, everywhere}
+use Rattle.local_locks.specs.Locking.{Holding}
+use Rattle.slices.specs.Sliced.{AreAllHeld, Joined, SlicesKeep, all_standing, everywhere}
+use Rattle.slices.proofs.Held.{held_in_any_order, settled_held}
 use Rattle.world.specs.Flights.{InFlight, part, join}
 use Rattle.world.specs.Worlds.{FitsPart, tables_now}
 use Rattle.world.proofs.Joins.{IsSame}
@@ -38,6 +40,7 @@ module _ (opening : Database) (history : List Step) (log : List Entry) where
   fits_same slices admitted a b same h = record {
     told = unanswered_in_any_order opening history log (tables_now opening log) admitted a.pending b.pending same.pending h.told;
     committed = kept.AreCommitted-permutation everywhere (content (tables_now opening log)) (all_standing slices) a.claims b.claims same.claims h.committed;
+    held = held_in_any_order slices.holdings a.claims b.claims same.claims h.held;
     scale = h.scale;
     items = h.items;
   }
@@ -48,6 +51,7 @@ module _ (opening : Database) (history : List Step) (log : List Entry) where
   fits_like slices admitted a b claims pending h = record {
     told = unanswered_in_any_order opening history log (tables_now opening log) admitted a.pending b.pending pending h.told;
     committed = kept.AreCommitted-permutation everywhere (content (tables_now opening log)) (all_standing slices) a.claims b.claims claims h.committed;
+    held = held_in_any_order slices.holdings a.claims b.claims claims h.held;
     scale = h.scale;
     items = h.items;
   }
@@ -58,6 +62,7 @@ module _ (opening : Database) (history : List Step) (log : List Entry) where
   fits_work old new admitted a b rest keeps pending h = record {
     told = subst (λ us. HistoryFits opening history log (tables_now opening log) admitted (us ++ rest.pending)) (sym pending) h.told;
     committed = keeps.committed (content (tables_now opening log)) rest.claims h.committed;
+    held = keeps.holdings rest.claims h.held;
     scale = keeps.scale ∙ h.scale;
     items = keeps.items ∙ h.items;
   }
@@ -68,6 +73,7 @@ module _ (opening : Database) (history : List Step) (log : List Entry) where
   fits_quiet slices admitted a event answer quiet h = record {
     told = quiet_event_fits opening history log (tables_now opening log) admitted a.pending event answer quiet h.told;
     committed = h.committed;
+    held = h.held;
     scale = h.scale;
     items = h.items;
   }
@@ -79,6 +85,7 @@ module _ (opening : Database) (history : List Step) (log : List Entry) where
   fits_admission slices admitted a session number request none h = record {
     told = admission_fits opening history log (tables_now opening log) admitted a.pending session number request none h.told;
     committed = h.committed;
+    held = h.held;
     scale = h.scale;
     items = h.items;
   }
@@ -90,6 +97,7 @@ module _ (opening : Database) (history : List Step) (log : List Entry) where
   fits_answer slices admitted claims u rest executor answer is h = record {
     told = answer_fits opening history log (tables_now opening log) admitted rest.pending executor u answer is h.told;
     committed = h.committed;
+    held = h.held;
     scale = h.scale;
     items = h.items;
   }
@@ -103,6 +111,11 @@ module _ (opening : Database) (history : List Step) (log : List Entry) where
       (kept.AreCommitted-commit everywhere tables standing own others h)
   logged_committed (reply.RolledBack fault) tables next standing own others same h =
       kept.AreCommitted-same everywhere tables next standing standing (own ++ others) (λ group here. same group) (λ group here. refl) (λ group here. refl) h
+
+  -- and its claims are out as before
+  pub logged_held : (shown : Reply) (holdings : ℕ → List Holding) (own others : List Claiming) → AreAllHeld holdings (own ++ others) → AreAllHeld holdings (claims_logged shown own ++ others)
+  logged_held (reply.Done shown) holdings own others held = λ w_id. subst (IsPermutation (holdings w_id)) (sym (settled_held w_id own others)) (held w_id)
+  logged_held (reply.RolledBack fault) holdings own others held = held
 
   -- a transaction is logged
   pub fits_entry : (slices : Joined) (admitted : ℕ) (own others : List Claiming) (u : Unanswered) (pending : List Unanswered) (executor : ℕ) (entry : Entry)

@@ -5,11 +5,12 @@ use Rattle.std.proofs.lemmas.List.Sorted.{IsPermutation-append_left, IsPermutati
 use Rattle.tickets.specs.Claims.{Claiming}
 use Rattle.tickets.specs.Committed.{AreCommitted}
 use Rattle.tickets.proofs.Committed as kept
-use Rattle.slices.specs.Sliced.{Joined, SlicesKeep, all_standing, everywhere}
+use Rattle.slices.specs.Sliced.{AreAllHeld, Joined, SlicesKeep, all_standing, everywhere}
+use Rattle.slices.proofs.Held.{held_in_any_order}
 
 -- nothing is done
 pub stays : (claims : List Claiming) (slices : Joined) → SlicesKeep claims slices claims slices
-stays claims slices = record { committed = λ tables others h. h; scale = refl; items = refl }
+stays claims slices = record { committed = λ tables others h. h; holdings = λ others h. h; scale = refl; items = refl }
 
 -- more claims are out, after those of the step
 beside : (before after more : List Claiming) (old new : Joined)
@@ -18,6 +19,9 @@ beside before after more old new step = record {
   committed = λ tables others h.
       subst (λ claims. AreCommitted everywhere tables (all_standing new) claims) (sym (append_assoc after more others))
       (step.committed tables (more ++ others) (subst (λ claims. AreCommitted everywhere tables (all_standing old) claims) (append_assoc before more others) h));
+  holdings = λ others h.
+      subst (AreAllHeld new.holdings) (sym (append_assoc after more others))
+      (step.holdings (more ++ others) (subst (AreAllHeld old.holdings) (append_assoc before more others) h));
   scale = step.scale;
   items = step.items;
 }
@@ -29,6 +33,7 @@ ordered before after last old new same step = record {
   committed = λ tables others h.
       kept.AreCommitted-permutation everywhere tables (all_standing new) (after ++ others) (last ++ others) (IsPermutation-append_left others after last same)
       (step.committed tables others h);
+  holdings = λ others h. held_in_any_order new.holdings (after ++ others) (last ++ others) (IsPermutation-append_left others after last same) (step.holdings others h);
   scale = step.scale;
   items = step.items;
 }

@@ -5,6 +5,7 @@ use Rattle.std.proofs.lemmas.List.{get_or-map, length-map, length-replicate}
 use Rattle.std.proofs.lemmas.List.Elements.{All-nil}
 use Rattle.std.proofs.lemmas.List.Sums.{sum_by-cons}
 use Rattle.std.proofs.lemmas.Option.{slice_get-map, slice_get_within}
+use Rattle.std.proofs.lemmas.List.Sorted.{IsPermutation-refl}
 use Rattle.schema.specs.Database.{Database, IsWithinScale}
 use Rattle.partitions.specs.Parts.{Shared, parts_of, shared_of}
 use Rattle.schema.specs.Consistency.{Consistent}
@@ -180,6 +181,7 @@ module _ (t : Database) (consistent : Consistent t) where
       free = λ group near. refl;
       rows = λ group near. refl;
     });
+    held = λ w_id. IsPermutation-refl [];
     scale = refl;
     items = refl;
   }

@@ -246,5 +246,5 @@ module _ {J : Type 0} where
         fits = λ opening history f.
             let together = fits_same opening history w.log (joined_in w) w.desk.admitted (join hand (flight w)) (join met rest) with_token f in
             fits_same opening history w.log (joined_in w) w.desk.admitted (join now rest) (flight next) then
-            (record { told = together.told; committed = together.committed; scale = together.scale; items = together.items });
+            (record { told = together.told; committed = together.committed; held = together.held; scale = together.scale; items = together.items });
       }

@@ -24,7 +24,9 @@ use Rattle.world.specs.Flights.{Acting, InFlight, part, join, parts, part_carrie
 use Rattle.world.specs.Following.{acts_from, acts_of}
 use Rattle.world.specs.Sound.{IsCarriedAt, IsSoundAct, IsSoundItem, IsSoundRan, IsSoundStart, IsPlaceOf, IsWorkAt, UnderWay, Courses}
 use Rattle.world.specs.Parted.{joined_in}
-use Rattle.world.specs.Events.{ComesOf, TakesMessage, Works}
+use Rattle.transactions.proofs.Wished.{works_are_done_at_home}
+use Rattle.wait_die.specs.declared.deciding.Holder.{Holder}
+use Rattle.world.specs.Events.{ComesOf, TakesMessage, Works, holder_of}
 use Rattle.world.proofs.Keeping.{more, stays}
 
 -- actions that carry nothing have their tokens alone
@@ -96,13 +98,13 @@ module _ {J : Type 0} where
         fine = λ at log sound. acts_fine (shared_of slices.tables) log at flow works.items sound;
       }
 
-  ran_soundly : (u : UnderWay) (number : ℕ) (work : Work) (one : Ran J) (old new : Joined) → IsWorkAt u number work → ComesOf old work one new → IsSoundRan (shared_of old.tables) u number one
-  ran_soundly u number work (ran.Done claims found) old new here of = (work, (here, of.1))
-  ran_soundly u number work (ran.Died group holder) old new here of = tt
-  ran_soundly u number work ran.NoMemory old new here of = tt
+  ran_soundly : (u : UnderWay) (number : ℕ) (work : Work) (one : Ran J) (old new : Joined) → (by : Holder) → IsWorkAt u number work → ComesOf by old work one new → IsSoundRan (shared_of old.tables) u number one
+  ran_soundly u number work (ran.Done claims found) old new by here of = (work, (here, (of.done, (of.undone, (works_are_done_at_home (shared_of old.tables) work found claims of.done).1))))
+  ran_soundly u number work (ran.Died group holder) old new by here of = tt
+  ran_soundly u number work ran.NoMemory old new by here of = tt
 
   -- an action that runs puts its report
-  pub acts : (act : AnyAct J) (one : Ran J) (old new : Joined) → SlicesKeep [] old (claims_of_ran one) new → ComesOf old act.work one new
+  pub acts : (act : AnyAct J) (one : Ran J) (old new : Joined) → SlicesKeep [] old (claims_of_ran one) new → ComesOf (holder_of act) old act.work one new
       → Works (Act act) old (item.Report (record { place = act.place; slot = act.slot; flow = act.flow; ran = one }) ∷ []) new
   acts act one old new kept of =
       let carried = part_carried act.flow in
@@ -114,7 +116,7 @@ module _ {J : Type 0} where
         tokens = refl;
         fine = λ at log fine.
             one_fine (shared_of old.tables) log at (item.Report (record { place = act.place; slot = act.slot; flow = act.flow; ran = one }))
-            (record { number = fine.number; place = fine.place; flow = fine.flow; ran = ran_soundly (at act.slot) fine.number act.work one old new fine.work of });
+            (record { number = fine.number; place = fine.place; flow = fine.flow; ran = ran_soundly (at act.slot) fine.number act.work one old new (holder_of act) fine.work of });
       }
 
   -- claims whose work is committed are given back

@@ -20,9 +20,12 @@ use Rattle.commit_log.specs.Items.{item as item_of}
 use Rattle.commit_log.specs.Passing.{after_item, after_refusal}
 use Rattle.history.specs.declared.event.EventAnswer.{EventAnswer}
 use Rattle.history.specs.declared.event.EventAnswer.TheVariants.{Sent, Full, Logged, Answered}
-use Rattle.slices.specs.Sliced.{AreSlicesOf, Joined, Sliced, SlicesKeep, joined}
-use Rattle.transactions.specs.Acting.{IsRefusedOn, dies_on}
-use Rattle.transactions.specs.Works.{HaveAllDone, CanDo, HasDone, wishes_of}
+use Rattle.wait_die.specs.declared.deciding.Holder.{Holder}
+use Rattle.wait_die.specs.declared.deciding.TheConstants.{YOUNGEST}
+use Rattle.local_locks.specs.Conflicts.{MustDie}
+use Rattle.slices.specs.Sliced.{AreAsBefore, AreSlicesOf, Joined, Sliced, SlicesKeep, joined}
+use Rattle.transactions.specs.Acting.{IsDoneBy}
+use Rattle.transactions.specs.Works.{HaveAllDone, CanDo, home_of, wants_of}
 use Rattle.transactions.specs.Progresses.{FollowsFrom, IsReached, works_of}
 use Rattle.transactions.specs.declared.laws.TheConstants.{MOST_ACTIONS}
 use Rattle.transactions.specs.declared.progress.Gathered.{Gathered}
@@ -64,20 +67,24 @@ HasMet progress found =
 module _ {J : Type 0} where
   -- ---- a message is worked on
 
-  -- What comes of this work in the slice of its warehouse: all that it wished for could be granted, and it was done under the
-  -- claims, all of which can be undone; or it died on the group of a wish that could not, or there was no memory, and then
-  -- the slices are as they were.
-  abbrev pub ComesOf : Joined → Work → Ran J → Joined → Type 0
-  ComesOf old work (ran.Done claims found) new = (dies_on old.free (wishes_of work) ≡ None) × (HasDone (shared_of old.tables) work found claims × CanAllBeUndone claims)
-  ComesOf old work (ran.Died group holder) new = IsRefusedOn old.free (wishes_of work) group × (new ≡ old)
-  ComesOf old work ran.NoMemory new = new ≡ old
+  -- What comes of this work at its warehouse: nobody was in its way, and it was done under claims of its own, all of which can
+  -- be undone; or it died, on the first group on which somebody was, with the age of the oldest there; or there was no memory.
+  -- Then the slices are as they were.
+  abbrev pub ComesOf : Holder → Joined → Work → Ran J → Joined → Type 0
+  ComesOf by old work (ran.Done claims found) new = IsDoneBy by (old.holdings (home_of work)) (shared_of old.tables) work claims found
+  ComesOf by old work (ran.Died group holder) new = MustDie (old.holdings (home_of work)) YOUNGEST (wants_of work) group holder × (new ≡ old)
+  ComesOf by old work ran.NoMemory new = AreAsBefore old new
+
+  -- who an action is to the lock tables: its transaction, by its age, and its place in it
+  abbrev pub holder_of : Act J → Holder
+  holder_of act = record { age = act.age; place = act.place }
 
   -- Which items a message's work puts: the actions of the first phase, in the order of their places; the report of an
   -- action, with what came of it; or that an action has given its claims back.
   abbrev pub PutsItems : Joined → Message J → List (Item J) → Joined → Type 0
   PutsItems old (Start flow works) items new = items ≡ acts_of flow works.items
   PutsItems old (Act act) items new =
-      (ran : Ran J) × ((items ≡ item.Report (record { place = act.place; slot = act.slot; flow = act.flow; ran = ran }) ∷ []) × ComesOf old act.work ran new)
+      (ran : Ran J) × ((items ≡ item.Report (record { place = act.place; slot = act.slot; flow = act.flow; ran = ran }) ∷ []) × ComesOf (holder_of act) old act.work ran new)
   PutsItems old (Settle slot claims) items new = items ≡ item.Ended slot ∷ []
   PutsItems old (Undo slot claims) items new = items ≡ item.Ended slot ∷ []
 

@@ -23,7 +23,7 @@ use Rattle.history.specs.declared.event.EventAnswer.TheVariants.{Accepted, Took,
 use Rattle.history.specs.History.{Step, step, is_of}
 use Rattle.history.specs.Fits.{Fits as HistoryFits}
 use Rattle.history.specs.Schedules.{IsIdle, Round}
-use Rattle.slices.specs.Sliced.{Joined, all_standing, everywhere}
+use Rattle.slices.specs.Sliced.{AreAllHeld, Joined, all_standing, everywhere}
 use Rattle.transactions.specs.declared.acting.Ran.{Ran}
 use Rattle.transactions.specs.declared.acting.Ran.TheVariants as ran
 use Rattle.transactions.specs.declared.work.Work.{Work}
@@ -53,11 +53,12 @@ use Rattle.routing.specs.Routes.{executor_of}
 abbrev pub tables_now : Database → List Entry → Database
 tables_now opening log = tables_after opening (requests_of log)
 
--- A history fits an opening, a log and what is under way: so it does by the log alone, and the tables that the machine
--- leaves are the committed ones while these claims are out.
+-- A history fits an opening, a log and what is under way: so it does by the log alone; the tables that the machine leaves are
+-- the committed ones while these claims are out; and these are all that are out, as the lock tables have it.
 pub record FitsPart (opening : Database) (history : List Step) (log : List Entry) (slices : Joined) (admitted : ℕ) (under_way : InFlight) : Type 0 where
   pub told : HistoryFits opening history log (tables_now opening log) admitted under_way.pending
   pub committed : AreCommitted everywhere (content (tables_now opening log)) (all_standing slices) under_way.claims
+  pub held : AreAllHeld slices.holdings under_way.claims
   pub scale : slices.tables.scale ≡ opening.scale
   pub items : slices.tables.items ≡ opening.items
 
@@ -104,8 +105,8 @@ module _ {J : Type 0} where
   abbrev pub can_admit : Parts J → Bool
   can_admit w = nat_lt (length w.inbox) 1024 && nat_lt w.desk.admitted 18446744073709551615
 
-  -- A transaction more is admitted, and active, in a slot that was free: the actions of its first phase stand at the inbox's end, and the session's
-  -- pass goes with them.
+  -- A transaction more is admitted, and active, in a slot that was free: the actions of its first phase stand at the inbox's
+  -- end, and the session's pass goes with them.
   pub record Admits (session number : ℕ) (asked : Request) (desk : SessionDesk J) (old new : Parts J) : Type 0 where
     pub flow : Flow J
     pub works : Vec Work Global

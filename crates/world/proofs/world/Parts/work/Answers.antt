@@ -11,7 +11,7 @@ use Rattle.transactions.proofs.Wished.{works_are_at_warehouses}
 use Rattle.world.specs.declared.flight.Item.TheVariants as item
 use Rattle.world.specs.declared.flight.Message.{Message}
 use Rattle.world.specs.declared.flight.Message.TheVariants.{Act, Settle, Undo}
-use Rattle.world.specs.Events.{CanWork, Works}
+use Rattle.world.specs.Events.{CanWork, Works, holder_of}
 use Rattle.world.specs.Following.{acts_of}
 use Rattle.world.specs.Parted.{CanAllBeSettled, CanAllBeUndone, joined_in}
 use Rattle.world.proofs.Parted.{all_keep, claims_at_home, comes_of, here, ran_at_home, shared_is, warehouse_within}
@@ -85,10 +85,10 @@ returns-in-Act g c =
     let home = c.home-home.result in
     let can : CanDo old.catalog act.work = subst (λ (m : Message g.row.J.Denot). CanWork old.catalog m) c.in-Act.is c.requires.can in
     let own = within old.catalog act.work home c.home-home.ensures can in
-    let at_home : All (IsClaimAt home) (claims_of_ran ran) = subst (λ n. All (IsClaimAt n) (claims_of_ran ran)) (sym c.home-home.ensures) (ran_at_home (record { age = act.age; place = act.place }) slice c.act-ran.new.slice act.work ran c.act-ran.ensures.done) in
+    let at_home : All (IsClaimAt home) (claims_of_ran ran) = subst (λ n. All (IsClaimAt n) (claims_of_ran ran)) (sym c.home-home.ensures) (ran_at_home (holder_of act) slice c.act-ran.new.slice act.work ran c.act-ran.ensures.done) in
     let kept = all_keep old.catalog old.slices.items c.requires.slices home slice own.0 own.1 c.index_mut.ensures.value c.act-ran.new.slice [] (claims_of_ran ran)
     (All-nil (IsClaimAt home)) at_home c.act-ran.ensures.kept in
-    let comes = comes_of old.catalog old.slices.items c.requires.slices home slice own.0 own.1 c.index_mut.ensures.value (record { age = act.age; place = act.place }) act.work ran c.act-ran.new.slice (sym c.home-home.ensures) c.act-ran.ensures.done in
+    let comes = comes_of old.catalog old.slices.items c.requires.slices home slice own.0 own.1 c.index_mut.ensures.value (holder_of act) act.work ran c.act-ran.new.slice (sym c.home-home.ensures) c.act-ran.ensures.done in
     takes c.args.message (Act act) old (item.Report (record { place = act.place; slot = act.slot; flow = act.flow; ran = ran }) ∷ []) c.put.new.self _ c.in-Act.is c.put.ensures
     kept.0 (acts act ran (joined_in old) _ kept.1 comes)
 
