@@ -40,6 +40,7 @@ use Rattle.world.specs.declared.desk.Active.TheVariants.{Acting, Ending}
 use Rattle.world.specs.declared.desk.SessionDesk.{SessionDesk}
 use Rattle.world.specs.declared.flight.Transaction.{Transaction}
 use Rattle.world.specs.declared.flight.Flow.{Flow}
+use Rattle.world.specs.declared.flight.Act.{Act as AnyAct}
 use Rattle.world.specs.declared.flight.Message.{Message}
 use Rattle.world.specs.declared.flight.Message.TheVariants.{Start, Act, Settle, Undo}
 use Rattle.world.specs.declared.flight.Report.{Report}
@@ -76,7 +77,7 @@ module _ {J : Type 0} where
   ComesOf by old work ran.NoMemory new = AreAsBefore old new
 
   -- who an action is to the lock tables: its transaction, by its age, and its place in it
-  abbrev pub holder_of : Act J → Holder
+  abbrev pub holder_of : AnyAct J → Holder
   holder_of act = record { age = act.age; place = act.place }
 
   -- Which items a message's work puts: the actions of the first phase, in the order of their places; the report of an
