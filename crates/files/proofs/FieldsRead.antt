@@ -1,5 +1,5 @@
 -- A field that was parsed is read as it is defined.
-use Rattle.std.proofs.Common.{◌≡◌, ◌≢◌, ◌≤◌, ◌<◌, ◌^◌, ◌↔◌, ◌⊎◌, ◌==◌, ◌&&◌, inl, inr, ℕ, List, [], ◌∷◌, drop, length, Bool, true, false, not, nat_le, Option, Some, None, Result, Ok, Err, MatchResult, IfOk, IfErr, refl, sym, ap, subst, ◌∙◌, arith}
+use Rattle.std.proofs.Common.{◌≡◌, ◌≤◌, ◌<◌, ◌^◌, ◌↔◌, ◌⊎◌, ◌==◌, ◌&&◌, inl, inr, ℕ, List, [], ◌∷◌, drop, length, Bool, true, false, not, nat_le, Option, Some, None, Result, Ok, Err, MatchResult, IfOk, IfErr, refl, ap, subst, arith}
 use Rattle.std.specs.Prelude.{if◌then◌else◌}
 use Rattle.std.specs.Char.{is_ascii_digit}
 use Rattle.std.specs.Fmt.{decimal}
@@ -12,7 +12,6 @@ use Rattle.files.specs.declared.fault.FaultKind.TheVariants as fault
 use Rattle.files.specs.FieldRead.{Taking, is_negative, is_within, next_read, noted, value_or, whole_read}
 use Rattle.files.specs.Number.{is_number, is_positive}
 use Rattle.files.specs.Word.{text_read}
-use Rattle.files.specs.Taken.{with_fault}
 use Rattle.files.proofs.Numerals.{all_digits_decimal, is_number-decimal, spelling}
 
 not_negative : (bytes : List ℕ) → list_all is_ascii_digit bytes ≡ true → is_negative bytes ≡ false
@@ -27,11 +26,13 @@ both false c h = absurd (cc h)
 unsigned_digits : (bytes : List ℕ) → is_number bytes ≡ true → is_negative bytes ≡ false → (list_all is_ascii_digit bytes ≡ true) × (0 < length bytes)
 unsigned_digits [] number plain = absurd (cc number)
 unsigned_digits (byte ∷ bytes) number plain =
-    let spelt : (if byte == 48 then length bytes == 0 else is_positive (byte ∷ bytes)) ≡ true = rw plain at number in
-    (elim (byte == 48) as (λ t. byte == 48 ≡ t → list_all is_ascii_digit (byte ∷ bytes) ≡ true) [
-      | true ↦ λ z. zero_digit byte bytes z (rw z at spelt)
-      | false ↦ λ z. rw z at spelt
-    ] refl, omega arith)
+    let spelt : (if byte == 48 then length bytes == 0 else is_positive (byte ∷ bytes)) ≡ true = rw plain at number in (
+      elim (byte == 48) as (λ t. byte == 48 ≡ t → list_all is_ascii_digit (byte ∷ bytes) ≡ true) [
+        | true ↦ λ z. zero_digit byte bytes z (rw z at spelt)
+        | false ↦ λ z. rw z at spelt
+      ] refl,
+      omega arith,
+    )
   where
     zero_digit : (byte : ℕ) (bytes : List ℕ) → byte == 48 ≡ true → (length bytes == 0) ≡ true → list_all is_ascii_digit (byte ∷ bytes) ≡ true
     zero_digit byte [] z none = let same : byte ≡ 48 = grind (arith, nat_tests) in rw same refl

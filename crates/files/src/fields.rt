@@ -167,6 +167,7 @@ impl<'r> Fields<'r> {
     /// The next field as a number of its column's range.
     pub fn ranged<const LOW: u32, const HIGH: u32>(&mut self) -> Ranged<LOW, HIGH>
         requires { LOW ≤ HIGH }
+        ensures field { (result, taking self.new) ≡ field_read (whole_read LOW HIGH) LOW (taking self.old) }
         ensures reads { (number : ℕ) (rest : List (List ℕ)) → fields_left self.old ≡ decimal number ∷ rest → LOW ≤ number → number ≤ HIGH → (result ≡ number) × (fault_of self.new ≡ fault_of self.old) }
         ensures left { fields_left self.new ≡ drop 1 (fields_left self.old) }
         ensures taken { TakesWell self.old self.new (decimal result) }
@@ -218,6 +219,7 @@ impl<'r> Fields<'r> {
 
     /// The next field as a rate; 0 after a fault.
     pub fn rate(&mut self) -> Rate
+        ensures field { (result, taking self.new) ≡ field_read (whole_read 0 9999) 0 (taking self.old) }
         ensures reads { (number : ℕ) (rest : List (List ℕ)) → fields_left self.old ≡ decimal number ∷ rest → number < 10000 → (result ≡ number) × (fault_of self.new ≡ fault_of self.old) }
         ensures left { fields_left self.new ≡ drop 1 (fields_left self.old) }
         ensures taken { TakesWell self.old self.new (decimal result) }

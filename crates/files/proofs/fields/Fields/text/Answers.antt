@@ -1,7 +1,7 @@
 use Rattle.std.proofs.Common.{ap, ◌∙◌}
 use Rattle.files.specs.Word.{text_read}
 use Rattle.files.proofs.Ascii.{text_is_read}
-use Rattle.std.proofs.Common.{[], inr, refl}
+use Rattle.std.proofs.Common.{[], inr}
 use Rattle.files.specs.Taken.{fields_left, fault_of}
 use Rattle.std.proofs.lemmas.Result.{IfErr-weaker}
 use Rattle.files.proofs.FieldsRead.{field_is, given_by, by_result, no_text}
