@@ -12,3 +12,4 @@ pub mod Unquoting
 pub mod NextRecord
 pub mod Parts
 pub mod ShortNumbers
+pub mod FieldsRead

@@ -23,7 +23,7 @@ number_no_zeros [] h d z = grind arith
 number_no_zeros (c ∷ cs) h d z = grind (arith, nat_tests)
 
 -- digits are the spelling of their value
-spelling : (bs : List ℕ) → is_number bs ≡ true → list_all is_ascii_digit bs ≡ true → 0 < length bs → digits_value 10 bs < 2 ^ 64 → decimal (digits_value 10 bs) ≡ bs
+pub spelling : (bs : List ℕ) → is_number bs ≡ true → list_all is_ascii_digit bs ≡ true → 0 < length bs → digits_value 10 bs < 2 ^ 64 → decimal (digits_value 10 bs) ≡ bs
 spelling bs h d l v = decimal-digits_value own bs d l (number_no_zeros bs h d) v
 
 -- what was read of a number's spelling is printed so
@@ -33,7 +33,7 @@ decimal-parsed {E} bs r h number n e =
     let read = rw e at plain in
     rw read.1 (spelling bs number read.0.0 read.0.1 read.0.2)
 
-all_digits_decimal : (n : ℕ) → n < 2 ^ 64 → list_all is_ascii_digit (decimal n) ≡ true
+pub all_digits_decimal : (n : ℕ) → n < 2 ^ 64 → list_all is_ascii_digit (decimal n) ≡ true
 all_digits_decimal n h = digits_decimal own n h
 
 -- digits whose first is above 48 are a positive number

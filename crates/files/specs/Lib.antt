@@ -11,3 +11,4 @@ pub mod Span
 pub mod Line
 pub mod ByteOrder
 pub mod Unquoted
+pub mod FieldRead

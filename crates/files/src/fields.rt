@@ -4,7 +4,7 @@ ghost use Rattle.amounts.specs.Money.{IsMoney};
 ghost use Rattle.files.specs.Span.{parts};
 ghost use Rattle.rows.specs.Text.{IsText};
 ghost use Rattle.files.specs.MomentText.{IsMomentText};
-ghost use Rattle.files.specs.Word.{credit_text};
+ghost use Rattle.files.specs.Word.{credit_text, text_read};
 
 use crate::numbers::{read_ranged, read_rate, read_whole};
 use crate::span::{Span, part};
@@ -28,6 +28,7 @@ pub struct Fields<'r> {
 }
 
 impl<'r> Fields<'r> {
+    ghost use Rattle.files.specs.FieldRead.{field_read, taking, whole_read};
     ghost use Rattle.files.specs.Taken.{fields_left, fault_of, with_fault, TakesWell};
 
     /// All fields of the record, none taken and without a fault.
@@ -149,6 +150,7 @@ impl<'r> Fields<'r> {
     /// The next field as a number from `low` to `high`; `low` after a fault.
     pub fn whole(&mut self, low: u32, high: u32) -> u32
         ensures range { low ≤ high → (low ≤ result) × (result ≤ high) }
+        ensures field { (result, taking self.new) ≡ field_read (whole_read low high) low (taking self.old) }
         ensures reads { (number : ℕ) (rest : List (List ℕ)) → fields_left self.old ≡ decimal number ∷ rest → low ≤ number → number ≤ high → (result ≡ number) × (fault_of self.new ≡ fault_of self.old) }
         ensures left { fields_left self.new ≡ drop 1 (fields_left self.old) }
         ensures taken { TakesWell self.old self.new (decimal result) }
@@ -165,6 +167,7 @@ impl<'r> Fields<'r> {
     /// The next field as a number of its column's range.
     pub fn ranged<const LOW: u32, const HIGH: u32>(&mut self) -> Ranged<LOW, HIGH>
         requires { LOW ≤ HIGH }
+        ensures field { (result, taking self.new) ≡ field_read (whole_read LOW HIGH) LOW (taking self.old) }
         ensures reads { (number : ℕ) (rest : List (List ℕ)) → fields_left self.old ≡ decimal number ∷ rest → LOW ≤ number → number ≤ HIGH → (result ≡ number) × (fault_of self.new ≡ fault_of self.old) }
         ensures left { fields_left self.new ≡ drop 1 (fields_left self.old) }
         ensures taken { TakesWell self.old self.new (decimal result) }
@@ -197,6 +200,7 @@ impl<'r> Fields<'r> {
     pub fn text<const WIDTH: usize>(&mut self) -> Text<WIDTH>
         ensures left { fields_left self.new ≡ drop 1 (fields_left self.old) }
         ensures reads { (text : List ℕ) (rest : List (List ℕ)) → fields_left self.old ≡ text ∷ rest → IsText WIDTH text → (result ≡ text) × (fault_of self.new ≡ fault_of self.old) }
+        ensures field { (result, taking self.new) ≡ field_read (text_read WIDTH) [] (taking self.old) }
         ensures taken { TakesWell self.old self.new result }
     {
         let text = read_text(self.bytes());
@@ -215,6 +219,7 @@ impl<'r> Fields<'r> {
 
     /// The next field as a rate; 0 after a fault.
     pub fn rate(&mut self) -> Rate
+        ensures field { (result, taking self.new) ≡ field_read (whole_read 0 9999) 0 (taking self.old) }
         ensures reads { (number : ℕ) (rest : List (List ℕ)) → fields_left self.old ≡ decimal number ∷ rest → number < 10000 → (result ≡ number) × (fault_of self.new ≡ fault_of self.old) }
         ensures left { fields_left self.new ≡ drop 1 (fields_left self.old) }
         ensures taken { TakesWell self.old self.new (decimal result) }
@@ -282,6 +287,7 @@ impl<'r> Fields<'r> {
         ensures left { fields_left self.new ≡ fields_left self.old }
         ensures ok { IfOk parsed (λ value. (result ≡ value) × (fault_of self.new ≡ fault_of self.old)) }
         ensures err { IfErr parsed (λ kind. fault_of self.new ≡ Some (with_fault (fault_of self.old) kind)) }
+        ensures stands_in { IfErr parsed (λ kind. result ≡ other) }
     {
         match parsed {
             Ok(value) => value,

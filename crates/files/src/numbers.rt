@@ -102,6 +102,7 @@ pub(crate) fn read_ranged<const LOW: u32, const HIGH: u32>(
     field: &[u8],
 ) -> Result<Ranged<LOW, HIGH>, FaultKind>
     ensures value { IfOk result (λ number. decimal number ≡ field.now) }
+    ensures range { IfOk result (λ number. (LOW ≤ number) × (number ≤ HIGH)) }
     ensures reads { (number : ℕ) → decimal number ≡ field.now → LOW ≤ number → number ≤ HIGH → result ≡ Ok number }
     ensures not_of_kind { (result ≡ Err FaultKind.NotOfKind) ↔ (is_number field.now ≡ false) }
     ensures faults { IfErr result (λ kind. (kind ≡ FaultKind.NotOfKind) ⊎ (kind ≡ FaultKind.OutOfRange)) }
@@ -115,6 +116,7 @@ pub(crate) fn read_ranged<const LOW: u32, const HIGH: u32>(
 /// The rate in ten-thousandths, from 0 to 9,999. Its faults are those of `parse_whole`.
 pub(crate) fn read_rate(field: &[u8]) -> Result<Rate, FaultKind>
     ensures value { IfOk result (λ number. decimal number ≡ field.now) }
+    ensures range { IfOk result (λ number. (0 ≤ number) × (number ≤ 9999)) }
     ensures reads { (number : ℕ) → decimal number ≡ field.now → number < 10000 → result ≡ Ok number }
     ensures not_of_kind { (result ≡ Err FaultKind.NotOfKind) ↔ (is_number field.now ≡ false) }
     ensures faults { IfErr result (λ kind. (kind ≡ FaultKind.NotOfKind) ⊎ (kind ≡ FaultKind.OutOfRange)) }
