@@ -3,3 +3,12 @@ pub mod Settings
 pub mod OtherName
 pub mod Shelf
 pub mod Tally
+pub mod Words
+pub mod Edges
+pub mod Faults
+pub mod Verdicts
+pub mod Check
+pub mod Populate
+pub mod Replay
+pub mod Run
+pub mod Sim

@@ -25,8 +25,13 @@ pub enum CommandFault<'a> {
 }
 
 impl<'a> CommandFault<'a> {
+    ghost use Rattle.std.specs.Prelude.{◌≡◌};
+    ghost use Rattle.tpcc.specs.Faults.{status_of, fault_of_file, fault_of_serving, IsOfFile};
+
     /// A file that can't be opened or made.
-    pub fn not_opened(path: &'a str) -> CommandFault<'a> {
+    pub fn not_opened(path: &'a str) -> CommandFault<'a>
+        ensures { IsOfFile result }
+    {
         let fault = FileFault {
             kind: FaultKind::Io,
             record: 0,
@@ -35,7 +40,9 @@ impl<'a> CommandFault<'a> {
     }
 
     /// What was wrong with the file of that path.
-    pub fn of_file(path: &'a str, error: FileError) -> CommandFault<'a> {
+    pub fn of_file(path: &'a str, error: FileError) -> CommandFault<'a>
+        ensures { result ≡ fault_of_file path.entry error }
+    {
         match error {
             FileError::NoMemory => CommandFault::NoMemory,
             FileError::File(fault) => CommandFault::File { path, fault },
@@ -43,7 +50,9 @@ impl<'a> CommandFault<'a> {
     }
 
     /// Why the scripts were not served.
-    pub fn of_serving(fault: ServeFault) -> CommandFault<'a> {
+    pub fn of_serving(fault: ServeFault) -> CommandFault<'a>
+        ensures { result ≡ fault_of_serving fault }
+    {
         match fault {
             ServeFault::NoMemory => CommandFault::NoMemory,
             ServeFault::NotConsistent(number) => CommandFault::NotConsistent(number),
@@ -52,7 +61,9 @@ impl<'a> CommandFault<'a> {
     }
 
     /// How the program ends after it.
-    pub fn status(self) -> Status {
+    pub fn status(self) -> Status
+        ensures { result ≡ status_of self.entry }
+    {
         match self {
             CommandFault::NoMemory => Status::NoMemory,
             CommandFault::File { .. } | CommandFault::NoThread | CommandFault::NotIdle => {

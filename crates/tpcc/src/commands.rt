@@ -1,3 +1,4 @@
+ghost use Rattle.std.specs.Prelude.{◌≡◌, IfErr, OnOk};
 ghost use Rattle.tpcc.specs.Settings.{IsWithinLimits};
 
 use crate::progress::NotingWriter;
@@ -37,6 +38,17 @@ pub fn carry_out<R: Files + AllocGlobal + Clock + Threads + Wait + Sync>(
         Settings::Check(check) => check::carry_out(rt, stdout, stderr, check),
         Settings::Replay(replay) => replay::carry_out(rt, stdout, stderr, replay),
         Settings::Text(text) => print_text(rt, stdout, stderr, text.as_str()),
+    }
+}
+
+// The exit status of a command that gives its sink back.
+fn ended<A: Drop>(end: Result<A, Status>) -> Status
+    ensures done { OnOk end (result ≡ Status.Success) }
+    ensures early { IfErr end (λ status. result ≡ status) }
+{
+    match end {
+        Ok(_) => Status::Success,
+        Err(status) => status,
     }
 }
 

@@ -28,6 +28,7 @@ mod summary;
 mod tally;
 mod trouble;
 mod usage;
+mod verdicts;
 mod watch;
 
 use crate::command_line::words_of;

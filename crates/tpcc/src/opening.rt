@@ -1,4 +1,5 @@
 //! Files that commands read and write.
+ghost use Rattle.std.specs.Prelude.{◌≡◌, is_some, IfOk};
 
 use crate::command_fault::CommandFault;
 use crate::output::{NewFile, make};
@@ -43,7 +44,9 @@ impl<'a, R: Files + AllocGlobal> Opener<'a, R> {
     }
 
     /// Makes the file that is written, if there is to be one.
-    pub fn make(&self, path: Option<&'a str>) -> Result<Option<NewFile<'a, R>>, CommandFault<'a>> {
+    pub fn make(&self, path: Option<&'a str>) -> Result<Option<NewFile<'a, R>>, CommandFault<'a>>
+        ensures { IfOk result (λ file. is_some file ≡ is_some path.entry) }
+    {
         match path {
             Some(path) => Ok(Some(make(self.rt, path, self.terminal, self.trouble)?)),
             None => Ok(None),

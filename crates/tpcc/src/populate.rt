@@ -1,11 +1,13 @@
-ghost use Rattle.std.specs.Prelude.{◌≡◌, OnErr};
+ghost use Rattle.std.specs.Prelude.{◌≡◌, IfErr, OnOk, OnErr};
+ghost use Rattle.tpcc.specs.Faults.{IsOfFile};
+ghost use Rattle.tpcc.specs.Populate.{Populates, PopulateEnds};
 
 use crate::command_fault::CommandFault;
 use crate::report::Report;
 use crate::settings::PopulateSettings;
 use crate::shelf::Shelf;
 use crate::status::Status;
-use crate::streams::write_tables;
+use crate::streams::name_tables;
 use population::populate;
 use std::alloc::Global;
 use std::io::Write;
@@ -18,7 +20,9 @@ pub fn populate_over<T: Write + Drop, N: Shelf<T>, E: Report>(
     file: T,
     shelf: &mut N,
     errors: &mut E,
-) -> Status {
+) -> Status
+    ensures { PopulateEnds T.contents settings.entry.now.scale settings.entry.now.seed settings.entry.now.now file (N.named shelf.old) (N.named shelf.new) (E.told errors.old) (E.told errors.new) result }
+{
     match make(alloc, settings, file, shelf, errors) {
         Ok(()) => Status::Success,
         Err(fault) => errors.report(fault),
@@ -33,11 +37,15 @@ fn make<'a, T: Write + Drop, N: Shelf<T>, E: Report>(
     shelf: &mut N,
     errors: &mut E,
 ) -> Result<(), CommandFault<'a>>
-    ensures { OnErr result (N.named shelf.new ≡ N.named shelf.old) }
+    ensures populates { OnOk result (Populates T.contents settings.entry.now.scale settings.entry.now.seed settings.entry.now.now file (N.named shelf.old) (N.named shelf.new) (E.told errors.old) (E.told errors.new)) }
+    ensures named { OnErr result (N.named shelf.new ≡ N.named shelf.old) }
+    ensures told { OnErr result (E.told errors.new ≡ E.told errors.old) }
+    ensures fault { IfErr result IsOfFile }
 {
     let scale = settings.scale;
     let customers = scale.warehouses as usize * 10 * scale.customers as usize;
     errors.begin("making", customers, "customers, and what belongs to them");
     let tables = populate(alloc, settings.scale, settings.seed, settings.now)?;
-    write_tables(alloc, Some(settings.file), Some(file), &tables, shelf)
+    name_tables(alloc, settings.file, file, &tables, shelf)?;
+    Ok(())
 }

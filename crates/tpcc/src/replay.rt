@@ -1,4 +1,10 @@
-ghost use Rattle.std.specs.Prelude.{◌≡◌, OnErr};
+ghost use Rattle.std.specs.Prelude.{◌≡◌, is_some, IfOk, IfErr, OnErr};
+ghost use Rattle.terminals.specs.LogRecord.{IsLog};
+ghost use Rattle.tpcc.specs.Edges.{Gives};
+ghost use Rattle.tpcc.specs.Faults.{IsOfFile};
+ghost use Rattle.schema.specs.Database.{Database};
+ghost use Rattle.commit_log.specs.Replay.{IsReplayOf};
+ghost use Rattle.tpcc.specs.Replay.{TellsReplay, ReplayEnds};
 
 use crate::command_fault::CommandFault;
 use crate::report::Report;
@@ -9,7 +15,7 @@ use crate::stopwatch::Stopwatch;
 use crate::streams::{print_lines, read_tables, write_tables};
 use crate::summary::Summary;
 use crate::tally::Tally;
-use commit_log::{Replay, replay};
+use commit_log::{Entry, Replay, replay};
 use std::alloc::Global;
 use std::fmt;
 use std::io::{Read, Write};
@@ -42,15 +48,17 @@ pub fn replay_over<
     tables: Option<T>,
     shelf: &mut N,
     errors: &mut E,
-) -> Status {
+) -> Status
+    requires { is_some tables ≡ is_some settings.now.tables }
+    ensures { ReplayEnds T.contents tables (D.remaining «data») (L.remaining log) (A.contents found.old) (A.contents found.new) (N.named shelf.old) (N.named shelf.new) (E.told errors.old) (E.told errors.new) result }
+{
     match replay_log(rt, alloc, settings, data, log, found, tables, shelf, errors) {
-        Ok(Found::Equal(_)) => Status::Success,
-        Ok(Found::Differs(_)) => Status::NotConsistent,
+        Ok(status) => status,
         Err(fault) => errors.report(fault),
     }
 }
 
-// Where it ends early the tables have not got their name.
+// The exit status of a replay; where it ends early the tables have not got their name.
 fn replay_log<
     'a,
     R: Clock,
@@ -70,42 +78,101 @@ fn replay_log<
     tables: Option<T>,
     shelf: &mut N,
     errors: &mut E,
-) -> Result<Found, CommandFault<'a>>
-    ensures { OnErr result (N.named shelf.new ≡ N.named shelf.old) }
+) -> Result<Status, CommandFault<'a>>
+    requires { is_some tables ≡ is_some settings.now.tables }
+    ensures ends { IfOk result (ReplayEnds T.contents tables (D.remaining «data») (L.remaining log) (A.contents found.old) (A.contents found.new) (N.named shelf.old) (N.named shelf.new) (E.told errors.old) (E.told errors.new)) }
+    ensures named { OnErr result (N.named shelf.new ≡ N.named shelf.old) }
+    ensures told { OnErr result (E.told errors.new ≡ E.told errors.old) }
+    ensures fault { IfErr result IsOfFile }
 {
     let opening = read_tables(alloc, settings.data, data)?;
-    let entries = match read_log(alloc, log) {
-        Ok(entries) => entries,
-        Err(error) => return Err(CommandFault::of_file(settings.log, error)),
-    };
+    let entries = read_entries(alloc, settings.log, log)?;
     errors.begin("replaying", entries.len(), "entries");
     let stopwatch = Stopwatch::start(rt);
     let came_to = replay(alloc, opening, entries.as_slice())?;
     let replayed_for = stopwatch.nanoseconds().unwrap_or(0);
-    let (place, result) = match came_to {
+    let equal = equal_entries(&came_to, entries.as_slice());
+    let status = tell(
+        alloc,
+        settings,
+        came_to,
+        entries.as_slice(),
+        found,
+        tables,
+        shelf,
+    )?;
+    sum_up(alloc, equal, replayed_for, errors);
+    Ok(status)
+}
+
+// Those of the entries that are what the engine does, up to the first that is not.
+fn equal_entries<'a>(came_to: &Replay, entries: &'a [Entry]) -> &'a [Entry]
+    requires { (opening : Database) × IsReplayOf opening entries.now came_to.now }
+{
+    match came_to {
+        Replay::Equal(_) => entries,
+        Replay::Differs(place) => &entries[..*place],
+    }
+}
+
+// Tells what the replay of the entries came to, writes the last tables, and gives the exit status.
+fn tell<'a, A: Write, T: Write + Drop, N: Shelf<T>>(
+    alloc: Global,
+    settings: &ReplaySettings<'a>,
+    came_to: Replay,
+    entries: &[Entry],
+    found: &mut A,
+    tables: Option<T>,
+    shelf: &mut N,
+) -> Result<Status, CommandFault<'a>>
+    requires { is_some tables ≡ is_some settings.now.tables }
+    ensures tells { IfOk result (TellsReplay T.contents tables (A.contents found.old) (A.contents found.new) (N.named shelf.old) (N.named shelf.new) entries.now came_to) }
+    ensures named { OnErr result (N.named shelf.new ≡ N.named shelf.old) }
+    ensures fault { IfErr result IsOfFile }
+{
+    match came_to {
         Replay::Equal(last) => {
-            let equal = Found::Equal(entries.len());
-            print_lines(alloc, found, &[equal])?;
+            print_lines(alloc, found, &[Found::Equal(entries.len())])?;
             write_tables(alloc, settings.tables, tables, &last, shelf)?;
-            (entries.len(), equal)
+            Ok(Status::Success)
         }
         Replay::Differs(place) => {
-            let differs = Found::Differs(place);
-            print_lines(alloc, found, &[differs])?;
-            (place, differs)
-        }
-    };
-    if errors.sums_up() {
-        // Where there is no memory for it there is no summary.
-        if let Ok(tally) = Tally::of_entries(alloc, &entries.as_slice()[..place]) {
-            errors.sum_up(&Summary {
-                tally: &tally,
-                served_for: replayed_for,
-                times: &[],
-            });
+            print_lines(alloc, found, &[Found::Differs(place)])?;
+            Ok(Status::NotConsistent)
         }
     }
-    Ok(result)
+}
+
+// Tells of these entries, if that sums up.
+fn sum_up<E: Report>(alloc: Global, entries: &[Entry], served_for: u64, errors: &mut E)
+    ensures { E.told errors.new ≡ E.told errors.old }
+{
+    if !errors.sums_up() {
+        return;
+    }
+    // Where there is no memory for it there is no summary.
+    if let Ok(tally) = Tally::of_entries(alloc, entries) {
+        errors.sum_up(&Summary {
+            tally: &tally,
+            served_for,
+            times: &[],
+        });
+    }
+}
+
+// The entries of the log of that path.
+fn read_entries<'a, L: Read + Drop>(
+    alloc: Global,
+    path: &'a str,
+    log: L,
+) -> Result<Vec<Entry>, CommandFault<'a>>
+    ensures entries { IfOk result (λ entries. Gives (L.remaining log) (IsLog entries.items)) }
+    ensures fault { IfErr result IsOfFile }
+{
+    match read_log(alloc, log) {
+        Ok(entries) => Ok(entries),
+        Err(error) => Err(CommandFault::of_file(path, error)),
+    }
 }
 
 // What a replay came to: how many entries are equal, or the place that differs.
@@ -116,6 +183,11 @@ enum Found {
 }
 
 impl fmt::Display for Found {
+    ghost use Rattle.std.specs.Prelude.{Some};
+    ghost use Rattle.tpcc.specs.Replay.{found_text};
+
+    ghost output = { λ found. Some (found_text found) };
+
     fn fmt<W: fmt::Write>(&self, f: &mut fmt::Formatter<W>) -> fmt::Result {
         match self {
             Found::Equal(entries) => write!(f, "equal {entries}"),

@@ -1,3 +1,7 @@
+ghost use Rattle.std.specs.Prelude.{◌≡◌, List, Option, None};
+ghost use Rattle.tpcc.specs.declared.command_fault.CommandFault as command_fault;
+ghost use Rattle.tpcc.specs.Faults.{status_of, Tells};
+
 use crate::command_fault::CommandFault;
 use crate::meaning::tell_meaning;
 use crate::status::Status;
@@ -8,17 +12,24 @@ use std::rt::Files;
 
 /// Who is told what a command does, what it came to, or why it ended early.
 pub trait Report {
+    // The faults that were told here, in turn, where that is known.
+    ghost told: { Self → Option (List command_fault.CommandFault) };
+
     /// Tells of the fault, and gives the exit status. That it can't be told changes nothing.
-    fn report(&mut self, fault: CommandFault<'_>) -> Status;
+    fn report(&mut self, fault: CommandFault<'_>) -> Status
+        ensures status { result ≡ status_of fault.entry }
+        ensures tells { Tells (told self.old) (told self.new) fault.entry };
 
     /// Tells that work begins on so many of these, where that may take a while.
-    fn begin(&mut self, doing: &'static str, count: usize, of: &'static str);
+    fn begin(&mut self, doing: &'static str, count: usize, of: &'static str)
+        ensures { told self.new ≡ told self.old };
 
     /// Whether it is to be summed up what was done.
     fn sums_up(&self) -> bool;
 
     /// Tells what was done.
-    fn sum_up(&mut self, summary: &Summary);
+    fn sum_up(&mut self, summary: &Summary)
+        ensures { told self.new ≡ told self.old };
 }
 
 // Of fewer it is not told that work on them begins.
@@ -57,6 +68,8 @@ impl<'a, R: Files + AllocGlobal> Teller<'a, R> {
 }
 
 impl<R: Files + AllocGlobal> Report for Teller<'_, R> {
+    ghost told = { λ _. None };
+
     fn report(&mut self, fault: CommandFault<'_>) -> Status {
         let _ = writeln!(self.stderr, "tpcc: {fault}");
         if self.stderr.is_terminal() {

@@ -1,4 +1,10 @@
-ghost use Rattle.std.specs.Prelude.{◌≡◌, length, IfOk, OnErr};
+ghost use Rattle.std.specs.Prelude.{◌≡◌, ◌≤◌, length, map, is_some, IfOk, IfErr, OnErr};
+ghost use Rattle.std.specs.List.{AllZip};
+ghost use Rattle.terminals.specs.Answers.{AreAnswers};
+ghost use Rattle.terminals.specs.Script.{IsScript};
+ghost use Rattle.tpcc.specs.Edges.{Gives, Writes};
+ghost use Rattle.tpcc.specs.Faults.{IsOfFile, IsOfServing, EndsEarly};
+ghost use Rattle.tpcc.specs.Run.{AreAllAnswers, Serves};
 ghost use Rattle.tpcc.specs.Settings.{HasSessions};
 
 use crate::command_fault::CommandFault;
@@ -20,7 +26,7 @@ use std::sync::Wait;
 use std::thread::Threads;
 use terminals::{read_script, write_answers};
 
-/// Serves the scripts from the dataset, one thread for each, and gives the exit status.
+/// Serves the scripts from the dataset, one thread for each. An error is the exit status.
 ///
 /// `data` is read first, and then the scripts in turn; the first fault decides, and then nothing was run.
 /// The log is written to `log` and is on the disk first; then the answers go to `answers`, by session and
@@ -31,7 +37,7 @@ pub fn run_over<
     R: Clock + Threads + Wait + Sync,
     D: Read + Drop,
     S: Read + Drop,
-    A: Write,
+    A: Write + Drop,
     L: Write + Drop,
     N: Shelf<L>,
     E: Report,
@@ -41,20 +47,24 @@ pub fn run_over<
     settings: &RunSettings,
     data: D,
     scripts: &mut [S],
-    answers: &mut A,
+    answers: A,
     log: Option<L>,
     shelf: &mut N,
     watch: Watch<'_, R>,
     errors: &mut E,
-) -> Status
+) -> Result<A, Status>
     requires sessions { HasSessions settings.now }
     requires sources { length scripts.old ≡ length settings.now.scripts.items }
+    requires asked { is_some log ≡ is_some settings.now.log }
+    ensures serves { IfOk result (λ full. Serves L.contents (D.remaining «data») (map S.remaining scripts.old) log (A.contents answers) (A.contents full) (N.named shelf.old) (N.named shelf.new) (E.told errors.old) (E.told errors.new)) }
+    ensures named { OnErr result (N.named shelf.new ≡ N.named shelf.old) }
+    ensures early { IfErr result (EndsEarly (IsOfServing (D.remaining «data»)) (E.told errors.old) (E.told errors.new)) }
 {
     match run(
         rt, alloc, settings, data, scripts, answers, log, shelf, watch, errors,
     ) {
-        Ok(()) => Status::Success,
-        Err(fault) => errors.report(fault),
+        Ok(full) => Ok(full),
+        Err(fault) => Err(errors.report(fault)),
     }
 }
 
@@ -64,7 +74,7 @@ fn run<
     R: Clock + Threads + Wait + Sync,
     D: Read + Drop,
     S: Read + Drop,
-    A: Write,
+    A: Write + Drop,
     L: Write + Drop,
     N: Shelf<L>,
     E: Report,
@@ -74,15 +84,19 @@ fn run<
     settings: &RunSettings<'a>,
     data: D,
     scripts: &mut [S],
-    answers: &mut A,
+    answers: A,
     log: Option<L>,
     shelf: &mut N,
     mut watch: Watch<'_, R>,
     errors: &mut E,
-) -> Result<(), CommandFault<'a>>
+) -> Result<A, CommandFault<'a>>
     requires sessions { HasSessions settings.now }
     requires sources { length scripts.old ≡ length settings.now.scripts.items }
-    ensures { OnErr result (N.named shelf.new ≡ N.named shelf.old) }
+    requires asked { is_some log ≡ is_some settings.now.log }
+    ensures serves { IfOk result (λ full. Serves L.contents (D.remaining «data») (map S.remaining scripts.old) log (A.contents answers) (A.contents full) (N.named shelf.old) (N.named shelf.new) (E.told errors.old) (E.told errors.new)) }
+    ensures named { OnErr result (N.named shelf.new ≡ N.named shelf.old) }
+    ensures told { OnErr result (E.told errors.new ≡ E.told errors.old) }
+    ensures fault { IfErr result (IsOfServing (D.remaining «data»)) }
 {
     let opening = read_tables(alloc, settings.data, data)?;
     let scripts = read_scripts(alloc, &settings.scripts, scripts)?;
@@ -94,27 +108,27 @@ fn run<
     watch.end();
     let log = write_entries(alloc, settings.log, log, outcome.log.as_slice(), shelf)?;
     let printed = print_answers(alloc, answers, outcome.answers.as_slice());
-    name_printed(printed, log, shelf)?;
-    if errors.sums_up() {
-        // Where there is no memory for it there is no summary.
-        let _ = sum_up(
-            alloc,
-            &watch,
-            scripts.as_slice(),
-            outcome.answers.as_slice(),
-            errors,
-        );
-    }
-    Ok(())
+    let full = name_printed(printed, log, shelf)?;
+    sum_up(
+        alloc,
+        &watch,
+        scripts.as_slice(),
+        outcome.answers.as_slice(),
+        errors,
+    );
+    Ok(full)
 }
 
+// The scripts of these paths.
 fn read_scripts<'a, S: Read + Drop>(
     alloc: Global,
     paths: &[&'a str],
     sources: &mut [S],
 ) -> Result<Vec<Script>, CommandFault<'a>>
     requires { length sources.old ≡ length paths.now }
-    ensures { IfOk result (λ scripts. length scripts.items ≡ length paths.now) }
+    ensures count { IfOk result (λ scripts. length scripts.items ≡ length paths.now) }
+    ensures scripts { IfOk result (λ scripts. AllZip (λ source script. Gives source (IsScript script)) (map S.remaining sources.old) scripts.items) }
+    ensures fault { IfErr result IsOfFile }
 {
     let mut scripts = Vec::new(alloc);
     for (session, source) in sources.iter_mut().enumerate() {
@@ -126,36 +140,70 @@ fn read_scripts<'a, S: Read + Drop>(
     Ok(scripts)
 }
 
-fn print_answers<A: Write>(
+// Prints the records of all answers, and gives the sink back.
+fn print_answers<A: Write + Drop>(
     alloc: Global,
-    sink: &mut A,
+    sink: A,
     answers: &[Answers],
-) -> Result<(), CommandFault<'static>> {
-    for (session, told) in (0u32..).zip(answers) {
-        if let Err(fault) = write_answers(alloc, &mut *sink, session, told.as_slice()) {
-            return Err(CommandFault::of_file(STANDARD_OUTPUT, fault));
-        }
+) -> Result<A, CommandFault<'static>>
+    requires { length answers.now ≤ 64 }
+    ensures printed { IfOk result (λ full. Writes (A.contents sink) (A.contents full) (AreAllAnswers 0 answers.now)) }
+    ensures fault { IfErr result IsOfFile }
+{
+    let mut sink = sink;
+    for (session, told) in answers.iter().enumerate() {
+        sink = print_session(alloc, sink, session as u32, told)?;
     }
-    Ok(())
+    Ok(sink)
 }
 
-// Tells how the requests ended, and how long they took.
+// Prints the records of the answers to a session, and gives the sink back.
+fn print_session<A: Write + Drop>(
+    alloc: Global,
+    sink: A,
+    session: u32,
+    told: &Answers,
+) -> Result<A, CommandFault<'static>>
+    ensures printed { IfOk result (λ full. Writes (A.contents sink) (A.contents full) (AreAnswers session told.now)) }
+    ensures fault { IfErr result IsOfFile }
+{
+    match write_answers(alloc, sink, session, told.as_slice()) {
+        Ok(full) => Ok(full),
+        Err(error) => Err(CommandFault::of_file(STANDARD_OUTPUT, error)),
+    }
+}
+
+// Tells how the requests ended, and how long they took, if that sums up.
 fn sum_up<R: Clock, E: Report>(
     alloc: Global,
     watch: &Watch<'_, R>,
     scripts: &[Script],
     answers: &[Answers],
     errors: &mut E,
-) -> Result<(), NoMemory> {
+)
+    ensures { E.told errors.new ≡ E.told errors.old }
+{
+    if !errors.sums_up() {
+        return;
+    }
+    // Where there is no memory for it there is no summary.
+    let Ok(tally) = tally_of(alloc, scripts, answers) else {
+        return;
+    };
+    if let Ok(times) = watch.sorted_times(alloc) {
+        errors.sum_up(&Summary {
+            tally: &tally,
+            served_for: watch.served_for(),
+            times: times.as_slice(),
+        });
+    }
+}
+
+// How the requests of all scripts ended.
+fn tally_of(alloc: Global, scripts: &[Script], answers: &[Answers]) -> Result<Tally, NoMemory> {
     let mut tally = Tally::new(alloc);
     for (script, told) in scripts.iter().zip(answers) {
         tally.add(&Tally::of_answers(alloc, script.requests(), told.as_slice())?)?;
     }
-    let times = watch.sorted_times(alloc)?;
-    errors.sum_up(&Summary {
-        tally: &tally,
-        served_for: watch.served_for(),
-        times: times.as_slice(),
-    });
-    Ok(())
+    Ok(tally)
 }

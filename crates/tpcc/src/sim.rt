@@ -1,4 +1,10 @@
+ghost use Rattle.std.specs.Prelude.{◌≡◌, is_some, IfOk, IfErr, OnOk, OnErr};
+ghost use Rattle.terminals.specs.Outputs.{AreOutputs};
+ghost use Rattle.terminals.specs.Schedule.{IsSchedule};
+ghost use Rattle.tpcc.specs.Edges.{Gives, Writes};
+ghost use Rattle.tpcc.specs.Faults.{IsOfFile, IsOfGathering, EndsEarly};
 ghost use Rattle.tpcc.specs.Settings.{HasExecutors};
+ghost use Rattle.tpcc.specs.Sim.{NamesPicture, NamesTables};
 
 use crate::command_fault::CommandFault;
 use crate::report::Report;
@@ -10,63 +16,83 @@ use crate::streams::{
 };
 use history::{Output, Scheduled};
 use picture::write_picture;
-use schema::Scale;
+use schema::{Scale, Tables};
 use std::alloc::Global;
 use std::io::{Read, Write};
 use terminals::{read_schedule, write_outputs};
 use world::{GatherFault, OpenFault, simulate};
 
-/// Simulates a schedule on the dataset, event by event, and gives the exit status.
+/// Simulates a schedule on the dataset, event by event. An error is the exit status.
 ///
 /// `data` is read first, and then the schedule; the first fault decides, and then nothing was run. The log
 /// is written to `log` and is on the disk first; then what is printed of the schedule goes to `told`, one
 /// record for each event; then the log gets its name on `shelf`, then the picture of what was printed is
 /// written to `picture` and gets its name, and so do the tables. There are none while a transaction is
-/// active, or where there is no memory for them, which is no fault where none are asked for. Why a
-/// simulation ended early is told to `errors`: a fault of a file, tables that are not consistent, a
-/// transaction that is active, or no memory.
-pub fn sim_over<D: Read + Drop, S: Read + Drop, A: Write, F: Write + Drop, N: Shelf<F>, E: Report>(
+/// active, or where there is no memory for them, which is no fault where none are asked for. `told` is given
+/// back. Why a simulation ended early is told to `errors`: a fault of a file, tables that are not consistent,
+/// a transaction that is active, or no memory.
+pub fn sim_over<
+    D: Read + Drop,
+    S: Read + Drop,
+    A: Write + Drop,
+    F: Write + Drop,
+    N: Shelf<F>,
+    E: Report,
+>(
     alloc: Global,
     settings: &SimSettings,
     data: D,
     schedule: S,
-    told: &mut A,
+    told: A,
     log: Option<F>,
     picture: Option<F>,
     tables: Option<F>,
     shelf: &mut N,
     errors: &mut E,
-) -> Status
-    requires { HasExecutors settings.now }
+) -> Result<A, Status>
+    requires executors { HasExecutors settings.now }
+    requires log { is_some log ≡ is_some settings.now.log }
+    requires picture { is_some picture ≡ is_some settings.now.picture }
+    requires tables { is_some tables ≡ is_some settings.now.tables }
+    ensures { IfErr result (EndsEarly (λ _. Unit {0}) (E.told errors.old) (E.told errors.new)) }
 {
     match sim(
         alloc, settings, data, schedule, told, log, picture, tables, shelf, errors,
     ) {
-        Ok(()) => Status::Success,
-        Err(fault) => errors.report(fault),
+        Ok(full) => Ok(full),
+        Err(fault) => Err(errors.report(fault)),
     }
 }
 
-fn sim<'a, D: Read + Drop, S: Read + Drop, A: Write, F: Write + Drop, N: Shelf<F>, E: Report>(
+fn sim<
+    'a,
+    D: Read + Drop,
+    S: Read + Drop,
+    A: Write + Drop,
+    F: Write + Drop,
+    N: Shelf<F>,
+    E: Report,
+>(
     alloc: Global,
     settings: &SimSettings<'a>,
     data: D,
     schedule: S,
-    told: &mut A,
+    told: A,
     log: Option<F>,
     picture: Option<F>,
     tables: Option<F>,
     shelf: &mut N,
     errors: &mut E,
-) -> Result<(), CommandFault<'a>>
-    requires { HasExecutors settings.now }
+) -> Result<A, CommandFault<'a>>
+    requires executors { HasExecutors settings.now }
+    requires log { is_some log ≡ is_some settings.now.log }
+    requires picture { is_some picture ≡ is_some settings.now.picture }
+    requires tables { is_some tables ≡ is_some settings.now.tables }
+    ensures { OnErr result (E.told errors.new ≡ E.told errors.old) }
 {
     let opening = read_tables(alloc, settings.data, data)?;
     let scale = opening.scale();
-    let schedule = match read_schedule(alloc, schedule) {
-        Ok(schedule) => schedule,
-        Err(error) => return Err(CommandFault::of_file(settings.schedule, error)),
-    };
+    let schedule = read_items(alloc, settings.schedule, schedule)?;
     errors.begin("playing", schedule.len(), "items");
     let simulation = match simulate(alloc, opening, settings.executors, schedule.as_slice()) {
         Ok(simulation) => simulation,
@@ -75,11 +101,8 @@ fn sim<'a, D: Read + Drop, S: Read + Drop, A: Write, F: Write + Drop, N: Shelf<F
         Err(OpenFault::BadExecutors) => unreachable!(),
     };
     let log = write_entries(alloc, settings.log, log, simulation.log.as_slice(), shelf)?;
-    let printed = match write_outputs(alloc, told, simulation.outputs.as_slice()) {
-        Ok(_) => Ok(()),
-        Err(error) => Err(CommandFault::of_file(STANDARD_OUTPUT, error)),
-    };
-    name_printed(printed, log, shelf)?;
+    let printed = print_outputs(alloc, told, simulation.outputs.as_slice());
+    let full = name_printed(printed, log, shelf)?;
     draw(
         alloc,
         settings,
@@ -89,15 +112,61 @@ fn sim<'a, D: Read + Drop, S: Read + Drop, A: Write, F: Write + Drop, N: Shelf<F
         &scale,
         shelf,
     )?;
-    match &simulation.tables {
-        Ok(last) => write_tables(alloc, settings.tables, tables, last, shelf),
+    name_gathered(alloc, settings.tables, tables, &simulation.tables, shelf)?;
+    Ok(full)
+}
+
+// The items of the schedule of that path.
+fn read_items<'a, S: Read + Drop>(
+    alloc: Global,
+    path: &'a str,
+    schedule: S,
+) -> Result<Vec<Scheduled>, CommandFault<'a>>
+    ensures items { IfOk result (λ items. Gives (S.remaining schedule) (IsSchedule items.items)) }
+    ensures fault { IfErr result IsOfFile }
+{
+    match read_schedule(alloc, schedule) {
+        Ok(schedule) => Ok(schedule),
+        Err(error) => Err(CommandFault::of_file(path, error)),
+    }
+}
+
+// Prints what came of the schedule, and gives the sink back.
+fn print_outputs<A: Write + Drop>(
+    alloc: Global,
+    sink: A,
+    outputs: &[Output],
+) -> Result<A, CommandFault<'static>>
+    ensures printed { IfOk result (λ full. Writes (A.contents sink) (A.contents full) (AreOutputs outputs.now)) }
+    ensures fault { IfErr result IsOfFile }
+{
+    match write_outputs(alloc, sink, outputs) {
+        Ok(full) => Ok(full),
+        Err(error) => Err(CommandFault::of_file(STANDARD_OUTPUT, error)),
+    }
+}
+
+// Writes the tables that were gathered, if there is a file for them, and gives it its name.
+fn name_gathered<'a, F: Write + Drop, N: Shelf<F>>(
+    alloc: Global,
+    path: Option<&'a str>,
+    tables: Option<F>,
+    gathered: &Result<Tables, GatherFault>,
+    shelf: &mut N,
+) -> Result<(), CommandFault<'a>>
+    requires { is_some tables ≡ is_some path }
+    ensures named { OnOk result (NamesTables F.contents tables (N.named shelf.old) (N.named shelf.new) gathered.now) }
+    ensures fault { IfErr result IsOfGathering }
+{
+    match gathered {
+        Ok(last) => Ok(write_tables(alloc, path, tables, last, shelf)?),
         Err(_) if tables.is_none() => Ok(()),
         Err(GatherFault::NotIdle) => Err(CommandFault::NotIdle),
         Err(GatherFault::NoMemory) => Err(CommandFault::NoMemory),
     }
 }
 
-// Draws the picture of the schedule, if there is to be one, and gives it its name.
+// Draws the picture of the schedule, if there is a file for it, and gives it its name.
 fn draw<'a, F: Write + Drop, N: Shelf<F>>(
     alloc: Global,
     settings: &SimSettings<'a>,
@@ -107,10 +176,16 @@ fn draw<'a, F: Write + Drop, N: Shelf<F>>(
     scale: &Scale,
     shelf: &mut N,
 ) -> Result<(), CommandFault<'a>>
-    requires { HasExecutors settings.now }
+    requires executors { HasExecutors settings.now }
+    requires asked { is_some picture ≡ is_some settings.now.picture }
+    ensures named { OnOk result (NamesPicture F.contents picture (N.named shelf.old) (N.named shelf.new) settings.entry.now.executors schedule.now outputs.now) }
+    ensures fault { IfErr result IsOfFile }
 {
-    let (Some(path), Some(sink)) = (settings.picture, picture) else {
+    let Some(sink) = picture else {
         return Ok(());
+    };
+    let Some(path) = settings.picture else {
+        unreachable!()
     };
     match write_picture(alloc, sink, schedule, outputs, scale, settings.executors) {
         Ok(whole) => finished(path, whole, shelf),

@@ -1,18 +1,19 @@
 //! What several commands read and write, with faults that name the files.
-ghost use Rattle.std.specs.Prelude.{◌≡◌, ℕ, List, Option, IfOk, IsOk, OnOk, OnErr};
+ghost use Rattle.std.specs.Prelude.{◌≡◌, ◌++◌, ◌∷◌, [], ℕ, List, Some, Ok, is_some, map, IfOk, IfErr, IfSome, OnOk, OnErr, string_bytes};
 ghost use Rattle.std.specs.Io.KnownBytes.{Appends};
-ghost use Rattle.files.specs.Written.{csv_text};
+ghost use Rattle.dataset.specs.Records.{AreRecords};
 ghost use Rattle.terminals.specs.LogRecord.{IsLog};
 ghost use Rattle.terminals.specs.Script.{IsScript};
-ghost use Rattle.dataset.specs.Records.{AreRecords};
 ghost use Rattle.tpcc.specs.Shelf.{Shelves};
+ghost use Rattle.tpcc.specs.Edges.{Gives, Writes, NamesFile, HasWritten, IsNamed, lines_text};
+ghost use Rattle.tpcc.specs.Faults.{IsOfFile};
 
 use crate::command_fault::CommandFault;
 use crate::shelf::Shelf;
 use commit_log::Entry;
-use files::{FileError, NewRecord, RecordWriter};
+use files::{FaultKind, FileError, FileFault};
 use requests::Script;
-use schema::Tables;
+use schema::{NoMemory, Tables};
 use std::alloc::Global;
 use std::fmt::Display;
 use std::io::{Read, Write};
@@ -26,14 +27,17 @@ pub fn read_tables<'a, D: Read + Drop>(
     alloc: Global,
     path: &'a str,
     data: D,
-) -> Result<Tables, CommandFault<'a>> {
+) -> Result<Tables, CommandFault<'a>>
+    ensures tables { IfOk result (λ tables. Gives (D.remaining «data») (AreRecords tables)) }
+    ensures fault { IfErr result IsOfFile }
+{
     match dataset::read(alloc, data) {
         Ok(tables) => Ok(tables),
         Err(error) => Err(CommandFault::of_file(path, error)),
     }
 }
 
-/// The whole text of the log on the disk, if there is to be one, and its path; it has no name yet.
+/// The whole text of the log on the disk, if there is one, and its path; it has no name yet.
 pub fn write_entries<'a, L: Write + Drop, N: Shelf<L>>(
     alloc: Global,
     path: Option<&'a str>,
@@ -41,11 +45,15 @@ pub fn write_entries<'a, L: Write + Drop, N: Shelf<L>>(
     entries: &[Entry],
     shelf: &mut N,
 ) -> Result<Option<(&'a str, L)>, CommandFault<'a>>
-    ensures { N.named shelf.new ≡ N.named shelf.old }
+    requires { is_some log ≡ is_some path }
+    ensures written { IfOk result (HasWritten L.contents log (IsLog entries.now)) }
+    ensures same { N.named shelf.new ≡ N.named shelf.old }
+    ensures fault { IfErr result IsOfFile }
 {
-    let (Some(path), Some(sink)) = (path, log) else {
+    let Some(sink) = log else {
         return Ok(None);
     };
+    let Some(path) = path else { unreachable!() };
     let whole = whole_log(alloc, path, sink, entries, shelf)?;
     Ok(Some((path, whole)))
 }
@@ -58,8 +66,9 @@ fn whole_log<'a, L: Write + Drop, N: Shelf<L>>(
     entries: &[Entry],
     shelf: &mut N,
 ) -> Result<L, CommandFault<'a>>
-    ensures text { IfOk result (λ whole. (rows : List (List (List ℕ))) × IsLog entries.now rows × Appends (L.contents sink) (L.contents whole) (csv_text rows)) }
+    ensures text { IfOk result (λ whole. Writes (L.contents sink) (L.contents whole) (IsLog entries.now)) }
     ensures same { N.named shelf.new ≡ N.named shelf.old }
+    ensures fault { IfErr result IsOfFile }
 {
     match write_log(alloc, sink, entries) {
         Ok(whole) => settled(path, whole, shelf),
@@ -67,8 +76,8 @@ fn whole_log<'a, L: Write + Drop, N: Shelf<L>>(
     }
 }
 
-/// Writes the tables to their file, if there is to be one, and gives it its name. After an error it has
-/// not got it.
+/// Writes the tables to their file, if there is one, and gives it its name. After an error it has not got
+/// it.
 pub fn write_tables<'a, T: Write + Drop, N: Shelf<T>>(
     alloc: Global,
     path: Option<&'a str>,
@@ -76,24 +85,30 @@ pub fn write_tables<'a, T: Write + Drop, N: Shelf<T>>(
     tables: &Tables,
     shelf: &mut N,
 ) -> Result<(), CommandFault<'a>>
-    ensures { OnErr result (N.named shelf.new ≡ N.named shelf.old) }
+    requires { is_some sink ≡ is_some path }
+    ensures named { OnOk result (NamesFile T.contents sink (N.named shelf.old) (N.named shelf.new) (AreRecords tables.now)) }
+    ensures err { OnErr result (N.named shelf.new ≡ N.named shelf.old) }
+    ensures fault { IfErr result IsOfFile }
 {
-    let (Some(path), Some(sink)) = (path, sink) else {
+    let Some(sink) = sink else {
         return Ok(());
     };
+    let Some(path) = path else { unreachable!() };
     name_tables(alloc, path, sink, tables, shelf)
 }
 
-// Writes the tables and gives the file its name, all of which is on the disk then.
-fn name_tables<'a, T: Write + Drop, N: Shelf<T>>(
+/// Writes the tables and gives the file its name, all of which is on the disk then. After an error it has
+/// not got it.
+pub fn name_tables<'a, T: Write + Drop, N: Shelf<T>>(
     alloc: Global,
     path: &'a str,
     sink: T,
     tables: &Tables,
     shelf: &mut N,
 ) -> Result<(), CommandFault<'a>>
-    ensures ok { OnOk result ((rows : List (List (List ℕ))) × (text : Option (List ℕ)) × AreRecords tables.now rows × Appends (T.contents sink) text (csv_text rows) × Shelves (N.named shelf.old) (N.named shelf.new) text) }
+    ensures ok { OnOk result (NamesFile T.contents (Some sink) (N.named shelf.old) (N.named shelf.new) (AreRecords tables.now)) }
     ensures err { OnErr result (N.named shelf.new ≡ N.named shelf.old) }
+    ensures fault { IfErr result IsOfFile }
 {
     match dataset::write(alloc, sink, tables) {
         Ok(whole) => finished(path, whole, shelf),
@@ -110,7 +125,7 @@ pub fn write_requests<'a, T: Write + Drop, N: Shelf<T>>(
     script: &Script,
     shelf: &mut N,
 ) -> Result<(), CommandFault<'a>>
-    ensures ok { OnOk result ((rows : List (List (List ℕ))) × (text : Option (List ℕ)) × IsScript script.now rows × Appends (T.contents sink) text (csv_text rows) × Shelves (N.named shelf.old) (N.named shelf.new) text) }
+    ensures ok { OnOk result (NamesFile T.contents (Some sink) (N.named shelf.old) (N.named shelf.new) (IsScript script.now)) }
     ensures err { OnErr result (N.named shelf.new ≡ N.named shelf.old) }
 {
     match write_script(alloc, sink, script) {
@@ -127,6 +142,7 @@ fn settled<'a, F: Write + Drop, N: Shelf<F>>(
 ) -> Result<F, CommandFault<'a>>
     ensures text { IfOk result (λ whole. F.contents whole ≡ F.contents file) }
     ensures same { N.named shelf.new ≡ N.named shelf.old }
+    ensures fault { IfErr result IsOfFile }
 {
     match shelf.settle(&mut file) {
         Ok(()) => Ok(file),
@@ -142,6 +158,7 @@ pub fn finished<'a, F: Write + Drop, N: Shelf<F>>(
 ) -> Result<(), CommandFault<'a>>
     ensures ok { OnOk result (Shelves (N.named shelf.old) (N.named shelf.new) (F.contents file)) }
     ensures err { OnErr result (N.named shelf.new ≡ N.named shelf.old) }
+    ensures fault { IfErr result IsOfFile }
 {
     let whole = settled(path, file, shelf)?;
     named(path, whole, shelf)
@@ -155,6 +172,7 @@ fn named<'a, F: Write + Drop, N: Shelf<F>>(
 ) -> Result<(), CommandFault<'a>>
     ensures ok { OnOk result (Shelves (N.named shelf.old) (N.named shelf.new) (F.contents file)) }
     ensures err { OnErr result (N.named shelf.new ≡ N.named shelf.old) }
+    ensures fault { IfErr result IsOfFile }
 {
     match shelf.give_name(file) {
         Ok(()) => Ok(()),
@@ -163,17 +181,23 @@ fn named<'a, F: Write + Drop, N: Shelf<F>>(
 }
 
 /// Gives the log its name, if there is one, where all was printed that it answers; else leaves it under
-/// its other name, since some of it may have been seen.
-pub fn name_printed<'a, L: Write + Drop, N: Shelf<L>>(
-    printed: Result<(), CommandFault<'a>>,
+/// its other name, since some of it may have been seen. The sink is given back.
+pub fn name_printed<'a, A: Drop, L: Write + Drop, N: Shelf<L>>(
+    printed: Result<A, CommandFault<'a>>,
     log: Option<(&'a str, L)>,
     shelf: &mut N,
-) -> Result<(), CommandFault<'a>>
-    ensures printed { OnOk result (IsOk printed.entry) }
+) -> Result<A, CommandFault<'a>>
+    requires { IfErr printed IsOfFile }
+    ensures printed { IfOk result (λ full. printed.entry ≡ Ok full) }
+    ensures named { OnOk result (IsNamed L.contents log.entry (N.named shelf.old) (N.named shelf.new)) }
     ensures err { OnErr result (N.named shelf.new ≡ N.named shelf.old) }
+    ensures fault { IfErr result IsOfFile }
 {
     match (printed, log) {
-        (Ok(()), Some((path, log))) => named(path, log, shelf),
+        (Ok(full), Some((path, log))) => {
+            named(path, log, shelf)?;
+            Ok(full)
+        }
         (Err(fault), Some((_, log))) => {
             shelf.leave(log);
             Err(fault)
@@ -182,30 +206,42 @@ pub fn name_printed<'a, L: Write + Drop, N: Shelf<L>>(
     }
 }
 
-/// Prints each of these on a line of its own.
+/// Prints each of these on a line of its own. A failure is the fault `Io` at the last line.
 pub fn print_lines<A: Write, L: Display>(
     alloc: Global,
     sink: &mut A,
     lines: &[L],
-) -> Result<(), CommandFault<'static>> {
-    match write_lines(alloc, sink, lines) {
+) -> Result<(), CommandFault<'static>>
+    ensures printed { OnOk result ((text : L → List ℕ) → ((line : L) → L.output line ≡ Some (text line)) → Appends (A.contents sink.old) (A.contents sink.new) (lines_text (map text lines.now))) }
+    ensures fault { IfErr result IsOfFile }
+{
+    let text = text_of(alloc, lines)?;
+    match sink.write_all(text.as_bytes()) {
         Ok(()) => Ok(()),
-        Err(error) => Err(CommandFault::of_file(STANDARD_OUTPUT, error)),
+        Err(_) => {
+            let fault = FileFault {
+                kind: FaultKind::Io,
+                record: lines.len() as u64,
+            };
+            Err(CommandFault::of_file(STANDARD_OUTPUT, FileError::File(fault)))
+        }
     }
 }
 
-fn write_lines<A: Write, L: Display>(
-    alloc: Global,
-    sink: &mut A,
-    lines: &[L],
-) -> Result<(), FileError> {
-    let mut writer = RecordWriter::new(sink);
-    let mut row = NewRecord::new(alloc);
+// The text of the lines, with a line feed behind each.
+fn text_of<L: Display>(alloc: Global, lines: &[L]) -> Result<String, NoMemory>
+    ensures { IfOk result (λ whole. (text : L → List ℕ) → ((line : L) → L.output line ≡ Some (text line)) → string_bytes whole ≡ lines_text (map text lines.now)) }
+{
+    let mut whole = String::new(alloc);
     for line in lines {
-        row.clear();
-        row.push_display(line)?;
-        writer.write(&row)?;
+        push_line(&mut whole, line)?;
     }
-    writer.finish()?;
-    Ok(())
+    Ok(whole)
+}
+
+// Adds the line, and a line feed.
+fn push_line<L: Display>(whole: &mut String, line: &L) -> Result<(), NoMemory>
+    ensures { OnOk result (IfSome (L.output line.now) (λ text. string_bytes whole.new ≡ string_bytes whole.old ++ (text ++ 10 ∷ []))) }
+{
+    writeln!(whole, "{line}")
 }

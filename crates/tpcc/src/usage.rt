@@ -41,8 +41,13 @@ pub enum UsageFault {
 }
 
 impl UsageFault {
+    ghost use Rattle.std.specs.Prelude.{◌≡◌};
+    ghost use Rattle.tpcc.specs.Faults.{status_of_usage};
+
     /// How the program ends after it.
-    pub fn status(&self) -> Status {
+    pub fn status(&self) -> Status
+        ensures { result ≡ status_of_usage self.now }
+    {
         match self {
             UsageFault::Words(error) if error.kind() == ErrorKind::OutOfMemory => Status::NoMemory,
             _ => Status::Usage,

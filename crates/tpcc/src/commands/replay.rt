@@ -1,3 +1,5 @@
+ghost use Rattle.std.specs.Prelude.{◌≡◌, is_some, IfOk};
+
 use crate::command_fault::CommandFault;
 use crate::opening::{Opener, Watched};
 use crate::output::{Folders, NewFile};
@@ -47,7 +49,9 @@ impl<'a, R: Files + AllocGlobal> ReplayFiles<'a, R> {
     fn open(
         opener: &Opener<'a, R>,
         settings: &ReplaySettings<'a>,
-    ) -> Result<ReplayFiles<'a, R>, CommandFault<'a>> {
+    ) -> Result<ReplayFiles<'a, R>, CommandFault<'a>>
+        ensures { IfOk result (λ files. is_some files.tables ≡ is_some settings.now.tables) }
+    {
         let data = opener.open(settings.data)?;
         let log = opener.open(settings.log)?;
         let tables = opener.make(settings.tables)?;

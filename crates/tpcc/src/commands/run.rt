@@ -1,7 +1,8 @@
-ghost use Rattle.std.specs.Prelude.{◌≡◌, length, IfOk};
+ghost use Rattle.std.specs.Prelude.{◌≡◌, length, is_some, IfOk};
 ghost use Rattle.tpcc.specs.Settings.{HasSessions};
 
 use crate::command_fault::CommandFault;
+use crate::commands::ended;
 use crate::opening::{Opener, Watched};
 use crate::output::{Folders, NewFile};
 use crate::progress::NotingWriter;
@@ -35,18 +36,18 @@ pub fn carry_out<R: Files + AllocGlobal + Clock + Threads + Wait + Sync>(
                 mut scripts,
                 log,
             },
-        ) => run_over(
+        ) => ended(run_over(
             rt,
             rt.alloc(),
             settings,
             data,
             scripts.as_mut_slice(),
-            &mut NotingWriter::new(stdout, &trouble),
+            NotingWriter::new(stdout, &trouble),
             log,
             &mut Folders,
             Watch::new(rt, rt.alloc(), opener.terminal, teller.sums_up()),
             &mut teller,
-        ),
+        )),
         Err(fault) => teller.report(fault),
     }
 }
@@ -63,7 +64,8 @@ impl<'a, R: Files + AllocGlobal> RunFiles<'a, R> {
         opener: &Opener<'a, R>,
         settings: &'a RunSettings<'a>,
     ) -> Result<RunFiles<'a, R>, CommandFault<'a>>
-        ensures { IfOk result (λ files. length files.scripts.items ≡ length settings.now.scripts.items) }
+        ensures scripts { IfOk result (λ files. length files.scripts.items ≡ length settings.now.scripts.items) }
+        ensures log { IfOk result (λ files. is_some files.log ≡ is_some settings.now.log) }
     {
         let data = opener.open(settings.data)?;
         let mut scripts = Vec::new(opener.rt.alloc());

@@ -1,6 +1,8 @@
+ghost use Rattle.std.specs.Prelude.{◌≡◌, is_some, IfOk};
 ghost use Rattle.tpcc.specs.Settings.{HasExecutors};
 
 use crate::command_fault::CommandFault;
+use crate::commands::ended;
 use crate::opening::{Opener, Watched};
 use crate::output::{Folders, NewFile};
 use crate::progress::NotingWriter;
@@ -33,18 +35,18 @@ pub fn carry_out<R: Files + AllocGlobal>(
                 picture,
                 tables,
             },
-        ) => sim_over(
+        ) => ended(sim_over(
             rt.alloc(),
             settings,
             data,
             schedule,
-            &mut NotingWriter::new(stdout, &trouble),
+            NotingWriter::new(stdout, &trouble),
             log,
             picture,
             tables,
             &mut Folders,
             &mut teller,
-        ),
+        )),
         Err(fault) => teller.report(fault),
     }
 }
@@ -62,7 +64,11 @@ impl<'a, R: Files + AllocGlobal> SimFiles<'a, R> {
     fn open(
         opener: &Opener<'a, R>,
         settings: &SimSettings<'a>,
-    ) -> Result<SimFiles<'a, R>, CommandFault<'a>> {
+    ) -> Result<SimFiles<'a, R>, CommandFault<'a>>
+        ensures log { IfOk result (λ files. is_some files.log ≡ is_some settings.now.log) }
+        ensures picture { IfOk result (λ files. is_some files.picture ≡ is_some settings.now.picture) }
+        ensures tables { IfOk result (λ files. is_some files.tables ≡ is_some settings.now.tables) }
+    {
         let data = opener.open(settings.data)?;
         let schedule = opener.open(settings.schedule)?;
         let log = opener.make(settings.log)?;

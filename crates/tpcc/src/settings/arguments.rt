@@ -1,8 +1,10 @@
 //! Options and arguments of several commands.
-ghost use Rattle.std.specs.Prelude.{◌≡◌, ◌≤◌, IfOk, None, Ok};
+ghost use Rattle.std.specs.Prelude.{◌≡◌, ◌≤◌, option_map, IfOk, None, Ok};
+ghost use Rattle.clap.specs.Words.{found_of};
+ghost use Rattle.tpcc.specs.Words.{word_of, IsNumber, IsMoment};
 
 use crate::usage::UsageFault;
-use clap::{Arg, ArgAction};
+use clap::{Arg, ArgAction, ArgMatches};
 use files::{parse_moment, parse_whole};
 use schema::Moment;
 use std::alloc::Global;
@@ -43,6 +45,16 @@ pub fn counted<'a>(alloc: Global, name: &'static str, help: &'static str) -> Arg
     Arg::new(alloc, name).long(name).value_name("N").help(help)
 }
 
+/// The word that stands for an argument, the empty one if none does.
+pub fn word<'a>(matches: &ArgMatches<'a>, id: &str) -> &'a str
+    ensures { result.now ≡ word_of (found_of matches.now) id.now }
+{
+    match matches.get_str(id) {
+        Some(word) => word,
+        None => "",
+    }
+}
+
 /// The number that an option asks for, `default` where it is absent.
 pub fn number(
     words: Option<&str>,
@@ -54,6 +66,7 @@ pub fn number(
     requires { (low ≤ default) × (default ≤ high) }
     ensures limits { IfOk result (λ number. (low ≤ number) × (number ≤ high)) }
     ensures absent { words.entry ≡ None → result ≡ Ok default }
+    ensures value { IfOk result (IsNumber (option_map (λ word. word.now) words.entry) default) }
 {
     let Some(words) = words else {
         return Ok(default);
@@ -65,7 +78,9 @@ pub fn number(
 }
 
 /// The moment that an option asks for, the beginning of 2024 where it is absent.
-pub fn moment(words: Option<&str>) -> Result<Moment, UsageFault> {
+pub fn moment(words: Option<&str>) -> Result<Moment, UsageFault>
+    ensures { IfOk result (IsMoment (option_map (λ word. word.now) words.entry)) }
+{
     match words {
         None => Ok(Moment::new(1_704_067_200)),
         Some(words) => match parse_moment(words) {

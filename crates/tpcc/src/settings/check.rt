@@ -1,4 +1,7 @@
-use crate::settings::arguments::{data, quiet};
+ghost use Rattle.clap.specs.Words.{found_of};
+ghost use Rattle.tpcc.specs.Words.{AsksToCheck};
+
+use crate::settings::arguments::{data, quiet, word};
 use clap::{Arg, ArgAction, ArgMatches, Command};
 use std::alloc::{AllocError, Global};
 
@@ -12,9 +15,11 @@ pub struct CheckSettings<'a> {
 }
 
 /// What the words of `tpcc check` ask for.
-pub fn read<'a>(matches: &ArgMatches<'a>) -> CheckSettings<'a> {
+pub fn read<'a>(matches: &ArgMatches<'a>) -> CheckSettings<'a>
+    ensures { AsksToCheck (found_of matches.now) result }
+{
     CheckSettings {
-        data: matches.get_str("DATA").unwrap_or(""),
+        data: word(matches, "DATA"),
         fresh: matches.get_flag("fresh"),
         quiet: matches.get_flag("quiet"),
     }

@@ -1,3 +1,6 @@
+ghost use Rattle.std.specs.Prelude.{option_map, IfOk};
+ghost use Rattle.tpcc.specs.Words.{IsStandardMix};
+
 use crate::usage::UsageFault;
 use files::parse_whole;
 use workload::Mix;
@@ -9,8 +12,14 @@ const MOST_CARDS: u64 = 1_000;
 const LETTERS: [&str; 5] = ["N", "P", "O", "D", "L"];
 
 /// The mix that an option asks for, that of the benchmark where it is absent.
-pub fn mix(words: Option<&str>) -> Result<Mix, UsageFault> {
-    parsed(words.unwrap_or("N=45,P=43,O=4,D=4,L=4")).ok_or(UsageFault::Mix)
+pub fn mix(words: Option<&str>) -> Result<Mix, UsageFault>
+    ensures { IfOk result (IsStandardMix (option_map (λ word. word.now) words.entry)) }
+{
+    let mix = match words {
+        None => Mix::checked_new(45, 43, 4, 4, 4),
+        Some(words) => parsed(words),
+    };
+    mix.ok_or(UsageFault::Mix)
 }
 
 // The mix of these words: letters with their numbers of cards, and commas between.

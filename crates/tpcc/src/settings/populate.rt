@@ -1,4 +1,8 @@
-use crate::settings::arguments::{counted, moment, number, quiet};
+ghost use Rattle.std.specs.Prelude.{IfOk};
+ghost use Rattle.clap.specs.Words.{found_of};
+ghost use Rattle.tpcc.specs.Words.{AsksToPopulate};
+
+use crate::settings::arguments::{counted, moment, number, quiet, word};
 use crate::usage::UsageFault;
 use clap::{Arg, ArgMatches, Command};
 use schema::{Moment, Scale};
@@ -17,7 +21,9 @@ pub struct PopulateSettings<'a> {
 }
 
 /// What the words of `tpcc populate` ask for.
-pub fn read<'a>(matches: &ArgMatches<'a>) -> Result<PopulateSettings<'a>, UsageFault> {
+pub fn read<'a>(matches: &ArgMatches<'a>) -> Result<PopulateSettings<'a>, UsageFault>
+    ensures { IfOk result (AsksToPopulate (found_of matches.now)) }
+{
     let warehouses = number(matches.get_str("warehouses"), 1, 1, 64, "--warehouses")?;
     let items = number(matches.get_str("items"), 100_000, 1, 100_000, "--items")?;
     let customers = number(matches.get_str("customers"), 3_000, 1, 3_000, "--customers")?;
@@ -25,7 +31,7 @@ pub fn read<'a>(matches: &ArgMatches<'a>) -> Result<PopulateSettings<'a>, UsageF
         unreachable!()
     };
     Ok(PopulateSettings {
-        file: matches.get_str("FILE").unwrap_or(""),
+        file: word(matches, "FILE"),
         scale,
         seed: number(matches.get_str("seed"), 1, 0, u32::MAX, "--seed")?,
         now: moment(matches.get_str("now"))?,

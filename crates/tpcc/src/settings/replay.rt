@@ -1,4 +1,7 @@
-use crate::settings::arguments::{data, quiet, summary};
+ghost use Rattle.clap.specs.Words.{found_of};
+ghost use Rattle.tpcc.specs.Words.{AsksToReplay};
+
+use crate::settings::arguments::{data, quiet, summary, word};
 use clap::{Arg, ArgMatches, Command};
 use std::alloc::{AllocError, Global};
 
@@ -15,10 +18,12 @@ pub struct ReplaySettings<'a> {
 }
 
 /// What the words of `tpcc replay` ask for.
-pub fn read<'a>(matches: &ArgMatches<'a>) -> ReplaySettings<'a> {
+pub fn read<'a>(matches: &ArgMatches<'a>) -> ReplaySettings<'a>
+    ensures { AsksToReplay (found_of matches.now) result }
+{
     ReplaySettings {
-        data: matches.get_str("DATA").unwrap_or(""),
-        log: matches.get_str("LOG").unwrap_or(""),
+        data: word(matches, "DATA"),
+        log: word(matches, "LOG"),
         tables: matches.get_str("tables"),
         summary: matches.get_flag("summary"),
         quiet: matches.get_flag("quiet"),

@@ -1,7 +1,9 @@
 ghost use Rattle.std.specs.Prelude.{IfOk};
+ghost use Rattle.clap.specs.Words.{found_of};
 ghost use Rattle.tpcc.specs.Settings.{HasSessions};
+ghost use Rattle.tpcc.specs.Words.{AsksToRun};
 
-use crate::settings::arguments::{data, log, quiet, summary};
+use crate::settings::arguments::{data, log, quiet, summary, word};
 use crate::usage::UsageFault;
 use clap::{Arg, ArgAction, ArgMatches, Command};
 use engine::MOST_SESSIONS;
@@ -22,14 +24,15 @@ pub struct RunSettings<'a> {
 
 /// What the words of `tpcc run` ask for.
 pub fn read<'a>(alloc: Global, matches: &ArgMatches<'a>) -> Result<RunSettings<'a>, UsageFault>
-    ensures { IfOk result HasSessions }
+    ensures limits { IfOk result HasSessions }
+    ensures asked { IfOk result (AsksToRun (found_of matches.now)) }
 {
     let scripts = matches.get_strs("SCRIPT").unwrap_or(&[]);
     if !(1..=MOST_SESSIONS).contains(&scripts.len()) {
         return Err(UsageFault::ScriptCount);
     }
     Ok(RunSettings {
-        data: matches.get_str("DATA").unwrap_or(""),
+        data: word(matches, "DATA"),
         scripts: scripts.to_vec(alloc)?,
         log: matches.get_str("log"),
         summary: matches.get_flag("summary"),

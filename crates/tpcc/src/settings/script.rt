@@ -1,8 +1,10 @@
-ghost use Rattle.std.specs.Prelude.{IfOk};
+ghost use Rattle.std.specs.Prelude.{option_map, IfOk};
+ghost use Rattle.clap.specs.Words.{found_of};
 ghost use Rattle.tpcc.specs.Settings.{HasFiles};
+ghost use Rattle.tpcc.specs.Words.{AsksForScripts, IsHome, IsRemote};
 
 use crate::other_name::are_one;
-use crate::settings::arguments::{counted, data, moment, number, quiet};
+use crate::settings::arguments::{counted, data, moment, number, quiet, word};
 use crate::settings::mix::mix;
 use crate::usage::UsageFault;
 use clap::{Arg, ArgAction, ArgMatches, Command};
@@ -33,7 +35,8 @@ pub struct ScriptSettings<'a> {
 
 /// What the words of `tpcc script` ask for.
 pub fn read<'a>(alloc: Global, matches: &ArgMatches<'a>) -> Result<ScriptSettings<'a>, UsageFault>
-    ensures { IfOk result HasFiles }
+    ensures limits { IfOk result HasFiles }
+    ensures asked { IfOk result (AsksForScripts (found_of matches.now)) }
 {
     let files = matches.get_strs("FILE").unwrap_or(&[]);
     if !(1..=MOST_SESSIONS).contains(&files.len()) {
@@ -43,7 +46,7 @@ pub fn read<'a>(alloc: Global, matches: &ArgMatches<'a>) -> Result<ScriptSetting
         return Err(UsageFault::SameFile);
     }
     Ok(ScriptSettings {
-        data: matches.get_str("DATA").unwrap_or(""),
+        data: word(matches, "DATA"),
         files: files.to_vec(alloc)?,
         requests: number(
             matches.get_str("requests"),
@@ -74,7 +77,9 @@ fn has_twice(files: &[&str]) -> bool {
 }
 
 // The home warehouse that an option asks for.
-fn home(words: Option<&str>) -> Result<Option<u32>, UsageFault> {
+fn home(words: Option<&str>) -> Result<Option<u32>, UsageFault>
+    ensures { IfOk result (IsHome (option_map (λ word. word.now) words.entry)) }
+{
     match words {
         None => Ok(None),
         words => Ok(Some(number(words, 1, 1, 64, "--home")?)),
@@ -82,7 +87,9 @@ fn home(words: Option<&str>) -> Result<Option<u32>, UsageFault> {
 }
 
 // Whether other warehouses take part, which they do where no option tells.
-fn remote(words: Option<&str>) -> Result<bool, UsageFault> {
+fn remote(words: Option<&str>) -> Result<bool, UsageFault>
+    ensures { IfOk result (IsRemote (option_map (λ word. word.now) words.entry)) }
+{
     match words {
         None | Some("on") => Ok(true),
         Some("off") => Ok(false),

@@ -1,8 +1,10 @@
 ghost use Rattle.std.specs.Prelude.{IfOk};
+ghost use Rattle.clap.specs.Words.{found_of};
 ghost use Rattle.tpcc.specs.Settings.{HasExecutors};
+ghost use Rattle.tpcc.specs.Words.{AsksToSimulate};
 
 use crate::other_name::are_one;
-use crate::settings::arguments::{counted, data, log, number, quiet};
+use crate::settings::arguments::{counted, data, log, number, quiet, word};
 use crate::usage::UsageFault;
 use clap::{Arg, ArgMatches, Command};
 use std::alloc::{AllocError, Global};
@@ -23,7 +25,8 @@ pub struct SimSettings<'a> {
 
 /// What the words of `tpcc sim` ask for.
 pub fn read<'a>(matches: &ArgMatches<'a>) -> Result<SimSettings<'a>, UsageFault>
-    ensures { IfOk result HasExecutors }
+    ensures limits { IfOk result HasExecutors }
+    ensures asked { IfOk result (AsksToSimulate (found_of matches.now)) }
 {
     let log = matches.get_str("log");
     let picture = matches.get_str("picture");
@@ -32,8 +35,8 @@ pub fn read<'a>(matches: &ArgMatches<'a>) -> Result<SimSettings<'a>, UsageFault>
         return Err(UsageFault::SameOutput);
     }
     Ok(SimSettings {
-        data: matches.get_str("DATA").unwrap_or(""),
-        schedule: matches.get_str("SCHEDULE").unwrap_or(""),
+        data: word(matches, "DATA"),
+        schedule: word(matches, "SCHEDULE"),
         executors: number(matches.get_str("executors"), 2, 1, 16, "--executors")?,
         log,
         picture,

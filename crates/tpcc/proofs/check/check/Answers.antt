@@ -1,0 +1,24 @@
+use Rattle.std.proofs.Common.{◌≡◌, List, map, refl, ap, subst, ◌∙◌}
+use Rattle.std.specs.List.{list_any}
+use Rattle.std.specs.Io.KnownBytes.{Appends}
+use Rattle.tpcc.specs.declared.verdicts.Verdict.{Verdict}
+use Rattle.tpcc.specs.Edges.{lines_text}
+use Rattle.tpcc.specs.Verdicts.{verdict_text, verdicts_of, is_broken}
+use Rattle.tpcc.proofs.check.check.Goals as goal
+
+pub returns-clause-checks : goal.returns-clause-checks
+returns-clause-checks g c = λ told.
+    let answers = c.in_ok-answers.answers in
+    let verdicts = verdicts_of c.args.settings.now.fresh 1 answers in
+    let are : c.as_slice.result.now ≡ verdicts = c.as_slice.ensures.value ∙ c.in_ok-verdicts.ensures in
+    let still : c.as_slice-2.result.now ≡ verdicts = c.as_slice-2.ensures.value ∙ c.in_ok-verdicts.ensures in
+    let Prints : List Verdict → Type 0 = λ vs. Appends (g.A.Write.contents c.args.found.now) (g.A.Write.contents c.print_lines.new.sink) (lines_text (map verdict_text vs)) in
+    record {
+      tables = c.in_ok-tables.tables;
+      is_dataset = c.in_ok-tables.ensures.tables;
+      answers = answers;
+      exact = c.in_ok-answers.ensures;
+      printed = subst Prints are (c.in_ok-print_lines.ensures.printed verdict_text (λ one. refl));
+      any_broken = c.any_broken.ensures ∙ ap (list_any (λ (verdict : Verdict). is_broken verdict.found)) still;
+      no_fault = refl;
+    }

@@ -1,0 +1,30 @@
+use Rattle.std.proofs.Common.{List, sym, subst, ◌∙◌}
+use Rattle.commit_log.specs.declared.entry.Entry.{Entry}
+use Rattle.commit_log.specs.Replay.{IsReplayOf}
+use Rattle.tpcc.specs.Replay.{TellsReplay}
+use Rattle.tpcc.proofs.ReplayTellings.{replay_ends}
+use Rattle.tpcc.proofs.replay.replay_log.Goals as goal
+
+pub equal_entries-equal-requires : goal.equal_entries-equal-requires
+equal_entries-equal-requires g c =
+    let opening = c.in_ok-opening.opening in
+    let Of : List Entry → Type 0 = λ entries. IsReplayOf opening entries c.in_ok-came_to.came_to in
+    (opening, subst Of (c.as_slice.ensures.value ∙ sym c.as_slice-2.ensures.value) c.in_ok-came_to.ensures)
+
+pub returns-clause-ends : goal.returns-clause-ends
+returns-clause-ends g c =
+    let opening = c.in_ok-opening.opening in
+    let came_to = c.in_ok-came_to.came_to in
+    let status = c.in_ok-status.status in
+    let before = g.A.Write.contents c.args.found.now in
+    let after = g.A.Write.contents c.tell.new.found in
+    let named = g.N.Shelf.named c.args.shelf.now in
+    let named' = g.N.Shelf.named c.tell.new.shelf in
+    let Of : List Entry → Type 0 = λ entries. IsReplayOf opening entries came_to in
+    let Tells : List Entry → Type 0 = λ entries. TellsReplay g.T.Write.contents c.args.tables before after named named' entries came_to status in
+    replay_ends g.T.Write.contents c.args.tables (g.D.Read.remaining c.args.data) (g.L.Read.remaining c.args.log) before after named named'
+    (g.E.Report.told c.args.errors.now) (g.E.Report.told c.sum_up.new.errors)
+    opening c.in_ok-entries.entries.items came_to status c.in_ok-opening.ensures.tables c.in_ok-entries.ensures.entries
+    (subst Of c.as_slice.ensures.value c.in_ok-came_to.ensures)
+    (subst Tells c.as_slice-3.ensures.value c.in_ok-status.ensures.tells)
+    (c.sum_up.ensures ∙ c.begin.ensures)

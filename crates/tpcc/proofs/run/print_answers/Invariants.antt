@@ -1,0 +1,8 @@
+-- The answers to so many sessions are printed.
+use Rattle.std.proofs.Common.{take}
+use Rattle.tpcc.specs.Edges.{Writes}
+use Rattle.tpcc.specs.Run.{AreAllAnswers}
+use Rattle.tpcc.proofs.run.print_answers.Given as goal
+
+abbrev pub invariant-loop-session : goal.invariant-loop-session
+invariant-loop-session g l = Writes (g.A.Write.contents l.fn.sink) (g.A.Write.contents l.sink) (AreAllAnswers 0 (take l.session l.answers))

@@ -1,0 +1,95 @@
+-- Why commands end early, and with which status.
+use Rattle.std.specs.Prelude.{◌≡◌, ℕ, List, [], ◌∷◌, ◌++◌, Option, None, Some}
+use Rattle.std.specs.Borrow.{Bor}
+use Rattle.clap.specs.Words.{kind_of}
+use Rattle.clap.specs.declared.error.ErrorKind.{ErrorKind}
+use Rattle.clap.specs.declared.error.ErrorKind.TheVariants.{OutOfMemory}
+use Rattle.schema.specs.Database.{Database}
+use Rattle.schema.specs.Consistency.{Consistent}
+use Rattle.consistency.specs.Broken.{BreaksFirst}
+use Rattle.dataset.specs.Records.{AreRecords}
+use Rattle.engine.specs.declared.outcome.ServeFault.{ServeFault}
+use Rattle.engine.specs.declared.outcome.ServeFault.TheVariants as serve
+use Rattle.files.specs.declared.fault.FileError.{FileError}
+use Rattle.files.specs.declared.fault.FileError.TheVariants as read
+use Rattle.tpcc.specs.declared.command_fault.CommandFault.{CommandFault}
+use Rattle.tpcc.specs.declared.command_fault.CommandFault.TheVariants as fault
+use Rattle.tpcc.specs.declared.usage.UsageFault.{UsageFault}
+use Rattle.tpcc.specs.declared.usage.UsageFault.TheVariants as usage
+use Rattle.tpcc.specs.declared.status.Status.{Status}
+use Rattle.tpcc.specs.declared.status.Status.TheVariants as status
+use Rattle.tpcc.specs.Edges.{Gives}
+
+-- the status after each fault of a command
+abbrev pub status_of : CommandFault → Status
+status_of fault.NoMemory = status.NoMemory
+status_of (fault.File path of) = status.Failed
+status_of (fault.NotConsistent condition) = status.NotConsistent
+status_of (fault.NoWarehouse warehouse) = status.Usage
+status_of fault.NoThread = status.Failed
+status_of fault.NotIdle = status.Failed
+
+-- the status where clap did not understand the words, or had no memory
+abbrev pub status_of_words : ErrorKind → Status
+status_of_words OutOfMemory = status.NoMemory
+status_of_words _ = status.Usage
+
+-- the status after each mistake in the words
+abbrev pub status_of_usage : UsageFault → Status
+status_of_usage (usage.Words error) = status_of_words (kind_of error)
+status_of_usage (usage.NotText place shown) = status.Usage
+status_of_usage usage.NoCommand = status.Usage
+status_of_usage usage.ScriptCount = status.Usage
+status_of_usage usage.SameOutput = status.Usage
+status_of_usage usage.FileCount = status.Usage
+status_of_usage usage.SameFile = status.Usage
+status_of_usage usage.Mix = status.Usage
+status_of_usage usage.Remote = status.Usage
+status_of_usage (usage.Number option low high) = status.Usage
+status_of_usage usage.Moment = status.Usage
+
+-- what was wrong with the file of that path, or that there was no memory
+abbrev pub fault_of_file : Bor (List ℕ) → FileError → CommandFault
+fault_of_file path read.NoMemory = fault.NoMemory
+fault_of_file path (read.File of) = fault.File path of
+
+-- why the scripts were not served
+abbrev pub fault_of_serving : ServeFault → CommandFault
+fault_of_serving serve.NoMemory = fault.NoMemory
+fault_of_serving (serve.NotConsistent condition) = fault.NotConsistent condition
+fault_of_serving serve.NoThread = fault.NoThread
+
+-- no memory, or a fault of a file
+abbrev pub IsOfFile : CommandFault → Type 0
+IsOfFile fault.NoMemory = Unit {0}
+IsOfFile (fault.File path of) = Unit {0}
+IsOfFile _ = ⊥
+
+-- The same, or of the tables that the source gives: that they break this condition first; or, as they are consistent, that a
+-- thread could not be started.
+abbrev pub IsOfServing : Option (List ℕ) → CommandFault → Type 0
+IsOfServing source fault.NoMemory = Unit {0}
+IsOfServing source (fault.File path of) = Unit {0}
+IsOfServing source (fault.NotConsistent condition) = (tables : Database) × Gives source (AreRecords tables) × BreaksFirst tables condition
+IsOfServing source fault.NoThread = (tables : Database) × Gives source (AreRecords tables) × Consistent tables
+IsOfServing source (fault.NoWarehouse warehouse) = ⊥
+IsOfServing source fault.NotIdle = ⊥
+
+-- no memory or a fault of a file, or a transaction is active
+abbrev pub IsOfGathering : CommandFault → Type 0
+IsOfGathering fault.NoMemory = Unit {0}
+IsOfGathering (fault.File path of) = Unit {0}
+IsOfGathering fault.NotIdle = Unit {0}
+IsOfGathering _ = ⊥
+
+-- where it is known which faults were told, this one was told after them
+abbrev pub Tells : Option (List CommandFault) → Option (List CommandFault) → CommandFault → Type 0
+Tells None told' fault = Unit {0}
+Tells (Some faults) told' fault = told' ≡ Some (faults ++ fault ∷ [])
+
+-- a command ended early for a fault of which this is said: it was told, and the status is the fault's
+pub record EndsEarly (IsSaid : CommandFault → Type 0) (told told' : Option (List CommandFault)) (status : Status) : Type 0 where
+  pub fault : CommandFault
+  pub said : IsSaid fault
+  pub tells : Tells told told' fault
+  pub ends : status ≡ status_of fault

@@ -1,0 +1,28 @@
+-- How `tpcc populate` ends.
+use Rattle.std.specs.Prelude.{◌≡◌, ℕ, List, Option}
+use Rattle.schema.specs.declared.scale.Scale.{Scale}
+use Rattle.schema.specs.Database.{Database}
+use Rattle.population.specs.Population.{IsOpening}
+use Rattle.dataset.specs.Records.{AreRecords}
+use Rattle.tpcc.specs.declared.command_fault.CommandFault.{CommandFault}
+use Rattle.tpcc.specs.declared.status.Status.{Status}
+use Rattle.tpcc.specs.declared.status.Status.TheVariants as status
+use Rattle.tpcc.specs.Shelf.{Shelves}
+use Rattle.tpcc.specs.Edges.{Writes}
+use Rattle.tpcc.specs.Faults.{IsOfFile, EndsEarly}
+
+module _ {F : Type 0} (contents : F → Option (List ℕ)) (scale : Scale) (seed now : ℕ) (file : F)
+    (named named' : Option (List (Option (List ℕ)))) (told told' : Option (List CommandFault)) where
+  -- the file has got its name, with the records of the tables that the benchmark begins with, of that scale, seed and moment
+  pub record Populates : Type 0 where
+    pub tables : Database
+    pub is_opening : IsOpening scale seed now tables
+    pub text : Option (List ℕ)
+    pub written : Writes (contents file) text (AreRecords tables)
+    pub shelved : Shelves named named' text
+    pub no_fault : told' ≡ told
+
+  -- by the exit status: the file is there; or it has not got its name, and a fault was told
+  abbrev pub PopulateEnds : Status → Type 0
+  PopulateEnds status.Success = Populates
+  PopulateEnds ended = (named' ≡ named) × EndsEarly IsOfFile told told' ended

@@ -1,0 +1,56 @@
+-- What `tpcc replay` tells, and how it ends.
+use Rattle.std.specs.Prelude.{◌≡◌, ℕ, List, [], ◌∷◌, ◌++◌, length, Option, codes}
+use Rattle.std.specs.Fmt.{decimal}
+use Rattle.std.specs.Io.KnownBytes.{Appends}
+use Rattle.schema.specs.Database.{Database}
+use Rattle.commit_log.specs.declared.entry.Entry.{Entry}
+use Rattle.commit_log.specs.declared.verdict.Replay.{Replay}
+use Rattle.commit_log.specs.declared.verdict.Replay.TheVariants.{Equal, Differs}
+use Rattle.commit_log.specs.Replay.{IsReplayOf}
+use Rattle.dataset.specs.Records.{AreRecords}
+use Rattle.terminals.specs.LogRecord.{IsLog}
+use Rattle.tpcc.specs.declared.replay.Found.{Found}
+use Rattle.tpcc.specs.declared.replay.Found.TheVariants as found
+use Rattle.tpcc.specs.declared.command_fault.CommandFault.{CommandFault}
+use Rattle.tpcc.specs.declared.status.Status.{Status}
+use Rattle.tpcc.specs.declared.status.Status.TheVariants as status
+use Rattle.tpcc.specs.Edges.{Gives, NamesFile, lines_text}
+use Rattle.tpcc.specs.Faults.{IsOfFile, EndsEarly}
+
+-- the line that tells what a replay came to
+abbrev pub found_text : Found → List ℕ
+found_text (found.Equal entries) = codes "equal " ++ decimal entries
+found_text (found.Differs place) = codes "differs " ++ decimal place
+
+-- what is told of a replay of these entries: how many are equal, or the first place that differs
+abbrev pub found_of : List Entry → Replay → Found
+found_of entries (Equal last) = found.Equal (length entries)
+found_of entries (Differs place) = found.Differs place
+
+module _ {F : Type 0} (contents : F → Option (List ℕ)) (file : Option F) (before after : Option (List ℕ)) (named named' : Option (List (Option (List ℕ)))) where
+  -- what a replay of the entries came to was told, with this exit status; where all are equal, the file, if there is one, has got its
+  -- name with the records of the last tables, and else no file has got a name
+  abbrev pub TellsReplay : List Entry → Replay → Status → Type 0
+  TellsReplay entries (Equal last) ended =
+      (ended ≡ status.Success) × Appends before after (lines_text (found_text (found.Equal (length entries)) ∷ [])) × NamesFile contents file named named' (AreRecords last)
+  TellsReplay entries (Differs place) ended =
+      (ended ≡ status.NotConsistent) × Appends before after (lines_text (found_text (found.Differs place) ∷ [])) × (named' ≡ named)
+
+module _ {F : Type 0} (contents : F → Option (List ℕ)) (file : Option F) («data» log before after : Option (List ℕ))
+    (named named' : Option (List (Option (List ℕ)))) (told told' : Option (List CommandFault)) where
+  -- the log's requests were carried out from the tables on that the source gives, with this result, and that was told
+  pub record Replays (replay : Replay) : Type 0 where
+    pub opening : Database
+    pub is_dataset : Gives «data» (AreRecords opening)
+    pub entries : List Entry
+    pub is_log : Gives log (IsLog entries)
+    pub is_replay : IsReplayOf opening entries replay
+    pub printed : Appends before after (lines_text (found_text (found_of entries replay) ∷ []))
+    pub no_fault : told' ≡ told
+
+  -- By the exit status: every entry is equal, and the file, if there is one, has got its name with the records of the machine's
+  -- last tables; an entry differs, and no file has got a name; or so it is, and a fault was told.
+  abbrev pub ReplayEnds : Status → Type 0
+  ReplayEnds status.Success = (last : Database) × Replays (Equal last) × NamesFile contents file named named' (AreRecords last)
+  ReplayEnds status.NotConsistent = (place : ℕ) × Replays (Differs place) × (named' ≡ named)
+  ReplayEnds ended = (named' ≡ named) × EndsEarly IsOfFile told told' ended

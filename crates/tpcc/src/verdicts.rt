@@ -1,0 +1,86 @@
+//! What is told of the twelve conditions of consistency.
+ghost use Rattle.std.specs.Prelude.{◌≡◌, ◌<◌, ◌^◌, length, IfOk};
+ghost use Rattle.std.specs.List.{list_any};
+ghost use Rattle.tpcc.specs.Verdicts.{is_broken, found_of, verdicts_of};
+
+use schema::NoMemory;
+use std::alloc::Global;
+use std::fmt;
+
+// The condition that is asked of fresh datasets alone.
+const FRESH: usize = 11;
+
+/// What is told of a condition.
+#[derive(Clone, Copy, Debug, PartialEq, Eq)]
+pub enum Found {
+    Met,
+    Broken,
+    Skipped,
+}
+
+/// A condition's number, and what is told of it.
+#[derive(Clone, Copy, Debug, PartialEq, Eq)]
+pub struct Verdict {
+    pub condition: usize,
+    pub found: Found,
+}
+
+impl fmt::Display for Verdict {
+    ghost use Rattle.std.specs.Prelude.{Some};
+    ghost use Rattle.tpcc.specs.Verdicts.{verdict_text};
+
+    ghost output = { λ verdict. Some (verdict_text verdict) };
+
+    fn fmt<W: fmt::Write>(&self, f: &mut fmt::Formatter<W>) -> fmt::Result {
+        let condition = self.condition;
+        match self.found {
+            Found::Met => write!(f, "{condition} ok"),
+            Found::Broken => write!(f, "{condition} broken"),
+            Found::Skipped => write!(f, "{condition} skipped"),
+        }
+    }
+}
+
+/// What is told of the conditions, of which these answers tell whether they hold, from number 1 on.
+pub fn verdicts(alloc: Global, fresh: bool, answers: &[bool]) -> Result<Vec<Verdict>, NoMemory>
+    ensures { IfOk result (λ verdicts. verdicts.items ≡ verdicts_of fresh 1 answers.now) }
+{
+    let mut verdicts = Vec::with_capacity(alloc, answers.len())?;
+    for (place, holds) in answers.iter().enumerate() {
+        let condition = place + 1;
+        verdicts.push(Verdict {
+            condition,
+            found: found_of(fresh, condition, *holds),
+        })?;
+    }
+    Ok(verdicts)
+}
+
+// What is told of the condition of that number.
+fn found_of(fresh: bool, condition: usize, holds: bool) -> Found
+    ensures { result ≡ found_of fresh condition holds }
+{
+    if condition == FRESH && !fresh {
+        Found::Skipped
+    } else if holds {
+        Found::Met
+    } else {
+        Found::Broken
+    }
+}
+
+/// Whether one of them is that the condition is broken.
+pub fn any_broken(verdicts: &[Verdict]) -> bool
+    ensures { result ≡ list_any (λ verdict. is_broken verdict.found) verdicts.now }
+{
+    verdicts.iter().any(|verdict| is_broken(verdict.found))
+}
+
+fn is_broken(found: Found) -> bool
+    ensures { result ≡ is_broken found }
+{
+    match found {
+        Found::Broken => true,
+        Found::Met | Found::Skipped => false,
+    }
+}
