@@ -14,7 +14,7 @@ use Rattle.picture.specs.declared.row.Told.TheVariants as told
 use Rattle.picture.specs.declared.phrase.Heading.{Heading as AnyHeading}
 use Rattle.picture.specs.declared.phrase.Heading.TheVariants as heading
 use Rattle.picture.specs.declared.phrase.Phrase.{Phrase}
-use Rattle.picture.specs.declared.phrase.Phrase.TheVariants.{Heading, Number, Deed, Rounds, Told, Place, One, Two, Start, Act, Report, Commit, Reply, Settle, Undo, Ended, Unknown, NotShown}
+use Rattle.picture.specs.declared.phrase.Phrase.TheVariants.{Heading, Number, Deed, Rounds, Told, Place, One, Two, All, Start, Act, Report, Commit, Reply, Settle, Undo, Ended, Unknown, NotShown}
 
 -- what stands over a lane or a column
 abbrev pub heading_text : AnyHeading → List ℕ
@@ -80,6 +80,7 @@ phrase_text (Told t) = told_text t
 phrase_text (Place place) = decimal place
 phrase_text (One group) = group_text group
 phrase_text (Two first second) = group_text first ++ (codes " " ++ group_text second)
+phrase_text (All first last) = group_text first ++ (codes " to " ++ group_text last)
 phrase_text (Start age) = codes "Start of " ++ decimal age
 phrase_text (Act place age) = action_text (codes "Act ") place age
 phrase_text (Report place age) = action_text (codes "Report ") place age

@@ -150,9 +150,7 @@ impl<'a> Course<'a> {
         age: u64,
         request: &Request,
     ) -> Result<bool, NoMemory> {
-        let Some(actions) = actions_of(self.alloc, request)? else {
-            return Ok(false);
-        };
+        let actions = actions_of(self.alloc, request)?;
         let Some(first) = actions.first() else {
             return Ok(false);
         };

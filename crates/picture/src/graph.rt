@@ -6,34 +6,39 @@ use requests::{Group, Request};
 use schema::NoMemory;
 use std::alloc::Global;
 
+/// What an action claims.
+#[derive(Clone, Copy)]
+pub enum Claimed {
+    One(Wish),
+    /// The home warehouse's row and the home district's.
+    Two(Wish, Wish),
+    /// All groups of a warehouse's orders, customers or stock, from the first to the last.
+    All(Wish, Wish),
+}
+
 /// An action of a flow graph.
 #[derive(Clone, Copy)]
 pub struct Action {
     /// Its phase, from 0.
     pub phase: u32,
-    /// What it claims: a group, and with the home warehouse's row the home district's.
-    pub first: Wish,
-    pub second: Option<Wish>,
+    pub claimed: Claimed,
 }
 
-/// The actions of a request, by place: the groups that it claims, in their order, are an action's each, but the home
-/// district's. `None` of a Delivery and a Stock-Level, which are not drawn yet.
-pub fn actions_of(alloc: Global, request: &Request) -> Result<Option<Vec<Action>>, NoMemory> {
-    if matches!(request, Request::Delivery(_) | Request::StockLevel(_)) {
-        return Ok(None);
-    }
+/// The actions of a request, by place. Most groups that it claims, in their order, are an action's each; one action claims
+/// the home warehouse's row and the home district's, and one all orders of a Delivery, all its customers, or all stock of a
+/// Stock-Level.
+pub fn actions_of(alloc: Global, request: &Request) -> Result<Vec<Action>, NoMemory> {
     let mut actions: Vec<Action> = Vec::new(alloc);
     for &wish in footprint(alloc, request)?.iter() {
-        match (wish.group, actions.last_mut()) {
-            (Group::District { .. }, Some(home)) => home.second = Some(wish),
+        match actions.last_mut() {
+            Some(last) if last.claims_too(request, wish) => last.claimed = last.claimed.with(wish),
             _ => actions.push(Action {
                 phase: phase_of(request, wish.group),
-                first: wish,
-                second: None,
+                claimed: Claimed::One(wish),
             })?,
         }
     }
-    Ok(Some(actions))
+    Ok(actions)
 }
 
 // In which phase a request claims a group.
@@ -41,42 +46,104 @@ fn phase_of(request: &Request, group: Group) -> u32 {
     match (request, group) {
         (Request::NewOrder(_), Group::Stock { .. })
         | (Request::Payment(_), Group::History { .. })
-        | (Request::OrderStatus(_), Group::Orders { .. }) => 1,
-        (Request::NewOrder(_), Group::Orders { .. }) => 2,
+        | (Request::OrderStatus(_), Group::Orders { .. })
+        | (Request::Delivery(_), Group::Customers { .. })
+        | (Request::StockLevel(_), Group::Orders { .. }) => 1,
+        (Request::NewOrder(_), Group::Orders { .. })
+        | (Request::StockLevel(_), Group::Stock { .. }) => 2,
         _ => 0,
     }
 }
 
+// Whether two groups are of one warehouse's orders, or of its customers, or of its stock.
+fn is_beside(one: Group, other: Group) -> bool {
+    match (one, other) {
+        (Group::Orders { w_id: a, .. }, Group::Orders { w_id: b, .. })
+        | (Group::Customers { w_id: a, .. }, Group::Customers { w_id: b, .. })
+        | (Group::Stock { w_id: a, .. }, Group::Stock { w_id: b, .. }) => a == b,
+        _ => false,
+    }
+}
+
+impl Claimed {
+    // The first of its claims.
+    fn first(self) -> Wish {
+        match self {
+            Claimed::One(first) | Claimed::Two(first, _) | Claimed::All(first, _) => first,
+        }
+    }
+
+    // The same with the next claim: the home district's beside the warehouse's, or a further one of those of a sort.
+    fn with(self, wish: Wish) -> Claimed {
+        match wish.group {
+            Group::District { .. } => Claimed::Two(self.first(), wish),
+            _ => Claimed::All(self.first(), wish),
+        }
+    }
+
+    // Whether a claim of its own stands in the way of this wish.
+    fn stops(self, wish: Wish) -> bool {
+        match self {
+            Claimed::One(own) => own.group == wish.group && conflict(own, wish),
+            Claimed::Two(one, other) => {
+                one.group == wish.group && conflict(one, wish)
+                    || other.group == wish.group && conflict(other, wish)
+            }
+            Claimed::All(one, _) => is_beside(one.group, wish.group) && conflict(one, wish),
+        }
+    }
+}
+
 impl Action {
+    // Whether it claims this group too, which comes behind those that it claims.
+    fn claims_too(self, request: &Request, wish: Wish) -> bool {
+        match (request, wish.group) {
+            (Request::Delivery(_), _) | (Request::StockLevel(_), Group::Stock { .. }) => {
+                is_beside(self.claimed.first().group, wish.group)
+            }
+            (Request::StockLevel(_), _) => false,
+            (_, Group::District { .. }) => true,
+            _ => false,
+        }
+    }
+
     /// The warehouse where it is done.
     pub fn warehouse(self) -> u32 {
-        warehouse_of(self.first.group)
+        warehouse_of(self.claimed.first().group)
     }
 
     /// The groups that it claims, in words.
     pub fn groups(self) -> Phrase {
-        match self.second {
-            Some(second) => Phrase::Two(self.first.group, second.group),
-            None => Phrase::One(self.first.group),
+        match self.claimed {
+            Claimed::One(wish) => Phrase::One(wish.group),
+            Claimed::Two(one, other) => Phrase::Two(one.group, other.group),
+            Claimed::All(first, last) => Phrase::All(first.group, last.group),
         }
     }
 
     /// Whether its claims are all shared.
     pub fn is_shared(self) -> bool {
-        self.first.mode == Mode::Shared && self.second.is_none_or(|wish| wish.mode == Mode::Shared)
+        match self.claimed {
+            Claimed::One(wish) => wish.mode == Mode::Shared,
+            Claimed::Two(one, other) | Claimed::All(one, other) => {
+                one.mode == Mode::Shared && other.mode == Mode::Shared
+            }
+        }
     }
 
     /// Whether one of the two would have to wait for the other, or die.
     pub fn conflicts(self, other: Action) -> bool {
-        other.stops(self.first) || self.second.is_some_and(|wish| other.stops(wish))
-    }
-
-    // Whether a claim of its own stands in the way of this wish.
-    fn stops(self, wish: Wish) -> bool {
-        conflict(self.first, wish) || self.second.is_some_and(|own| conflict(own, wish))
+        let (own, others) = (self.claimed, other.claimed);
+        match own {
+            Claimed::One(wish) => others.stops(wish),
+            Claimed::Two(one, two) => others.stops(one) || others.stops(two),
+            // Where the other claims some of these groups, its first is of them.
+            Claimed::All(_, _) => own.stops(others.first()),
+        }
     }
 }
 
+// Whether two claims of one group can't be held at once.
 fn conflict(one: Wish, other: Wish) -> bool {
-    one.group == other.group && !(one.mode == Mode::Shared && other.mode == Mode::Shared)
+    !(one.mode == Mode::Shared && other.mode == Mode::Shared)
 }

@@ -20,6 +20,8 @@ pub enum Phrase {
     /// The groups of a claim.
     One(Group),
     Two(Group, Group),
+    /// All groups of a warehouse's orders, customers or stock, from the first to the last.
+    All(Group, Group),
     /// What was taken or sent, for the transaction of this age.
     Start { age: u64 },
     Act { place: usize, age: u64 },
@@ -170,6 +172,7 @@ impl fmt::Display for Phrase {
             Phrase::Place(place) => write!(f, "{place}"),
             Phrase::One(group) => write!(f, "{group}"),
             Phrase::Two(first, second) => write!(f, "{first} {second}"),
+            Phrase::All(first, last) => write!(f, "{first} to {last}"),
             Phrase::Start { age } => write!(f, "Start of {age}"),
             Phrase::Act { place, age } => write!(f, "Act {place} of {age}"),
             Phrase::Report { place, age } => write!(f, "Report {place} of {age}"),
