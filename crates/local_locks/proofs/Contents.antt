@@ -38,16 +38,16 @@ left_back warehouses w_id stands group content claims are known home =
 abbrev IsWaiting : Waiting → Waiting → Type 0
 IsWaiting one other = one ≡ other
 
-pub only_turn : (one : Waiting) (by : Holder) (wants : List Want) (old new : Locking) → old.waiters ≡ one ∷ [] → IsTurnOf (waiting by wants) old new → one ≡ waiting by wants
-only_turn one by wants old new only turn =
+pub only_turn : (one : Waiting) (index : ℕ) (by : Holder) (wants : List Want) (old new : Locking) → old.waiters ≡ one ∷ [] → IsTurnOf index (waiting by wants) old new → one ≡ waiting by wants
+only_turn one index by wants old new only turn =
     All-head (IsWaiting one) (waiting by wants) new.waiters
     (All-permutation (IsWaiting one) old.waiters (waiting by wants ∷ new.waiters) turn.waiters (subst (All (IsWaiting one)) (sym only) (All-cons (IsWaiting one) one [] refl (All-nil (IsWaiting one)))))
 
 -- it is the turn of that one, who is granted the group
-pub turn_granted : (one : Holder) (asked : List Want) (group : Group) (mode : Mode) (by : Holder) (old new : Locking) (claims : List Claiming) → old.waiters ≡ waiting one asked ∷ [] → asked ≡ on_one group mode ∷ []
-    → ((wants : List Want) × IsTurnOf (waiting by wants) old new × Grants by wants old claims new) → Grants by (on_one group mode ∷ []) old claims new
-turn_granted one asked group mode by old new claims only is turn =
-    let same : waiting one asked ≡ waiting by turn.0 = only_turn (waiting one asked) by turn.0 old new only turn.1 in
+pub turn_granted : (one : Holder) (asked : List Want) (group : Group) (mode : Mode) (index : ℕ) (by : Holder) (old new : Locking) (claims : List Claiming) → old.waiters ≡ waiting one asked ∷ [] → asked ≡ on_one group mode ∷ []
+    → ((wants : List Want) × IsTurnOf index (waiting by wants) old new × Grants by wants old claims new) → Grants by (on_one group mode ∷ []) old claims new
+turn_granted one asked group mode index by old new claims only is turn =
+    let same : waiting one asked ≡ waiting by turn.0 = only_turn (waiting one asked) index by turn.0 old new only turn.1 in
     subst (λ (ws : List Want). Grants by ws old claims new) (sym (ap (λ (w : Waiting). w.wants) same) ∙ is) turn.2
 
 -- where nobody waited, and one has to wait, that one waits alone

@@ -1,8 +1,9 @@
 -- One of those who wait has its turn.
-use Rattle.std.proofs.Common.{◌≡◌, ℕ, ◌<◌, ◌≤◌, List, ◌∷◌, length, get_or, map, sym, ap, subst, ◌∙◌, arith}
+use Rattle.std.proofs.Common.{◌≡◌, ℕ, suc, ◌<◌, ◌≤◌, List, ◌∷◌, ◌++◌, length, get_or, map, take, drop, sym, ap, subst, ◌∙◌, arith}
 use Rattle.std.specs.Prelude.{All}
 use Rattle.std.specs.List.{flat_map, remove}
 use Rattle.std.specs.List.Sorted.{IsPermutation}
+use Rattle.std.proofs.lemmas.List.{drop-map, get_or-map, length-map, map-append, take-map}
 use Rattle.std.proofs.lemmas.List.Elements.{All-get_or, All-map, All-tail}
 use Rattle.std.proofs.lemmas.List.Sorted.{All-permutation, IsPermutation-map, IsPermutation-remove}
 use Rattle.wait_die.specs.declared.deciding.Holder.{Holder}
@@ -55,12 +56,21 @@ all_still_wait warehouses w_id locks waiters are all stay =
     All-map (StillWaits (flat_map holdings_of locks)) waiting_of waiters
     (λ k d small. tells_wait warehouses w_id locks (get_or waiters k d).wants (get_or waiters k d).by.age no_lock are (all k d small).can.own (stay k d small))
 
+-- without one of them, each is what it was
+pub map_removed : {X Y : Type 0} (f : X → Y) (xs : List X) (index : ℕ) → map f (remove xs index) ≡ remove (map f xs) index
+map_removed f xs index =
+    map-append f (take index xs) (drop (suc index) xs)
+    ∙ sym (λ i. take-map f index xs i ++ drop-map f (suc index) xs i)
+
 pub turn_taken : (warehouses w_id : ℕ) (table : Locking) (locks new : List Locked) (waiters rest : List Parked) (p : Parked) (next : Next) → locking w_id locks waiters ≡ table → IsTaken warehouses w_id locks waiters rest p next
-    → IsTurnOf (waiting next.by p.wants) table (locking w_id new rest)
+    → IsTurnOf next.index (waiting next.by p.wants) table (locking w_id new rest)
 turn_taken warehouses w_id table locks new waiters rest p next view t =
-    let P : Locking → Type 0 = λ u. IsTurnOf (waiting next.by p.wants) u (locking w_id new rest) in
+    let P : Locking → Type 0 = λ u. IsTurnOf next.index (waiting next.by p.wants) u (locking w_id new rest) in
     let named : waiting_of p ≡ waiting next.by p.wants = ap (λ (by : Holder). waiting by p.wants) (by_taken warehouses w_id locks waiters rest p next t) in
     subst P view (record {
+      inside = omega (arith, t.is.inside, length-map waiters waiting_of);
+      there = λ d. get_or-map waiting_of waiters next.index p d t.is.inside ∙ ap waiting_of (sym t.taken) ∙ named;
+      rest = ap (map waiting_of) t.left ∙ map_removed waiting_of waiters next.index;
       waiters = subst (λ (w : Waiting). IsPermutation (map waiting_of waiters) (w ∷ map waiting_of rest)) named (IsPermutation-map waiting_of waiters (p ∷ rest) (moved warehouses w_id locks waiters rest p next t));
       first = All-map (WaitsIfBefore (flat_map holdings_of locks) next.by) waiting_of waiters
           (λ k d small before. tells_wait warehouses w_id locks (get_or waiters k d).wants (get_or waiters k d).by.age no_lock t.locks_of (t.all k d small).can.own (t.is.first k d small before));

@@ -1,5 +1,6 @@
 -- What a lock table answers, and what it leaves.
-use Rattle.std.specs.Prelude.{◌≡◌, ◌⊎◌, ℕ, ◌<◌, List, [], ◌∷◌, ◌++◌, All, map, if◌then◌else◌}
+use Rattle.std.specs.Prelude.{◌≡◌, ◌⊎◌, ℕ, ◌<◌, List, [], ◌∷◌, ◌++◌, All, length, map, slice_index_or, if◌then◌else◌}
+use Rattle.std.specs.List.{remove}
 use Rattle.std.specs.List.Sorted.{IsPermutation}
 use Rattle.requests.specs.declared.group.Group.{Group}
 use Rattle.groups.specs.Content.{Content}
@@ -99,8 +100,12 @@ StillWaits holdings waiting = MustWait holdings waiting.by.age waiting.wants
 abbrev pub WaitsIfBefore : List Holding → Holder → Waiting → Type 0
 WaitsIfBefore holdings by waiting = IsBefore waiting.by by → StillWaits holdings waiting
 
--- Of those who wait it is one's turn, and all before that one have to wait still. All others go on waiting.
-pub record IsTurnOf (waiting : Waiting) (old new : Locking) : Type 0 where
+-- Of those who wait it is one's turn, who stands there among them, and all before that one have to wait still. All others go
+-- on waiting, in their order.
+pub record IsTurnOf (index : ℕ) (waiting : Waiting) (old new : Locking) : Type 0 where
+  pub inside : index < length old.waiters
+  pub there : (d : Waiting) → slice_index_or old.waiters index d ≡ waiting
+  pub rest : new.waiters ≡ remove old.waiters index
   pub waiters : IsPermutation old.waiters (waiting ∷ new.waiters)
   pub first : All (WaitsIfBefore old.holdings waiting.by) old.waiters
 
@@ -126,8 +131,8 @@ module _ {J : Type 0} where
 
   -- whose turn it is and what is said to that one, and what the table is then
   abbrev pub TakesTurn : Locking → Turn J → Locking → Type 0
-  TakesTurn old (turn.Granted by claims) new =
-      (wants : List Want) × IsTurnOf (waiting by wants) old new × Grants by wants old claims.items new
-  TakesTurn old (turn.Dies by group holder) new =
-      (wants : List Want) × IsTurnOf (waiting by wants) old new × MustDie old.holdings by.age wants group holder
+  TakesTurn old (turn.Granted index by claims) new =
+      (wants : List Want) × IsTurnOf index (waiting by wants) old new × Grants by wants old claims.items new
+  TakesTurn old (turn.Dies index by group holder) new =
+      (wants : List Want) × IsTurnOf index (waiting by wants) old new × MustDie old.holdings by.age wants group holder
       × (new ≡ record old { waiters = new.waiters })

@@ -37,13 +37,18 @@ pub enum Asked<J: GroupNames> {
     Dies { group: Group, holder: Age },
 }
 
-/// The turn of an action that waited.
+/// The turn of an action that waited, and which of those who waited it was, from 0 on, in the order in which they asked.
 #[derive(Drop)]
 pub enum Turn<J: GroupNames> {
     /// It has a claim on each group, want by want, those of a prefix in the order of groups.
-    Granted(Holder, Vec<Claim<J>>),
+    Granted {
+        index: usize,
+        by: Holder,
+        claims: Vec<Claim<J>>,
+    },
     /// It dies, as `Asked::Dies` tells.
     Dies {
+        index: usize,
         by: Holder,
         group: Group,
         holder: Age,
@@ -204,9 +209,10 @@ impl<J: GroupNames> LockTable<J> {
             Ruling::Free => {
                 let mut claims = room;
                 grant_all(&mut self.locks, &wants, by, &mut claims);
-                Some(Turn::Granted(by, claims))
+                Some(Turn::Granted { index, by, claims })
             }
             Ruling::Dies(number, holder) => Some(Turn::Dies {
+                index,
                 by,
                 group: self.locks[number].group(),
                 holder,

@@ -127,12 +127,17 @@ impl<J: GroupNames> Trial<J> {
             return Ok(None);
         };
         match turn {
-            Turn::Granted(by, claims) => {
+            Turn::Granted { by, claims, .. } => {
                 let count = claims.len();
                 self.out.push_reserved(Grant { by, claims });
                 Ok(Some((by, Said::Granted(count))))
             }
-            Turn::Dies { by, group, holder } => Ok(Some((by, Said::Dies(group, holder)))),
+            Turn::Dies {
+                by,
+                group,
+                holder,
+                ..
+            } => Ok(Some((by, Said::Dies(group, holder)))),
         }
     }
 

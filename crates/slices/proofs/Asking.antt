@@ -106,8 +106,8 @@ module _ (warehouses : ℕ) (p : Part) (old new : Locking) (grounds : List Groun
       let h : P old.holdings = record { committed = λ tables others h. h; holdings = λ others h. h; waiters = refl; home = refl; scale = refl; items = refl } in
       subst P (sym same) h
 
-  turn_in : (one : Waiting) → IsTurnOf one old new → IsTurnOf one (locking_in (sliced p old)) (locking_in (sliced p new))
-  turn_in one t = record { waiters = t.waiters; first = t.first }
+  turn_in : (index : ℕ) (one : Waiting) → IsTurnOf index one old new → IsTurnOf index one (locking_in (sliced p old)) (locking_in (sliced p new))
+  turn_in index one t = record { inside = t.inside; there = t.there; rest = t.rest; waiters = t.waiters; first = t.first }
 
   module _ {J : Type 0} where
     pub answered : (age : ℕ) (by : Holder) (wants : List Want) (result : Asked J) → CanAsk warehouses old.w_id wants → AnswersAs age by wants old result new
@@ -134,14 +134,14 @@ module _ (warehouses : ℕ) (p : Part) (old new : Locking) (grounds : List Groun
 
     pub turned : (result : Turn J) → All (CouldAsk warehouses old.w_id) old.waiters → TakesTurn old result new
         → TakesTurnIn (sliced p old) result (sliced p new) × SliceKeeps [] (with_waiters new.waiters (sliced p old)) (claims_of_turn result) (sliced p new) × IsSlice warehouses p new grounds
-    turned (turn.Granted by claims) could takes =
+    turned (turn.Granted index by claims) could takes =
         let wants = takes.0 in
         let can : CanAsk warehouses old.w_id wants =
         All-head (CouldAsk warehouses old.w_id) (waiting by wants) new.waiters (All-permutation (CouldAsk warehouses old.w_id) old.waiters (waiting by wants ∷ new.waiters) takes.1.waiters could) in
         let grants = grants_in by wants claims.items can takes.2 in
-        ((wants, turn_in (waiting by wants) takes.1, grants), grants_keep_slice by wants claims.items grants, stays_slice takes.2.stands takes.2.w_id)
-    turned (turn.Dies by group holder) could takes = (
-      (takes.0, turn_in (waiting by takes.0) takes.1, takes.2, ap (λ (t : Locking). sliced p t) takes.3),
+        ((wants, turn_in index (waiting by wants) takes.1, grants), grants_keep_slice by wants claims.items grants, stays_slice takes.2.stands takes.2.w_id)
+    turned (turn.Dies index by group holder) could takes = (
+      (takes.0, turn_in index (waiting by takes.0) takes.1, takes.2, ap (λ (t : Locking). sliced p t) takes.3),
       nothing_keeps (ap (λ (t : Locking). t.holdings) takes.3),
       stays_slice (ap (λ (t : Locking). t.stands) takes.3) (ap (λ (t : Locking). t.w_id) takes.3),
     )

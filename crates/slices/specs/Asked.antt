@@ -48,13 +48,13 @@ module _ {J : Type 0} where
 
   -- whose turn it is and what is said to that one, and what the slice is then
   abbrev pub TakesTurnIn : Sliced → Turn J → Sliced → Type 0
-  TakesTurnIn old (turn.Granted by claims) new =
-      (wants : List Want) × IsTurnOf (waiting by wants) (locking_in old) (locking_in new) × GrantsIn by wants old claims.items new
-  TakesTurnIn old (turn.Dies by group holder) new =
-      (wants : List Want) × IsTurnOf (waiting by wants) (locking_in old) (locking_in new) × MustDie old.holdings by.age wants group holder
+  TakesTurnIn old (turn.Granted index by claims) new =
+      (wants : List Want) × IsTurnOf index (waiting by wants) (locking_in old) (locking_in new) × GrantsIn by wants old claims.items new
+  TakesTurnIn old (turn.Dies index by group holder) new =
+      (wants : List Want) × IsTurnOf index (waiting by wants) (locking_in old) (locking_in new) × MustDie old.holdings by.age wants group holder
       × (new ≡ record old { waiters = new.waiters })
 
   -- the claims that are granted with the turn
   abbrev pub claims_of_turn : Turn J → List Claiming
-  claims_of_turn (turn.Granted by claims) = claims.items
-  claims_of_turn (turn.Dies by group holder) = []
+  claims_of_turn (turn.Granted index by claims) = claims.items
+  claims_of_turn (turn.Dies index by group holder) = []

@@ -45,5 +45,6 @@ pub mod DeliveryAmount
 pub mod DeliveryDone
 pub mod DeliveryWorks
 pub mod DeliverySteps
+pub mod Stations
 pub mod Wanted
 pub mod Held

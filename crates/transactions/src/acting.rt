@@ -49,7 +49,7 @@ pub fn act<J: GroupNames>(alloc: Global, slice: &mut Slice<J>, by: Holder, work:
 }
 
 // Does the work under the claims that were granted for it. Where there is no memory, they are given back.
-fn run_under<J: GroupNames>(
+pub(crate) fn run_under<J: GroupNames>(
     alloc: Global,
     slice: &mut Slice<J>,
     mut claims: Vec<Claim<J>>,

@@ -20,6 +20,7 @@ pub mod new_order;
 pub mod order_status;
 pub mod payment;
 mod progress;
+mod station;
 pub mod stock_level;
 mod work;
 
@@ -32,4 +33,5 @@ pub use laws::{
 };
 pub use listed::Listed;
 pub use progress::{Gathered, Progress};
+pub use station::{Acted, Parked, Station, Turned};
 pub use work::{Found, Work, run};

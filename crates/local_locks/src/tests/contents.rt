@@ -79,7 +79,14 @@ fn read_after_write<J: GroupNames>(
     };
     seats.settle_all(&mut claims);
     table.give_back(claims);
-    let Some(Turn::Granted(_, mut read)) = table.next_grant() else {
+    let Some(
+        Turn::Granted {
+            index: _,
+            by: _,
+            claims: mut read,
+        },
+    ) = table.next_grant()
+    else {
         return Ok(Vec::new(alloc));
     };
     look(&mut table, &mut read[0]);

@@ -46,4 +46,4 @@ returns-in-Ok-Granted-clause-kept g c =
 pub returns-in-Ok-Granted-clause-done : goal.returns-in-Ok-Granted-clause-done
 returns-in-Ok-Granted-clause-done g c =
     let all = granted g (goal.at.returns-in-Ok-Granted-clause-done g c).In-Ok-Granted (c.deref.ensures.value ∙ c.in-Ok.ensures) in
-    ran_of c.args.by c.args.slice.now c.ask_at_once.new.self c.run_under.new.slice c.args.work c.in-Ok-Granted.claims.items c.run_under.result all.0 all.1 c.run_under.ensures.done c.run_under.ensures.kept
+    ran_of YOUNGEST c.args.by c.args.slice.now c.ask_at_once.new.self c.run_under.new.slice c.args.work c.in-Ok-Granted.claims.items c.run_under.result all.0 all.1 c.run_under.ensures.done c.run_under.ensures.kept

@@ -1,0 +1,160 @@
+-- An action asks at a station, and one that waited has its turn.
+use Rattle.std.proofs.Common.{◌≡◌, ℕ, ◌<◌, List, [], ◌∷◌, ◌++◌, length, get_or, map, refl, sym, ap, subst, ◌∙◌, arith}
+use Rattle.std.specs.Prelude.{All, slice_index_or}
+use Rattle.std.specs.List.{remove}
+use Rattle.std.specs.List.Sorted.{IsPermutation}
+use Rattle.std.proofs.lemmas.List.{get_or-map, get_or_default, length-map, map-append}
+use Rattle.std.proofs.lemmas.List.Elements.{All-get_or, All-push, All-tail, All-weaker}
+use Rattle.std.proofs.lemmas.List.Sorted.{All-permutation, IsPermutation-refl, IsPermutation-remove}
+use Rattle.partitions.specs.Parts.{Shared, shared_of}
+use Rattle.requests.specs.declared.group.Group.{Group}
+use Rattle.groups.specs.declared.wants.Want.{Want}
+use Rattle.tickets.specs.Claims.{Claiming}
+use Rattle.wait_die.specs.declared.deciding.Holder.{Holder}
+use Rattle.local_locks.specs.Asking.{IsTurnOf, StillWaits, waiting}
+use Rattle.local_locks.specs.Conflicts.{MustDie}
+use Rattle.local_locks.specs.Locking.{Waiting}
+use Rattle.local_locks.proofs.Taken.{map_removed}
+use Rattle.slices.specs.Asked.{GrantsIn, locking_in}
+use Rattle.slices.specs.Sliced.{IsAsBefore, SliceKeeps, Sliced, with_waiters}
+use Rattle.transactions.specs.declared.acting.Ran.{Ran}
+use Rattle.transactions.specs.declared.acting.Ran.TheVariants.{Died, NoMemory}
+use Rattle.transactions.specs.declared.station.Acted.TheVariants as acted
+use Rattle.transactions.specs.declared.station.Parked.{Parked}
+use Rattle.transactions.specs.declared.work.Work.{Work}
+use Rattle.transactions.specs.Acting.{IsRanAs, IsRanUnder, claims_of_ran}
+use Rattle.transactions.specs.Stations.{ActsAs, CanDoThere, IsStation, OneTurn, Stationed, parked, stationed, waiting_of}
+use Rattle.transactions.specs.Granted.{AreGrantedFor}
+use Rattle.transactions.specs.Works.{CanDo, home_of, wants_of, wishes_of}
+use Rattle.transactions.proofs.Kept as kept
+use Rattle.transactions.proofs.Wanted.{granted_for, ran_of}
+
+-- ---- who waits is still there
+
+module _ {T : Type 0} where
+  -- what can be done in a slice can be done where the scale and the items stay
+  still_able : (old new : Sliced) → new.home ≡ old.home → new.tables.scale ≡ old.tables.scale → new.tables.items ≡ old.tables.items → (p : Parked T) → CanDoThere old p → CanDoThere new p
+  still_able old new home scale items p able =
+      let same : shared_of old.tables ≡ shared_of new.tables = λ i. record { scale = sym scale i; items = sym items i } in
+      record { can = subst (λ (s : Shared). CanDo s p.work) same able.can; home = able.home ∙ sym home }
+
+  all_able : (old new : Sliced) (all : List (Parked T)) → new.home ≡ old.home → new.tables.scale ≡ old.tables.scale → new.tables.items ≡ old.tables.items → All (CanDoThere old) all → All (CanDoThere new) all
+  all_able old new all home scale items able = All-weaker (CanDoThere old) (CanDoThere new) (still_able old new home scale items) all able
+
+  -- whatever claims come and go
+  pub still_station : (warehouses : ℕ) (before after : List Claiming) (old new : Sliced) (all : List (Parked T)) → IsStation warehouses old all → SliceKeeps before old after new → IsStation warehouses new all
+  still_station warehouses before after old new all is keeps = record {
+    warehouses_are = is.warehouses_are ∙ ap (λ s. s.warehouses) (sym keeps.scale);
+    waiters = keeps.waiters ∙ is.waiters;
+    able = all_able old new all keeps.home keeps.scale keeps.items is.able;
+  }
+
+  -- one more waits
+  pub one_more : (warehouses : ℕ) (old : Sliced) (all : List (Parked T)) (by : Holder) (work : Work) (carried : T) → IsStation warehouses old all → CanDo (shared_of old.tables) work → home_of work ≡ old.home
+      → IsStation warehouses (with_waiters (old.waiters ++ waiting by (wants_of work) ∷ []) old) (all ++ parked by work carried ∷ [])
+  one_more warehouses old all by work carried is can home =
+      let new = with_waiters (old.waiters ++ waiting by (wants_of work) ∷ []) old in
+      let able : All (CanDoThere new) all = all_able old new all refl refl refl is.able in
+      record {
+        warehouses_are = is.warehouses_are;
+        waiters = ap (λ ws. ws ++ waiting by (wants_of work) ∷ []) is.waiters ∙ sym (map-append waiting_of all (parked by work carried ∷ []));
+        able = All-push (CanDoThere new) all (parked by work carried) able (record { can = can; home = home });
+      }
+
+-- ---- an action asks
+
+module _ {T : Type 0} (by : Holder) (work : Work) (carried : T) (old : Stationed T) (left : List (Parked T)) (same : left ≡ old.parked) where
+  -- there is no memory for it
+  pub acts_for_nothing : (J : Type 0) (new : Sliced) → new ≡ old.slice → ActsAs {J = J} by work carried old (acted.Ran NoMemory carried) (stationed new left)
+  acts_for_nothing J new stays =
+      let before : IsAsBefore old.slice new = record {
+        home = ap (λ (s : Sliced). s.home) stays;
+        tables = ap (λ (s : Sliced). s.tables) stays;
+        holdings = subst (λ (s : Sliced). IsPermutation s.holdings old.slice.holdings) (sym stays) (IsPermutation-refl old.slice.holdings);
+        waiters = ap (λ (s : Sliced). s.waiters) stays;
+      } in
+      (refl, before, kept.unchanged [] [] old.slice new refl stays, same)
+
+  pub acts_and_dies : (J : Type 0) (group : Group) (holder : ℕ) (new : Sliced) → MustDie old.slice.holdings by.age (wants_of work) group holder → new ≡ old.slice
+      → ActsAs {J = J} by work carried old (acted.Ran (Died group holder) carried) (stationed new left)
+  acts_and_dies J group holder new death stays = (refl, (death, stays), kept.unchanged [] [] old.slice new refl stays, same)
+
+  pub acts_at_once : {J : Type 0} (ran : Ran J) (claims : List Claiming) (mid new : Sliced) → GrantsIn by (wants_of work) old.slice claims mid → mid.waiters ≡ old.slice.waiters
+      → SliceKeeps [] (with_waiters mid.waiters old.slice) claims mid → IsRanUnder mid work claims ran new → SliceKeeps claims mid (claims_of_ran ran) new
+      → ActsAs by work carried old (acted.Ran ran carried) (stationed new left)
+  acts_at_once ran claims mid new grants wait first under keeps =
+      let here : SliceKeeps [] old.slice claims mid = subst (λ ws. SliceKeeps [] (with_waiters ws old.slice) claims mid) wait first in
+      (refl, ran_of by.age by old.slice mid new work claims ran grants wait under keeps, kept.then [] claims (claims_of_ran ran) old.slice mid new here keeps, same)
+
+-- ---- a turn
+
+module _ {T : Type 0} (warehouses : ℕ) (old mid : Sliced) (all rest : List (Parked T)) (index : ℕ) (by : Holder) (wants : List Want) (p : Parked T)
+    (is : IsStation warehouses old all) (turn : IsTurnOf index (waiting by wants) (locking_in old) (locking_in mid)) (taken : p ≡ slice_index_or all index p)
+    (left : rest ≡ remove all index) where
+  pub inside : index < length all
+  inside = omega (arith, turn.inside, ap {B = ℕ} (λ (ws : List Waiting). length ws) is.waiters, length-map all waiting_of)
+
+  -- it is the turn of this action
+  same : waiting by wants ≡ waiting_of p
+  same =
+      sym (turn.there (waiting_of p)) ∙ ap (λ (ws : List Waiting). get_or ws index (waiting_of p)) is.waiters
+      ∙ get_or-map waiting_of all index p (waiting_of p) inside ∙ ap waiting_of (sym taken)
+
+  pub its_wants : wants ≡ wants_of p.work
+  its_wants = ap (λ (w : Waiting). w.wants) same
+
+  pub able_there : CanDoThere old p
+  able_there = subst (CanDoThere old) (sym taken) (All-get_or (CanDoThere old) all index p inside is.able)
+
+  -- and its claims are those for its wishes
+  pub granted_there : (claims : List Claiming) → GrantsIn by wants old claims mid → AreGrantedFor (wishes_of p.work) claims
+  granted_there claims grants = granted_for by p.work old mid claims (subst (λ (ws : List Want). GrantsIn by ws old claims mid) its_wants grants)
+
+  -- the others go on waiting
+  pub rest_there : (new : Sliced) → new.waiters ≡ mid.waiters → new.home ≡ old.home → new.tables.scale ≡ old.tables.scale → new.tables.items ≡ old.tables.items → IsStation warehouses new rest
+  rest_there new wait home scale items = record {
+    warehouses_are = is.warehouses_are ∙ ap (λ s. s.warehouses) (sym scale);
+    waiters = wait ∙ turn.rest ∙ ap (λ (ws : List Waiting). remove ws index) is.waiters ∙ sym (map_removed waiting_of all index) ∙ ap (map waiting_of) (sym left);
+    able = all_able old new rest home scale items
+        (All-tail (CanDoThere old) p rest
+        (subst (λ (ps : List (Parked T)). All (CanDoThere old) (p ∷ ps)) (sym left) (All-permutation (CanDoThere old) all (p ∷ remove all index) (IsPermutation-remove all index p inside taken) is.able)));
+  }
+
+  -- what comes of it is its turn
+  one_turn : {J : Type 0} (ran : Ran J) (new : Sliced) → (StillWaits old.holdings (waiting by wants) → ⊥) → IsRanAs by.age by (with_waiters new.waiters old) p.work ran new
+      → SliceKeeps [] (with_waiters new.waiters old) (claims_of_ran ran) new → OneTurn (stationed old all) (record { by = by; ran = ran; carried = p.carried }) (stationed new rest)
+  one_turn ran new over of keeps = record {
+    index = index;
+    work = p.work;
+    inside = inside;
+    there = λ d. get_or_default all index d p inside ∙ sym taken ∙ (λ i. parked (sym (ap (λ (w : Waiting). w.by) same) i) p.work p.carried);
+    rest = left;
+    over = subst (λ (ws : List Want). StillWaits old.holdings (waiting by ws) → ⊥) its_wants over;
+    first = turn.first;
+    ran = of;
+    kept = keeps;
+  }
+
+  pub turn_granted : {J : Type 0} (ran : Ran J) (claims : List Claiming) (new : Sliced) → GrantsIn by wants old claims mid → SliceKeeps [] (with_waiters mid.waiters old) claims mid → IsRanUnder mid p.work claims ran new
+      → SliceKeeps claims mid (claims_of_ran ran) new → OneTurn (stationed old all) (record { by = by; ran = ran; carried = p.carried }) (stationed new rest) × IsStation warehouses new rest
+  turn_granted ran claims new grants first under keeps =
+      let before = with_waiters new.waiters old in
+      let all_granted : GrantsIn by (wants_of p.work) before claims mid =
+      subst (λ (ws : List Want). GrantsIn by ws before claims mid) its_wants
+      (record { free = grants.free; claims = grants.claims; holdings = grants.holdings; home = grants.home; tables = grants.tables }) in
+      let from : SliceKeeps [] before claims mid = subst (λ (ws : List Waiting). SliceKeeps [] (with_waiters ws old) claims mid) (sym keeps.waiters) first in
+      let keep = kept.then [] claims (claims_of_ran ran) before mid new from keeps in (
+        one_turn ran new (λ wait. grants.free wait.some.0 wait.some.1) (ran_of by.age by before mid new p.work claims ran all_granted (sym keeps.waiters) under keeps) keep,
+        rest_there new keeps.waiters keep.home keep.scale keep.items,
+      )
+
+  pub turn_died : (J : Type 0) (group : Group) (holder : ℕ) → MustDie old.holdings by.age wants group holder → mid ≡ with_waiters mid.waiters old
+      → OneTurn {J = J} (stationed old all) (record { by = by; ran = Died group holder; carried = p.carried }) (stationed mid rest) × IsStation warehouses mid rest
+  turn_died J group holder death gone =
+      let before = with_waiters mid.waiters old in
+      let over : StillWaits old.holdings (waiting by wants) → ⊥ = λ wait.
+      omega (arith, wait.younger death.some.0 death.some.1, death.some.3, death.older) in (
+        one_turn (Died group holder) mid over (subst (λ (ws : List Want). MustDie old.holdings by.age ws group holder) its_wants death, gone)
+            (kept.unchanged [] [] before mid refl gone),
+        rest_there mid refl (ap (λ (s : Sliced). s.home) gone) (ap (λ (s : Sliced). s.tables.scale) gone) (ap (λ (s : Sliced). s.tables.items) gone),
+      )
