@@ -68,8 +68,8 @@ index_mut-requires-2 g c =
     let alone : c.give_back.new.self.waiters ≡ waiting reader (c.one-want-2.result ∷ []) ∷ [] =
     waits_alone c.in_ok-table.table c.ask.new.self c.leave.new.self c.ask-2.new.self c.next_grant.new.self c.give_back.new.self c.index_mut.result.now.group gone reader (c.one-want-2.result ∷ [])
     c.in_ok-table.ensures.idle first.1 c.leave.ensures.table waits.1 c.in-None.ensures.same c.give_back.ensures.waiters in
-    let by = c.in-Some-Granted.by in
-    let grants = turn_granted reader (c.one-want-2.result ∷ []) payments Shared c.in-Some-Granted.index by c.give_back.new.self c.next_grant-2.new.self c.in-Some-Granted.read.items alone is turn in
+    let by = c.in-Some-Granted.field-0-1 in
+    let grants = turn_granted reader (c.one-want-2.result ∷ []) payments Shared c.in-Some-Granted.field-0-0 by c.give_back.new.self c.next_grant-2.new.self c.in-Some-Granted.read.items alone is turn in
     let y : Claiming = fresh by payments Shared (left_in c.give_back.new.self.stands payments) in
     let told : c.in-Some-Granted.read.items ≡ y ∷ [] = one_granted by (on_one payments Shared ∷ []) payments Shared c.give_back.new.self c.next_grant-2.new.self c.in-Some-Granted.read.items refl grants in
     let long : length c.in-Some-Granted.read.items ≡ 1 = ap (λ (cs : List Claiming). length cs) told in
@@ -84,8 +84,8 @@ look-requires-clause-here g c =
     let alone : c.give_back.new.self.waiters ≡ waiting reader (c.one-want-2.result ∷ []) ∷ [] =
     waits_alone c.in_ok-table.table c.ask.new.self c.leave.new.self c.ask-2.new.self c.next_grant.new.self c.give_back.new.self c.index_mut.result.now.group gone reader (c.one-want-2.result ∷ [])
     c.in_ok-table.ensures.idle first.1 c.leave.ensures.table waits.1 c.in-None.ensures.same c.give_back.ensures.waiters in
-    let by = c.in-Some-Granted.by in
-    let grants = turn_granted reader (c.one-want-2.result ∷ []) payments Shared c.in-Some-Granted.index by c.give_back.new.self c.next_grant-2.new.self c.in-Some-Granted.read.items alone is turn in
+    let by = c.in-Some-Granted.field-0-1 in
+    let grants = turn_granted reader (c.one-want-2.result ∷ []) payments Shared c.in-Some-Granted.field-0-0 by c.give_back.new.self c.next_grant-2.new.self c.in-Some-Granted.read.items alone is turn in
     let y : Claiming = fresh by payments Shared (left_in c.give_back.new.self.stands payments) in
     let told : c.in-Some-Granted.read.items ≡ y ∷ [] = one_granted by (on_one payments Shared ∷ []) payments Shared c.give_back.new.self c.next_grant-2.new.self c.in-Some-Granted.read.items refl grants in
     let one : c.index_mut-2.result.now ≡ y = only_one c.in-Some-Granted.read.items y c.index_mut-2.result.now told c.index_mut-2.ensures.value in
@@ -102,8 +102,8 @@ look-requires-clause-shared g c =
     let alone : c.give_back.new.self.waiters ≡ waiting reader (c.one-want-2.result ∷ []) ∷ [] =
     waits_alone c.in_ok-table.table c.ask.new.self c.leave.new.self c.ask-2.new.self c.next_grant.new.self c.give_back.new.self c.index_mut.result.now.group gone reader (c.one-want-2.result ∷ [])
     c.in_ok-table.ensures.idle first.1 c.leave.ensures.table waits.1 c.in-None.ensures.same c.give_back.ensures.waiters in
-    let by = c.in-Some-Granted.by in
-    let grants = turn_granted reader (c.one-want-2.result ∷ []) payments Shared c.in-Some-Granted.index by c.give_back.new.self c.next_grant-2.new.self c.in-Some-Granted.read.items alone is turn in
+    let by = c.in-Some-Granted.field-0-1 in
+    let grants = turn_granted reader (c.one-want-2.result ∷ []) payments Shared c.in-Some-Granted.field-0-0 by c.give_back.new.self c.next_grant-2.new.self c.in-Some-Granted.read.items alone is turn in
     let y : Claiming = fresh by payments Shared (left_in c.give_back.new.self.stands payments) in
     let told : c.in-Some-Granted.read.items ≡ y ∷ [] = one_granted by (on_one payments Shared ∷ []) payments Shared c.give_back.new.self c.next_grant-2.new.self c.in-Some-Granted.read.items refl grants in
     ap (λ (k : Claiming). k.mode) (only_one c.in-Some-Granted.read.items y c.index_mut-2.result.now told c.index_mut-2.ensures.value)
@@ -120,8 +120,8 @@ returns g c =
     let alone : c.give_back.new.self.waiters ≡ waiting reader (c.one-want-2.result ∷ []) ∷ [] =
     waits_alone c.in_ok-table.table c.ask.new.self c.leave.new.self c.ask-2.new.self c.next_grant.new.self c.give_back.new.self c.index_mut.result.now.group gone reader (c.one-want-2.result ∷ [])
     c.in_ok-table.ensures.idle first.1 c.leave.ensures.table waits.1 c.in-None.ensures.same c.give_back.ensures.waiters in
-    let by = c.in-Some-Granted.by in
-    let grants = turn_granted reader (c.one-want-2.result ∷ []) payments Shared c.in-Some-Granted.index by c.give_back.new.self c.next_grant-2.new.self c.in-Some-Granted.read.items alone is turn in
+    let by = c.in-Some-Granted.field-0-1 in
+    let grants = turn_granted reader (c.one-want-2.result ∷ []) payments Shared c.in-Some-Granted.field-0-0 by c.give_back.new.self c.next_grant-2.new.self c.in-Some-Granted.read.items alone is turn in
     let y : Claiming = fresh by payments Shared (left_in c.give_back.new.self.stands payments) in
     let told : c.in-Some-Granted.read.items ≡ y ∷ [] = one_granted by (on_one payments Shared ∷ []) payments Shared c.give_back.new.self c.next_grant-2.new.self c.in-Some-Granted.read.items refl grants in
     let one : c.index_mut-2.result.now ≡ y = only_one c.in-Some-Granted.read.items y c.index_mut-2.result.now told c.index_mut-2.ensures.value in
