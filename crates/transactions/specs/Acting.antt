@@ -1,5 +1,5 @@
 -- What comes of an action, from its claims to their return.
-use Rattle.std.specs.Prelude.{◌≡◌, List, [], All}
+use Rattle.std.specs.Prelude.{◌≡◌, ℕ, List, [], All}
 use Rattle.partitions.specs.Parts.{Shared, shared_of}
 use Rattle.groups.specs.declared.wishes.Mode.TheVariants.{Exclusive}
 use Rattle.tickets.specs.Claims.{Claiming}
