@@ -213,5 +213,5 @@ module _ {J : Type 0} where
               let after = fits_entry opening history w.log (joined_in w) w.desk.admitted (all_claims t.held) others.claims (unanswered_transaction t) others.pending executor entry
               refl (sym s.asked.number) (sym s.asked.request) refl (s.carried_out opening ((λ i. record { scale = sym f.scale i; items = sym f.items i }) ∙ h.shared_is)) first.told first.committed in
               releases_fits opening (history ++ step (Send executor) (Logged place) ∷ []) logged_w hand settle r below (sym (logged_claims shown t.held)) refl
-              (record { told = after.0; committed = after.1; held = logged_held entry.reply (joined_in w).holdings (all_claims t.held) others.claims first.held; scale = first.scale; items = first.items }),
+              (record { told = after.0; committed = after.1; held = logged_held opening history w.log entry.reply (joined_in w).holdings (all_claims t.held) others.claims first.held; scale = first.scale; items = first.items }),
         )

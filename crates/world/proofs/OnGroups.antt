@@ -61,21 +61,21 @@ wished (first ∷ wishes) wish is =
 -- and a claim that a lock table has, one of those on its group
 pub claimed : (w_id : ℕ) (claims : List Claiming) (h : Holding) → Contains (held_at w_id claims) h → 1 ≤ claims_on h.group claims
 claimed w_id [] h is = contains_none h is
-claimed w_id (first ∷ claims) h is = either (at_home w_id first.group) is
+claimed w_id (first ∷ claims) h is = either (claimed w_id claims h) (at_home w_id first.group) is
   where
     rest : List Claiming
     rest = filter (λ (claim : Claiming). at_home w_id claim.group) claims
 
-    later : Contains (map held_by rest) h → 1 ≤ claims_on h.group (first ∷ claims)
-    later there = omega (arith, claimed w_id claims h there, sum_by-cons (one_claim_on h.group) first claims)
+    later : 1 ≤ claims_on h.group claims → 1 ≤ claims_on h.group (first ∷ claims)
+    later one = omega (arith, one, sum_by-cons (one_claim_on h.group) first claims)
 
-    either : (b : Bool) → Contains (map held_by (cond b (first ∷ rest) rest)) h → 1 ≤ claims_on h.group (first ∷ claims)
-    either true there =
+    either : (Contains (held_at w_id claims) h → 1 ≤ claims_on h.group claims) → (b : Bool) → Contains (map held_by (cond b (first ∷ rest) rest)) h → 1 ≤ claims_on h.group (first ∷ claims)
+    either more true there =
         ⊎_elim
         (λ (same : held_by first ≡ h).
         let one : one_claim_on h.group first ≡ 1 =
         ap {B = ℕ} (λ (x : Holding). cond (is_same h.group x.group) 1 0) same ∙ ap {B = ℕ} (λ b. cond b 1 0) (is_same-itself h.group) in
         omega (arith, one, sum_by-cons (one_claim_on h.group) first claims))
-        (λ (there : Contains (map held_by rest) h). later there)
+        (λ (there : Contains (map held_by rest) h). later (more there))
         (contains_cases (held_by first) (map held_by rest) h there)
-    either false there = later there
+    either more false there = later (more there)
