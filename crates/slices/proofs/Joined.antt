@@ -22,7 +22,7 @@ use Rattle.slices.specs.Joining.{OneSliceKeepsAll, CutSlicesAreAtRest}
 use Rattle.slices.specs.Sliced.{Sliced, AreSlicesOf, IsClaimAt, KeepsAllHeld, KeepsHeld, part_in, at_home, at_rest, free_at, held_at, holdings_in, standing, joined, all_standing, everywhere}
 use Rattle.slices.proofs.Alike.{content_alike}
 use Rattle.slices.proofs.Held.{none_of, own_first}
-use Rattle.slices.proofs.Seen.{AreAlike, seen, home_tells, not_home, home_told}
+use Rattle.slices.proofs.Seen.{AreAlike, seen, home_tells, home_told}
 use Rattle.slices.proofs.Wholes.{whole_has_part, whole_keeps_others}
 
 -- ---- what is committed in one warehouse, and in all others
