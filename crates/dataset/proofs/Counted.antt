@@ -129,10 +129,10 @@ tables_marked t = (
 pub loaded_by_table : (t : Database) (e : Entries) → flat_map (λ records. records) (entry_records e) ≡ all_records t → entry_records e ≡ records_by_table t
 loaded_by_table t e same = parts_same marks (entry_records e) (records_by_table t) marks_apart (entries_marked e) (tables_marked t) same
 
-count_rows : {K X : Type 0} (fields : K → X → List Field) (es : List (K × X)) (rows : List X) → values_of es ≡ rows → length (row_records fields es) ≡ length rows
+pub count_rows : {K X : Type 0} (fields : K → X → List Field) (es : List (K × X)) (rows : List X) → values_of es ≡ rows → length (row_records fields es) ≡ length rows
 count_rows fields es rows are = length-map es (λ e. fields e.0 e.1) ∙ sym (length-map es (λ e. e.1)) ∙ ap length are
 
-count_entries : {K X : Type 0} (fields : K → X → List Field) (es ds : List (K × X)) → es ≡ ds → length (row_records fields es) ≡ length ds
+pub count_entries : {K X : Type 0} (fields : K → X → List Field) (es ds : List (K × X)) → es ≡ ds → length (row_records fields es) ≡ length ds
 count_entries fields es ds are = length-map es (λ e. fields e.0 e.1) ∙ ap length are
 
 count_payments : (ks : List DistrictKey) (lists : List (List History)) → length lists ≤ length ks → length (payment_records (zip ks lists)) ≡ sum (map length lists)
@@ -146,7 +146,7 @@ count_payments (k ∷ ks) (list ∷ lists) few =
     ∙ sym (count-cons list lists)
 
 module _ (l : Loader) (read : List (List (List ℕ))) (h : HasLoaded l read) where
-  payments_counted : length (payment_records h.entries.histories) ≡ sum (map length l.rows.histories.items)
+  pub payments_counted : length (payment_records h.entries.histories) ≡ sum (map length l.rows.histories.items)
   payments_counted = ap (λ es. length (payment_records es)) h.histories ∙ count_payments (district_keys l.scale) l.rows.histories.items h.few_lists
 
   loaded_counted : end_fields (entry_records h.entries) ≡ count_fields l.rows

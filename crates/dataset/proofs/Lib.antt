@@ -24,3 +24,8 @@ pub mod Counted
 pub mod Expecting
 pub mod Completed
 pub mod Short
+pub mod ColumnsRead
+pub mod RowFault
+pub mod LetterFault
+pub mod RowsFault
+pub mod HeaderFault

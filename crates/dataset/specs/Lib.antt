@@ -9,3 +9,6 @@ pub mod RecordLaws
 pub mod TableRow
 pub mod Expecting
 pub mod FirstRecord
+pub mod Columns
+pub mod FirstFault
+pub mod TakenAs

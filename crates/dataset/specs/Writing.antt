@@ -14,12 +14,15 @@ pub record Adds (fields : List Field) (old new : List (List ℕ)) : Type 0 where
   pub added : new ≡ old ++ texts
 
 -- how many rows each table has
+abbrev pub table_counts : TableRows → List ℕ
+table_counts rows =
+    length rows.items.items ∷ length rows.warehouses.items ∷ length rows.districts.items ∷ length rows.stocks.items
+    ∷ length rows.customers.items ∷ sum (map length rows.histories.items) ∷ length rows.orders.entries
+    ∷ length rows.new_orders.entries ∷ length rows.lines.entries ∷ []
+
+-- as fields
 abbrev pub row_counts : TableRows → List Field
-row_counts rows =
-    Number (length rows.items.items) ∷ Number (length rows.warehouses.items)
-    ∷ Number (length rows.districts.items) ∷ Number (length rows.stocks.items) ∷ Number (length rows.customers.items)
-    ∷ Number (sum (map length rows.histories.items)) ∷ Number (length rows.orders.entries)
-    ∷ Number (length rows.new_orders.entries) ∷ Number (length rows.lines.entries) ∷ []
+row_counts rows = map (λ count. Number count) (table_counts rows)
 
 -- the end record of these rows
 abbrev pub count_fields : TableRows → List Field

@@ -5,6 +5,8 @@ ghost use Rattle.dataset.specs.Records.{AreSpelt, customer_key_fields, customer_
 ghost use Rattle.dataset.specs.Taking.{Added, Reads, ReadsRow};
 ghost use Rattle.dataset.specs.Writing.{Adds};
 ghost use Rattle.dataset.specs.Ranges.{CustomerInRange};
+ghost use Rattle.dataset.specs.Columns.{Sizes, take_columns, columns_end, sizes, key_columns, other_columns, Customers};
+ghost use Rattle.files.specs.FieldRead.{taking};
 
 use crate::added;
 use crate::moments::put_moment;
@@ -17,6 +19,7 @@ use schema::{NoMemory, Scale};
 /// Takes the key of a customer, three fields.
 pub fn key(fields: &mut Fields, scale: Scale) -> CustomerKey
     ensures known { IsTrue (has_customer scale result) }
+    ensures columns { taking fields.new ≡ take_columns (key_columns (sizes scale) Customers) (taking fields.old) }
     ensures taken { Takes fields.old fields.new (AreSpelt (customer_key_fields result)) }
     ensures reads { Reads customer_key_fields (λ key. IsTrue (has_customer scale key)) result fields.old fields.new }
 {
@@ -29,6 +32,7 @@ pub fn key(fields: &mut Fields, scale: Scale) -> CustomerKey
 
 /// Takes the other fields of a record of CUSTOMER, and adds the row if the record has no fault.
 pub fn add(fields: &mut Fields, customers: &mut Vec<Customer>) -> Result<(), NoMemory>
+    ensures columns { OnOk result ((s : Sizes) → fault_of fields.new ≡ columns_end (other_columns s Customers) (taking fields.old)) }
     ensures added { OnOk result (fault_of fields.new ≡ None → Added customer_columns (λ row. customers.new.items ≡ customers.old.items ++ row ∷ []) fields.old) }
     ensures reads { OnOk result (ReadsRow customer_columns CustomerInRange (λ row. customers.new.items ≡ customers.old.items ++ row ∷ []) fields.old fields.new) }
 {
@@ -37,6 +41,7 @@ pub fn add(fields: &mut Fields, customers: &mut Vec<Customer>) -> Result<(), NoM
 }
 
 fn parse(fields: &mut Fields) -> Customer
+    ensures columns { (s : Sizes) → taking fields.new ≡ take_columns (other_columns s Customers) (taking fields.old) }
     ensures taken { Takes fields.old fields.new (AreSpelt (customer_columns result)) }
     ensures reads { Reads customer_columns CustomerInRange result fields.old fields.new }
 {

@@ -5,6 +5,8 @@ ghost use Rattle.dataset.specs.Records.{AreSpelt, district_key_fields, district_
 ghost use Rattle.dataset.specs.Taking.{Added, Reads, ReadsRow};
 ghost use Rattle.dataset.specs.Writing.{Adds};
 ghost use Rattle.dataset.specs.Ranges.{DistrictInRange};
+ghost use Rattle.dataset.specs.Columns.{Sizes, take_columns, columns_end, sizes, key_columns, other_columns, Districts};
+ghost use Rattle.files.specs.FieldRead.{taking};
 
 use crate::added;
 use crate::recorded::{Dense, Recorded};
@@ -16,6 +18,7 @@ use schema::{NoMemory, Scale};
 /// Takes the key of a district, two fields.
 pub fn key(fields: &mut Fields, scale: Scale) -> DistrictKey
     ensures known { IsTrue (has_district scale result) }
+    ensures columns { taking fields.new ≡ take_columns (key_columns (sizes scale) Districts) (taking fields.old) }
     ensures taken { Takes fields.old fields.new (AreSpelt (district_key_fields result)) }
     ensures reads { Reads district_key_fields (λ key. IsTrue (has_district scale key)) result fields.old fields.new }
 {
@@ -27,6 +30,7 @@ pub fn key(fields: &mut Fields, scale: Scale) -> DistrictKey
 
 /// Takes the other fields of a record of DISTRICT, and adds the row if the record has no fault.
 pub fn add(fields: &mut Fields, districts: &mut Vec<District>) -> Result<(), NoMemory>
+    ensures columns { OnOk result ((s : Sizes) → fault_of fields.new ≡ columns_end (other_columns s Districts) (taking fields.old)) }
     ensures added { OnOk result (fault_of fields.new ≡ None → Added district_columns (λ row. districts.new.items ≡ districts.old.items ++ row ∷ []) fields.old) }
     ensures reads { OnOk result (ReadsRow district_columns DistrictInRange (λ row. districts.new.items ≡ districts.old.items ++ row ∷ []) fields.old fields.new) }
 {
@@ -35,6 +39,7 @@ pub fn add(fields: &mut Fields, districts: &mut Vec<District>) -> Result<(), NoM
 }
 
 fn parse(fields: &mut Fields) -> District
+    ensures columns { (s : Sizes) → taking fields.new ≡ take_columns (other_columns s Districts) (taking fields.old) }
     ensures taken { Takes fields.old fields.new (AreSpelt (district_columns result)) }
     ensures reads { Reads district_columns DistrictInRange result fields.old fields.new }
 {

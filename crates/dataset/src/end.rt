@@ -1,8 +1,10 @@
-ghost use Rattle.std.specs.Prelude.{[], ◌∷◌, ◌<◌, ◌^◌, List, length, map, sum, OnOk};
+ghost use Rattle.std.specs.Prelude.{◌≡◌, [], ◌∷◌, ◌<◌, ◌^◌, List, length, map, sum, OnOk};
 ghost use Rattle.files.specs.Taken.{Takes};
 ghost use Rattle.dataset.specs.Records.{AreSpelt, Field, Number};
 ghost use Rattle.dataset.specs.Taking.{Awaits};
-ghost use Rattle.dataset.specs.Writing.{Adds, count_fields, row_counts};
+ghost use Rattle.dataset.specs.Writing.{Adds, count_fields, row_counts, table_counts};
+ghost use Rattle.dataset.specs.Columns.{take_columns, Count};
+ghost use Rattle.files.specs.FieldRead.{taking};
 
 use crate::histories;
 use files::{FaultKind, Fields, NewRecord};
@@ -11,6 +13,7 @@ use schema::{HistoryList, NoMemory, TableRows};
 /// Takes the counts of an end record, from its second field on; `WrongCount` where one is not that of
 /// the rows read.
 pub fn check(fields: &mut Fields, rows: &TableRows)
+    ensures columns { sum (map length rows.now.histories.items) < 2 ^ 64 → taking fields.new ≡ take_columns (map (λ count. Count count) (table_counts rows.now)) (taking fields.old) }
     ensures taken { Takes fields.old fields.new (AreSpelt (row_counts rows.now)) }
     ensures reads { sum (map length rows.now.histories.items) < 2 ^ 64 → Awaits (row_counts rows.now) fields.old → Awaits [] fields.new }
 {
@@ -27,6 +30,7 @@ pub fn check(fields: &mut Fields, rows: &TableRows)
 
 // Takes the count of HISTORY. A field can't have the number of more payments than a `u64` counts.
 fn check_payments(fields: &mut Fields, lists: &[HistoryList])
+    ensures columns { sum (map length lists.now) < 2 ^ 64 → taking fields.new ≡ take_columns (Count (sum (map length lists.now)) ∷ []) (taking fields.old) }
     ensures taken { Takes fields.old fields.new (AreSpelt (Number (sum (map length lists.now)) ∷ [])) }
     ensures reads { (rest : List Field) → sum (map length lists.now) < 2 ^ 64 → Awaits (Number (sum (map length lists.now)) ∷ rest) fields.old → Awaits rest fields.new }
 {

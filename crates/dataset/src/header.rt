@@ -1,5 +1,6 @@
-ghost use Rattle.std.specs.Prelude.{◌≡◌, IfOk, OnOk};
-ghost use Rattle.files.specs.Taken.{fields_left};
+ghost use Rattle.std.specs.Prelude.{◌≡◌, None, IfOk, OnOk};
+ghost use Rattle.files.specs.Taken.{fault_of, fields_left};
+ghost use Rattle.dataset.specs.TakenAs.{IsHeaderAs};
 ghost use Rattle.dataset.specs.Records.{AreSpelt, header_fields};
 ghost use Rattle.dataset.specs.Taking.{Awaits};
 ghost use Rattle.dataset.specs.Writing.{Adds};
@@ -10,6 +11,7 @@ use schema::{NoMemory, Scale};
 
 /// The scale of a header record: `NoHeader` where the record is none of this format.
 pub fn parse(fields: &mut Fields) -> Result<Scale, FaultKind>
+    ensures exact { fault_of fields.old ≡ None → IsHeaderAs result (fields_left fields.old) }
     ensures spelt { IfOk result (λ scale. AreSpelt (header_fields scale) (fields_left fields.old)) }
     ensures reads { (scale : Scale) → Awaits (header_fields scale) fields.old → result ≡ Ok scale }
 {

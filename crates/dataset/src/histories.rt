@@ -8,6 +8,8 @@ ghost use Rattle.dataset.specs.Records.{AreSpelt, history_columns, history_field
 ghost use Rattle.dataset.specs.Taking.{Added, Reads, ReadsRow};
 ghost use Rattle.dataset.specs.Writing.{Writes};
 ghost use Rattle.dataset.specs.Ranges.{IsPayment};
+ghost use Rattle.dataset.specs.Columns.{take_columns, columns_end, sizes, other_columns, Histories};
+ghost use Rattle.files.specs.FieldRead.{taking};
 
 use crate::moments::put_moment;
 use crate::recorded::{Dense, Recorded};
@@ -28,6 +30,7 @@ pub fn add(
     lists: &mut Vec<HistoryList>,
 ) -> Result<(), NoMemory>
     requires { IsTrue (has_district scale home) }
+    ensures columns { OnOk result (fault_of fields.new ≡ columns_end (other_columns (sizes scale) Histories) (taking fields.old)) }
     ensures added { OnOk result (fault_of fields.new ≡ None → Added history_columns (λ row. Pays (district_slot scale home) row lists.old.items lists.new.items) fields.old) }
     ensures reads { OnOk result (ReadsRow history_columns (IsPayment scale) (λ row. Pays (district_slot scale home) row lists.old.items lists.new.items) fields.old fields.new) }
 {
@@ -42,6 +45,7 @@ pub fn add(
 }
 
 fn parse(fields: &mut Fields, scale: Scale) -> History
+    ensures columns { taking fields.new ≡ take_columns (other_columns (sizes scale) Histories) (taking fields.old) }
     ensures taken { Takes fields.old fields.new (AreSpelt (history_columns result)) }
     ensures reads { Reads history_columns (IsPayment scale) result fields.old fields.new }
 {

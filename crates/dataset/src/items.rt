@@ -4,6 +4,8 @@ ghost use Rattle.files.specs.Taken.{fault_of, Takes};
 ghost use Rattle.dataset.specs.Records.{AreSpelt, Number, item_columns, item_fields};
 ghost use Rattle.dataset.specs.Taking.{Added, Reads, ReadsRow};
 ghost use Rattle.dataset.specs.Ranges.{ItemInRange};
+ghost use Rattle.dataset.specs.Columns.{Sizes, take_columns, columns_end, sizes, key_columns, other_columns, Items};
+ghost use Rattle.files.specs.FieldRead.{taking};
 
 use crate::added;
 use crate::recorded::{Dense, Recorded};
@@ -14,6 +16,7 @@ use schema::{NoMemory, Scale};
 /// Takes I_ID, the second field of a record of ITEM.
 pub fn key(fields: &mut Fields, scale: Scale) -> u32
     ensures known { IsTrue (has_item scale result) }
+    ensures columns { taking fields.new ≡ take_columns (key_columns (sizes scale) Items) (taking fields.old) }
     ensures taken { Takes fields.old fields.new (AreSpelt (Number result ∷ [])) }
     ensures reads { Reads (λ key. Number key ∷ []) (λ key. IsTrue (has_item scale key)) result fields.old fields.new }
 {
@@ -22,6 +25,7 @@ pub fn key(fields: &mut Fields, scale: Scale) -> u32
 
 /// Takes the other fields, and adds the row if the record has no fault.
 pub fn add(fields: &mut Fields, items: &mut Vec<Item>) -> Result<(), NoMemory>
+    ensures columns { OnOk result ((s : Sizes) → fault_of fields.new ≡ columns_end (other_columns s Items) (taking fields.old)) }
     ensures added { OnOk result (fault_of fields.new ≡ None → Added item_columns (λ row. items.new.items ≡ items.old.items ++ row ∷ []) fields.old) }
     ensures reads { OnOk result (ReadsRow item_columns ItemInRange (λ row. items.new.items ≡ items.old.items ++ row ∷ []) fields.old fields.new) }
 {
@@ -30,6 +34,7 @@ pub fn add(fields: &mut Fields, items: &mut Vec<Item>) -> Result<(), NoMemory>
 }
 
 fn parse(fields: &mut Fields) -> Item
+    ensures columns { (s : Sizes) → taking fields.new ≡ take_columns (other_columns s Items) (taking fields.old) }
     ensures taken { Takes fields.old fields.new (AreSpelt (item_columns result)) }
     ensures reads { Reads item_columns ItemInRange result fields.old fields.new }
 {

@@ -8,6 +8,8 @@ ghost use Rattle.dataset.specs.Records.{AreSpelt, Number, delivery_field, line_c
 ghost use Rattle.dataset.specs.Taking.{Added, Reads, ReadsRow};
 ghost use Rattle.dataset.specs.Writing.{Adds};
 ghost use Rattle.dataset.specs.Ranges.{IsMoment, IsLine, IsLineKey};
+ghost use Rattle.dataset.specs.Columns.{take_columns, columns_end, sizes, key_columns, other_columns, Lines, MaybeMoment};
+ghost use Rattle.files.specs.FieldRead.{taking};
 
 use crate::moments::put_moment;
 use crate::recorded::Recorded;
@@ -22,6 +24,7 @@ pub fn key(fields: &mut Fields, scale: Scale) -> OrderLineKey
     ensures district { IsTrue (has_district scale (record { w_id = result.w_id; d_id = result.d_id })) }
     ensures order { IsTrue (is_order_id result.o_id) }
     ensures number { IsTrue (is_line_number result.number) }
+    ensures columns { taking fields.new ≡ take_columns (key_columns (sizes scale) Lines) (taking fields.old) }
     ensures taken { Takes fields.old fields.new (AreSpelt (Number result.w_id ∷ Number result.d_id ∷ Number result.o_id ∷ Number result.number ∷ [])) }
     ensures reads { Reads (λ key. Number key.w_id ∷ Number key.d_id ∷ Number key.o_id ∷ Number key.number ∷ []) (IsLineKey scale) result fields.old fields.new }
 {
@@ -40,6 +43,7 @@ pub fn add(
     key: OrderLineKey,
     lines: &mut BTreeMap<OrderLineKey, OrderLine>,
 ) -> Result<(), NoMemory>
+    ensures columns { OnOk result (fault_of fields.new ≡ columns_end (other_columns (sizes scale) Lines) (taking fields.old)) }
     ensures added { OnOk result (fault_of fields.new ≡ None → Added line_columns (λ row. lines.new.entries ≡ insert_entry line_cmp lines.old.entries key row) fields.old) }
     ensures reads { OnOk result (ReadsRow line_columns (IsLine scale) (λ row. lines.new.entries ≡ insert_entry line_cmp lines.old.entries key row) fields.old fields.new) }
 {
@@ -48,6 +52,7 @@ pub fn add(
 }
 
 fn parse(fields: &mut Fields, scale: Scale) -> OrderLine
+    ensures columns { taking fields.new ≡ take_columns (other_columns (sizes scale) Lines) (taking fields.old) }
     ensures taken { Takes fields.old fields.new (AreSpelt (line_columns result)) }
     ensures reads { Reads line_columns (IsLine scale) result fields.old fields.new }
 {
@@ -63,6 +68,7 @@ fn parse(fields: &mut Fields, scale: Scale) -> OrderLine
 
 // Takes OL_DELIVERY_D, which is null where the field is empty.
 fn delivery(fields: &mut Fields) -> Option<Moment>
+    ensures columns { taking fields.new ≡ take_columns (MaybeMoment ∷ []) (taking fields.old) }
     ensures taken { Takes fields.old fields.new (AreSpelt (delivery_field result ∷ [])) }
     ensures reads { Reads (λ moment. delivery_field moment ∷ []) (λ moment. IfSome moment IsMoment) result fields.old fields.new }
 {

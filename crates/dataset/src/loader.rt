@@ -1,5 +1,7 @@
-ghost use Rattle.std.specs.Prelude.{◌≡◌, ℕ, List, [], ◌∷◌, ◌++◌, None, codes, IsTrue, IfOk, OnOk, ◌<◌, ◌^◌, length, IsOk};
-ghost use Rattle.files.specs.Taken.{fields_left, fault_of};
+ghost use Rattle.std.specs.Prelude.{◌≡◌, ℕ, Some, false, List, [], ◌∷◌, ◌++◌, None, codes, IsTrue, IfOk, OnOk, ◌<◌, ◌^◌, length, IsOk};
+ghost use Rattle.files.specs.Taken.{fields_left, fault_of, with_fault};
+ghost use Rattle.dataset.specs.Columns.{Items, Warehouses, Districts, Stocks, Customers, Histories, Orders, NewOrders, Lines};
+ghost use Rattle.dataset.specs.TakenAs.{IsRowOf, IsTakenAs};
 ghost use Rattle.dataset.specs.Order.{follows};
 ghost use Rattle.dataset.specs.TableRow.{OfItem, OfWarehouse, OfDistrict, OfStock, OfCustomer, OfHistory, OfOrder, OfNewOrder, OfLine};
 ghost use Rattle.schema.specs.Database.{Database, IsWithinScale};
@@ -51,6 +53,8 @@ pub struct Loader {
 impl Loader {
     /// No rows, after a header record of that scale.
     pub fn new(alloc: Global, scale: Scale) -> Self
+        ensures scale { result.scale ≡ scale }
+        ensures last { result.last ≡ Place.Header }
         ensures loads { (texts : List (List ℕ)) → AreSpelt (header_fields scale) texts → HasLoaded result (texts ∷ []) }
         ensures expects { (t : Database) (header : List (List ℕ)) (rows : List (List (List ℕ))) → IsWithinScale t → InRange t → length rows < 2 ^ 64 → scale ≡ t.scale → AreRecords t (header ∷ rows) → Expects t result rows }
     {
@@ -64,6 +68,7 @@ impl Loader {
 
     /// Takes a record. Its fault, if it has one, is noted in `fields`.
     pub fn take(&mut self, fields: &mut Fields) -> Result<Taken, NoMemory>
+        ensures exact { IfOk result (λ taken. fault_of fields.old ≡ None → IsTakenAs taken self.old self.new fields.old fields.new) }
         ensures loads { IfOk result (λ taken. LoadsRecord taken self.old self.new fields.old fields.new) }
         ensures row { IfOk result (λ taken. TakesRow taken self.old self.new fields.old fields.new) }
         ensures end { IfOk result (λ taken. TakesEnd taken self.old self.new fields.old fields.new) }
@@ -104,6 +109,7 @@ impl Loader {
     fn stand_at(&mut self, place: Place, fields: &mut Fields)
         ensures placed { fault_of fields.new ≡ None → (fault_of fields.old ≡ None) × IsTrue (follows place self.old.last) }
         ensures in_order { IsTrue (follows place self.old.last) → fault_of fields.new ≡ fault_of fields.old }
+        ensures out_of_order { follows place self.old.last ≡ false → fault_of fields.new ≡ Some (with_fault (fault_of fields.old) FaultKind.OutOfOrder) }
         ensures left { fields_left fields.new ≡ fields_left fields.old }
         ensures same { self.new ≡ record self.old { last = place } }
     {
@@ -114,6 +120,7 @@ impl Loader {
     }
 
     fn take_item(&mut self, fields: &mut Fields) -> Result<(), NoMemory>
+        ensures exact { OnOk result (fault_of fields.old ≡ None → IsRowOf Items self.old self.new fields.old fields.new) }
         ensures loads { OnOk result (LoadsRow (codes "I") self.old self.new fields.old fields.new) }
         ensures reads { OnOk result ((key : ℕ) (row : Item) → ReadsRecord (OfItem key row) self.old self.new fields.old fields.new) }
     {
@@ -123,6 +130,7 @@ impl Loader {
     }
 
     fn take_warehouse(&mut self, fields: &mut Fields) -> Result<(), NoMemory>
+        ensures exact { OnOk result (fault_of fields.old ≡ None → IsRowOf Warehouses self.old self.new fields.old fields.new) }
         ensures loads { OnOk result (LoadsRow (codes "W") self.old self.new fields.old fields.new) }
         ensures reads { OnOk result ((key : ℕ) (row : Warehouse) → ReadsRecord (OfWarehouse key row) self.old self.new fields.old fields.new) }
     {
@@ -132,6 +140,7 @@ impl Loader {
     }
 
     fn take_district(&mut self, fields: &mut Fields) -> Result<(), NoMemory>
+        ensures exact { OnOk result (fault_of fields.old ≡ None → IsRowOf Districts self.old self.new fields.old fields.new) }
         ensures loads { OnOk result (LoadsRow (codes "D") self.old self.new fields.old fields.new) }
         ensures reads { OnOk result ((key : DistrictKey) (row : District) → ReadsRecord (OfDistrict key row) self.old self.new fields.old fields.new) }
     {
@@ -141,6 +150,7 @@ impl Loader {
     }
 
     fn take_stock(&mut self, fields: &mut Fields) -> Result<(), NoMemory>
+        ensures exact { OnOk result (fault_of fields.old ≡ None → IsRowOf Stocks self.old self.new fields.old fields.new) }
         ensures loads { OnOk result (LoadsRow (codes "S") self.old self.new fields.old fields.new) }
         ensures reads { OnOk result ((key : StockKey) (row : Stock) → ReadsRecord (OfStock key row) self.old self.new fields.old fields.new) }
     {
@@ -150,6 +160,7 @@ impl Loader {
     }
 
     fn take_customer(&mut self, fields: &mut Fields) -> Result<(), NoMemory>
+        ensures exact { OnOk result (fault_of fields.old ≡ None → IsRowOf Customers self.old self.new fields.old fields.new) }
         ensures loads { OnOk result (LoadsRow (codes "C") self.old self.new fields.old fields.new) }
         ensures reads { OnOk result ((key : CustomerKey) (row : Customer) → ReadsRecord (OfCustomer key row) self.old self.new fields.old fields.new) }
     {
@@ -159,6 +170,7 @@ impl Loader {
     }
 
     fn take_history(&mut self, fields: &mut Fields) -> Result<(), NoMemory>
+        ensures exact { OnOk result (fault_of fields.old ≡ None → IsRowOf Histories self.old self.new fields.old fields.new) }
         ensures loads { OnOk result (LoadsRow (codes "H") self.old self.new fields.old fields.new) }
         ensures reads { OnOk result ((key : DistrictKey) (row : History) → ReadsRecord (OfHistory key row) self.old self.new fields.old fields.new) }
     {
@@ -169,6 +181,7 @@ impl Loader {
     }
 
     fn take_order(&mut self, fields: &mut Fields) -> Result<(), NoMemory>
+        ensures exact { OnOk result (fault_of fields.old ≡ None → IsRowOf Orders self.old self.new fields.old fields.new) }
         ensures loads { OnOk result (LoadsRow (codes "O") self.old self.new fields.old fields.new) }
         ensures reads { OnOk result ((key : OrderKey) (row : Order) → ReadsRecord (OfOrder key row) self.old self.new fields.old fields.new) }
     {
@@ -178,6 +191,7 @@ impl Loader {
     }
 
     fn take_new_order(&mut self, fields: &mut Fields) -> Result<(), NoMemory>
+        ensures exact { OnOk result (fault_of fields.old ≡ None → IsRowOf NewOrders self.old self.new fields.old fields.new) }
         ensures loads { OnOk result (LoadsRow (codes "N") self.old self.new fields.old fields.new) }
         ensures reads { OnOk result ((key : OrderKey) (row : NewOrder) → ReadsRecord (OfNewOrder key row) self.old self.new fields.old fields.new) }
     {
@@ -187,6 +201,7 @@ impl Loader {
     }
 
     fn take_line(&mut self, fields: &mut Fields) -> Result<(), NoMemory>
+        ensures exact { OnOk result (fault_of fields.old ≡ None → IsRowOf Lines self.old self.new fields.old fields.new) }
         ensures loads { OnOk result (LoadsRow (codes "L") self.old self.new fields.old fields.new) }
         ensures reads { OnOk result ((key : OrderLineKey) (row : OrderLine) → ReadsRecord (OfLine key row) self.old self.new fields.old fields.new) }
     {

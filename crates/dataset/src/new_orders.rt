@@ -4,6 +4,8 @@ ghost use Rattle.rows.specs.Keys.{order_cmp};
 ghost use Rattle.files.specs.Taken.{fault_of};
 ghost use Rattle.dataset.specs.Records.{new_order_fields};
 ghost use Rattle.dataset.specs.Taking.{Added, ReadsRow};
+ghost use Rattle.dataset.specs.Columns.{columns_end};
+ghost use Rattle.files.specs.FieldRead.{taking};
 
 use crate::recorded::Recorded;
 use crate::{added, orders};
@@ -18,6 +20,7 @@ pub fn add(
     key: OrderKey,
     new_orders: &mut BTreeMap<OrderKey, NewOrder>,
 ) -> Result<(), NoMemory>
+    ensures columns { OnOk result (fault_of fields.new ≡ columns_end [] (taking fields.old)) }
     ensures added { OnOk result (fault_of fields.new ≡ None → Added (λ _. []) (λ row. new_orders.new.entries ≡ insert_entry order_cmp new_orders.old.entries key row) fields.old) }
     ensures reads { OnOk result (ReadsRow (λ _. []) (λ _. Unit {0}) (λ row. new_orders.new.entries ≡ insert_entry order_cmp new_orders.old.entries key row) fields.old fields.new) }
 {

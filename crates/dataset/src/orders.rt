@@ -8,6 +8,8 @@ ghost use Rattle.dataset.specs.Records.{AreSpelt, Number, carrier_field, order_k
 ghost use Rattle.dataset.specs.Taking.{Added, Reads, ReadsRow};
 ghost use Rattle.dataset.specs.Writing.{Adds};
 ghost use Rattle.dataset.specs.Ranges.{IsFrom, IsOrder, IsOrderKey};
+ghost use Rattle.dataset.specs.Columns.{take_columns, columns_end, sizes, key_columns, other_columns, Orders, Whole, MaybeWhole};
+ghost use Rattle.files.specs.FieldRead.{taking};
 
 use crate::moments::put_moment;
 use crate::recorded::Recorded;
@@ -20,6 +22,7 @@ use std::collections::BTreeMap;
 pub fn key(fields: &mut Fields, scale: Scale) -> OrderKey
     ensures district { IsTrue (has_district scale (record { w_id = result.w_id; d_id = result.d_id })) }
     ensures number { IsTrue (is_order_id result.o_id) }
+    ensures columns { taking fields.new ≡ take_columns (key_columns (sizes scale) Orders) (taking fields.old) }
     ensures taken { Takes fields.old fields.new (AreSpelt (order_key_fields result)) }
     ensures reads { Reads order_key_fields (IsOrderKey scale) result fields.old fields.new }
 {
@@ -37,6 +40,7 @@ pub fn add(
     key: OrderKey,
     orders: &mut BTreeMap<OrderKey, Order>,
 ) -> Result<(), NoMemory>
+    ensures columns { OnOk result (fault_of fields.new ≡ columns_end (other_columns (sizes scale) Orders) (taking fields.old)) }
     ensures added { OnOk result (fault_of fields.new ≡ None → Added order_columns (λ row. orders.new.entries ≡ insert_entry order_cmp orders.old.entries key row) fields.old) }
     ensures reads { OnOk result (ReadsRow order_columns (IsOrder scale) (λ row. orders.new.entries ≡ insert_entry order_cmp orders.old.entries key row) fields.old fields.new) }
 {
@@ -55,6 +59,7 @@ pub fn add(
 
 // Takes O_CARRIER_ID, which is null where the field is empty.
 fn carrier(fields: &mut Fields) -> Option<CarrierId>
+    ensures columns { taking fields.new ≡ take_columns (MaybeWhole 1 10 ∷ []) (taking fields.old) }
     ensures taken { Takes fields.old fields.new (AreSpelt (carrier_field result ∷ [])) }
     ensures reads { Reads (λ carrier. carrier_field carrier ∷ []) (λ carrier. IfSome carrier (IsFrom 1 10)) result fields.old fields.new }
 {
@@ -63,6 +68,7 @@ fn carrier(fields: &mut Fields) -> Option<CarrierId>
 
 // Takes O_ALL_LOCAL.
 fn is_all_local(fields: &mut Fields) -> bool
+    ensures columns { taking fields.new ≡ take_columns (Whole 0 1 ∷ []) (taking fields.old) }
     ensures taken { Takes fields.old fields.new (AreSpelt (Number (if result then 1 else 0) ∷ [])) }
     ensures reads { Reads (λ flag. Number (if flag then 1 else 0) ∷ []) (λ _. Unit {0}) result fields.old fields.new }
 {

@@ -1,9 +1,12 @@
-ghost use Rattle.std.specs.Prelude.{◌≡◌, ◌-◌, ◌^◌, ◌<◌, ℕ, List, [], ◌∷◌, length, Some, IfOk, IfErr, OnOk};
+ghost use Rattle.std.specs.Prelude.{◌≡◌, ◌+◌, ◌-◌, ◌^◌, ◌<◌, ℕ, List, [], ◌∷◌, length, map, sum, None, Some, IfOk, IfErr, MatchResult, OnOk};
 ghost use Rattle.schema.specs.Database.{Database, IsWithinScale};
 ghost use Rattle.schema.specs.declared.scale.Scale.{Scale};
-ghost use Rattle.files.specs.Place.{HasRead, HasLeft, IsCsv, record_fields};
+ghost use Rattle.files.specs.Place.{HasRead, HasLeft, IsCsv, record_fields, record_number};
 ghost use Rattle.dataset.specs.Expecting.{Expects, Completes, GoesOn, IsFault};
 ghost use Rattle.dataset.specs.Ranges.{InRange};
+ghost use Rattle.dataset.specs.Columns.{sizes};
+ghost use Rattle.dataset.specs.FirstFault.{first_fault, rows_fault, Tells};
+ghost use Rattle.dataset.specs.TakenAs.{BeginsDataset, IsAt, IsReadAs, ReachesEnd, TellsEnd, TellsFault};
 ghost use Rattle.dataset.specs.Loading.{HasLoaded, HasEnded, IsLoaded};
 ghost use Rattle.dataset.specs.Records.{AreRecords, AreSpelt, header_fields};
 ghost use Rattle.dataset.specs.FirstRecord.{BeginsWith};
@@ -18,11 +21,14 @@ use std::io::Read;
 /// The tables of the dataset that `source` gives.
 ///
 /// A fault comes with its record, and nothing else is given then; but for `Io`, it comes only where no
-/// tables have the records of the text. The first faulty record decides, and of its faults the least
-/// one; a broken rule of the scale is looked for after the whole file was read, and named at the end
-/// record. Memory is taken row by row, never by the numbers of the header.
+/// tables have the records of the text. It is the first fault of the text: the first faulty record
+/// decides, and of its faults the least one; a broken rule of the scale is looked for after the whole
+/// file was read, and named at the end record. Memory is taken row by row, never by the numbers of the
+/// header.
 pub fn read<R: Read + Drop>(alloc: Global, source: R) -> Result<Tables, FileError>
     ensures tables { IfOk result (λ tables. (text : List ℕ) → R.remaining source ≡ Some text → (rows : List (List (List ℕ))) × IsCsv text rows × AreRecords tables rows) }
+    ensures first { (text : List ℕ) (rows : List (List (List ℕ))) → R.remaining source ≡ Some text → IsCsv text rows → length rows < 2 ^ 64 - 1
+        → MatchResult result (λ _. first_fault rows ≡ None) (λ error. Tells rows error) }
     ensures fault { IfErr result (λ error. IsFault error → (text : List ℕ) → R.remaining source ≡ Some text → (rows : List (List (List ℕ))) → IsCsv text rows → length rows < 2 ^ 64 - 1
         → (t : Database) → IsWithinScale t → InRange t → AreRecords t rows → ⊥) }
 {
@@ -38,6 +44,7 @@ pub fn read<R: Read + Drop>(alloc: Global, source: R) -> Result<Tables, FileErro
 /// A fault is one of the header, which is the first record; but for `Io`, it comes only where the text
 /// begins with no header.
 pub fn read_scale<R: Read + Drop>(alloc: Global, source: R) -> Result<Scale, FileError>
+    ensures first { (text : List ℕ) (rows : List (List (List ℕ))) → R.remaining source ≡ Some text → IsCsv text rows → IfErr result (λ error. TellsFault error (first_fault rows)) }
     ensures scale { IfOk result (λ scale. (text : List ℕ) → R.remaining source ≡ Some text → (header : List (List ℕ)) × AreSpelt (header_fields scale) header × BeginsWith text header) }
     ensures fault { IfErr result (λ error. IsFault error → (text : List ℕ) → R.remaining source ≡ Some text
         → (s : Scale) (header : List (List ℕ)) (rows : List (List (List ℕ))) → AreSpelt (header_fields s) header → IsCsv text (header ∷ rows) → ⊥) }
@@ -48,6 +55,8 @@ pub fn read_scale<R: Read + Drop>(alloc: Global, source: R) -> Result<Scale, Fil
 
 // The scale of the first record, which is the header.
 fn read_header<R: Read + Drop>(records: &mut Records<R>) -> Result<Scale, FileError>
+    ensures first { (rows : List (List (List ℕ))) → record_number records.old ≡ 0 → HasLeft R.remaining rows records.old
+        → MatchResult result (λ scale. BeginsDataset R.remaining scale rows records.new) (λ error. TellsFault error (first_fault rows)) }
     ensures read { IfOk result (λ scale. (text : List ℕ) → HasRead R.remaining text [] records.old
         → (texts : List (List ℕ)) × AreSpelt (header_fields scale) texts × HasRead R.remaining text (texts ∷ []) records.new) }
     ensures scale { IfOk result (λ scale. (s : Scale) (header : List (List ℕ)) (rows : List (List (List ℕ))) → AreSpelt (header_fields s) header → HasLeft R.remaining (header ∷ rows) records.old
@@ -65,6 +74,8 @@ fn read_header<R: Read + Drop>(records: &mut Records<R>) -> Result<Scale, FileEr
 
 // Takes the records up to the end record, which is then under way.
 fn read_rows<R: Read + Drop>(records: &mut Records<R>, loader: &mut Loader) -> Result<(), FileError>
+    ensures first { (read rows : List (List (List ℕ))) → length read + length rows < 2 ^ 64 - 1 → IsAt loader.old read → record_number records.old ≡ length read → HasLeft R.remaining rows records.old
+        → MatchResult result (λ _. ReachesEnd R.remaining (sizes loader.old.scale) read rows records.new) (λ error. TellsFault error (rows_fault (sizes loader.old.scale) read rows)) }
     ensures read { OnOk result ((text : List ℕ) (read : List (List (List ℕ))) → HasRead R.remaining text read records.old → HasLoaded loader.old read
         → HasEnded R.remaining text loader.new records.new) }
     ensures all { OnOk result ((t : Database) (rows : List (List (List ℕ))) → Expects t loader.old rows → HasLeft R.remaining rows records.old
@@ -88,6 +99,7 @@ fn read_record<R: Read + Drop>(
     records: &Records<R>,
     loader: &mut Loader,
 ) -> Result<Taken, FileError>
+    ensures exact { sum (map length loader.old.rows.histories.items) < 2 ^ 64 → IsReadAs result loader.old loader.new (record_fields records.now) (record_number records.now) }
     ensures loaded { IfOk result (λ taken. IsLoaded taken loader.old loader.new (record_fields records.now)) }
     ensures goes_on { IfOk result (λ taken. (t : Database) (rest : List (List (List ℕ))) → Expects t loader.old (record_fields records.now ∷ rest) → GoesOn taken t loader.new rest) }
     ensures fault { IfErr result (λ error. IsFault error → (t : Database) (rest : List (List (List ℕ))) → Expects t loader.old (record_fields records.now ∷ rest) → ⊥) }
@@ -102,6 +114,9 @@ fn read_record<R: Read + Drop>(
 
 // The tables, after the end record, which has to be the last.
 fn finish<R: Read + Drop>(mut records: Records<R>, loader: Loader) -> Result<Tables, FileError>
+    ensures none_left { OnOk result ((more : List (List (List ℕ))) → HasLeft R.remaining more records → more ≡ []) }
+    ensures first { IfErr result (λ error. (more : List (List (List ℕ))) → HasLeft R.remaining more records → record_number records < 2 ^ 64 - 1
+        → TellsEnd error more (record_number records)) }
     ensures tables { IfOk result (λ tables. (text : List ℕ) → HasEnded R.remaining text loader records → (rows : List (List (List ℕ))) × IsCsv text rows × AreRecords tables rows) }
     ensures fault { IfErr result (λ error. IsFault error → (t : Database) → IsWithinScale t → Completes t loader → HasLeft R.remaining [] records → ⊥) }
 {

@@ -5,6 +5,8 @@ ghost use Rattle.dataset.specs.Records.{AreSpelt, Words, Number, stock_columns, 
 ghost use Rattle.dataset.specs.Taking.{Added, Reads, ReadsRow};
 ghost use Rattle.dataset.specs.Writing.{Adds};
 ghost use Rattle.dataset.specs.Ranges.{StockInRange, AreDistrictInfos};
+ghost use Rattle.dataset.specs.Columns.{Sizes, take_columns, columns_end, sizes, key_columns, other_columns, Stocks, info_columns};
+ghost use Rattle.files.specs.FieldRead.{taking};
 
 use crate::added;
 use crate::recorded::{Dense, Recorded};
@@ -15,6 +17,7 @@ use schema::{NoMemory, Scale};
 /// Takes the key of a record of STOCK, its second and third field.
 pub fn key(fields: &mut Fields, scale: Scale) -> StockKey
     ensures known { IsTrue (has_stock scale result) }
+    ensures columns { taking fields.new ≡ take_columns (key_columns (sizes scale) Stocks) (taking fields.old) }
     ensures taken { Takes fields.old fields.new (AreSpelt (Number result.w_id ∷ Number result.i_id ∷ [])) }
     ensures reads { Reads (λ key. Number key.w_id ∷ Number key.i_id ∷ []) (λ key. IsTrue (has_stock scale key)) result fields.old fields.new }
 {
@@ -26,6 +29,7 @@ pub fn key(fields: &mut Fields, scale: Scale) -> StockKey
 
 /// Takes the other fields, and adds the row if the record has no fault.
 pub fn add(fields: &mut Fields, stocks: &mut Vec<Stock>) -> Result<(), NoMemory>
+    ensures columns { OnOk result ((s : Sizes) → fault_of fields.new ≡ columns_end (other_columns s Stocks) (taking fields.old)) }
     ensures added { OnOk result (fault_of fields.new ≡ None → Added stock_columns (λ row. stocks.new.items ≡ stocks.old.items ++ row ∷ []) fields.old) }
     ensures reads { OnOk result (ReadsRow stock_columns StockInRange (λ row. stocks.new.items ≡ stocks.old.items ++ row ∷ []) fields.old fields.new) }
 {
@@ -34,6 +38,7 @@ pub fn add(fields: &mut Fields, stocks: &mut Vec<Stock>) -> Result<(), NoMemory>
 }
 
 fn parse(fields: &mut Fields) -> Stock
+    ensures columns { (s : Sizes) → taking fields.new ≡ take_columns (other_columns s Stocks) (taking fields.old) }
     ensures taken { Takes fields.old fields.new (AreSpelt (stock_columns result)) }
     ensures reads { Reads stock_columns StockInRange result fields.old fields.new }
 {
@@ -49,6 +54,7 @@ fn parse(fields: &mut Fields) -> Stock
 
 // Takes S_DIST_01 to S_DIST_10.
 fn district_infos(fields: &mut Fields) -> [Text<24>; 10]
+    ensures columns { taking fields.new ≡ take_columns info_columns (taking fields.old) }
     ensures taken { Takes fields.old fields.new (AreSpelt (map (λ text. Words text) result)) }
     ensures reads { Reads (λ infos. map (λ text. Words text) infos) AreDistrictInfos result fields.old fields.new }
 {

@@ -5,6 +5,8 @@ ghost use Rattle.dataset.specs.Records.{AreSpelt, Number, address_fields, wareho
 ghost use Rattle.dataset.specs.Taking.{Added, Reads, ReadsRow};
 ghost use Rattle.dataset.specs.Writing.{Adds};
 ghost use Rattle.dataset.specs.Ranges.{WarehouseInRange, AddressInRange};
+ghost use Rattle.dataset.specs.Columns.{Sizes, take_columns, columns_end, sizes, key_columns, other_columns, Warehouses, address_columns};
+ghost use Rattle.files.specs.FieldRead.{taking};
 
 use crate::added;
 use crate::recorded::{Dense, Recorded};
@@ -15,6 +17,7 @@ use schema::{NoMemory, Scale};
 /// Takes W_ID, the second field of a record of WAREHOUSE.
 pub fn key(fields: &mut Fields, scale: Scale) -> u32
     ensures known { IsTrue (has_warehouse scale result) }
+    ensures columns { taking fields.new ≡ take_columns (key_columns (sizes scale) Warehouses) (taking fields.old) }
     ensures taken { Takes fields.old fields.new (AreSpelt (Number result ∷ [])) }
     ensures reads { Reads (λ key. Number key ∷ []) (λ key. IsTrue (has_warehouse scale key)) result fields.old fields.new }
 {
@@ -23,6 +26,7 @@ pub fn key(fields: &mut Fields, scale: Scale) -> u32
 
 /// Takes the other fields, and adds the row if the record has no fault.
 pub fn add(fields: &mut Fields, warehouses: &mut Vec<Warehouse>) -> Result<(), NoMemory>
+    ensures columns { OnOk result ((s : Sizes) → fault_of fields.new ≡ columns_end (other_columns s Warehouses) (taking fields.old)) }
     ensures added { OnOk result (fault_of fields.new ≡ None → Added warehouse_columns (λ row. warehouses.new.items ≡ warehouses.old.items ++ row ∷ []) fields.old) }
     ensures reads { OnOk result (ReadsRow warehouse_columns WarehouseInRange (λ row. warehouses.new.items ≡ warehouses.old.items ++ row ∷ []) fields.old fields.new) }
 {
@@ -31,6 +35,7 @@ pub fn add(fields: &mut Fields, warehouses: &mut Vec<Warehouse>) -> Result<(), N
 }
 
 fn parse(fields: &mut Fields) -> Warehouse
+    ensures columns { (s : Sizes) → taking fields.new ≡ take_columns (other_columns s Warehouses) (taking fields.old) }
     ensures taken { Takes fields.old fields.new (AreSpelt (warehouse_columns result)) }
     ensures reads { Reads warehouse_columns WarehouseInRange result fields.old fields.new }
 {
@@ -44,6 +49,7 @@ fn parse(fields: &mut Fields) -> Warehouse
 
 /// Takes the five fields of an address.
 pub fn address(fields: &mut Fields) -> Address
+    ensures columns { taking fields.new ≡ take_columns address_columns (taking fields.old) }
     ensures taken { Takes fields.old fields.new (AreSpelt (address_fields result)) }
     ensures reads { Reads address_fields AddressInRange result fields.old fields.new }
 {

@@ -1,10 +1,7 @@
 -- The next field of those that are left.
-use Rattle.std.proofs.Common.{◌≡◌, ◌↔◌, ◌==◌, true, ℕ, zero, suc, ◌+◌, List, [], ◌∷◌, length, drop, IsTrue, Some, None, Option, Result, Ok, Err, IfOk, IfErr, refl, sym, subst, ◌∙◌, arith, rules}
+use Rattle.std.proofs.Common.{◌≡◌, ◌↔◌, ◌==◌, true, ℕ, zero, suc, ◌+◌, List, [], ◌∷◌, length, drop, IsTrue, Some, None, refl, ◌∙◌, arith, rules}
 use Rattle.std.proofs.lemmas.List.{drop_all}
 use Rattle.csv.specs.Records.{field_at}
-use Rattle.files.specs.declared.fault.FaultKind.{FaultKind}
-use Rattle.files.specs.MomentText.{IsMomentText}
-use Rattle.files.specs.Taken.{with_fault}
 
 pub drop-next : {X : Type 0} (n : ℕ) (xs : List X) → drop (n + 1) xs ≡ drop 1 (drop n xs)
 drop-next zero [] = refl
@@ -39,15 +36,6 @@ first_of_left zero [] field h = absurd cc
 first_of_left zero (x ∷ xs) field h = let same : field ≡ x = cc in rw same refl
 first_of_left (suc n) [] field h = absurd cc
 first_of_left (suc n) (x ∷ xs) field h = let after : suc n + 1 ≡ suc (n + 1) = omega arith in rw after (first_of_left n xs field h)
-
--- where no fault was noted, a moment was read
-pub moment_was_read : (parsed : Result ℕ FaultKind) (value : ℕ) (word : List ℕ) (before after : Option FaultKind) → IfOk parsed (λ seconds. IsMomentText word seconds)
-    → IfOk parsed (λ seconds. (value ≡ seconds) × (after ≡ before)) → IfErr parsed (λ kind. after ≡ Some (with_fault before kind))
-    → after ≡ None → (before ≡ None) × IsMomentText word value
-moment_was_read (Ok seconds) value word before after spelt ok err none =
-    let P : ℕ → Type 0 = IsMomentText word in
-    (sym ok.1 ∙ none, subst P (sym ok.0) spelt)
-moment_was_read (Err kind) value word before after spelt ok err none = absurd cc
 
 -- the next field is empty if its bytes are none
 pub is_next : (bytes : List ℕ) (n : ℕ) (fields : List (List ℕ)) → Some bytes ≡ field_at fields n

@@ -9,6 +9,7 @@ use Rattle.std.proofs.lemmas.Bool.Decides.{nat_tests}
 use Rattle.std.proofs.lemmas.Fmt.{decimal_is_IsNumeral}
 use Rattle.files.specs.declared.fault.FaultKind.{FaultKind}
 use Rattle.files.specs.declared.fault.FaultKind.TheVariants as fault
+use Rattle.files.specs.Fault.{fault_number, least_fault}
 use Rattle.files.specs.FieldRead.{Taking, is_negative, is_within, next_read, noted, value_or, whole_read}
 use Rattle.files.specs.Number.{is_number, is_positive}
 use Rattle.files.specs.Word.{text_read}
@@ -18,12 +19,12 @@ not_negative : (bytes : List ℕ) → list_all is_ascii_digit bytes ≡ true →
 not_negative [] h = refl
 not_negative (byte ∷ bytes) h = grind (arith, nat_tests)
 
-both : (b c : Bool) → (b && c) ≡ true → (b ≡ true) × (c ≡ true)
+pub both : (b c : Bool) → (b && c) ≡ true → (b ≡ true) × (c ≡ true)
 both true c h = (refl, h)
 both false c h = absurd (cc h)
 
 -- what spells a number without a minus sign is digits
-unsigned_digits : (bytes : List ℕ) → is_number bytes ≡ true → is_negative bytes ≡ false → (list_all is_ascii_digit bytes ≡ true) × (0 < length bytes)
+pub unsigned_digits : (bytes : List ℕ) → is_number bytes ≡ true → is_negative bytes ≡ false → (list_all is_ascii_digit bytes ≡ true) × (0 < length bytes)
 unsigned_digits [] number plain = absurd (cc number)
 unsigned_digits (byte ∷ bytes) number plain =
     let spelt : (if byte == 48 then length bytes == 0 else is_positive (byte ∷ bytes)) ≡ true = rw plain at number in (
@@ -38,7 +39,7 @@ unsigned_digits (byte ∷ bytes) number plain =
     zero_digit byte [] z none = let same : byte ≡ 48 = grind (arith, nat_tests) in rw same refl
     zero_digit byte (more ∷ bytes) z none = absurd (grind (arith, nat_tests, none))
 
-within_digits : (low high number : ℕ) (bytes : List ℕ) → decimal number ≡ bytes → number < 2 ^ 64 → low ≤ number → number ≤ high → (is_within low high bytes ≡ true) × (digits_value 10 bytes ≡ number)
+pub within_digits : (low high number : ℕ) (bytes : List ℕ) → decimal number ≡ bytes → number < 2 ^ 64 → low ≤ number → number ≤ high → (is_within low high bytes ≡ true) × (digits_value 10 bytes ≡ number)
 within_digits low high number bytes spelt fits least most =
     let value : digits_value 10 bytes ≡ number = subst (λ b. digits_value 10 b ≡ number) spelt (decimal_is_IsNumeral number fits).1 in
     let plain : is_negative bytes ≡ false = not_negative bytes (subst (λ b. list_all is_ascii_digit b ≡ true) spelt (all_digits_decimal number fits)) in
@@ -46,7 +47,7 @@ within_digits low high number bytes spelt fits least most =
     let below : nat_le number high ≡ true = grind (arith, nat_tests) in
     (rw (plain, value, above, below) refl, value)
 
-not_true : (b : Bool) → not b ≡ true → b ≡ false
+pub not_true : (b : Bool) → not b ≡ true → b ≡ false
 not_true true h = cc h
 not_true false h = refl
 
@@ -77,31 +78,40 @@ whole_is low high bytes (Err kind) fits value range reads no_kind (inr e) =
         let clash = reads (digits_value 10 bytes) spelt least most in
         absurd cc
 
--- a fault of the shape stays, beside one of the kind
-shape_stays : (known : Option FaultKind) → noted (noted known fault.WrongShape) fault.NotOfKind ≡ noted known fault.WrongShape
-shape_stays None = refl
-shape_stays (Some fault.NoHeader) = refl
-shape_stays (Some fault.WrongShape) = refl
-shape_stays (Some fault.NotOfKind) = refl
-shape_stays (Some fault.OutOfRange) = refl
-shape_stays (Some fault.OutOfOrder) = refl
-shape_stays (Some fault.ScaleBroken) = refl
-shape_stays (Some fault.NoEnd) = refl
-shape_stays (Some fault.WrongCount) = refl
-shape_stays (Some fault.AfterEnd) = refl
-shape_stays (Some fault.Io) = refl
+-- a fault of the shape stays, beside one of a greater number
+shape_stays : (known : Option FaultKind) (kind : FaultKind) → 2 ≤ fault_number kind → noted (noted known fault.WrongShape) kind ≡ noted known fault.WrongShape
+shape_stays None kind more = let stays : nat_le 2 (fault_number kind) ≡ true = grind (arith, nat_tests) in rw stays refl
+shape_stays (Some known) kind more = ap (λ (k : FaultKind). Some k) (by (nat_le (fault_number known) 2) refl)
+  where
+    by : (b : Bool) → nat_le (fault_number known) 2 ≡ b → least_fault (least_fault known fault.WrongShape) kind ≡ least_fault known fault.WrongShape
+    by true is =
+        let first : fault_number known ≤ 2 = grind (arith, nat_tests) in
+        let stays : nat_le (fault_number known) (fault_number kind) ≡ true = grind (arith, nat_tests) in
+        rw (is, stays) refl
+    by false is = let stays : nat_le 2 (fault_number kind) ≡ true = grind (arith, nat_tests) in rw (is, stays) refl
+
+-- no bytes are read as the value that stands in for a missing field, or have a fault of a greater number than that of the shape
+pub data Absent {X : Type 0} (read : List ℕ → Result X FaultKind) (other : X) : Type 0 where
+  Stands : read [] ≡ Ok other → Absent read other
+  Faulty : (kind : FaultKind) → 2 ≤ fault_number kind → read [] ≡ Err kind → Absent read other
+
+pub no_kind : {X : Type 0} {read : List ℕ → Result X FaultKind} {other : X} → read [] ≡ Err fault.NotOfKind → Absent read other
+no_kind e = Faulty fault.NotOfKind (omega arith) e
+
+pub no_range : {X : Type 0} {read : List ℕ → Result X FaultKind} {other : X} → read [] ≡ Err fault.OutOfRange → Absent read other
+no_range e = Faulty fault.OutOfRange (omega arith) e
 
 -- what a parser of the next field's bytes gives is kept, or the other value and the fault
 pub field_is : {X : Type 0} (read : List ℕ → Result X FaultKind) (other value : X) (old new : List (List ℕ)) (known mid after : Option FaultKind) (word : List ℕ)
     → new ≡ drop 1 old → (old ≡ [] → (word ≡ []) × (mid ≡ noted known fault.WrongShape)) → ((field : List ℕ) (rest : List (List ℕ)) → old ≡ field ∷ rest → (word ≡ field) × (mid ≡ known))
-    → (read [] ≡ Err fault.NotOfKind) ⊎ (read [] ≡ Ok other)
+    → Absent read other
     → MatchResult (read word) (λ v. (value ≡ v) × (after ≡ mid)) (λ kind. (value ≡ other) × (after ≡ noted mid kind))
     → ◌≡◌ {A = X × Taking} (value, record { left = new; fault = after }) (next_read read other old known)
-field_is {X} read other value [] new known mid after word left none some (inl bad) given =
+field_is {X} read other value [] new known mid after word left none some (Faulty kind more bad) given =
     let absent = none refl in
     let kept = rw (absent.0, bad) at given in
-    rw (left, kept.0, kept.1, absent.1, shape_stays known) refl
-field_is {X} read other value [] new known mid after word left none some (inr empty) given =
+    rw (left, kept.0, kept.1, absent.1, shape_stays known kind more) refl
+field_is {X} read other value [] new known mid after word left none some (Stands empty) given =
     let absent = none refl in
     let kept = rw (absent.0, empty) at given in
     rw (left, kept.0, kept.1, absent.1) refl

@@ -13,3 +13,4 @@ pub mod NextRecord
 pub mod Parts
 pub mod ShortNumbers
 pub mod FieldsRead
+pub mod KindsRead

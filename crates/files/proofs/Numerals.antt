@@ -9,11 +9,11 @@ use Rattle.std.proofs.lemmas.Fmt.{decimal-digits_value, first_decimal, digits_de
 use Rattle.std.proofs.lemmas.Bool.Decides.{nat_tests}
 use Rattle.files.specs.Number.{is_positive, is_number}
 
-own : IsNumeralModel (λ ds. list_all is_ascii_digit ds ≡ true) (digits_value 10)
+pub own : IsNumeralModel (λ ds. list_all is_ascii_digit ds ≡ true) (digits_value 10)
 own = numerals_by_value (λ ds. list_all is_ascii_digit ds ≡ true) (search rules)
 
 -- a number's spelling does not begin with a plus sign
-number_plain : (bs : List ℕ) → is_number bs ≡ true → get_or bs 0 0 ≢ 43
+pub number_plain : (bs : List ℕ) → is_number bs ≡ true → get_or bs 0 0 ≢ 43
 number_plain [] h = grind arith
 number_plain (c ∷ cs) h = grind (arith, nat_tests)
 
@@ -41,7 +41,7 @@ positive_of_digits : (ds : List ℕ) → list_all is_ascii_digit ds ≡ true →
 positive_of_digits [] d f = grind arith
 positive_of_digits (c ∷ cs) d f = grind (arith, nat_tests)
 
-number_of_positive : (ds : List ℕ) → is_positive ds ≡ true → is_number ds ≡ true
+pub number_of_positive : (ds : List ℕ) → is_positive ds ≡ true → is_number ds ≡ true
 number_of_positive [] p = p
 number_of_positive (c ∷ cs) p = grind (arith, nat_tests)
 
@@ -54,7 +54,7 @@ is_number-decimal zero h = rw (decimal_digit 0 (lit< tt))
 is_number-decimal (suc n) h = number_of_positive (decimal (suc n)) (positive-decimal (suc n) (omega arith) h)
 
 -- a negative number's spelling
-signed_negative : (v : ℕ) (ds : List ℕ) → decimal v ≡ ds → is_positive ds ≡ true → signed_decimal (neg_ℤ (pos v)) ≡ 45 ∷ ds
+pub signed_negative : (v : ℕ) (ds : List ℕ) → decimal v ≡ ds → is_positive ds ≡ true → signed_decimal (neg_ℤ (pos v)) ≡ 45 ∷ ds
 signed_negative zero ds e p =
     let zero_text : 48 ∷ [] ≡ ds = sym (decimal_digit 0 (lit< tt)) ∙ e in
     let at : List ℕ → Type 0 = λ l. is_positive l ≡ true in

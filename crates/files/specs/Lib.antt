@@ -12,3 +12,4 @@ pub mod Line
 pub mod ByteOrder
 pub mod Unquoted
 pub mod FieldRead
+pub mod KindsRead

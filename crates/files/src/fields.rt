@@ -1,4 +1,4 @@
-ghost use Rattle.std.specs.Prelude.{◌≡◌, ◌≢◌, ◌↔◌, ◌<◌, ◌≤◌, ℕ, ℤ, List, [], ◌∷◌, length, drop, IsTrue, None, Some, MatchOption, IfNone, IfSome, IfOk, IfErr, IsUtf8};
+ghost use Rattle.std.specs.Prelude.{◌≡◌, ◌≢◌, ◌↔◌, ◌<◌, ◌≤◌, ℕ, ℤ, List, [], ◌∷◌, length, drop, IsTrue, None, Some, MatchOption, IfNone, IfSome, IfOk, IfErr, IsUtf8, pos};
 ghost use Rattle.std.specs.Fmt.{decimal, signed_decimal};
 ghost use Rattle.amounts.specs.Money.{IsMoney};
 ghost use Rattle.files.specs.Span.{parts};
@@ -6,10 +6,11 @@ ghost use Rattle.rows.specs.Text.{IsText};
 ghost use Rattle.files.specs.MomentText.{IsMomentText};
 ghost use Rattle.files.specs.Word.{credit_text, text_read};
 
-use crate::numbers::{read_ranged, read_rate, read_whole};
+use crate::FaultKind;
+use crate::moment::{read_moment, read_optional_moment};
+use crate::numbers::{read_cents, read_count, read_optional, read_ranged, read_rate, read_whole};
 use crate::span::{Span, part};
-use crate::words::read_text;
-use crate::{FaultKind, parse_cents, parse_credit, parse_moment};
+use crate::words::{read_credit, read_text};
 use amounts::{Cents, Rate};
 use rows::{Credit, Moment, Ranged, Text};
 use std::str::from_utf8;
@@ -29,6 +30,7 @@ pub struct Fields<'r> {
 
 impl<'r> Fields<'r> {
     ghost use Rattle.files.specs.FieldRead.{field_read, taking, whole_read};
+    ghost use Rattle.files.specs.KindsRead.{count_read, credit_read, moment_read, money_read, optional_read, word_read};
     ghost use Rattle.files.specs.Taken.{fields_left, fault_of, with_fault, TakesWell};
 
     /// All fields of the record, none taken and without a fault.
@@ -131,6 +133,7 @@ impl<'r> Fields<'r> {
     /// The next field as it stands. `""` where there is none, which is noted as `WrongShape`, and where
     /// its bytes are no text at all, noted as `NotOfKind`.
     pub fn word(&mut self) -> &'r str
+        ensures field { (result.now, taking self.new) ≡ field_read word_read [] (taking self.old) }
         ensures left { fields_left self.new ≡ drop 1 (fields_left self.old) }
         ensures none { fields_left self.old ≡ [] → fault_of self.new ≡ Some (with_fault (fault_of self.old) FaultKind.WrongShape) }
         ensures no_text { (field : List ℕ) (rest : List (List ℕ)) → fields_left self.old ≡ field ∷ rest → ¬ IsUtf8 field → fault_of self.new ≡ Some (with_fault (fault_of self.old) FaultKind.NotOfKind) }
@@ -178,22 +181,14 @@ impl<'r> Fields<'r> {
 
     /// The same, and `None` where the field is empty.
     pub fn optional_ranged<const LOW: u32, const HIGH: u32>(&mut self) -> Option<Ranged<LOW, HIGH>>
+        ensures field { (result, taking self.new) ≡ field_read (optional_read (whole_read LOW HIGH)) None (taking self.old) }
         ensures reads { (number : ℕ) (rest : List (List ℕ)) → fields_left self.old ≡ decimal number ∷ rest → LOW ≤ number → number ≤ HIGH → (result ≡ Some number) × (fault_of self.new ≡ fault_of self.old) }
         ensures reads_null { (rest : List (List ℕ)) → fields_left self.old ≡ [] ∷ rest → (result ≡ None) × (fault_of self.new ≡ fault_of self.old) }
         ensures left { fields_left self.new ≡ drop 1 (fields_left self.old) }
         ensures taken { MatchOption result (TakesWell self.old self.new []) (λ number. TakesWell self.old self.new (decimal number)) }
     {
-        let bytes = self.bytes();
-        if bytes.is_empty() {
-            return None;
-        }
-        match read_ranged(bytes) {
-            Ok(number) => Some(number),
-            Err(kind) => {
-                self.note(kind);
-                None
-            }
-        }
+        let number = read_optional(self.bytes());
+        self.or_note(number, None)
     }
 
     /// The next field as a text; the empty one after a fault.
@@ -209,11 +204,12 @@ impl<'r> Fields<'r> {
 
     /// The next field as money; 0 after a fault.
     pub fn cents(&mut self) -> Cents
+        ensures field { (result, taking self.new) ≡ field_read money_read (pos 0) (taking self.old) }
         ensures left { fields_left self.new ≡ drop 1 (fields_left self.old) }
         ensures reads { (cents : ℤ) (rest : List (List ℕ)) → fields_left self.old ≡ signed_decimal cents ∷ rest → IsMoney cents → (result ≡ cents) × (fault_of self.new ≡ fault_of self.old) }
         ensures taken { TakesWell self.old self.new (signed_decimal result) }
     {
-        let cents = parse_cents(self.word());
+        let cents = read_cents(self.bytes());
         self.or_note(cents, Cents::ZERO)
     }
 
@@ -230,56 +226,48 @@ impl<'r> Fields<'r> {
 
     /// The next field as C_CREDIT; good after a fault.
     pub fn credit(&mut self) -> Credit
+        ensures field { (result, taking self.new) ≡ field_read credit_read Credit.Good (taking self.old) }
         ensures reads { (credit : Credit) (rest : List (List ℕ)) → fields_left self.old ≡ credit_text credit ∷ rest → (result ≡ credit) × (fault_of self.new ≡ fault_of self.old) }
         ensures left { fields_left self.new ≡ drop 1 (fields_left self.old) }
         ensures taken { TakesWell self.old self.new (credit_text result) }
     {
-        let credit = parse_credit(self.word());
+        let credit = read_credit(self.bytes());
         self.or_note(credit, Credit::Good)
     }
 
     /// The next field as a moment; the first one after a fault.
     pub fn moment(&mut self) -> Moment
+        ensures field { (result, taking self.new) ≡ field_read moment_read 0 (taking self.old) }
         ensures left { fields_left self.new ≡ drop 1 (fields_left self.old) }
         ensures reads { (text : List ℕ) (seconds : ℕ) (rest : List (List ℕ)) → fields_left self.old ≡ text ∷ rest → IsUtf8 text → IsMomentText text seconds → seconds ≤ 253402300799 → (result ≡ seconds) × (fault_of self.new ≡ fault_of self.old) }
         ensures taken { fault_of self.new ≡ None → (fault_of self.old ≡ None) × ((text : List ℕ) × IsMomentText text result × (fields_left self.old ≡ text ∷ fields_left self.new)) }
     {
-        let moment = parse_moment(self.word());
+        let moment = read_moment(self.bytes());
         self.or_note(moment, Moment::new(0))
     }
 
     /// The same, and `None` where the field is empty.
     pub fn optional_moment(&mut self) -> Option<Moment>
+        ensures field { (result, taking self.new) ≡ field_read (optional_read moment_read) None (taking self.old) }
         ensures reads { (text : List ℕ) (seconds : ℕ) (rest : List (List ℕ)) → fields_left self.old ≡ text ∷ rest → IsUtf8 text → IsMomentText text seconds → seconds ≤ 253402300799 → (result ≡ Some seconds) × (fault_of self.new ≡ fault_of self.old) }
         ensures reads_null { (rest : List (List ℕ)) → fields_left self.old ≡ [] ∷ rest → (result ≡ None) × (fault_of self.new ≡ fault_of self.old) }
         ensures left { fields_left self.new ≡ drop 1 (fields_left self.old) }
         ensures null { IfNone result (TakesWell self.old self.new []) }
         ensures moment { IfSome result (λ seconds. fault_of self.new ≡ None → (fault_of self.old ≡ None) × ((text : List ℕ) × IsMomentText text seconds × (fields_left self.old ≡ text ∷ fields_left self.new))) }
     {
-        let word = self.word();
-        if word.is_empty() {
-            return None;
-        }
-        match parse_moment(word) {
-            Ok(moment) => Some(moment),
-            Err(kind) => {
-                self.note(kind);
-                None
-            }
-        }
+        let moment = read_optional_moment(self.bytes());
+        self.or_note(moment, None)
     }
 
     /// Notes `WrongCount` where the next field is another number than `count`.
     pub fn expect_count(&mut self, count: u64)
+        ensures field { taking self.new ≡ (field_read (count_read count) count (taking self.old)).1 }
         ensures reads { (rest : List (List ℕ)) → fields_left self.old ≡ decimal count ∷ rest → fault_of self.new ≡ fault_of self.old }
         ensures left { fields_left self.new ≡ drop 1 (fields_left self.old) }
         ensures taken { TakesWell self.old self.new (decimal count) }
     {
-        match read_whole(self.bytes(), count, count) {
-            Ok(_) => {}
-            Err(FaultKind::OutOfRange) => self.note(FaultKind::WrongCount),
-            Err(kind) => self.note(kind),
-        }
+        let counted = read_count(self.bytes(), count);
+        let _ = self.or_note(counted, count);
     }
 
     // The value that was parsed; `other` where none was, and the fault is noted.

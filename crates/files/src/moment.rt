@@ -1,18 +1,21 @@
-ghost use Rattle.std.specs.Prelude.{◌≡◌, ◌↔◌, ℕ, ◌≤◌, IfOk, IfErr, IsTrue, pos};
+ghost use Rattle.std.specs.Prelude.{◌≡◌, ◌↔◌, ℕ, ◌≤◌, IfOk, IfErr, IfSome, IsTrue, Some, pos};
 ghost use Rattle.jiff.specs.Names.{iso_datetime_text};
 ghost use Rattle.jiff_core.specs.DateTime.{civil_seconds};
 ghost use Rattle.jiff_core.specs.declared.civil.datetime.DateTime.{DateTime as Civil};
 ghost use Rattle.files.specs.MomentText.{Spells, IsMomentText};
+ghost use Rattle.files.specs.KindsRead.{moment_at, moment_read, optional_read};
 
 use crate::FaultKind;
 use arrayvec::ArrayString;
 use jiff::civil::DateTime;
 use jiff::fmt::temporal::DateTimePrinter;
 use rows::Moment;
+use std::str::from_utf8;
 
 /// The moment that the field spells: `YYYY-MM-DDTHH:MM:SS`, a date and time that exist, in the years
 /// 1970 to 9999, with seconds from 00 to 59. Any other spelling is `NotOfKind`.
 pub fn parse_moment(field: &str) -> Result<Moment, FaultKind>
+    ensures exact { result ≡ moment_read field.now }
     ensures spelt { IfOk result (λ seconds. (moment : Civil) × Spells moment field.now seconds) }
     ensures reads { (moment : Civil) (seconds : ℕ) → Spells moment field.now seconds → seconds ≤ 253402300799 → result ≡ Ok seconds }
     ensures faults { IfErr result (λ kind. kind ≡ FaultKind.NotOfKind) }
@@ -29,6 +32,33 @@ pub fn parse_moment(field: &str) -> Result<Moment, FaultKind>
     }
 }
 
+/// The same of the bytes of a field.
+pub(crate) fn read_moment(field: &[u8]) -> Result<Moment, FaultKind>
+    ensures exact { result ≡ moment_read field.now }
+    ensures spelt { IfOk result (λ seconds. IsMomentText field.now seconds) }
+    ensures reads { (seconds : ℕ) → IsMomentText field.now seconds → seconds ≤ 253402300799 → result ≡ Ok seconds }
+{
+    match from_utf8(field) {
+        Ok(word) => parse_moment(word),
+        Err(_) => Err(FaultKind::NotOfKind),
+    }
+}
+
+/// The moment of a column that may be empty: null where the field is empty.
+pub(crate) fn read_optional_moment(field: &[u8]) -> Result<Option<Moment>, FaultKind>
+    ensures exact { result ≡ optional_read moment_read field.now }
+    ensures spelt { IfOk result (λ moment. IfSome moment (λ seconds. IsMomentText field.now seconds)) }
+    ensures reads { (seconds : ℕ) → IsMomentText field.now seconds → seconds ≤ 253402300799 → result ≡ Ok (Some seconds) }
+{
+    if field.is_empty() {
+        return Ok(None);
+    }
+    match read_moment(field) {
+        Ok(moment) => Ok(Some(moment)),
+        Err(kind) => Err(kind),
+    }
+}
+
 // Whether the field is what is written for the moment, which has no fraction of a second.
 fn is_spelt(field: &str, moment: DateTime) -> bool
     ensures { IsTrue result ↔ ((iso_datetime_text moment ≡ field.now) × (moment.time.subsec_nanosecond ≡ 0)) }
@@ -39,6 +69,7 @@ fn is_spelt(field: &str, moment: DateTime) -> bool
 
 // The moment, which is known to be before the year 10000; `NotOfKind` before 1970.
 fn seconds_of(moment: DateTime) -> Result<Moment, FaultKind>
+    ensures exact { result ≡ moment_at (civil_seconds moment) }
     ensures reads { (seconds : ℕ) → (result ≡ Ok seconds) ↔ ((civil_seconds moment ≡ pos seconds) × (seconds ≤ 253402300799)) }
     ensures faults { IfErr result (λ kind. kind ≡ FaultKind.NotOfKind) }
 {

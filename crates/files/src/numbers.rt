@@ -4,6 +4,8 @@ ghost use Rattle.std.specs.Fmt.{decimal, signed_decimal};
 ghost use Rattle.std.specs.List.{list_all};
 ghost use Rattle.amounts.specs.Money.{IsMoney};
 ghost use Rattle.files.specs.Number.{is_positive, is_number};
+ghost use Rattle.files.specs.FieldRead.{whole_read};
+ghost use Rattle.files.specs.KindsRead.{money_read, count_read, optional_read};
 
 use crate::FaultKind;
 use amounts::{Cents, Rate};
@@ -127,9 +129,47 @@ pub(crate) fn read_rate(field: &[u8]) -> Result<Rate, FaultKind>
     }
 }
 
+/// The number that a column may be empty of: null where the field is empty, else that of `read_ranged`.
+pub(crate) fn read_optional<const LOW: u32, const HIGH: u32>(
+    field: &[u8],
+) -> Result<Option<Ranged<LOW, HIGH>>, FaultKind>
+    ensures { result ≡ optional_read (whole_read LOW HIGH) field.now }
+{
+    if field.is_empty() {
+        return Ok(None);
+    }
+    match read_ranged(field) {
+        Ok(number) => Ok(Some(number)),
+        Err(kind) => Err(kind),
+    }
+}
+
+/// The number that is expected: `WrongCount` where the field spells another one, and `NotOfKind` where
+/// it spells none.
+pub(crate) fn read_count(field: &[u8], count: u64) -> Result<u64, FaultKind>
+    ensures { result ≡ count_read count field.now }
+{
+    match read_whole(field, count, count) {
+        Ok(number) => Ok(number),
+        Err(FaultKind::OutOfRange) => Err(FaultKind::WrongCount),
+        Err(kind) => Err(kind),
+    }
+}
+
+/// The cents that the bytes of a field spell. Its faults are those of `parse_whole`.
+pub(crate) fn read_cents(field: &[u8]) -> Result<Cents, FaultKind>
+    ensures { result ≡ money_read field.now }
+{
+    match from_utf8(field) {
+        Ok(word) => parse_cents(word),
+        Err(_) => Err(FaultKind::NotOfKind),
+    }
+}
+
 /// The amount of money in whole cents, from -10^15 to 10^15, with `-` before a negative one. Its faults
 /// are those of `parse_whole`.
 pub fn parse_cents(field: &str) -> Result<Cents, FaultKind>
+    ensures exact { result ≡ money_read field.now }
     ensures value { IfOk result (λ cents. signed_decimal cents ≡ field.now) }
     ensures reads { (cents : ℤ) → signed_decimal cents ≡ field.now → IsMoney cents → result ≡ Ok cents }
     ensures not_of_kind { (result ≡ Err FaultKind.NotOfKind) ↔ (is_number field.now ≡ false) }

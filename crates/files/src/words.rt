@@ -2,10 +2,11 @@ ghost use Rattle.std.specs.Prelude.{◌≡◌, ◌↔◌, ◌⊎◌, codes, IfEr
 ghost use Rattle.std.specs.List.{list_all};
 ghost use Rattle.rows.specs.Text.{is_printable_byte};
 ghost use Rattle.files.specs.Word.{credit_text, text_read};
+ghost use Rattle.files.specs.KindsRead.{credit_read};
 
 use crate::FaultKind;
 use rows::{Credit, Text, TextFault};
-use std::str::from_utf8_unchecked;
+use std::str::{from_utf8, from_utf8_unchecked};
 
 /// The text of at most `WIDTH` bytes: `NotOfKind` where a byte is not printable ASCII (32 to 126), else
 /// `OutOfRange` where the field is too long.
@@ -53,6 +54,7 @@ fn ascii(bytes: &[u8]) -> &str
 /// Good for `GC` and bad for `BC`: `NotOfKind` where a byte is not printable ASCII, and `OutOfRange`
 /// for other words.
 pub fn parse_credit(field: &str) -> Result<Credit, FaultKind>
+    ensures exact { result ≡ credit_read field.now }
     ensures good { (result ≡ Ok Credit.Good) ↔ (field.now ≡ codes "GC") }
     ensures bad { (result ≡ Ok Credit.Bad) ↔ (field.now ≡ codes "BC") }
     ensures faults { IfErr result (λ kind. (kind ≡ FaultKind.NotOfKind) ⊎ (kind ≡ FaultKind.OutOfRange)) }
@@ -60,10 +62,23 @@ pub fn parse_credit(field: &str) -> Result<Credit, FaultKind>
     match field {
         "GC" => Ok(Credit::Good),
         "BC" => Ok(Credit::Bad),
-        _ => match Text::<2>::parse(field) {
-            Err(TextFault::Byte) => Err(FaultKind::NotOfKind),
-            _ => Err(FaultKind::OutOfRange),
-        },
+        _ => {
+            if is_printable(field.as_bytes()) {
+                Err(FaultKind::OutOfRange)
+            } else {
+                Err(FaultKind::NotOfKind)
+            }
+        }
+    }
+}
+
+/// The same of the bytes of a field.
+pub(crate) fn read_credit(field: &[u8]) -> Result<Credit, FaultKind>
+    ensures { result ≡ credit_read field.now }
+{
+    match from_utf8(field) {
+        Ok(word) => parse_credit(word),
+        Err(_) => Err(FaultKind::NotOfKind),
     }
 }
 

@@ -1,7 +1,11 @@
 pub mod Choices
+pub mod EntryTexts
 pub mod FieldsOfEach
+pub mod ListedTexts
 pub mod Listings
 pub mod Nullables
 pub mod Numbered
 pub mod OrderedLines
+pub mod ReplyTexts
+pub mod RequestTexts
 pub mod StatusLines

@@ -15,3 +15,4 @@ pub mod Schedule
 pub mod Answers
 pub mod LogRecord
 pub mod Outputs
+pub mod RecordLaws

@@ -53,7 +53,7 @@ mod stock_level;
 
 pub use answers::{answer_record, write_answers};
 pub use files::{FaultKind, FileError, FileFault};
-pub use laws::choice_texts_differ;
+pub use laws::{choice_texts_differ, logs_differ, schedules_differ, scripts_differ};
 pub use log_records::{log_record, read_log, write_log};
 pub use outputs::write_outputs;
 pub use schedules::read_schedule;

@@ -6,3 +6,7 @@ pub mod ServeFaults
 pub mod SourceLists
 pub mod GatheredTables
 pub mod ReplayTellings
+pub mod BuiltCommands
+pub mod ParsedWords
+pub mod AskedWords
+pub mod ScriptFiles

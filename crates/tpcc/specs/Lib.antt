@@ -4,6 +4,9 @@ pub mod OtherName
 pub mod Shelf
 pub mod Tally
 pub mod Words
+pub mod CommandLine
+pub mod Mistakes
+pub mod Asked
 pub mod Edges
 pub mod Faults
 pub mod Verdicts
@@ -12,3 +15,4 @@ pub mod Populate
 pub mod Replay
 pub mod Run
 pub mod Sim
+pub mod Script

@@ -8,6 +8,7 @@ mod commands;
 mod escaped;
 mod help;
 mod latencies;
+mod lines;
 mod meaning;
 mod opening;
 mod other_name;

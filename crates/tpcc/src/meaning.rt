@@ -3,12 +3,17 @@
 
 use crate::command_fault::CommandFault;
 use crate::escaped::Escaped;
+use crate::lines::Lines;
 use crate::trouble::Trouble;
-use csv::{ByteRecord, ReaderBuilder};
-use files::{FaultKind, FileFault};
-use std::io::{BufReader, Read, Seek, SeekFrom, Write};
+use files::{FaultKind, Fields, FileError, FileFault, Records};
+use std::io::{Read, Write};
 use std::rt::Files;
 use std::{fs, io};
+
+// How many fields are told of a record, and how many bytes of a field.
+const MOST_FIELDS: usize = 12;
+
+const MOST_BYTES: usize = 24;
 
 /// Tells what the fault means. That it can't be told changes nothing.
 pub fn tell_meaning<R: Files + AllocGlobal, W: Write>(
@@ -69,7 +74,8 @@ fn tell_trouble<W: Write>(sink: &mut W, path: &str, trouble: &Trouble) {
     }
 }
 
-// Tells the line where the record begins, as an editor counts, and what stands there.
+// Tells the line where the record begins, as an editor counts, and what stands there. Of the file no more
+// is in memory than a record that can be read.
 fn tell_place<R: Files + AllocGlobal, W: Write>(
     rt: &R,
     sink: &mut W,
@@ -79,76 +85,72 @@ fn tell_place<R: Files + AllocGlobal, W: Write>(
     if !fs::metadata(rt, path)?.is_file() {
         return Ok(());
     }
-    let source = BufReader::new(rt.alloc(), fs::open(rt, path)?)?;
-    let mut reader = ReaderBuilder::new()
-        .has_headers(false)
-        .flexible(true)
-        .from_reader(rt.alloc(), source);
-    let mut row = ByteRecord::new(rt.alloc());
-    let mut found = 0u64;
+    let mut records = Records::new(rt.alloc(), fs::open(rt, path)?);
     for _ in 0..record {
-        match reader.read_byte_record(&mut row) {
-            Ok(true) => found = found.saturating_add(1),
-            Ok(false) => break,
+        match records.advance() {
+            Ok(true) => {}
+            Ok(false) => return writeln!(sink, "  after the last line of the file"),
+            Err(FileError::File(fault)) if fault.kind != FaultKind::Io && fault.record == record =>
+                {
+                    let line = line_of(rt, path, record)?;
+                    return writeln!(sink, "  line {line}: a record of more than 65,536 bytes");
+                }
             Err(_) => return Ok(()),
         }
     }
-    if found < record {
-        return writeln!(sink, "  after the last line of the file");
-    }
-    let Some(position) = row.position() else {
-        return Ok(());
-    };
-    let blank = blank_lines_at(rt, path, position.byte())?;
-    let line = position.line().saturating_add(blank);
+    let line = line_of(rt, path, record)?;
     write!(sink, "  line {line}: ")?;
-    tell_fields(sink, &row)
+    tell_fields(sink, records.fields())
 }
 
-// How many lines end from that byte on before something else comes: the place of a record is told from
-// before the blank lines that are passed over.
-fn blank_lines_at<R: Files + AllocGlobal>(rt: &R, path: &str, byte: u64) -> io::Result<u64> {
+// The line where the record of that number begins.
+fn line_of<R: Files>(rt: &R, path: &str, record: u64) -> io::Result<u64> {
     let mut file = fs::open(rt, path)?;
-    file.seek(SeekFrom::Start(byte))?;
-    let mut source = BufReader::new(rt.alloc(), file)?;
-    let mut found = 0u64;
-    let mut next = [0u8; 1];
+    let mut lines = Lines::new();
+    let mut room = [0u8; 4096];
     for _ in 0..u64::MAX {
-        if source.read(&mut next)? == 0 {
+        let count = file.read(&mut room)?;
+        if count == 0 {
             break;
         }
-        match next[0] {
-            b'\n' => found = found.saturating_add(1),
-            b'\r' => {}
-            _ => break,
+        for byte in &room[..count] {
+            lines.pass(*byte);
+            if lines.records == record {
+                return Ok(lines.line);
+            }
         }
     }
-    Ok(found)
+    Ok(lines.line)
 }
 
 // Tells the first fields of a record.
-fn tell_fields<W: Write>(sink: &mut W, row: &ByteRecord) -> io::Result<()> {
-    let mut is_first = true;
-    for field in row.iter().take(12) {
-        if !is_first {
+fn tell_fields<W: Write>(sink: &mut W, mut fields: Fields<'_>) -> io::Result<()> {
+    let count = fields.count();
+    for place in 0..count.min(MOST_FIELDS) {
+        if place > 0 {
             write!(sink, ",")?;
         }
-        is_first = false;
-        match str::from_utf8(&field[..field.len().min(24)]) {
-            Ok(text) => {
-                let text = Escaped(text);
-                write!(sink, "{text}")?;
-            }
-            Err(_) => write!(sink, "?")?,
-        }
-        if field.len() > 24 {
-            write!(sink, "..")?;
-        }
+        tell_field(sink, fields.bytes())?;
     }
-    if row.len() > 12 {
+    if count > MOST_FIELDS {
         write!(sink, ",..")?;
     }
     writeln!(sink)
+}
+
+// Tells the first bytes of a field.
+fn tell_field<W: Write>(sink: &mut W, field: &[u8]) -> io::Result<()> {
+    match str::from_utf8(&field[..field.len().min(MOST_BYTES)]) {
+        Ok(text) => {
+            let text = Escaped(text);
+            write!(sink, "{text}")?;
+        }
+        Err(_) => write!(sink, "?")?,
+    }
+    if field.len() > MOST_BYTES {
+        write!(sink, "..")?;
+    }
+    Ok(())
 }
 
 // What a fault of that kind is, and what would be right.

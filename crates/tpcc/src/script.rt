@@ -1,4 +1,6 @@
-ghost use Rattle.std.specs.Prelude.{◌≡◌, length};
+ghost use Rattle.std.specs.Prelude.{◌≡◌, ◌≤◌, length, IfOk, IfErr, OnOk, OnErr};
+ghost use Rattle.tpcc.specs.Faults.{IsOfFile};
+ghost use Rattle.tpcc.specs.Script.{GivesScale, IsNoWarehouse, IsOfMaking, MakesAll, MakesSome, NamesFirstScripts, NamesScripts, ScriptEnds, IsWorkload};
 ghost use Rattle.tpcc.specs.Settings.{HasFiles};
 
 use crate::command_fault::CommandFault;
@@ -26,6 +28,7 @@ pub fn script_over<D: Read + Drop, T: Write + Drop, N: Shelf<T>, E: Report>(
 ) -> Status
     requires settings { HasFiles settings.now }
     requires files { length files.items ≡ length settings.now.files.items }
+    ensures { ScriptEnds T.contents settings.entry.now (D.remaining «data») files.items (N.named shelf.old) (N.named shelf.new) (E.told errors.old) (E.told errors.new) result }
 {
     match make(alloc, settings, data, files, shelf) {
         Ok(()) => Status::Success,
@@ -33,29 +36,48 @@ pub fn script_over<D: Read + Drop, T: Write + Drop, N: Shelf<T>, E: Report>(
     }
 }
 
+// Reads the scale, draws the scripts at it, and gives their files their names.
 fn make<'a, D: Read + Drop, T: Write + Drop, N: Shelf<T>>(
     alloc: Global,
     settings: &ScriptSettings<'a>,
     data: D,
-    mut files: Vec<T>,
+    files: Vec<T>,
     shelf: &mut N,
 ) -> Result<(), CommandFault<'a>>
     requires settings { HasFiles settings.now }
     requires files { length files.items ≡ length settings.now.files.items }
+    ensures all { OnOk result (MakesAll T.contents settings.entry.now (D.remaining «data») files.items (N.named shelf.old) (N.named shelf.new)) }
+    ensures some { OnErr result (MakesSome T.contents settings.entry.now (D.remaining «data») files.items (N.named shelf.old) (N.named shelf.new)) }
+    ensures fault { IfErr result (IsOfMaking settings.entry.now.home (D.remaining «data»)) }
 {
-    let workload = match read_scale(alloc, data) {
-        Ok(scale) => workload(settings, scale)?,
-        Err(error) => return Err(CommandFault::of_file(settings.data, error)),
+    let scale = read_header(alloc, settings.data, data)?;
+    let workload = match workload(settings, scale) {
+        Ok(workload) => workload,
+        Err(fault) => return Err(fault),
     };
-    for (session, path) in settings.files.iter().enumerate() {
-        let script = draw_script(alloc, &workload, session as u32)?;
-        write_requests(alloc, path, files.remove(0), &script, shelf)?;
+    write_scripts(alloc, &settings.files, &workload, files, shelf)
+}
+
+// The scale of the dataset of that path.
+fn read_header<'a, D: Read + Drop>(
+    alloc: Global,
+    path: &'a str,
+    data: D,
+) -> Result<Scale, CommandFault<'a>>
+    ensures scale { IfOk result (GivesScale (D.remaining «data»)) }
+    ensures fault { IfErr result IsOfFile }
+{
+    match read_scale(alloc, data) {
+        Ok(scale) => Ok(scale),
+        Err(error) => Err(CommandFault::of_file(path, error)),
     }
-    Ok(())
 }
 
 // What the settings ask for, at this scale.
-fn workload<'a>(settings: &ScriptSettings<'a>, scale: Scale) -> Result<Workload, CommandFault<'a>> {
+fn workload<'a>(settings: &ScriptSettings<'a>, scale: Scale) -> Result<Workload, CommandFault<'a>>
+    ensures value { IfOk result (IsWorkload settings.entry.now scale) }
+    ensures fault { IfErr result (IsNoWarehouse settings.entry.now.home scale) }
+{
     if let Some(home) = settings.home {
         if !scale.has_warehouse(home) {
             return Err(CommandFault::NoWarehouse(home));
@@ -70,4 +92,26 @@ fn workload<'a>(settings: &ScriptSettings<'a>, scale: Scale) -> Result<Workload,
         seed: settings.seed,
         requests: settings.requests,
     })
+}
+
+// Draws the script of each session, and writes it to its file, which then gets its name.
+fn write_scripts<'a, T: Write + Drop, N: Shelf<T>>(
+    alloc: Global,
+    paths: &[&'a str],
+    workload: &Workload,
+    mut files: Vec<T>,
+    shelf: &mut N,
+) -> Result<(), CommandFault<'a>>
+    requires few { length paths.now ≤ 64 }
+    requires files { length files.items ≡ length paths.now }
+    ensures all { OnOk result (NamesScripts T.contents workload.now 0 files.items (N.named shelf.old) (N.named shelf.new)) }
+    ensures some { OnErr result (NamesFirstScripts T.contents workload.now files.items (N.named shelf.old) (N.named shelf.new)) }
+    ensures fault { IfErr result IsOfFile }
+{
+    for (session, path) in paths.iter().enumerate() {
+        let file = files.remove(0);
+        let script = draw_script(alloc, workload, session as u32)?;
+        write_requests(alloc, path, file, &script, shelf)?;
+    }
+    Ok(())
 }

@@ -127,6 +127,7 @@ pub fn write_requests<'a, T: Write + Drop, N: Shelf<T>>(
 ) -> Result<(), CommandFault<'a>>
     ensures ok { OnOk result (NamesFile T.contents (Some sink) (N.named shelf.old) (N.named shelf.new) (IsScript script.now)) }
     ensures err { OnErr result (N.named shelf.new ≡ N.named shelf.old) }
+    ensures fault { IfErr result IsOfFile }
 {
     match write_script(alloc, sink, script) {
         Ok(whole) => finished(path, whole, shelf),

@@ -87,12 +87,21 @@ impl fmt::Display for UsageFault {
 }
 
 impl From<Error> for UsageFault {
+    ghost use Rattle.std.specs.Prelude.{◌≡◌};
+    ghost use Rattle.tpcc.specs.declared.usage.UsageFault.TheVariants.{Words};
+
+    ghost from_gives = { λ error fault. fault ≡ Words error };
+
     fn from(error: Error) -> UsageFault {
         UsageFault::Words(error)
     }
 }
 
 impl From<AllocError> for UsageFault {
+    ghost use Rattle.tpcc.specs.Mistakes.{IsNoMemory};
+
+    ghost from_gives = { λ _ fault. IsNoMemory fault };
+
     fn from(error: AllocError) -> UsageFault {
         UsageFault::Words(Error::from(error))
     }

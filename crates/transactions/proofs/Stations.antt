@@ -128,6 +128,7 @@ module _ {T : Type 0} (warehouses : ℕ) (old mid : Sliced) (all rest : List (Pa
     work = p.work;
     inside = inside;
     there = λ d. get_or_default all index d p inside ∙ sym taken ∙ (λ i. parked (sym (ap (λ (w : Waiting). w.by) same) i) p.work p.carried);
+    here = able_there.home;
     rest = left;
     over = subst (λ (ws : List Want). StillWaits old.holdings (waiting by ws) → ⊥) its_wants over;
     first = turn.first;

@@ -56,13 +56,14 @@ module _ {J T : Type 0} where
       MustWait old.slice.holdings by.age (wants_of work)
       × (new ≡ stationed (with_waiters (old.slice.waiters ++ waiting by (wants_of work) ∷ []) old.slice) (old.parked ++ parked by work carried ∷ []))
 
-  -- One of the actions that wait has its turn: it need not wait any more, and all whose turn comes before have to. It did its
-  -- work, or died, or there was no memory; it has what it carried; and all others go on waiting, in their order.
+  -- One of the actions that wait has its turn, whose work is at this warehouse: it need not wait any more, and all whose turn comes
+  -- before have to. It did its work, or died, or there was no memory; it has what it carried; and all others go on waiting, in their order.
   pub record OneTurn (old : Stationed T) (turned : Turned J T) (new : Stationed T) : Type 0 where
     pub index : ℕ
     pub work : Work
     pub inside : index < length old.parked
     pub there : (d : Parked T) → slice_index_or old.parked index d ≡ parked turned.by work turned.carried
+    pub here : home_of work ≡ old.slice.home
     pub rest : new.parked ≡ remove old.parked index
     pub over : StillWaits old.slice.holdings (waiting turned.by (wants_of work)) → ⊥
     pub first : All (WaitsIfBefore old.slice.holdings turned.by) old.slice.waiters

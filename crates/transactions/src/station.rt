@@ -62,7 +62,7 @@ impl<J: GroupNames, T> Model for Station<J, T> {
     ghost invariant = { λ s. IsStation J.warehouses s.slice s.parked.items };
 }
 
-impl<J: GroupNames, T> Station<J, T> {
+impl<J: GroupNames, T: Drop> Station<J, T> {
     /// The station of a slice for which nobody waits.
     pub fn new(alloc: Global, slice: Slice<J>) -> Station<J, T>
         requires { slice.waiters ≡ [] }
@@ -81,6 +81,14 @@ impl<J: GroupNames, T> Station<J, T> {
         ensures station { IsStation J.warehouses self.now.slice self.now.parked }
     {
         &self.slice
+    }
+
+    /// The slice, without those who wait: what they carry is let go.
+    pub fn into_slice(self) -> Slice<J>
+        ensures { result ≡ self.slice }
+    {
+        let Station { slice, .. } = self;
+        slice
     }
 
     /// An action asks for all that its work needs, and does it where nobody is in its way. It waits where all who

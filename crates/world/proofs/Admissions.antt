@@ -67,11 +67,11 @@ module _ {J : Type 0} where
       → IfSome desk.pass (λ was. flow.transaction.pass ≡ with_asks was (asking number asked was.seen was.mine))
       → works.items ≡ works_of flow.progress → meeting ≡ replicate (length works.items) None
       → left.seat ≡ seating desk.seat.session flow.transaction.pass.asks → left.pass ≡ None
-      → new.catalog ≡ old.catalog → new.slices ≡ old.slices → new.inbox ≡ old.inbox ++ Start flow works ∷ []
+      → new.catalog ≡ old.catalog → new.stations ≡ old.stations → new.inbox ≡ old.inbox ++ Start flow works ∷ []
       → new.outbox ≡ old.outbox → new.log ≡ old.log → new.desk.admitted ≡ old.desk.admitted + 1
       → new.desk.active ≡ slice_set old.desk.active flow.transaction.slot (Some (Acting 0 meeting)) → new.desk.sessions.items ≡ slice_set old.desk.sessions.items session left
       → Admits session number asked desk old new
-  admits session number asked desk left old new flow works meeting there age same request held free begins told works_are first seat away catalog slices inbox outbox log admitted active sessions =
+  admits session number asked desk left old new flow works meeting there age same request held free begins told works_are first seat away catalog stations inbox outbox log admitted active sessions =
       let with_pass = asked_with desk.pass (λ was. with_asks was (asking number asked was.seen was.mine)) flow.transaction.pass there told in
       record {
         flow = flow;
@@ -87,7 +87,7 @@ module _ {J : Type 0} where
         pass_is = with_pass.1.1;
         works_are = works_are;
         catalog = catalog;
-        slices = slices;
+        stations = stations;
         inbox = inbox;
         outbox = outbox;
         log = log;

@@ -1,9 +1,10 @@
 -- While an action is to run, no claim is out on a group for which it wishes: so it doesn't die.
-use Rattle.std.proofs.Common.{◌≡◌, ℕ, ◌+◌, ◌-◌, ◌<◌, ◌≤◌, ◌==◌, zero, suc, List, [], ◌∷◌, ◌++◌, length, Option, Some, None, refl, sym, ◌∙◌, ap, subst, arith, cond}
-use Rattle.std.specs.Prelude.{All, map, slice_index_or}
+use Rattle.std.proofs.Common.{◌≡◌, ℕ, ◌+◌, ◌-◌, ◌<◌, ◌≤◌, ◌==◌, zero, suc, List, [], ◌∷◌, ◌++◌, length, Option, Some, None, refl, sym, ◌∙◌, ap, subst, arith, cond, ◌≢◌, Contains, append-nil, eq-eqb, Vec, Global}
+use Rattle.std.specs.Prelude.{All, map, slice_index_or, slice_set}
 use Rattle.std.specs.List.{slice_get, sum_by}
 use Rattle.std.proofs.lemmas.List.{append_cancel_left, get_or-set_same}
-use Rattle.std.proofs.lemmas.List.Elements.{All-head, All-tail}
+use Rattle.std.proofs.lemmas.List.Elements.{All-contains, All-cons, All-head, All-nil, All-tail, Contains-append_left, Contains-append_right, Contains-get_or}
+use Rattle.std.proofs.lemmas.Option.{get_or_from_slice_get, slice_get_within}
 use Rattle.std.proofs.lemmas.List.Sorted.{Contains-permutation, sum_by-IsPermutation}
 use Rattle.std.proofs.lemmas.List.Sums.{sum_by-cons, sum_by-append}
 use Rattle.std.proofs.lemmas.Map.Views.{exact_unsigned_eq}
@@ -14,7 +15,6 @@ use Rattle.groups.specs.declared.wishes.Wish.{Wish}
 use Rattle.groups.specs.Groups.{is_same}
 use Rattle.tickets.specs.Claims.{Claiming, all_claims}
 use Rattle.wait_die.specs.declared.deciding.Holder.{Holder}
-use Rattle.wait_die.specs.declared.deciding.TheConstants.{YOUNGEST}
 use Rattle.commit_log.specs.declared.entry.Entry.{Entry}
 use Rattle.history.specs.declared.event.Event.{Event}
 use Rattle.history.specs.declared.event.Event.TheVariants.{Submit, Take, Send}
@@ -23,15 +23,24 @@ use Rattle.history.specs.History.{Step}
 use Rattle.transactions.specs.declared.work.Work.{Work}
 use Rattle.transactions.specs.declared.acting.Ran.{Ran}
 use Rattle.transactions.specs.declared.acting.Ran.TheVariants as ran
-use Rattle.transactions.specs.Acting.{claims_of_ran}
+use Rattle.transactions.specs.Acting.{IsRanAs, claims_of_ran}
+use Rattle.transactions.specs.declared.station.Acted.{Acted}
+use Rattle.transactions.specs.declared.station.Acted.TheVariants as acted
+use Rattle.transactions.specs.declared.station.Parked.{Parked}
+use Rattle.transactions.specs.declared.station.Turned.{Turned}
+use Rattle.transactions.specs.Stations.{ActsAs, Stationed, waiting_of}
+use Rattle.local_locks.specs.Asking.{StillWaits}
+use Rattle.local_locks.specs.Conflicts.{MustWait}
+use Rattle.local_locks.specs.Locking.{Holding, Waiting}
+use Rattle.local_locks.proofs.Members.{contains_here, contains_joined}
 use Rattle.transactions.specs.Granted.{wish_of}
 use Rattle.transactions.specs.Laws.{TransactionsClaimEachGroupOnce}
 use Rattle.transactions.specs.Progresses.{IsReached, works_of}
-use Rattle.transactions.specs.Works.{all_wishes, home_of, wishes_of}
+use Rattle.transactions.specs.Works.{all_wishes, home_of, wants_of, wishes_of}
 use Rattle.transactions.proofs.Held.{HoldsWished, dies_of_holder}
 use Rattle.transactions.proofs.Reached.{counted, some_actions}
 use Rattle.rendezvous.specs.Awaited.{awaited_from, reported}
-use Rattle.slices.specs.Sliced.{Joined, held_at}
+use Rattle.slices.specs.Sliced.{Sliced, held_at}
 use Rattle.world.specs.declared.desk.Active.{Active}
 use Rattle.world.specs.declared.desk.Active.TheVariants as active
 use Rattle.world.specs.declared.flight.Act.{Act as AnyAct}
@@ -47,9 +56,14 @@ use Rattle.world.specs.Parted.{joined_in}
 use Rattle.world.specs.Slots.{count_active}
 use Rattle.world.specs.Flights.{Token, Acting, Committing, Ending, InFlight, nothing, parts, part_carried, part_message, part_item, part_met, acting_from, claims_reported}
 use Rattle.world.specs.Sound.{IsSoundWith, IsSoundAct, IsSoundItem, IsSoundMessage, IsSoundPhase, IsSoundRan, IsCarriedAt, IsPlaceOf, UnderWay, awaited_by_all, flight, reported_to_all}
-use Rattle.world.specs.Events.{ComesOf, TakesMessage, holder_of}
-use Rattle.world.specs.Together.{IsSound, in_hand, together}
-use Rattle.world.specs.Worlds.{Fits, HasNotDied, Happens, NoneDies, TakesFirst}
+use Rattle.world.specs.declared.flight.Carried.{Carried}
+use Rattle.world.specs.Events.{AllTurns, AtStation, TakesMessage, TurnsFollow, carried_by, holder_of, put_for, report_of}
+use Rattle.world.specs.Following.{acts_from, acts_of}
+use Rattle.world.specs.Stations.{HaveToWait, IsStationOf, act_of, message_of, waiting_at, waiting_in}
+use Rattle.world.specs.Together.{IsSound, all_of, home_of_claims, in_hand, together}
+use Rattle.world.specs.Worlds.{Fits, HasNotDied, Happens, NoneDies, TakesFirst, TellsNoDeath}
+use Rattle.world.proofs.Holders.{claim_of, contains_mapped, holder_active, one_of_all}
+use Rattle.world.proofs.Stationed.{holds, stands_among}
 use Rattle.world.proofs.Balances.{in_inbox, in_outbox, in_meeting, message_taken}
 use Rattle.world.proofs.Executing.{fits_first, first_sound, has_queue, taken_from}
 use Rattle.world.proofs.Apart.{others}
@@ -57,10 +71,11 @@ use Rattle.world.proofs.OnGroups.{wishes_on, claims_on, one_wish_on, one_claim_o
 use Rattle.world.proofs.Reported.{met_tokens}
 use Rattle.world.proofs.Taking.{message_in_hand}
 use Rattle.world.proofs.Courses.{messages_stay, items_stay}
-use Rattle.world.proofs.OneSlot.{acting_weigh, awaited_of, met_apart, sound_in, weigh_slots, without}
+use Rattle.world.proofs.OneSlot.{acting_weigh, awaited_of, met_apart, sound_in, weigh_slots, without, got_set}
 use Rattle.world.proofs.FreeSlots.{taken_counts}
 use Rattle.world.proofs.Quiet.{idle_awaits, idle_met}
-use Rattle.world.proofs.Tokens.{acting_under_way, acting_weighs, by_bool, is_awaited, is_itself, no_acting, weigh_acting, weigh_other}
+use Rattle.world.proofs.Sessions.{get_other}
+use Rattle.world.proofs.Tokens.{IsFalse, acting_under_way, acting_weighs, by_bool, is_awaited, is_itself, no_acting, weigh_acting, weigh_other}
 
 -- ---- the claims of the transaction that is under way
 
@@ -367,37 +382,170 @@ module _ {J : Type 0} (once : TransactionsClaimEachGroupOnce) (shared : Shared) 
 
 -- ---- the event
 
+-- of transactions of which there is one, it is the one in either slot
+one_slot : {X : Type 0} (slots : List (Option X)) (i j : ℕ) (x y : X) → count_active slots ≡ 1 → slice_get slots i ≡ Some (Some x) → slice_get slots j ≡ Some (Some y) → i ≡ j
+one_slot slots i j x y one here there =
+    by_bool (j == i)
+    (λ same. sym (exact_unsigned_eq j i same))
+    (λ differs.
+    let other : j ≢ i = λ is. absurd (subst (λ b. IsFalse b) (sym differs ∙ eq-eqb j i is) tt) in
+    let still : slice_get (slice_set slots i None) j ≡ Some (Some y) = get_other slots i j None other ∙ there in
+    absurd (omega (arith, one, taken_counts slots i x here, taken_counts (slice_set slots i None) j y still)))
+
+-- reports of those who have run tell of no death, where none has died
+module _ {J : Type 0} (shared : Shared) (old : Core J) (h : IsSound shared old) (alone : count_active old.parts.desk.active ≡ 1) where
+  abbrev all : Parts J
+  all = together old
+
+  -- while one is alone, all that is out is its own, and of its age
+  own_age : (slot place : ℕ) (c : Claiming) → 1 ≤ sum_by (weigh_acting slot place) (awaited_by_all 0 all.desk.active) → Contains (flight all).claims c → c.by.age ≡ (h.all.under_way slot).age
+  own_age slot place c some is =
+      let there = acting_under_way slot place all.desk.active some in
+      let holder = holder_active shared all h.all c is in
+      let same : holder.0 ≡ slot = one_slot all.desk.active holder.0 slot holder.1.0 (active.Acting there.0 there.1.0) alone holder.1.1.0 there.1.1.0 in
+      holder.1.1.1 ∙ ap (λ n. (h.all.under_way n).age) same
+
+  -- so it waits for nobody
+  waits_for_none : (act : AnyAct J) → Contains all.inbox (Act act) → (w_id : ℕ) → MustWait ((joined_in old.parts).holdings w_id) act.age (wants_of act.work) → ⊥
+  waits_for_none act is w_id must =
+      let at = h.all.under_way in
+      let fine : IsSoundAct shared (at act.slot) act = All-contains (IsSoundMessage shared at) all.inbox (Act act) h.all.inbox is in
+      let weight = weigh_acting act.slot act.place in
+      let some : 1 ≤ sum_by weight (awaited_by_all 0 all.desk.active) =
+      omega (
+        arith,
+        h.all.balance.tokens weight,
+        sum_by-cons weight (Acting act.slot act.place) [],
+        acting_weighs act.slot act.place,
+        one_of_all part_message weight all.inbox (Act act) is,
+        sum_by-append weight (parts part_message all.inbox).tokens ((parts part_item all.outbox).tokens ++ (parts part_met (reported_to_all all.desk.active)).tokens),
+      ) in
+      let holding = must.some.0 in
+      let out = Contains-permutation ((joined_in old.parts).holdings w_id) (held_at w_id (flight all).claims) holding (h.all.held w_id) must.some.1.0 in
+      let claim = claim_of w_id (flight all).claims holding out in
+      omega (arith, must.younger holding must.some.1, own_age act.slot act.place claim.0 some claim.1.0, ap (λ (x : Holding). x.by.age) claim.1.1, fine.age)
+
+  -- and nobody waits
+  none_parked : (s : Stationed (Carried J)) → Contains old.parts.stations.items s → s.parked ≡ []
+  none_parked s is = by s.parked refl
+    where
+      by : (ps : List (Parked (Carried J))) → s.parked ≡ ps → ps ≡ []
+      by [] same = refl
+      by (p ∷ ps) same =
+          let there : Contains s.parked p = subst (λ (q : List (Parked (Carried J))). Contains q p) (sym same) (contains_here p ps) in
+          let station = All-contains (IsStationOf shared.scale.warehouses) old.parts.stations.items s h.stations is in
+          let have : HaveToWait s = All-contains HaveToWait old.parts.stations.items s h.wait is in
+          let parked : Contains (map waiting_of s.parked) (waiting_of p) = contains_mapped waiting_of s.parked p there in
+          let must = All-contains (StillWaits s.slice.holdings) s.slice.waiters (waiting_of p) have (subst (λ (ws : List Waiting). Contains ws (waiting_of p)) (sym station.waiters) parked) in
+          let seen : Contains all.inbox (message_of p) = Contains-append_left (waiting_in old.parts) (all_of old.inboxes) (message_of p)
+          (contains_joined (λ queue. queue) (map waiting_at old.parts.stations.items) (waiting_at s) (message_of p) (contains_mapped waiting_at old.parts.stations.items s is) (contains_mapped message_of s.parked p there)) in
+          absurd (waits_for_none (act_of p) seen s.slice.home
+          (subst (λ (hs : List Holding). MustWait hs p.by.age (wants_of p.work)) (sym (stands_among old.parts h.all.slices s is)) must))
+
 module _ {J : Type 0} where
-  not_died : (by : Holder) (old new : Joined) (work : Work) (one : Ran J)
-      → (HoldsWished (old.holdings (home_of work)) (wishes_of work) → ⊥) → ComesOf by old work one new → HasNotDied one
-  not_died by old new work (ran.Done claims found) none of = tt
-  not_died by old new work (ran.Died group holder) none of = absurd (none (dies_of_holder (old.holdings (home_of work)) YOUNGEST (wishes_of work) group holder of.0))
-  not_died by old new work ran.NoMemory none of = tt
+  -- where nobody waits, nobody has a turn
+  no_turn : (home : ℕ) (turned : List (Turned J (Carried J))) (old new : Parts J) → ((s : Stationed (Carried J)) → slice_get old.stations.items (home - 1) ≡ Some s → s.parked ≡ []) → TurnsFollow home turned old new → new.outbox ≡ old.outbox
+  no_turn home [] old new none same = ap (λ (w : Parts J). w.outbox) same.rest
+  no_turn home (one ∷ more) old new none follow =
+      let at = follow.1.0 in
+      absurd (omega (arith, at.happened.inside, ap (λ (ps : List (Parked (Carried J))). length ps) (none at.was at.there)))
+
+  pushes_tell_none : (place age slot : ℕ) (carried : Option (Flow J)) (works : List Work) → All TellsNoDeath (acts_from {J = J} place age slot carried works)
+  pushes_tell_none place age slot carried [] = All-nil TellsNoDeath
+  pushes_tell_none place age slot carried (work ∷ works) = All-cons TellsNoDeath _ (acts_from (place + 1) age slot None works) tt (pushes_tell_none (place + 1) age slot None works)
+
+  one_tells : (i : Item J) → TellsNoDeath i → All TellsNoDeath (i ∷ [])
+  one_tells i none = All-cons TellsNoDeath i [] none (All-nil TellsNoDeath)
+
+  not_died : (age : ℕ) (by : Holder) (was now : Sliced) (work : Work) (one : Ran J) → (HoldsWished was.holdings (wishes_of work) → ⊥) → IsRanAs age by was work one now → HasNotDied one
+  not_died age by was now work (ran.Done claims found) none of = tt
+  not_died age by was now work (ran.Died group holder) none of = absurd (none (dies_of_holder was.holdings age (wishes_of work) group holder of.0))
+  not_died age by was now work ran.NoMemory none of = tt
+
+  -- what is put as the message is worked on
+  module _ (once : TransactionsClaimEachGroupOnce) (shared : Shared) (old : Core J) (h : IsSound shared old) (alone : count_active old.parts.desk.active ≡ 1)
+      (executor : ℕ) (from_there : executor < length old.outboxes) (to_there : executor < length old.inboxes) (opening : Database) (history : List Step) (fits : Fits opening history (together old)) where
+    abbrev outbox : List (Item J)
+    outbox = slice_index_or old.outboxes executor []
+
+    abbrev Puts : Parts J → Type 0
+    Puts new = (put : List (Item J)) × ((new.outbox ≡ outbox ++ put) × All TellsNoDeath put)
+
+    parked_at : (home : ℕ) (s : Stationed (Carried J)) → slice_get old.parts.stations.items home ≡ Some s → s.parked ≡ []
+    parked_at home s is = none_parked shared old h alone s (home, slice_get_within old.parts.stations.items home s is, get_or_from_slice_get old.parts.stations.items home s s is)
+
+    -- after what happened at a station, with as few who wait
+    and_no_turns : (home : ℕ) (items : List (Item J)) (of : Stationed (Carried J) → Stationed (Carried J) → Type 0) (left mid new : Parts J) → left.stations ≡ old.parts.stations → left.outbox ≡ outbox
+        → (at : AtStation home items of left mid) → at.now.parked ≡ at.was.parked → All TellsNoDeath items → AllTurns home mid new → Puts new
+    and_no_turns home items of left mid new stations outbox_is at same tells turns =
+        let none : (s : Stationed (Carried J)) → slice_get mid.stations.items (home - 1) ≡ Some s → s.parked ≡ [] = λ s is.
+        let below = slice_get_within left.stations.items (home - 1) at.was at.there in
+        let now_there : slice_get mid.stations.items (home - 1) ≡ Some at.now = ap (λ (l : List (Stationed (Carried J))). slice_get l (home - 1)) at.stations ∙ got_set left.stations.items (home - 1) at.now below in
+        let is_now : at.now ≡ s = cc in
+        let was_old : slice_get old.parts.stations.items (home - 1) ≡ Some at.was = subst (λ (v : Vec (Stationed (Carried J)) Global). slice_get v.items (home - 1) ≡ Some at.was) stations at.there in
+        subst (λ (t : Stationed (Carried J)). t.parked ≡ []) is_now (same ∙ parked_at (home - 1) at.was was_old) in
+        let over = no_turn home turns.turned mid new none turns.follow in
+        (items, (over ∙ ap (λ (w : Parts J). w.outbox) at.rest ∙ ap (λ (o : List (Item J)). o ++ items) outbox_is, tells))
+
+    puts_for : (m : Message J) (rest : List (Message J)) → slice_index_or old.inboxes executor [] ≡ m ∷ rest → (new : Parts J) → TakesMessage m (record (in_hand executor executor old) { inbox = rest }) new → Puts new
+    puts_for (Start flow works) rest is new takes = (acts_of flow works.items, (ap (λ (w : Parts J). w.outbox) takes, pushes_tell_none _ _ _ _ works.items))
+    puts_for (Settle slot claims) rest is new takes =
+        and_no_turns (home_of_claims claims) (item.Ended slot ∷ []) _ _ takes.0 new refl refl takes.1.0 takes.1.0.happened.1 (one_tells (item.Ended slot) tt) takes.1.1
+    puts_for (Undo slot claims) rest is new takes =
+        and_no_turns (home_of_claims claims) (item.Ended slot ∷ []) _ _ takes.0 new refl refl takes.1.0 takes.1.0.happened.1 (one_tells (item.Ended slot) tt) takes.1.1
+    puts_for (Act act) rest is new takes = by takes.1.0.0 takes.1.0.1
+      where
+        left : Parts J
+        left = record (in_hand executor executor old) { inbox = rest }
+
+        from : Parts J
+        from = taken_from shared old h executor executor from_there to_there (Act act) rest is
+
+        none : (holdings : List Holding) → (joined_in old.parts).holdings (home_of act.work) ≡ holdings → HoldsWished holdings (wishes_of act.work) → ⊥
+        none holdings same =
+            subst (λ (hs : List Holding). HoldsWished hs (wishes_of act.work) → ⊥) same
+            (none_holds once shared from act (waiting_in old.parts ++ (rest ++ others executor old.inboxes)) refl (first_sound shared old h executor executor from_there to_there (Act act) rest is) alone opening history
+            (home_of act.work) (fits_first shared old h executor executor from_there to_there (Act act) rest is opening history fits))
+
+        there : Contains (together old).inbox (Act act)
+        there =
+            let own : Contains (slice_index_or old.inboxes executor []) (Act act) = subst (λ (q : List (Message J)). Contains q (Act act)) (sym is) (contains_here (Act act) rest) in
+            let queue : Contains old.inboxes (slice_index_or old.inboxes executor []) = Contains-get_or old.inboxes executor [] to_there in
+            Contains-append_right (waiting_in old.parts) (all_of old.inboxes) (Act act) (contains_joined (λ q. q) old.inboxes (slice_index_or old.inboxes executor []) (Act act) queue own)
+
+        by : (a : Acted J (Carried J)) → AtStation (home_of act.work) (put_for act.place a) (λ was now. ActsAs (holder_of act) act.work (carried_by act) was a now) left takes.0 → Puts new
+        by (acted.Ran one told) at =
+            let Of : Stationed (Carried J) → Stationed (Carried J) → Type 0 = λ was now. ActsAs (holder_of act) act.work (carried_by act) was (acted.Ran one told) now in
+            let holds_here = holds left takes.0 h.all.slices (home_of act.work) (put_for act.place (acted.Ran one told)) Of at in
+            let lives : HasNotDied one = not_died act.age (holder_of act) at.was.slice at.now.slice act.work one (none at.was.slice.holdings holds_here) at.happened.1 in
+            and_no_turns (home_of act.work) (put_for act.place (acted.Ran one told)) Of left takes.0 new refl refl at at.happened.3 (one_tells (report_of act.place told one) lives) takes.1.1
+        by acted.Waits at =
+            let Of : Stationed (Carried J) → Stationed (Carried J) → Type 0 = λ was now. ActsAs {J = J} (holder_of act) act.work (carried_by act) was acted.Waits now in
+            let holds_here = holds left takes.0 h.all.slices (home_of act.work) [] Of at in
+            absurd (waits_for_none shared old h alone act there (home_of act.work) (subst (λ (hs : List Holding). MustWait hs act.age (wants_of act.work)) (sym holds_here) at.happened.0))
 
   pub none_dies : TransactionsClaimEachGroupOnce → (shared : Shared) (event : Event) (old new : Core J) (answer : EventAnswer)
       → IsSound shared old → Happens event old answer new
       → (opening : Database) (history : List Step) → Fits opening history (together old) → count_active old.parts.desk.active ≡ 1 → NoneDies event old new
   none_dies once shared (Submit session number asked) old new answer h said opening history fits alone = tt
   none_dies once shared (Send executor) old new answer h said opening history fits alone = tt
-  none_dies once shared (Take executor) old new answer h said opening history fits alone = λ act rest report is put.
-      let inbox = slice_index_or old.inboxes executor [] in
-      let outbox = slice_index_or old.outboxes executor [] in
-      let took = subst (λ messages. TakesFirst executor messages old answer new) is said in
-      let parts = took.1.0 in
-      let takes : TakesMessage (Act act) (record (in_hand executor executor old) { inbox = rest }) parts = took.1.1.0 in
-      let some : 1 ≤ length inbox = omega (arith, ap (λ (messages : List (Message J)). length messages) is) in
-      let to_there : executor < length old.inboxes = has_queue old.inboxes executor some in
-      let from_there : executor < length old.outboxes = omega (arith, to_there, h.inboxes, h.outboxes) in
-      let one = takes.1.1.1.1.put in
-      let more : parts.outbox ≡ outbox ++ takes.0 = ap (λ (w : Parts J). w.outbox) takes.1.1.0 in
-      let stands : slice_index_or new.outboxes executor [] ≡ parts.outbox =
-      ap (λ (w : Core J). slice_index_or w.outboxes executor []) took.1.1.1 ∙ get_or-set_same old.outboxes executor parts.outbox [] from_there in
-      let same = append_cancel_left outbox takes.0 (item.Report report ∷ []) (sym more ∙ sym stands ∙ put) in
-      let made = one.1.0 in
-      let told : Report J = record { place = act.place; slot = act.slot; flow = act.flow; ran = one.0 } in
-      let is_told : told ≡ report = cc in
-      let from = taken_from shared old h executor executor from_there to_there (Act act) rest is in
-      subst (λ (r : Report J). HasNotDied r.ran) is_told
-      (not_died (holder_of act) (joined_in old.parts) _ act.work one.0
-      (none_holds once shared from act (rest ++ others executor old.inboxes) refl (first_sound shared old h executor executor from_there to_there (Act act) rest is) alone opening history
-      (home_of act.work) (fits_first shared old h executor executor from_there to_there (Act act) rest is opening history fits)) one.1.1)
+  none_dies once shared (Take executor) old new answer h said opening history fits alone = λ items put. by items put (slice_index_or old.inboxes executor []) refl said
+    where
+      outbox : List (Item J)
+      outbox = slice_index_or old.outboxes executor []
+
+      by : (items : List (Item J)) → slice_index_or new.outboxes executor [] ≡ outbox ++ items → (messages : List (Message J)) → slice_index_or old.inboxes executor [] ≡ messages → TakesFirst executor messages old answer new → All TellsNoDeath items
+      by items put [] is said =
+          let stays : slice_index_or new.outboxes executor [] ≡ outbox = ap (λ (w : Core J). slice_index_or w.outboxes executor []) said.1 in
+          let none : items ≡ [] = append_cancel_left outbox items [] (sym put ∙ stays ∙ sym (append-nil outbox)) in
+          subst (λ (l : List (Item J)). All TellsNoDeath l) (sym none) (All-nil TellsNoDeath)
+      by items put (m ∷ rest) is said =
+          let parts = said.1.0 in
+          let some : 1 ≤ length (slice_index_or old.inboxes executor []) = omega (arith, ap (λ (messages : List (Message J)). length messages) is) in
+          let to_there : executor < length old.inboxes = has_queue old.inboxes executor some in
+          let from_there : executor < length old.outboxes = omega (arith, to_there, h.inboxes, h.outboxes) in
+          let puts = puts_for once shared old h alone executor from_there to_there opening history fits m rest is parts said.1.1.0 in
+          let stands : slice_index_or new.outboxes executor [] ≡ parts.outbox =
+          ap (λ (w : Core J). slice_index_or w.outboxes executor []) said.1.1.1 ∙ get_or-set_same old.outboxes executor parts.outbox [] from_there in
+          let same : items ≡ puts.0 = append_cancel_left outbox items puts.0 (sym put ∙ stands ∙ puts.1.0) in
+          subst (λ (l : List (Item J)). All TellsNoDeath l) (sym same) puts.1.1

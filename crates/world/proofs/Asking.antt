@@ -33,12 +33,12 @@ use Rattle.world.specs.declared.flight.Message.{Message}
 use Rattle.world.specs.declared.flight.Message.TheVariants.{Start, Act, Settle, Undo}
 use Rattle.world.specs.declared.flight.Report.{Report}
 use Rattle.world.specs.declared.world.Parts.{Parts}
-use Rattle.world.specs.Parted.{CanAllBeUndone, joined_in}
+use Rattle.world.specs.Parted.{AreUndoneBy, joined_in}
 use Rattle.world.specs.Flights.{Token, Acting, nothing, join, parts, part_message, part_met, acting_from, unanswered_transaction}
 use Rattle.world.specs.Sound.{Courses, UnderWay, IsSoundWith, IsSoundStart, IsSoundPhase, IsSoundMessage, AreSoundActive, IsBalanced, IsPassOf, flight, is_here}
 use Rattle.world.specs.Worlds.{FitsPart, Fits, Admits, refuses, tables_now}
 use Rattle.world.proofs.Joins.{IsSame, same-refl, same-sym, same-trans, same-join}
-use Rattle.world.proofs.Balances.{message_put, balanced_same}
+use Rattle.world.proofs.Balances.{message_put, balanced_same, held_same}
 use Rattle.world.proofs.Fitting.{fits_same, fits_admission}
 use Rattle.world.proofs.Courses.{course_on, course_here}
 use Rattle.world.proofs.OneSlot.{lots, without, awaited_then, flight_apart, flight_with, sound_then}
@@ -133,7 +133,7 @@ module _ {J : Type 0} where
     slot = a.flow.transaction.slot
 
     abbrev u : UnderWay
-    u = record { request = asked; progress = a.flow.progress; held = [] }
+    u = record { request = asked; progress = a.flow.progress; held = []; age = a.flow.transaction.age }
 
     abbrev at : Courses
     at = course_on h.under_way slot u
@@ -178,6 +178,7 @@ module _ {J : Type 0} where
         request = a.request;
         held = a.held;
         progress = refl;
+        age = refl;
       };
       works_are = a.works_are;
       can = subst (λ ws. All (CanDo shared) ws) (sym a.works_are) (can_all shared asked a.flow.progress [] reached);
@@ -193,7 +194,7 @@ module _ {J : Type 0} where
     sound_phase = record {
       first_is = refl;
       reached = reached;
-      undo = All-nil CanAllBeUndone;
+      undo = All-nil (AreUndoneBy a.flow.transaction.age);
       many = length-replicate (length a.works.items) None ∙ ap (λ (ws : List Work). length ws) a.works_are;
       reports = λ at r is. absurd (no_report_at (Report J) (length a.works.items) at r is);
       awaits = omega (
@@ -215,7 +216,7 @@ module _ {J : Type 0} where
     new_is : new ≡ record with_desk { inbox = w.inbox ++ Start a.flow a.works ∷ [] }
     new_is = λ i. record {
       catalog = a.catalog i;
-      slices = a.slices i;
+      stations = a.stations i;
       inbox = a.inbox i;
       outbox = a.outbox i;
       desk = record { admitted = new.desk.admitted; sessions = new.desk.sessions; active = a.active i };
@@ -258,6 +259,9 @@ module _ {J : Type 0} where
           alone = subst (λ l. AreAlone l (t ∷ rest.pending)) (sym a.sessions) alone;
           many = subst (λ l. AreMany l (t ∷ rest.pending)) (sym a.sessions) many;
         } in
+        let none_held : all_claims a.flow.transaction.held ≡ [] = ap all_claims a.held in
+        let held : AreAllHeld (joined_in w).holdings (all_claims a.flow.transaction.held ++ rest.claims) =
+        subst (λ (cs : List Claiming). AreAllHeld (joined_in w).holdings (cs ++ rest.claims)) (sym none_held) (held_same (joined_in w) (flight w) rest same h.held) in
         let sound : IsSoundWith shared nothing next = record {
           shared_is = h.shared_is;
           slices = h.slices;
@@ -270,6 +274,7 @@ module _ {J : Type 0} where
           seats = ap (λ (l : List (SessionDesk J)). length l) a.sessions ∙ length-set w.desk.sessions.items place session ∙ h.seats;
           sessions = subst (λ l. AreInPlace l) (sym a.sessions) placed;
           balance = balanced_same with_desk.desk (join (part_message message) rest) (flight next) one_more balance;
+          held = held_same (joined_in w) (join (part_message message) rest) (flight next) one_more held;
         } in
         subst (λ v. IsSoundWith shared nothing v) (sym new_is) sound
 

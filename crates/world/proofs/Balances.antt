@@ -4,6 +4,8 @@ use Rattle.std.specs.List.{count_by}
 use Rattle.std.specs.List.Sorted.{IsPermutation}
 use Rattle.std.proofs.lemmas.List.Sorted.{IsPermutation-refl, sum_by-IsPermutation, length_permutation}
 use Rattle.history.specs.History.{is_of}
+use Rattle.slices.specs.Sliced.{AreAllHeld, Joined}
+use Rattle.slices.proofs.Held.{held_in_any_order}
 use Rattle.world.specs.declared.desk.Desk.{Desk}
 use Rattle.world.specs.declared.flight.Message.{Message}
 use Rattle.world.specs.declared.flight.Item.{Item}
@@ -38,6 +40,10 @@ fly_same i j o q h k a b c = same-join i j (join o h) (join q k) a (same-join o 
 pub parts_more : {X : Type 0} (f : X → InFlight) (xs ys : List X) → IsSame (parts f (xs ++ ys)) (join (parts f ys) (parts f xs))
 parts_more f xs ys =
     subst (λ p. IsSame p (join (parts f ys) (parts f xs))) (sym (parts-append f xs ys)) (same-swap (parts f xs) (parts f ys))
+
+-- the claims that the lock tables have out are those under way, in whatever order
+pub held_same : (slices : Joined) (a b : InFlight) → IsSame a b → AreAllHeld slices.holdings a.claims → AreAllHeld slices.holdings b.claims
+held_same slices a b same h = held_in_any_order slices.holdings a.claims b.claims same.claims h
 
 module _ {J : Type 0} where
   -- ---- the worlds

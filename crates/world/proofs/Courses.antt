@@ -12,8 +12,9 @@ use Rattle.world.specs.declared.flight.Message.{Message}
 use Rattle.world.specs.declared.flight.Message.TheVariants.{Start, Act, Settle, Undo}
 use Rattle.world.specs.declared.flight.Item.{Item}
 use Rattle.world.specs.declared.flight.Item.TheVariants as item
-use Rattle.world.specs.Flights.{Token, Acting, acting_from, parts, part_message, part_item}
-use Rattle.world.specs.Sound.{Courses, UnderWay, IsSoundMessage, IsSoundItem, IsSoundStart, IsSoundAct, IsSoundReport}
+use Rattle.world.specs.Flights.{Token, Acting, Committing, Ending, acting_from, parts, part_message, part_item}
+use Rattle.world.specs.Sound.{Courses, UnderWay, IsSoundMessage, IsSoundItem, IsSoundStart, IsSoundAct, IsSoundCommit, IsSoundReport}
+use Rattle.world.specs.Parted.{AreSettledBy, AreUndoneBy}
 use Rattle.world.proofs.Tokens.{is_itself, is_other}
 use Rattle.world.proofs.OneSlot.{weigh_slots}
 
@@ -46,8 +47,12 @@ module _ {J : Type 0} (shared : Shared) (g : ℕ → ℕ) (at bt : Courses) (sam
   message_stays (Act act) none h =
       let weightless : g act.slot ≡ 0 = omega (arith, none, sum_by-cons (weigh_slots g) (Acting act.slot act.place) []) in
       subst (λ u. IsSoundAct shared u act) (same act.slot weightless) h
-  message_stays (Settle slot claims) none h = h
-  message_stays (Undo slot claims) none h = h
+  message_stays (Settle slot claims) none h =
+      let weightless : g slot ≡ 0 = omega (arith, none, sum_by-cons (weigh_slots g) (Ending slot) []) in
+      subst (λ (u : UnderWay). AreSettledBy u.age claims) (same slot weightless) h
+  message_stays (Undo slot claims) none h =
+      let weightless : g slot ≡ 0 = omega (arith, none, sum_by-cons (weigh_slots g) (Ending slot) []) in
+      subst (λ (u : UnderWay). AreUndoneBy u.age claims) (same slot weightless) h
 
   pub messages_stay : (messages : List (Message J)) → sum_by (weigh_slots g) (parts part_message messages).tokens ≡ 0
       → All (IsSoundMessage shared at) messages → All (IsSoundMessage shared bt) messages
@@ -65,7 +70,10 @@ module _ {J : Type 0} (shared : Shared) (g : ℕ → ℕ) (at bt : Courses) (sam
         let weightless : g r.slot ≡ 0 = omega (arith, none, sum_by-cons (weigh_slots g) (Acting r.slot r.place) []) in
         subst (λ u. IsSoundReport shared u r) (same r.slot weightless) h
     item_stays (item.Ended slot) none h = tt
-    item_stays (item.Commit commit) none h = h
+    item_stays (item.Commit commit) none h =
+        let slot = commit.transaction.slot in
+        let weightless : g slot ≡ 0 = omega (arith, none, sum_by-cons (weigh_slots g) (Committing slot) []) in
+        subst (λ u. IsSoundCommit shared u commit) (same slot weightless) h
     item_stays (item.Reply told) none h = h
 
     pub items_stay : (items : List (Item J)) → sum_by (weigh_slots g) (parts part_item items).tokens ≡ 0

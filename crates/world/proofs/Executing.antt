@@ -1,6 +1,11 @@
 -- What an event at one executor does to all.
-use Rattle.std.proofs.Common.{◌≡◌, ℕ, ◌+◌, ◌<◌, ◌≤◌, zero, suc, List, [], ◌∷◌, ◌++◌, length, refl, sym, ◌∙◌, ap, subst, arith, length-append}
-use Rattle.std.specs.Prelude.{All, slice_get, slice_index_or, slice_set}
+use Rattle.world.specs.Parted.{joined_in}
+use Rattle.std.specs.declared.alloc.Global.{Global}
+use Rattle.world.specs.declared.flight.Carried.{Carried}
+use Rattle.transactions.specs.Stations.{Stationed}
+use Rattle.world.specs.Stations.{waiting_in, IsStationOf, HaveToWait, slices_in}
+use Rattle.std.proofs.Common.{◌≡◌, ℕ, ◌+◌, ◌<◌, ◌≤◌, zero, suc, List, [], ◌∷◌, ◌++◌, length, refl, sym, ◌∙◌, ap, subst, arith, length-append, append_assoc}
+use Rattle.std.specs.Prelude.{All, slice_get, slice_index_or, slice_set, Vec}
 use Rattle.std.proofs.lemmas.List.Elements.{All-head, All-tail}
 use Rattle.std.proofs.lemmas.List.{get_or-set_same, length-set, set-set}
 use Rattle.partitions.specs.Parts.{Shared, shared_of}
@@ -22,18 +27,21 @@ use Rattle.world.specs.declared.flight.Item.TheVariants as item
 use Rattle.world.specs.declared.world.Parts.{Parts}
 use Rattle.world.specs.declared.world.Core.{Core}
 use Rattle.world.specs.Flights.{nothing, part_message, part_item}
-use Rattle.world.specs.Sound.{IsSoundWith, IsSoundMessage, IsSoundItem, Courses}
+use Rattle.world.specs.Sound.{IsSoundWith, IsSoundMessage, IsSoundItem, Courses, flight}
 use Rattle.world.specs.Events.{CanSend, CanWork, SendsItem, TakesMessage}
 use Rattle.world.specs.Together.{IsOf, HasHome, HasHomeIn, IsSound, all_of, exchanging, goes_to, home_of_claims, in_hand, put_back, together}
-use Rattle.world.specs.Worlds.{Advances, Fits, Happens, SendsFirst, SubmitsAt, TakesFirst, begins_at, TakesItsOwn}
-use Rattle.world.proofs.Framed.{framed, sends_framed, submits_framed, takes_framed}
+use Rattle.world.specs.Worlds.{Advances, Fits, Happens, SendsFirst, SubmitsAt, TakesFirst, begins_at, TakesItsOwn, FitsPart}
+use Rattle.world.proofs.Framed.{framed, sends_framed, submits_framed}
 use Rattle.world.proofs.Owned.{own_put, sent_own, submitted_own}
 use Rattle.world.proofs.Puts.{fits_in_hand, item_in_hand}
 use Rattle.world.proofs.Apart.{others}
 use Rattle.world.proofs.Ready.{can_send, can_work}
-use Rattle.world.proofs.Reordered.{Reordered, fits_in_order, queued, reordered-cons, reordered-swap, reordered-sym, reordered-trans, reordered_now, reordered_own, sound_in_order}
+use Rattle.world.proofs.Reordered.{Reordered, fits_in_order, queued, reordered-append, reordered-cons, reordered-middle, reordered-refl, reordered-swap, reordered-sym, reordered-trans, reordered_now, reordered_own, sound_in_order}
 use Rattle.world.proofs.Rooms.{has_room}
-use Rattle.world.proofs.Taking.{message_in_hand, takes_fits, takes_sound}
+use Rattle.world.proofs.Standing.{sent_stations, submitted_stations, takes_inbox}
+use Rattle.world.proofs.Balances.{message_taken}
+use Rattle.world.proofs.Fitting.{fits_quiet}
+use Rattle.world.proofs.Taking.{message_in_hand, seen, takes_on, takes_wait}
 
 -- a queue that has something is an executor's
 pub has_queue : {X : Type 0} (queues : List (List X)) (place : ℕ) → 1 ≤ length (slice_index_or queues place []) → place < length queues
@@ -55,8 +63,8 @@ module _ {J : Type 0} where
   has_home : (shared : Shared) (u : Courses) (m : Message J) → IsSoundMessage shared u m → HasHome m
   has_home shared u (message.Start flow works) h = tt
   has_home shared u (message.Act act) h = tt
-  has_home shared u (message.Settle slot claims) h = some_claims claims h.1
-  has_home shared u (message.Undo slot claims) h = some_claims claims h.1
+  has_home shared u (message.Settle slot claims) h = some_claims claims h.0.1
+  has_home shared u (message.Undo slot claims) h = some_claims claims h.0.1
 
   has_home_in : (shared : Shared) (u : Courses) (w : Parts J) (i : Item J) → IsSoundItem shared w.log u i → HasHomeIn i
   has_home_in shared u w (item.Push m) h = has_home shared u m h
@@ -100,10 +108,16 @@ module _ {J : Type 0} where
     abbrev outbox : List (Item J)
     outbox = slice_index_or w.outboxes from []
 
-    -- the others come first, or the executor's own
-    others_first : Reordered part_message (all_of w.inboxes) (messages ++ inbox)
+    -- who waits at the stations
+    abbrev waiting : List (Message J)
+    waiting = waiting_in w.parts
+
+    -- who waits and the others come first, or the executor's own
+    others_first : Reordered part_message (waiting ++ all_of w.inboxes) ((waiting ++ messages) ++ inbox)
     others_first =
-        reordered-trans part_message (all_of w.inboxes) (inbox ++ messages) (messages ++ inbox) (reordered_now part_message w.inboxes to to_there) (reordered-swap part_message inbox messages)
+        subst (λ (q : List (Message J)). Reordered part_message (waiting ++ all_of w.inboxes) q) (sym (append_assoc waiting messages inbox))
+        (reordered-append part_message waiting (all_of w.inboxes) (messages ++ inbox)
+        (reordered-trans part_message (all_of w.inboxes) (inbox ++ messages) (messages ++ inbox) (reordered_now part_message w.inboxes to to_there) (reordered-swap part_message inbox messages)))
 
     others_before : Reordered part_item (all_of w.outboxes) (items ++ outbox)
     others_before =
@@ -111,20 +125,27 @@ module _ {J : Type 0} where
 
     -- ---- once they are put back
 
-    module _ (parts : Parts J) (ms : List (Message J)) (first : Reordered part_message ms (parts.inbox ++ messages)) where
-      all_messages : Reordered part_message ms (all_of (slice_set w.inboxes to parts.inbox))
+    module _ (parts : Parts J) (ms : List (Message J)) (first : Reordered part_message ms (waiting_in parts ++ (parts.inbox ++ messages))) where
+      abbrev inboxes_then : List (Message J)
+      inboxes_then = waiting_in parts ++ all_of (slice_set w.inboxes to parts.inbox)
+
+      all_messages : Reordered part_message ms inboxes_then
       all_messages =
-          reordered-trans part_message ms (parts.inbox ++ messages) (all_of (slice_set w.inboxes to parts.inbox)) first
-          (reordered-sym part_message (all_of (slice_set w.inboxes to parts.inbox)) (parts.inbox ++ messages) (reordered_own part_message w.inboxes to parts.inbox to_there))
+          reordered-trans part_message ms (waiting_in parts ++ (parts.inbox ++ messages)) inboxes_then first
+          (reordered-append part_message (waiting_in parts) (parts.inbox ++ messages) (all_of (slice_set w.inboxes to parts.inbox))
+          (reordered-sym part_message (all_of (slice_set w.inboxes to parts.inbox)) (parts.inbox ++ messages) (reordered_own part_message w.inboxes to parts.inbox to_there)))
 
       all_items : Reordered part_item (items ++ parts.outbox) (all_of (slice_set w.outboxes from parts.outbox))
       all_items =
           reordered-trans part_item (items ++ parts.outbox) (parts.outbox ++ items) (all_of (slice_set w.outboxes from parts.outbox)) (reordered-swap part_item items parts.outbox)
           (reordered-sym part_item (all_of (slice_set w.outboxes from parts.outbox)) (parts.outbox ++ items) (reordered_own part_item w.outboxes from parts.outbox from_there))
 
-      back_sound : IsSoundWith shared nothing (queued parts ms (items ++ parts.outbox)) → All (IsOf w.routing to) parts.inbox → IsSound shared (put_back from to parts w)
-      back_sound s fine = record {
-        all = sound_in_order parts ms (all_of (slice_set w.inboxes to parts.inbox)) (items ++ parts.outbox) (all_of (slice_set w.outboxes from parts.outbox)) all_messages all_items shared nothing s;
+      back_sound : IsSoundWith shared nothing (queued parts ms (items ++ parts.outbox)) → All (IsStationOf shared.scale.warehouses) parts.stations.items → All HaveToWait parts.stations.items
+          → All (IsOf w.routing to) parts.inbox → IsSound shared (put_back from to parts w)
+      back_sound s stations wait fine = record {
+        stations = stations;
+        wait = wait;
+        all = sound_in_order parts ms inboxes_then (items ++ parts.outbox) (all_of (slice_set w.outboxes from parts.outbox)) all_messages all_items shared nothing s;
         routed = h.routed;
         inboxes = length-set w.inboxes to parts.inbox ∙ h.inboxes;
         outboxes = length-set w.outboxes from parts.outbox ∙ h.outboxes;
@@ -135,7 +156,22 @@ module _ {J : Type 0} where
 
       back_fits : (opening : Database) (history : List Step) → Fits opening history (queued parts ms (items ++ parts.outbox)) → Fits opening history (together (put_back from to parts w))
       back_fits opening history f =
-          fits_in_order parts ms (all_of (slice_set w.inboxes to parts.inbox)) (items ++ parts.outbox) (all_of (slice_set w.outboxes from parts.outbox)) all_messages all_items opening history f
+          fits_in_order parts ms inboxes_then (items ++ parts.outbox) (all_of (slice_set w.outboxes from parts.outbox)) all_messages all_items opening history f
+
+    -- ---- where the stations stay
+
+    module _ (parts : Parts J) (same : parts.stations ≡ w.parts.stations) where
+      still_waiting : Reordered part_message ((waiting ++ messages) ++ parts.inbox) (waiting_in parts ++ (parts.inbox ++ messages))
+      still_waiting =
+          subst (λ (s : Vec (Stationed (Carried J)) Global). Reordered part_message ((waiting ++ messages) ++ parts.inbox) (waiting_in (record parts { stations = s }) ++ (parts.inbox ++ messages))) (sym same)
+          (subst (λ (q : List (Message J)). Reordered part_message q (waiting ++ (parts.inbox ++ messages))) (sym (append_assoc waiting messages parts.inbox))
+          (reordered-append part_message waiting (messages ++ parts.inbox) (parts.inbox ++ messages) (reordered-swap part_message messages parts.inbox)))
+
+      stations_stay : All (IsStationOf shared.scale.warehouses) parts.stations.items
+      stations_stay = subst (λ (s : Vec (Stationed (Carried J)) Global). All (IsStationOf shared.scale.warehouses) s.items) (sym same) h.stations
+
+      wait_stays : All HaveToWait parts.stations.items
+      wait_stays = subst (λ (s : Vec (Stationed (Carried J)) Global). All HaveToWait s.items) (sym same) h.wait
 
     -- ---- a submission
 
@@ -143,53 +179,69 @@ module _ {J : Type 0} where
         → SubmitsAt (slice_get w.parts.desk.sessions.items session) session number asked (in_hand from to w) answer parts
         → IsSound shared (put_back from to parts w) × Advances (together w) (step (Submit session number asked) answer ∷ []) (together (put_back from to parts w))
     submits_at session number asked answer parts begins said =
-        let sound = sound_in_order w.parts (all_of w.inboxes) (messages ++ inbox) (all_of w.outboxes) (items ++ outbox) others_first others_before shared nothing h.all in
-        let both = submits_framed messages items shared (in_hand from to w) parts sound session number asked answer (slice_get w.parts.desk.sessions.items session) refl said in
-        let ms = messages ++ parts.inbox in
-        let swap = reordered-swap part_message messages parts.inbox in (
-          back_sound parts ms swap both.0
+        let frame = waiting ++ messages in
+        let sound = sound_in_order w.parts (waiting ++ all_of w.inboxes) (frame ++ inbox) (all_of w.outboxes) (items ++ outbox) others_first others_before shared nothing h.all in
+        let both = submits_framed frame items shared (in_hand from to w) parts sound session number asked answer (slice_get w.parts.desk.sessions.items session) refl said in
+        let ms = frame ++ parts.inbox in
+        let same = submitted_stations (slice_get w.parts.desk.sessions.items session) session number asked (in_hand from to w) parts answer said in
+        let swap = still_waiting parts same in (
+          back_sound parts ms swap both.0 (stations_stay parts same) (wait_stays parts same)
               (submitted_own w.routing (slice_get w.parts.desk.sessions.items session) to session number asked (in_hand from to w) parts answer begins said (h.own to)),
           λ opening history f.
               back_fits parts ms swap opening (history ++ step (Submit session number asked) answer ∷ [])
-              (both.1 opening history (fits_in_order w.parts (all_of w.inboxes) (messages ++ inbox) (all_of w.outboxes) (items ++ outbox) others_first others_before opening history f)),
+              (both.1 opening history (fits_in_order w.parts (waiting ++ all_of w.inboxes) (frame ++ inbox) (all_of w.outboxes) (items ++ outbox) others_first others_before opening history f)),
         )
 
     -- ---- the first message
 
     module _ (m : Message J) (rest : List (Message J)) (is : inbox ≡ m ∷ rest) where
-      own_first : Reordered part_message (all_of w.inboxes) (m ∷ (rest ++ messages))
-      own_first = subst (λ (q : List (Message J)). Reordered part_message (all_of w.inboxes) (q ++ messages)) is (reordered_now part_message w.inboxes to to_there)
+      own_first : Reordered part_message (waiting ++ all_of w.inboxes) (m ∷ (waiting ++ (rest ++ messages)))
+      own_first =
+          reordered-trans part_message (waiting ++ all_of w.inboxes) (waiting ++ m ∷ (rest ++ messages)) (m ∷ (waiting ++ (rest ++ messages)))
+          (reordered-append part_message waiting (all_of w.inboxes) (m ∷ (rest ++ messages))
+          (subst (λ (q : List (Message J)). Reordered part_message (all_of w.inboxes) (q ++ messages)) is (reordered_now part_message w.inboxes to to_there)))
+          (reordered-middle part_message waiting m (rest ++ messages))
 
       abbrev pub taken_from : Parts J
-      taken_from = queued w.parts (m ∷ (rest ++ messages)) (items ++ outbox)
+      taken_from = queued w.parts (m ∷ (waiting ++ (rest ++ messages))) (items ++ outbox)
 
       pub first_sound : IsSoundWith shared nothing taken_from
-      first_sound = sound_in_order w.parts (all_of w.inboxes) (m ∷ (rest ++ messages)) (all_of w.outboxes) (items ++ outbox) own_first others_before shared nothing h.all
+      first_sound = sound_in_order w.parts (waiting ++ all_of w.inboxes) (m ∷ (waiting ++ (rest ++ messages))) (all_of w.outboxes) (items ++ outbox) own_first others_before shared nothing h.all
 
       pub fits_first : (opening : Database) (history : List Step) → Fits opening history (together w) → Fits opening history taken_from
-      fits_first opening history f = fits_in_order w.parts (all_of w.inboxes) (m ∷ (rest ++ messages)) (all_of w.outboxes) (items ++ outbox) own_first others_before opening history f
+      fits_first opening history f = fits_in_order w.parts (waiting ++ all_of w.inboxes) (m ∷ (waiting ++ (rest ++ messages))) (all_of w.outboxes) (items ++ outbox) own_first others_before opening history f
 
-      pub can_take : CanWork w.parts.catalog m × (length outbox + (MOST_ACTIONS + 1) ≤ 4096)
+      -- what is in hand then
+      abbrev pub left : Parts J
+      left = record (in_hand from to w) { inbox = rest }
+
+      pub in_the_hand : (k : IsSoundWith shared (part_message m) (seen left (rest ++ messages) items)) × IsSoundMessage shared k.under_way m
+      in_the_hand = message_in_hand shared taken_from m (waiting ++ (rest ++ messages)) refl first_sound
+
+      pub can_take : CanWork w.parts.catalog m × (length outbox + MOST_ACTIONS + length waiting < 4096)
       can_take =
-          let hand = message_in_hand shared taken_from m (rest ++ messages) refl first_sound in (
+          let hand = in_the_hand in (
             subst (λ s. CanWork s m) (sym h.all.shared_is) (can_work shared hand.0.under_way m hand.1),
-            omega (arith, has_room shared (part_message m) (record taken_from { inbox = rest ++ messages }) hand.0, length-append items outbox),
+            omega (arith, has_room shared (part_message m) (seen left (rest ++ messages) items) hand.0, length-append items outbox, length-append waiting (rest ++ messages)),
           )
 
-      pub takes_at : (parts : Parts J) → TakesMessage m (record (in_hand from to w) { inbox = rest }) parts → (executor : ℕ)
+      pub takes_at : (parts : Parts J) → TakesMessage m left parts → All (IsStationOf shared.scale.warehouses) parts.stations.items → (executor : ℕ)
           → IsSound shared (put_back from to parts w) × Advances (together w) (step (Take executor) Took ∷ []) (together (put_back from to parts w))
-      takes_at parts said executor =
-          let next : Parts J = queued parts (rest ++ messages) (items ++ parts.outbox) in
-          let framed_said : TakesMessage m (record taken_from { inbox = rest ++ messages }) next = takes_framed messages items m rest (in_hand from to w) parts said in
-          let left : parts.inbox ≡ rest = ap (λ (p : Parts J). p.inbox) said.1.1.0 in
-          let same : Reordered part_message (rest ++ messages) (parts.inbox ++ messages) =
-          subst (λ (q : List (Message J)). Reordered part_message (rest ++ messages) (q ++ messages)) (sym left)
-          (reordered-trans part_message (rest ++ messages) (messages ++ rest) (rest ++ messages) (reordered-swap part_message rest messages) (reordered-swap part_message messages rest)) in (
-            back_sound parts (rest ++ messages) same (takes_sound shared taken_from m (rest ++ messages) next refl framed_said first_sound)
-                (subst (λ q. All (IsOf w.routing to) q) (sym left) (All-tail (IsOf w.routing to) m rest (subst (λ q. All (IsOf w.routing to) q) is (h.own to)))),
+      takes_at parts said stations executor =
+          let hand = in_the_hand in
+          let goes = takes_on shared (rest ++ messages) items m left parts hand.0 hand.1 said in
+          let next : Parts J = seen parts (rest ++ messages) items in
+          let ms = waiting_in parts ++ (rest ++ messages) in
+          let left_is : parts.inbox ≡ rest = takes_inbox m left parts said in
+          let same : Reordered part_message ms (waiting_in parts ++ (parts.inbox ++ messages)) =
+          subst (λ (q : List (Message J)). Reordered part_message ms (waiting_in parts ++ (q ++ messages))) (sym left_is) (reordered-refl part_message ms) in (
+            back_sound parts ms same goes.sound stations (takes_wait m left parts said h.wait)
+                (subst (λ q. All (IsOf w.routing to) q) (sym left_is) (All-tail (IsOf w.routing to) m rest (subst (λ q. All (IsOf w.routing to) q) is (h.own to)))),
             λ opening history f.
-                back_fits parts (rest ++ messages) same opening (history ++ step (Take executor) Took ∷ [])
-                (takes_fits taken_from m (rest ++ messages) next refl framed_said executor opening history (fits_first opening history f)),
+                let worked = goes.fits opening history
+                (subst (λ q. FitsPart opening history w.parts.log (joined_in w.parts) w.parts.desk.admitted q) (message_taken taken_from m (waiting ++ (rest ++ messages)) refl) (fits_first opening history f)) in
+                back_fits parts ms same opening (history ++ step (Take executor) Took ∷ [])
+                (fits_quiet opening history next.log (joined_in next) next.desk.admitted (flight next) (Take executor) Took tt worked),
           )
 
     -- ---- the first item
@@ -201,36 +253,40 @@ module _ {J : Type 0} where
           (subst (λ (q : List (Item J)). Reordered part_item (all_of w.outboxes) (q ++ items)) is (reordered_now part_item w.outboxes from from_there))
           (reordered-cons part_item i (rest ++ items) (items ++ rest) (reordered-swap part_item rest items))
 
+      abbrev frame : List (Message J)
+      frame = waiting ++ messages
+
       abbrev sent_from : Parts J
-      sent_from = queued w.parts (messages ++ inbox) (i ∷ (items ++ rest))
+      sent_from = queued w.parts (frame ++ inbox) (i ∷ (items ++ rest))
 
       sound_item : IsSoundWith shared nothing sent_from
-      sound_item = sound_in_order w.parts (all_of w.inboxes) (messages ++ inbox) (all_of w.outboxes) (i ∷ (items ++ rest)) others_first own_item shared nothing h.all
+      sound_item = sound_in_order w.parts (waiting ++ all_of w.inboxes) (frame ++ inbox) (all_of w.outboxes) (i ∷ (items ++ rest)) others_first own_item shared nothing h.all
 
       abbrev mid : Parts J
       mid = record (in_hand from to w) { outbox = rest }
 
-      item_taken : (h : IsSoundWith shared (part_item i) (framed messages items mid)) × IsSoundItem shared w.parts.log h.under_way i
+      item_taken : (h : IsSoundWith shared (part_item i) (framed frame items mid)) × IsSoundItem shared w.parts.log h.under_way i
       item_taken = item_in_hand shared sent_from i (items ++ rest) refl sound_item
 
       pub item_home : HasHomeIn i
       item_home = has_home_in shared item_taken.0.under_way w.parts i item_taken.1
 
       pub item_room : length rest + (MOST_ACTIONS + 1) ≤ 4096
-      item_room = omega (arith, has_room shared (part_item i) (framed messages items mid) item_taken.0, length-append items rest)
+      item_room = omega (arith, has_room shared (part_item i) (framed frame items mid) item_taken.0, length-append items rest)
 
       pub sends_at : (parts : Parts J) (answer : EventAnswer) → to ≡ goes_to w.routing from i → SendsItem i mid answer parts → (executor : ℕ)
           → IsSound shared (put_back from to parts w) × Advances (together w) (step (Send executor) answer ∷ []) (together (put_back from to parts w))
       sends_at parts answer goes said executor =
-          let sends = sends_framed messages items shared mid parts i answer item_taken.0 item_taken.1 said in
-          let ms = messages ++ parts.inbox in
-          let swap = reordered-swap part_message messages parts.inbox in (
-            back_sound parts ms swap sends.sound (sent_own w.routing from to i mid parts answer goes said (h.own to)),
+          let sends = sends_framed frame items shared mid parts i answer item_taken.0 item_taken.1 said in
+          let ms = frame ++ parts.inbox in
+          let same = sent_stations i mid parts answer said in
+          let swap = still_waiting parts same in (
+            back_sound parts ms swap sends.sound (stations_stay parts same) (wait_stays parts same) (sent_own w.routing from to i mid parts answer goes said (h.own to)),
             λ opening history f.
                 back_fits parts ms swap opening (history ++ step (Send executor) answer ∷ [])
                 (sends.fits opening history executor
                 (fits_in_hand opening history sent_from i (items ++ rest) refl
-                (fits_in_order w.parts (all_of w.inboxes) (messages ++ inbox) (all_of w.outboxes) (i ∷ (items ++ rest)) others_first own_item opening history f))),
+                (fits_in_order w.parts (waiting ++ all_of w.inboxes) (frame ++ inbox) (all_of w.outboxes) (i ∷ (items ++ rest)) others_first own_item opening history f))),
           )
 
   -- what is asked of an item is so of the first one
@@ -238,8 +294,9 @@ module _ {J : Type 0} where
       (i : Item J) (rest : List (Item J)) (is : slice_index_or w.outboxes from [] ≡ i ∷ rest) → CanSend opening i (record (in_hand from to w) { outbox = rest })
   item_can opening w h from to from_there to_there i rest is =
       let taken = item_taken (shared_of opening) w h from to from_there to_there i rest is in
-      can_framed opening (others to w.inboxes) (others from w.outboxes) (record (in_hand from to w) { outbox = rest }) i
-      (can_send opening (framed (others to w.inboxes) (others from w.outboxes) (record (in_hand from to w) { outbox = rest })) i taken.0 taken.1)
+      let frame = waiting_in w.parts ++ others to w.inboxes in
+      can_framed opening frame (others from w.outboxes) (record (in_hand from to w) { outbox = rest }) i
+      (can_send opening (framed frame (others from w.outboxes) (record (in_hand from to w) { outbox = rest })) i taken.0 taken.1)
 
 -- ---- whole events
 
@@ -278,21 +335,24 @@ module _ {J : Type 0} (shared : Shared) (w : Core J) (h : IsSound shared w) wher
     waits_first : slice_index_or w.inboxes executor [] ≡ m ∷ rest
     waits_first = ap (λ (c : Core J). c.parts.inbox) (sym mid_is) ∙ first
 
-    pub can_be_taken : (mid.parts.catalog ≡ shared) × (CanWork mid.parts.catalog m × (length mid.parts.outbox + (MOST_ACTIONS + 1) ≤ 4096))
+    pub can_be_taken : (mid.parts.catalog ≡ shared) × (CanWork mid.parts.catalog m × (length mid.parts.outbox + MOST_ACTIONS + length (waiting_in mid.parts) < 4096))
     can_be_taken =
-        subst (λ (c : Core J). (c.parts.catalog ≡ shared) × (CanWork c.parts.catalog m × (length c.parts.outbox + (MOST_ACTIONS + 1) ≤ 4096))) (sym mid_is)
+        subst (λ (c : Core J). (c.parts.catalog ≡ shared) × (CanWork c.parts.catalog m × (length c.parts.outbox + MOST_ACTIONS + length (waiting_in c.parts) < 4096))) (sym mid_is)
         (h.all.shared_is, can_take shared w h executor executor there.0 there.1 m rest waits_first)
 
-    pub slices_are : AreSlicesOf mid.parts.catalog mid.parts.slices.items
-    slices_are = subst (λ (c : Core J). AreSlicesOf c.parts.catalog c.parts.slices.items) (sym mid_is) h.all.slices
+    pub slices_are : AreSlicesOf mid.parts.catalog (slices_in mid.parts)
+    slices_are = subst (λ (c : Core J). AreSlicesOf c.parts.catalog (slices_in c.parts)) (sym mid_is) h.all.slices
 
-    pub taken : (parts : Parts J) (new : Core J) → TakesMessage m (record mid.parts { inbox = rest }) parts → new ≡ exchanging executor executor (record mid { parts = parts })
+    pub stations_are : All (IsStationOf shared.scale.warehouses) mid.parts.stations.items
+    stations_are = subst (λ (c : Core J). All (IsStationOf shared.scale.warehouses) c.parts.stations.items) (sym mid_is) h.stations
+
+    pub taken : (parts : Parts J) (new : Core J) → TakesMessage m (record mid.parts { inbox = rest }) parts → All (IsStationOf shared.scale.warehouses) parts.stations.items → new ≡ exchanging executor executor (record mid { parts = parts })
         → IsSound shared new × (Advances (together w) (step (Take executor) Took ∷ []) (together new) × Happens (Take executor) w Took new)
-    taken parts new said new_is =
+    taken parts new said stations new_is =
         let given = subst (λ (c : Core J). TakesMessage m (record c.parts { inbox = rest }) parts) mid_is said in
         let is : new ≡ put_back executor executor parts w =
         new_is ∙ ap (λ (c : Core J). exchanging executor executor (record c { parts = parts })) mid_is ∙ exchanged_back executor executor w parts there.0 there.1 h.no_inbox h.no_outbox in
-        let both = takes_at shared w h executor executor there.0 there.1 m rest waits_first parts given executor in (
+        let both = takes_at shared w h executor executor there.0 there.1 m rest waits_first parts given stations executor in (
           subst (λ (v : Core J). IsSound shared v) (sym is) both.0,
           (
             subst (λ (v : Core J). Advances (together w) (step (Take executor) Took ∷ []) (together v)) (sym is) both.1,

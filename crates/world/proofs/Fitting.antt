@@ -34,6 +34,11 @@ use Rattle.world.specs.Flights.{InFlight, part, join}
 use Rattle.world.specs.Worlds.{FitsPart, tables_now}
 use Rattle.world.proofs.Joins.{IsSame}
 
+-- and its claims are out as before
+pub logged_held : (shown : Reply) (holdings : ℕ → List Holding) (own others : List Claiming) → AreAllHeld holdings (own ++ others) → AreAllHeld holdings (claims_logged shown own ++ others)
+logged_held (reply.Done shown) holdings own others held = λ w_id. subst (IsPermutation (holdings w_id)) (sym (settled_held w_id own others)) (held w_id)
+logged_held (reply.RolledBack fault) holdings own others held = held
+
 module _ (opening : Database) (history : List Step) (log : List Entry) where
   -- whatever the order
   pub fits_same : (slices : Joined) (admitted : ℕ) (a b : InFlight) → IsSame a b → FitsPart opening history log slices admitted a → FitsPart opening history log slices admitted b
@@ -111,11 +116,6 @@ module _ (opening : Database) (history : List Step) (log : List Entry) where
       (kept.AreCommitted-commit everywhere tables standing own others h)
   logged_committed (reply.RolledBack fault) tables next standing own others same h =
       kept.AreCommitted-same everywhere tables next standing standing (own ++ others) (λ group here. same group) (λ group here. refl) (λ group here. refl) h
-
-  -- and its claims are out as before
-  pub logged_held : (shown : Reply) (holdings : ℕ → List Holding) (own others : List Claiming) → AreAllHeld holdings (own ++ others) → AreAllHeld holdings (claims_logged shown own ++ others)
-  logged_held (reply.Done shown) holdings own others held = λ w_id. subst (IsPermutation (holdings w_id)) (sym (settled_held w_id own others)) (held w_id)
-  logged_held (reply.RolledBack fault) holdings own others held = held
 
   -- a transaction is logged
   pub fits_entry : (slices : Joined) (admitted : ℕ) (own others : List Claiming) (u : Unanswered) (pending : List Unanswered) (executor : ℕ) (entry : Entry)

@@ -136,7 +136,7 @@ module _ {J : Type 0} (messages : List (Message J)) (items : List (Item J)) wher
     pass_is = a.pass_is;
     works_are = a.works_are;
     catalog = a.catalog;
-    slices = a.slices;
+    stations = a.stations;
     inbox = ap (λ (ms : List (Message J)). messages ++ ms) a.inbox ∙ sym (append_assoc messages old.inbox (message.Start a.flow a.works ∷ []));
     outbox = ap (λ (is : List (Item J)). items ++ is) a.outbox;
     log = a.log;
@@ -171,20 +171,3 @@ module _ {J : Type 0} (messages : List (Message J)) (items : List (Item J)) wher
   )
   submits_framed shared old new h session number asked answer (Some desk) there said =
       unless_submitted shared old new h session number asked desk answer there (refusal_at desk asked old) refl said
-
-  -- ---- a message is taken
-
-  -- with the other executors' messages behind those that are left
-  pub takes_framed : (m : Message J) (rest : List (Message J)) (old new : Parts J) → TakesMessage m (record old { inbox = rest }) new
-      → TakesMessage m (queued old (rest ++ messages) (items ++ old.outbox)) (queued new (rest ++ messages) (items ++ new.outbox))
-  takes_framed m rest old new said = (
-    said.0,
-    (
-      said.1.0,
-      (
-        ap (λ (w : Parts J). queued w (rest ++ messages) (items ++ w.outbox)) said.1.1.0
-            ∙ (λ i. record (queued old (rest ++ messages) (items ++ old.outbox)) { slices = said.1.0; outbox = sym (append_assoc items old.outbox said.0) i }),
-        said.1.1.1,
-      ),
-    ),
-  )

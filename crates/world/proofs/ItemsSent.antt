@@ -61,7 +61,7 @@ module _ {J : Type 0} where
             (fits_quiet opening history next.log (joined_in next) next.desk.admitted (flight next) (Send executor) Full tt (put_back_fits opening history w (item.Push message) f)));
       }
 
-  sends_commit : (shared : Shared) (w new : Parts J) (commit : CommitItem J) (answer : EventAnswer) (h : IsSoundWith shared (part_item (item.Commit commit)) w) (s : IsSoundCommit shared commit)
+  sends_commit : (shared : Shared) (w new : Parts J) (commit : CommitItem J) (answer : EventAnswer) (h : IsSoundWith shared (part_item (item.Commit commit)) w) (s : IsSoundCommit shared (h.under_way commit.transaction.slot) commit)
       → Commits commit w answer new → SendsOn shared (part_item (item.Commit commit)) w answer new
   sends_commit shared w new commit (Logged place) h s said =
       let both = logging_goes_on shared w commit h s in

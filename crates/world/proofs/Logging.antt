@@ -24,7 +24,7 @@ use Rattle.history.specs.declared.event.EventAnswer.TheVariants.{Logged}
 use Rattle.history.specs.History.{Step, step, Unanswered}
 use Rattle.history.specs.Laws.{with_place}
 use Rattle.history.proofs.Recorded.{slice_get-front, slice_get-last}
-use Rattle.slices.specs.Sliced.{AreOfOneHome, IsClaimAt}
+use Rattle.slices.specs.Sliced.{AreAllHeld, AreOfOneHome, IsClaimAt}
 use Rattle.transactions.specs.Acting.{CanBeSettled}
 use Rattle.transactions.specs.declared.laws.TheConstants.{MOST_ACTIONS}
 use Rattle.world.specs.declared.desk.Active.TheVariants as active
@@ -33,7 +33,7 @@ use Rattle.world.specs.declared.flight.Item.TheVariants as item
 use Rattle.world.specs.declared.flight.CommitItem.{CommitItem}
 use Rattle.world.specs.declared.sending.Release.{Release}
 use Rattle.world.specs.declared.world.Parts.{Parts}
-use Rattle.world.specs.Parted.{CanAllBeUndone, joined_in}
+use Rattle.world.specs.Parted.{AreUndoneBy, IsAged, joined_in}
 use Rattle.world.specs.Flights.{Committing, InFlight, part, nothing, join, part_item, unanswered_transaction}
 use Rattle.world.specs.Sound.{Courses, IsSoundWith, IsSoundItem, IsSoundCommit, IsAnswerIn, awaited_by_all, flight}
 use Rattle.world.specs.Following.{entry_of, is_settled, release, releasing}
@@ -42,6 +42,7 @@ use Rattle.world.specs.Worlds.{FitsPart, Fits}
 use Rattle.world.proofs.Fitting.{fits_entry, fits_same, logged_held}
 use Rattle.world.proofs.Joins.{IsSame, same-refl, same-join}
 use Rattle.world.proofs.Tokens.{is_awaited, weigh_committing, commit_under_way, one_weighs}
+use Rattle.world.proofs.Balances.{held_same}
 use Rattle.world.proofs.OneSlot.{lots, flight_apart}
 use Rattle.world.proofs.Puts.{AreServed, GoesOn, Rests, rests_of}
 use Rattle.world.proofs.Releases.{AreGiven, unanswered_release, releases_fits, releases_sound}
@@ -72,17 +73,23 @@ all_settled_together : (cs : List Claiming) → AreOfOneHome cs → AreOfOneHome
 all_settled_together [] h = h
 all_settled_together (c ∷ cs) h = all_settled_at (warehouse_of c.group) (c ∷ cs) h
 
+-- and of the same transaction
+all_settled_aged : (age : ℕ) (cs : List Claiming) → All (IsAged age) cs → All (IsAged age) (all_settled cs)
+all_settled_aged age [] h = All-nil (IsAged age)
+all_settled_aged age (c ∷ cs) h =
+    All-cons (IsAged age) (settled c) (all_settled cs) (All-head (IsAged age) c cs h) (all_settled_aged age cs (All-tail (IsAged age) c cs h))
+
 -- those of one action
-logged_given : (shown : Reply) (cs : List Claiming) → CanAllBeUndone cs → AreGiven (is_settled shown) (claims_logged shown cs)
-logged_given (reply.Done shown) cs h = (all_settled_given cs, all_settled_together cs h.1)
-logged_given (reply.RolledBack fault) cs h = h
+logged_given : (shown : Reply) (age : ℕ) (cs : List Claiming) → AreUndoneBy age cs → AreGiven (is_settled shown) age (claims_logged shown cs)
+logged_given (reply.Done shown) age cs h = ((all_settled_given cs, all_settled_together cs h.0.1), all_settled_aged age cs h.1)
+logged_given (reply.RolledBack fault) age cs h = h
 
 -- and those of all
-all_logged_given : (shown : Reply) (held : List (List Claiming)) → All CanAllBeUndone held → All (AreGiven (is_settled shown)) (map (claims_logged shown) held)
-all_logged_given shown [] h = All-nil (AreGiven (is_settled shown))
-all_logged_given shown (cs ∷ held) h =
-    All-cons (AreGiven (is_settled shown)) (claims_logged shown cs) (map (claims_logged shown) held)
-    (logged_given shown cs (All-head CanAllBeUndone cs held h)) (all_logged_given shown held (All-tail CanAllBeUndone cs held h))
+all_logged_given : (shown : Reply) (age : ℕ) (held : List (List Claiming)) → All (AreUndoneBy age) held → All (AreGiven (is_settled shown) age) (map (claims_logged shown) held)
+all_logged_given shown age [] h = All-nil (AreGiven (is_settled shown) age)
+all_logged_given shown age (cs ∷ held) h =
+    All-cons (AreGiven (is_settled shown) age) (claims_logged shown cs) (map (claims_logged shown) held)
+    (logged_given shown age cs (All-head (AreUndoneBy age) cs held h)) (all_logged_given shown age held (All-tail (AreUndoneBy age) cs held h))
 
 -- what is logged of two lots of claims is logged of both together
 logged_none : (shown : Reply) → claims_logged shown [] ≡ []
@@ -126,7 +133,7 @@ module _ {J : Type 0} where
       log_is ∙ ap (λ (n : ℕ). w.log ++ record { session = n; number = t.number; request = t.request; reply = commit.reply } ∷ []) session_is in
       λ i. releasing (settle_is i) (release t (passes i) (Done (place_is i) (shown_is i)) (held_is i)) (record w { log = longer i })
 
-  module _ (shared : Shared) (w : Parts J) (commit : CommitItem J) (h : IsSoundWith shared (part_item (item.Commit commit)) w) (s : IsSoundCommit shared commit) where
+  module _ (shared : Shared) (w : Parts J) (commit : CommitItem J) (h : IsSoundWith shared (part_item (item.Commit commit)) w) (s : IsSoundCommit shared (h.under_way commit.transaction.slot) commit) where
     abbrev slot : ℕ
     slot = commit.transaction.slot
 
@@ -147,6 +154,9 @@ module _ {J : Type 0} where
 
     served : AreServed w.desk (unanswered_transaction commit.transaction ∷ (lots slot w).pending)
     served = served_same w.desk _ (unanswered_transaction commit.transaction ∷ (lots slot w).pending) by_lots.pending (record { alone = h.balance.alone; many = h.balance.many })
+
+    held_by_lots : AreAllHeld (joined_in w).holdings (all_claims commit.transaction.held ++ (lots slot w).claims)
+    held_by_lots = held_same (joined_in w) (join (part_item (item.Commit commit)) (flight w)) (join (part_item (item.Commit commit)) (lots slot w)) by_lots h.held
 
     fits_by_lots : (opening : Database) (history : List Step) → FitsPart opening history w.log (joined_in w) w.desk.admitted (join (part_item (item.Commit commit)) (flight w))
         → FitsPart opening history w.log (joined_in w) w.desk.admitted (join (part_item (item.Commit commit)) (lots slot w))
@@ -171,7 +181,7 @@ module _ {J : Type 0} where
         record {
           sound = releases_sound shared h.under_way w hand false r rests
               (subst (λ n. n < 64) (sym same.0) s.asked.session) (ap (λ asks. asks.number) same.1 ∙ s.asked.number) tt
-              s.undo s.few pending served;
+              s.undo s.few refl held_by_lots pending served;
           fits = λ opening history f. releases_fits opening history w hand false r below refl pending (fits_by_lots opening history f);
         }
 
@@ -206,12 +216,13 @@ module _ {J : Type 0} where
           sessions = rests.sessions;
           tokens = rests.tokens;
         } in (
-          releases_sound shared h.under_way logged_w hand settle r rests_logged s.asked.session s.asked.number (entry, (slice_get-last w.log entry, refl)) (all_logged_given shown t.held s.undo) few refl
+          releases_sound shared h.under_way logged_w hand settle r rests_logged s.asked.session s.asked.number (entry, (slice_get-last w.log entry, refl)) (all_logged_given shown (h.under_way slot).age t.held s.undo) few
+              (sym (logged_claims shown t.held)) (logged_held shown (joined_in w).holdings (all_claims t.held) others.claims held_by_lots) refl
               (record { alone = served.alone; many = served.many }),
           λ opening history executor f.
               let first = fits_by_lots opening history f in
               let after = fits_entry opening history w.log (joined_in w) w.desk.admitted (all_claims t.held) others.claims (unanswered_transaction t) others.pending executor entry
               refl (sym s.asked.number) (sym s.asked.request) refl (s.carried_out opening ((λ i. record { scale = sym f.scale i; items = sym f.items i }) ∙ h.shared_is)) first.told first.committed in
               releases_fits opening (history ++ step (Send executor) (Logged place) ∷ []) logged_w hand settle r below (sym (logged_claims shown t.held)) refl
-              (record { told = after.0; committed = after.1; held = logged_held opening history w.log entry.reply (joined_in w).holdings (all_claims t.held) others.claims first.held; scale = first.scale; items = first.items }),
+              (record { told = after.0; committed = after.1; held = logged_held shown (joined_in w).holdings (all_claims t.held) others.claims first.held; scale = first.scale; items = first.items }),
         )

@@ -37,7 +37,9 @@ use Rattle.world.specs.declared.flight.Report.{Report}
 use Rattle.world.specs.declared.flight.Item.{Item}
 use Rattle.world.specs.declared.flight.Item.TheVariants as item
 use Rattle.world.specs.declared.world.Parts.{Parts}
-use Rattle.world.specs.Parted.{CanAllBeUndone, joined_in}
+use Rattle.world.specs.Parted.{AreUndoneBy, joined_in}
+use Rattle.slices.specs.Sliced.{AreAllHeld}
+use Rattle.world.proofs.Balances.{held_same}
 use Rattle.world.specs.Flights.{Acting, Committing, InFlight, part, nothing, join, parts, acting_from, part_item, part_met, part_report, part_transaction, unanswered_transaction}
 use Rattle.world.specs.Following.{acts_of, committing, found_in, held_in, holding, refusal_of, refused, releasing, with_active, IfCarried}
 use Rattle.world.specs.Sound.{Courses, UnderWay, IsSoundWith, IsSoundItem, IsSoundReport, IsSoundPhase, IsSoundFlow, IsSoundStart, IsSoundCommit, IsAskedBy, WeighAlike, flight}
@@ -187,6 +189,10 @@ module _ {J : Type 0} where
         served : AreServed w.desk (unanswered_transaction t ∷ (lots t.slot w).pending)
         served = served_same w.desk (join (part_report r) (flight w)).pending (unanswered_transaction t ∷ (lots t.slot w).pending) in_hand.pending (record { alone = h.balance.alone; many = h.balance.many })
 
+        -- the claims that are out are those of the transaction, and the others'
+        held_out : AreAllHeld (joined_in w).holdings (all_claims t.held ++ (lots t.slot w).claims)
+        held_out = held_same (joined_in w) (join (part_report r) (flight w)) (join hand (lots t.slot w)) in_hand h.held
+
         fits_in_hand : (opening : Database) (history : List Step) → FitsPart opening history w.log (joined_in w) w.desk.admitted (join (part_report r) (flight w))
             → FitsPart opening history w.log (joined_in w) w.desk.admitted (join hand (lots t.slot w))
         fits_in_hand opening history f = fits_same opening history w.log (joined_in w) w.desk.admitted (join (part_report r) (flight w)) (join hand (lots t.slot w)) in_hand f
@@ -194,8 +200,11 @@ module _ {J : Type 0} where
         held_is : t.held ≡ u.held ++ held_in reports
         held_is = ap (λ (hs : List (List Claiming)). hs ++ held_in reports) sound_flow.held
 
-        undo : All CanAllBeUndone t.held
-        undo = subst (λ hs. All CanAllBeUndone hs) (sym held_is) (All-append CanAllBeUndone u.held (held_in reports) at.undo (all_undo shared r.slot u 0 (works_of u.progress) reports have))
+        undo : All (AreUndoneBy u.age) t.held
+        undo = subst (λ hs. All (AreUndoneBy u.age) hs) (sym held_is) (All-append (AreUndoneBy u.age) u.held (held_in reports) at.undo (all_undo shared r.slot u 0 (works_of u.progress) reports have))
+
+        undo_of : (slot : ℕ) → slot ≡ r.slot → All (AreUndoneBy (h.under_way slot).age) t.held
+        undo_of slot is = subst (λ n. All (AreUndoneBy (h.under_way n).age) t.held) (sym is) undo
 
         few : length t.held ≤ MOST_ACTIONS
         few = omega (
@@ -213,7 +222,7 @@ module _ {J : Type 0} where
 
         pub refuses : (why : Refusal) → GoesOn shared (part_report r) w (releasing false (refused t why) w)
         refuses why = record {
-          sound = releases_sound shared h.under_way w hand false (refused t why) rests asked.session asked.number tt undo few refl served;
+          sound = releases_sound shared h.under_way w hand false (refused t why) rests asked.session asked.number tt (undo_of t.slot sound_flow.slot_is) few refl held_out refl served;
           fits = λ opening history f. releases_fits opening history w hand false (refused t why) below refl refl (fits_in_hand opening history f);
         }
 
@@ -222,17 +231,20 @@ module _ {J : Type 0} where
         commits : (shown : Reply) → ((opening : Database) → shared_of opening ≡ shared → IsCarriedOut opening u.request (all_claims t.held) shown) → GoesOn shared (part_report r) w (committing t shown w)
         commits shown carried =
             let one : Item J = item.Commit (record { transaction = t; reply = shown }) in
-            let sound : IsSoundCommit shared (record { transaction = t; reply = shown }) = record {
+            let sound : IsSoundCommit shared u (record { transaction = t; reply = shown }) = record {
               asked = asked;
               accepted = subst (λ q. IsAccepted shared.scale q) (sym sound_flow.request) (accepted shared u.request u.progress u.held at.reached);
               carried_out = λ opening same. subst (λ q. IsCarriedOut opening q (all_claims t.held) shown) (sym sound_flow.request) (carried opening same);
               undo = undo;
               few = few;
             } in
+            let sound_there : IsSoundCommit shared (h.under_way t.slot) (record { transaction = t; reply = shown }) =
+            subst (λ n. IsSoundCommit shared (h.under_way n) (record { transaction = t; reply = shown })) (sym sound_flow.slot_is) sound in
             record {
               sound = puts_sound shared h.under_way t.slot w hand (one ∷ []) (Some active.Committing) rests refl
-                  (All-cons (IsSoundItem shared w.log h.under_way) one [] sound (All-nil (IsSoundItem shared w.log h.under_way))) tt
-                  (IsPermutation-refl (unanswered_transaction t ∷ [])) served (λ weight. refl);
+                  (All-cons (IsSoundItem shared w.log h.under_way) one [] sound_there (All-nil (IsSoundItem shared w.log h.under_way))) tt
+                  (IsPermutation-refl (unanswered_transaction t ∷ [])) served
+                  (subst (λ cs. IsPermutation (all_claims t.held) cs) (sym (append-nil (all_claims t.held))) (IsPermutation-refl (all_claims t.held))) held_out (λ weight. refl);
               fits = λ opening history f.
                   puts_fits opening history w hand (one ∷ []) t.slot (Some active.Committing) refl below
                   (subst (λ cs. IsPermutation (all_claims t.held) cs) (sym (append-nil (all_claims t.held))) (IsPermutation-refl (all_claims t.held)))
@@ -243,13 +255,13 @@ module _ {J : Type 0} where
         next progress reached =
             let works = works_of progress in
             let flow_now : Flow J = record { transaction = t; progress = progress } in
-            let v : UnderWay = record { request = u.request; progress = progress; held = t.held } in
+            let v : UnderWay = record { request = u.request; progress = progress; held = t.held; age = u.age } in
             let bt : Courses = course_on h.under_way t.slot v in
             let now : bt t.slot ≡ v = course_here h.under_way t.slot v in
             let begun : Option (Active J) = Some (active.Acting (length t.held) (replicate (length works) None)) in
             let some : 1 ≤ length works = some_actions progress in
             let start : IsSoundStart shared v flow_now works = record {
-              flow_is = record { asked = asked; slot_is = refl; request = sound_flow.request; held = refl; progress = refl };
+              flow_is = record { asked = asked; slot_is = refl; request = sound_flow.request; held = refl; progress = refl; age = sound_flow.age };
               works_are = refl;
               can = can_all shared u.request progress t.held reached;
               few = omega (arith, few_actions shared u.request progress t.held reached);
@@ -269,6 +281,7 @@ module _ {J : Type 0} where
                   (acts_fine shared w.log bt flow_now works (subst (λ x. IsSoundStart shared x flow_now works) (sym now) start))
                   (subst (λ x. IsSoundPhase {J = J} shared t.slot x (length t.held) (replicate (length works) None)) (sym now) phase)
                   (subst (λ (q : InFlight). IsPermutation (unanswered_transaction t ∷ []) q.pending) (sym acts) (IsPermutation-refl (unanswered_transaction t ∷ []))) served
+                  (subst (λ (q : InFlight). IsPermutation (all_claims t.held) q.claims) (sym acts) (IsPermutation-refl (all_claims t.held))) held_out
                   (λ weight. ap (λ (q : InFlight). sum_by weight q.tokens) acts ∙ sym (ap (λ ts. sum_by weight ts) awaits));
               fits = λ opening history f.
                   puts_fits opening history w hand (acts_of flow_now works) t.slot begun (none_reported (length works)) below

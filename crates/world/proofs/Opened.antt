@@ -1,13 +1,18 @@
 -- A world that was just opened.
-use Rattle.std.proofs.Common.{◌≡◌, ℕ, ◌+◌, ◌<◌, zero, suc, List, [], ◌∷◌, Option, Some, None, map, length, get_or, refl, sym, ap, subst, ◌∙◌, cond, arith, option_map}
-use Rattle.std.specs.Prelude.{count_by, replicate, slice_get, slice_index_or, sum_by, All}
+use Rattle.std.specs.List.{AllByRecursion}
+use Rattle.world.specs.declared.flight.Carried.{Carried}
+use Rattle.world.specs.Stations.{HaveToWait, IsStationOf, NobodyWaitsIn, slice_of, slices_in, station_of, waiting_at, waiting_in}
+use Rattle.transactions.specs.Stations.{Stationed}
+use Rattle.local_locks.specs.Asking.{StillWaits}
+use Rattle.std.proofs.Common.{◌≡◌, ℕ, ◌+◌, ◌<◌, zero, suc, List, [], ◌∷◌, Option, Some, None, map, length, get_or, refl, sym, ap, subst, ◌∙◌, cond, arith, option_map, IsPermutation, ◌++◌}
+use Rattle.std.specs.Prelude.{count_by, replicate, slice_get, slice_index_or, sum_by, All, flat_map}
 use Rattle.std.proofs.lemmas.List.{get_or-map, length-map, length-replicate}
-use Rattle.std.proofs.lemmas.List.Elements.{All-nil}
+use Rattle.std.proofs.lemmas.List.Elements.{All-nil, All-map, All-weaker, All-from_recursion}
 use Rattle.std.proofs.lemmas.List.Sums.{sum_by-cons}
 use Rattle.std.proofs.lemmas.Option.{slice_get-map, slice_get_within}
 use Rattle.std.proofs.lemmas.List.Sorted.{IsPermutation-refl}
 use Rattle.schema.specs.Database.{Database, IsWithinScale}
-use Rattle.partitions.specs.Parts.{Shared, parts_of, shared_of}
+use Rattle.partitions.specs.Parts.{Shared, parts_of, shared_of, Part}
 use Rattle.schema.specs.Consistency.{Consistent}
 use Rattle.groups.specs.Content.{content}
 use Rattle.tickets.specs.Boxes.{Boxed}
@@ -19,7 +24,7 @@ use Rattle.commit_log.specs.Passing.{Passing, Seating, new_pass, new_seat}
 use Rattle.history.proofs.Fitting.{empty_history_fits}
 use Rattle.transactions.proofs.Unasked.{unasked, unasked_progress}
 use Rattle.slices.specs.Openings.{AreOpenedFor, IsBoxOf}
-use Rattle.slices.specs.Sliced.{Sliced, AreSlicesOf, all_at_rest, all_standing, at_rest, everywhere, joined}
+use Rattle.slices.specs.Sliced.{Sliced, AreSlicesOf, all_at_rest, all_standing, at_rest, everywhere, joined, holdings_in, held_at}
 use Rattle.slices.proofs.Joined.{cut_slices_are_at_rest}
 use Rattle.slices.proofs.Opened.{opened_groups_have_boxes}
 use Rattle.world.specs.declared.desk.Active.{Active}
@@ -31,7 +36,7 @@ use Rattle.world.specs.declared.flight.Item.{Item}
 use Rattle.routing.specs.Routes.{Routes}
 use Rattle.world.specs.Together.{IsOf, IsSound, all_of, together}
 use Rattle.world.specs.Parted.{joined_in}
-use Rattle.world.specs.Flights.{nothing, join, parts, part_message, part_item, part_met}
+use Rattle.world.specs.Flights.{nothing, join, parts, part_message, part_item, part_met, InFlight}
 use Rattle.world.specs.Openings.{AreNewLanes, IsNew, session_with}
 use Rattle.world.specs.Sound.{IsSoundWith, IsSoundMessage, IsSoundItem, AreSoundActive, IsPassOf, IsBalanced, Courses, awaited_by_all, is_here, reported_to_all, flight}
 use Rattle.world.specs.Worlds.{Fits, FitsPart}
@@ -57,11 +62,44 @@ cut_slices t shared slices within same are =
     let Are : Shared → List Sliced → Type 0 = λ s l. AreSlicesOf s l × (joined s l ≡ all_at_rest t) in
     subst (λ s. Are s slices) (sym same) (subst (Are (shared_of t)) (sym are) (cut_slices_are_at_rest t within))
 
+-- ---- the stations
+
+-- of stations that were just opened, the slices are those that they were opened with
+pub slices_back : (J : Type 0) (slices : List Sliced) → map slice_of (map (station_of {J = J}) slices) ≡ slices
+slices_back J [] = refl
+slices_back J (s ∷ slices) = ap (λ (l : List Sliced). s ∷ l) (slices_back J slices)
+
+module _ {J : Type 0} where
+  -- and nobody waits there
+  pub nobody_waits : (slices : List Sliced) → flat_map (λ queue. queue) (map (waiting_at {J = J}) (map station_of slices)) ≡ []
+  nobody_waits [] = refl
+  nobody_waits (s ∷ slices) = nobody_waits slices
+
+  pub have_not_to_wait : (slices : List Sliced) → All NobodyWaitsIn slices → All (HaveToWait {J = J}) (map station_of slices)
+  have_not_to_wait slices none = All-map HaveToWait station_of slices (All-weaker NobodyWaitsIn (λ s. HaveToWait {J = J} (station_of s)) (λ s is. subst (All (StillWaits s.holdings)) (sym is) (All-nil (StillWaits s.holdings))) slices none)
+
+-- the stations of slices that were just cut
+pub opened_stations : {J : Type 0} (t : Database) (shared : Shared) (slices : List Sliced) (stations : List (Stationed (Carried J))) → AreSlicesOf shared slices × (joined shared slices ≡ all_at_rest t) → stations ≡ map station_of slices
+    → AreSlicesOf shared (map slice_of stations) × ((flat_map (λ queue. queue) (map waiting_at stations) ≡ []) × (joined shared (map slice_of stations) ≡ all_at_rest t))
+opened_stations {J} t shared slices stations are made =
+    let back : map slice_of stations ≡ slices = ap (map slice_of) made ∙ slices_back J slices in (
+      subst (AreSlicesOf shared) (sym back) are.0,
+      (ap (λ (l : List (Stationed (Carried J))). flat_map (λ queue. queue) (map waiting_at l)) made ∙ nobody_waits slices, ap (joined shared) back ∙ are.1),
+    )
+
+-- slices that were just cut have nobody who waits
+pub cut_waits : (parts : List Part) → All NobodyWaitsIn (map at_rest parts)
+cut_waits parts = All-map NobodyWaitsIn at_rest parts (All-from_recursion (λ p. NobodyWaitsIn (at_rest p)) parts (each parts))
+  where
+    each : (parts : List Part) → AllByRecursion (λ p. NobodyWaitsIn (at_rest p)) parts
+    each [] = tt
+    each (p ∷ parts) = (refl, each parts)
+
 -- ---- the sessions
 
 -- a transaction in each slot, where there is none
 none_under_way : Courses
-none_under_way slot = record { request = unasked; progress = unasked_progress; held = [] }
+none_under_way slot = record { request = unasked; progress = unasked_progress; held = []; age = 0 }
 
 -- free slots
 none_met : (J : Type 0) (n : ℕ) → reported_to_all {J = J} (replicate n None) ≡ []
@@ -103,9 +141,9 @@ module _ {J : Type 0} where
       ∙ ap (λ is. join nothing (join (parts part_item is) (parts part_met (reported_to_all w.desk.active)))) outbox
       ∙ ap (λ rs. join nothing (join nothing (parts part_met rs))) (ap reported_to_all active ∙ none_met J 64)
 
-  pub opened_sound : (shared : Shared) (lanes : List (Passing × Seating)) (w : Parts J) → AreNewLanes lanes → w.catalog ≡ shared → AreSlicesOf w.catalog w.slices.items → w.inbox ≡ [] → w.outbox ≡ [] → w.desk.active ≡ replicate 64 None
+  pub opened_sound : (shared : Shared) (lanes : List (Passing × Seating)) (w : Parts J) → AreNewLanes lanes → w.catalog ≡ shared → AreSlicesOf w.catalog (slices_in w) → ((w_id : ℕ) → (joined_in w).holdings w_id ≡ []) → w.inbox ≡ [] → w.outbox ≡ [] → w.desk.active ≡ replicate 64 None
       → w.desk.sessions.items ≡ map session_with lanes → IsSoundWith shared nothing w
-  opened_sound shared lanes w new shared_is slices inbox outbox active sessions =
+  opened_sound shared lanes w new shared_is slices none inbox outbox active sessions =
       let found_at : (number : ℕ) (session : SessionDesk J) → slice_get w.desk.sessions.items number ≡ Some session → session ≡ session_with (new_pass number, new_seat number) =
       λ number session found. session_is lanes number session new (sym (ap (λ l. slice_get l number) sessions) ∙ found) in
       let here : count_by is_here w.desk.sessions.items ≡ length lanes = ap (λ l. count_by is_here l) sessions ∙ all_here J lanes in
@@ -126,14 +164,17 @@ module _ {J : Type 0} where
           alone = λ number session found. ap {B = ℕ} (λ (s : SessionDesk J). 0 + cond (is_here s) 1 0) (found_at number session found);
           many = omega (arith, here, new.many);
         });
+        held = λ w_id. subst (λ hs. IsPermutation hs (held_at w_id (flight w).claims)) (sym (none w_id))
+            (subst (λ (p : InFlight). IsPermutation [] (held_at w_id p.claims)) (sym (nothing_flies w inbox outbox active)) (IsPermutation-refl []));
       }
 
-  pub opened_new : (t : Database) (executors : ℕ) (lanes : List (Passing × Seating)) (w : Core J) → AreNewLanes lanes → AreSlicesOf w.parts.catalog w.parts.slices.items → joined_in w.parts ≡ all_at_rest t
+  pub opened_new : (t : Database) (executors : ℕ) (lanes : List (Passing × Seating)) (w : Core J) → AreNewLanes lanes → AreSlicesOf w.parts.catalog (slices_in w.parts) → waiting_in w.parts ≡ [] → joined_in w.parts ≡ all_at_rest t
       → w.routing ≡ record { warehouses = t.scale.warehouses; executors = executors } → w.inboxes ≡ replicate executors [] → w.outboxes ≡ replicate executors []
       → w.parts.log ≡ [] → w.parts.desk.admitted ≡ 0 → w.parts.desk.active ≡ replicate 64 None
       → w.parts.desk.sessions.items ≡ map session_with lanes → IsNew t executors w
-  opened_new t executors lanes w new slices rows routing inboxes outboxes log admitted active sessions = record {
+  opened_new t executors lanes w new slices none_waits rows routing inboxes outboxes log admitted active sessions = record {
     slices = slices;
+    none_waits = none_waits;
     rows = rows;
     routing = routing;
     inboxes = inboxes;
@@ -158,11 +199,14 @@ none_at X (suc n) (suc place) = none_at X n place
 
 module _ {J : Type 0} where
   -- so it is where each executor has empty queues
-  pub opened_core : (shared : Shared) (executors : ℕ) (lanes : List (Passing × Seating)) (w : Core J) → AreNewLanes lanes → w.parts.catalog ≡ shared → AreSlicesOf w.parts.catalog w.parts.slices.items
+  pub opened_core : (shared : Shared) (executors : ℕ) (lanes : List (Passing × Seating)) (w : Core J) → AreNewLanes lanes → w.parts.catalog ≡ shared → AreSlicesOf w.parts.catalog (slices_in w.parts)
+      → ((w_id : ℕ) → (joined_in w.parts).holdings w_id ≡ []) → waiting_in w.parts ≡ [] → All (IsStationOf shared.scale.warehouses) w.parts.stations.items → All HaveToWait w.parts.stations.items
       → w.routing ≡ record { warehouses = shared.scale.warehouses; executors = executors } → w.inboxes ≡ replicate executors [] → w.outboxes ≡ replicate executors []
       → w.parts.inbox ≡ [] → w.parts.outbox ≡ [] → w.parts.desk.active ≡ replicate 64 None → w.parts.desk.sessions.items ≡ map session_with lanes → IsSound shared w
-  opened_core shared executors lanes w new shared_is slices routing inboxes outboxes inbox outbox active sessions = record {
-    all = opened_sound shared lanes (together w) new shared_is slices (ap (λ qs. all_of qs) inboxes ∙ none_waits (Message J) executors) (ap (λ qs. all_of qs) outboxes ∙ none_waits (Item J) executors) active sessions;
+  opened_core shared executors lanes w new shared_is slices none none_wait stations wait routing inboxes outboxes inbox outbox active sessions = record {
+    stations = stations;
+    wait = wait;
+    all = opened_sound shared lanes (together w) new shared_is slices none (ap (λ (q : List (Message J)). q ++ all_of w.inboxes) none_wait ∙ ap (λ qs. all_of qs) inboxes ∙ none_waits (Message J) executors) (ap (λ qs. all_of qs) outboxes ∙ none_waits (Item J) executors) active sessions;
     routed = ap (λ (r : Routes). r.warehouses) routing;
     inboxes = ap (λ qs. length qs) inboxes ∙ length-replicate executors [] ∙ sym (ap (λ (r : Routes). r.executors) routing);
     outboxes = ap (λ qs. length qs) outboxes ∙ length-replicate executors [] ∙ sym (ap (λ (r : Routes). r.executors) routing);
@@ -193,7 +237,7 @@ module _ (t : Database) (consistent : Consistent t) where
       (subst (λ n. FitsPart t [] w.log (joined_in w) n nothing) (sym admitted)
       (subst (λ l. FitsPart t [] l (joined_in w) 0 nothing) (sym empty) (subst (λ s. FitsPart t [] [] s 0 nothing) (sym rest) rest_fits)))
 
-  pub opened_fits : {J : Type 0} (executors : ℕ) (w : Core J) → joined_in w.parts ≡ all_at_rest t → w.parts.log ≡ [] → w.inboxes ≡ replicate executors [] → w.outboxes ≡ replicate executors []
+  pub opened_fits : {J : Type 0} (executors : ℕ) (w : Core J) → waiting_in w.parts ≡ [] → joined_in w.parts ≡ all_at_rest t → w.parts.log ≡ [] → w.inboxes ≡ replicate executors [] → w.outboxes ≡ replicate executors []
       → w.parts.desk.active ≡ replicate 64 None → w.parts.desk.admitted ≡ 0 → Fits t [] (together w)
-  opened_fits {J} executors w rest empty inboxes outboxes active admitted =
-      opened_parts (together w) rest empty (ap (λ qs. all_of qs) inboxes ∙ none_waits (Message J) executors) (ap (λ qs. all_of qs) outboxes ∙ none_waits (Item J) executors) active admitted
+  opened_fits {J} executors w none_wait rest empty inboxes outboxes active admitted =
+      opened_parts (together w) rest empty (ap (λ (q : List (Message J)). q ++ all_of w.inboxes) none_wait ∙ ap (λ qs. all_of qs) inboxes ∙ none_waits (Message J) executors) (ap (λ qs. all_of qs) outboxes ∙ none_waits (Item J) executors) active admitted

@@ -11,19 +11,21 @@ use Rattle.std.proofs.lemmas.Option.{slice_get_within}
 use Rattle.partitions.specs.Parts.{Shared}
 use Rattle.schema.specs.Database.{Database}
 use Rattle.history.specs.History.{Step, Unanswered, is_of}
-use Rattle.slices.specs.Sliced.{AreSlicesOf}
+use Rattle.slices.specs.Sliced.{AreAllHeld, AreSlicesOf}
+use Rattle.slices.proofs.Held.{held_in_any_order}
 use Rattle.world.specs.declared.desk.Active.{Active}
 use Rattle.world.specs.declared.desk.Desk.{Desk}
 use Rattle.world.specs.declared.desk.SessionDesk.{SessionDesk}
 use Rattle.world.specs.declared.flight.Item.{Item}
 use Rattle.world.specs.declared.world.Parts.{Parts}
 use Rattle.world.specs.Parted.{joined_in}
+use Rattle.world.specs.Stations.{slices_in}
 use Rattle.world.specs.Flights.{Token, InFlight, part, nothing, join, parts, part_message, part_item, part_met}
 use Rattle.world.specs.Sound.{Courses, UnderWay, IsSoundWith, IsSoundMessage, IsSoundItem, IsSoundActive, AreSoundActive, IsSessionOf, IsBalanced, WeighAlike, flight, reported_to, reported_to_all, awaited, awaited_by_all, is_here}
 use Rattle.world.specs.Following.{putting, with_active}
 use Rattle.world.specs.Worlds.{FitsPart, Fits}
 use Rattle.world.proofs.Joins.{IsSame, same-refl, same-sym, same-trans, same-join, join-assoc}
-use Rattle.world.proofs.Balances.{in_inbox, in_outbox, item_taken, balanced_same}
+use Rattle.world.proofs.Balances.{in_inbox, in_outbox, item_taken, balanced_same, held_same}
 use Rattle.world.proofs.Fitting.{fits_same, fits_like}
 use Rattle.world.proofs.Reported.{met_tokens}
 use Rattle.world.proofs.OneSlot.{lots, without, of_slot, weigh_slots, awaited_of, awaited_then, flight_apart, flight_then, flight_with, none_of_slot, sound_in, sound_then}
@@ -48,6 +50,7 @@ module _ {J : Type 0} where
           seats = h.seats;
           sessions = h.sessions;
           balance = balanced_same old.desk (flight old) (join (part_item item) (flight (record old { outbox = rest }))) (item_taken old item rest is) h.balance;
+          held = held_same (joined_in old) (flight old) (join (part_item item) (flight (record old { outbox = rest }))) (item_taken old item rest is) h.held;
         },
         All-head (IsSoundItem shared old.log h.under_way) item rest all,
       )
@@ -69,7 +72,7 @@ module _ {J : Type 0} where
   -- await.
   pub record Rests (shared : Shared) (at : Courses) (slot : ℕ) (w : Parts J) : Type 0 where
     pub shared_is : w.catalog ≡ shared
-    pub slices : AreSlicesOf w.catalog w.slices.items
+    pub slices : AreSlicesOf w.catalog (slices_in w)
     pub inbox : All (IsSoundMessage shared at) w.inbox
     pub outbox : All (IsSoundItem shared w.log at) w.outbox
     pub slots : length w.desk.active ≡ 64
@@ -156,9 +159,11 @@ module _ {J : Type 0} where
       → All (IsSoundItem shared w.log at) items → IsSoundActive shared slot (at slot) a
       → IsPermutation hand.pending (parts part_item items).pending
       → AreServed w.desk (hand.pending ++ (lots slot w).pending)
+      → IsPermutation hand.claims (parts part_item items).claims
+      → AreAllHeld (joined_in w).holdings (hand.claims ++ (lots slot w).claims)
       → WeighAlike (parts part_item items).tokens (awaited slot a)
       → IsSoundWith shared nothing (putting items slot a w)
-  puts_sound shared at slot w hand items a r none fine sound pending served tokens =
+  puts_sound shared at slot w hand items a r none fine sound pending served claims held tokens =
       let put = parts part_item items in
       let rest = lots slot w in
       let desk : Desk J = record w.desk { active = slice_set w.desk.active slot a } in
@@ -183,6 +188,8 @@ module _ {J : Type 0} where
         sessions = r.sessions;
         balance = balanced_same desk (join put rest) (flight (putting items slot a w)) (same-sym _ _ (lots_put w items slot a none below))
             (balanced_same desk (join first rest) (join put rest) (same-join first put rest rest same (same-refl rest)) balance);
+        held = held_same (joined_in w) (join put rest) (flight (putting items slot a w)) (same-sym _ _ (lots_put w items slot a none below))
+            (held_in_any_order (joined_in w).holdings (hand.claims ++ rest.claims) (put.claims ++ rest.claims) (IsPermutation-append hand.claims put.claims rest.claims rest.claims claims (IsPermutation-refl rest.claims)) held);
       }
 
   -- from what was in hand, the next world is sound, and a history that fits goes on fitting
@@ -242,6 +249,7 @@ module _ {J : Type 0} where
           seats = h.seats;
           sessions = h.sessions;
           balance = balanced_same desk (join now rest) (flight next) then balance;
+          held = held_same (joined_in w) (join now rest) (flight next) then (held_same (joined_in w) (join hand (flight w)) (join met rest) with_token h.held);
         };
         fits = λ opening history f.
             let together = fits_same opening history w.log (joined_in w) w.desk.admitted (join hand (flight w)) (join met rest) with_token f in

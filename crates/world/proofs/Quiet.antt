@@ -84,12 +84,6 @@ module _ {J : Type 0} where
             ∙ ap (λ (rs : List (Report J)). (parts part_met rs).claims) (idle_met w.desk.active idle),
       )
 
-  -- it is so of how the world is seen
-  pub rests_idle : (shared : Shared) (w seen : Core J) → w ≡ seen → IsSound shared w → IsAtRest seen → count_active seen.parts.desk.active ≡ 0
-  rests_idle shared w seen same h rests =
-      let here = subst IsAtRest (sym same) rests in
-      subst (λ (v : Core J). count_active v.parts.desk.active ≡ 0) same ((quiet_rests shared (together w) h.all here.0 here.1).0)
-
   -- ---- where nothing is active
 
   no_claims : (shared : Shared) (log : List Entry) (at : Courses) (items : List (Item J)) → All (IsSoundItem shared log at) items

@@ -41,8 +41,8 @@ module _ {J : Type 0} where
   can_work shared at (Start flow works) h =
       (omega (arith, ap (λ (ws : List Work). length ws) h.works_are, some_actions (at flow.transaction.slot).progress), (h.few, h.can))
   can_work shared at (Act act) h = h.can
-  can_work shared at (Settle slot claims) h = h
-  can_work shared at (Undo slot claims) h = h
+  can_work shared at (Settle slot claims) h = h.0
+  can_work shared at (Undo slot claims) h = h.0
 
   -- ---- a report
 

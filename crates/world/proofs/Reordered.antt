@@ -1,9 +1,10 @@
 -- What is under way in another order: a world stays sound, and a history that fits goes on fitting.
-use Rattle.std.proofs.Common.{ℕ, ◌<◌, zero, suc, List, [], ◌∷◌, ◌++◌, length, sym, subst, arith}
+use Rattle.std.proofs.Common.{◌≡◌, ℕ, ◌<◌, zero, suc, List, [], ◌∷◌, ◌++◌, length, Some, sym, subst, arith}
 use Rattle.std.specs.Prelude.{slice_index_or, slice_set}
+use Rattle.std.specs.List.{remove, slice_get}
 use Rattle.std.specs.List.Sorted.{IsPermutation}
 use Rattle.std.proofs.lemmas.List.{set-get_or}
-use Rattle.std.proofs.lemmas.List.Sorted.{All-permutation, IsPermutation-sym, IsPermutation-trans, IsPermutation-cons, IsPermutation-append_comm}
+use Rattle.std.proofs.lemmas.List.Sorted.{All-permutation, IsPermutation-sym, IsPermutation-trans, IsPermutation-cons, IsPermutation-refl, IsPermutation-append_comm, IsPermutation-append_left, IsPermutation-middle}
 use Rattle.partitions.specs.Parts.{Shared}
 use Rattle.schema.specs.Database.{Database}
 use Rattle.history.specs.History.{Step}
@@ -16,7 +17,7 @@ use Rattle.world.specs.Sound.{IsSoundWith, IsSoundMessage, IsSoundItem, flight}
 use Rattle.world.specs.Together.{all_of}
 use Rattle.world.specs.Worlds.{Fits}
 use Rattle.world.proofs.Joins.{IsSame, same-refl, same-sym, same-trans, same-is, same-join, same-swap, same-middle, parts-append}
-use Rattle.world.proofs.Balances.{fly_same, in_meeting, balanced_same}
+use Rattle.world.proofs.Balances.{fly_same, in_meeting, balanced_same, held_same}
 use Rattle.world.proofs.Fitting.{fits_same}
 use Rattle.world.proofs.Apart.{others, own_first}
 
@@ -41,6 +42,41 @@ module _ {X : Type 0} (f : X → InFlight) where
     order = IsPermutation-cons x xs ys r.order;
     part = same-join (f x) (f x) (parts f xs) (parts f ys) (same-refl (f x)) r.part;
   }
+
+  pub reordered-refl : (xs : List X) → Reordered f xs xs
+  reordered-refl xs = record { order = IsPermutation-refl xs; part = same-refl (parts f xs) }
+
+  -- more in front of both
+  pub reordered-append : (zs xs ys : List X) → Reordered f xs ys → Reordered f (zs ++ xs) (zs ++ ys)
+  reordered-append [] xs ys r = r
+  reordered-append (z ∷ zs) xs ys r = reordered-cons z (zs ++ xs) (zs ++ ys) (reordered-append zs xs ys r)
+
+  -- and behind both
+  pub reordered-behind : (zs xs ys : List X) → Reordered f xs ys → Reordered f (xs ++ zs) (ys ++ zs)
+  reordered-behind zs xs ys r = record {
+    order = IsPermutation-append_left zs xs ys r.order;
+    part = subst (λ p. IsSame p (parts f (ys ++ zs))) (sym (parts-append f xs zs))
+        (subst (λ p. IsSame (join (parts f xs) (parts f zs)) p) (sym (parts-append f ys zs))
+        (same-join (parts f xs) (parts f ys) (parts f zs) (parts f zs) r.part (same-refl (parts f zs))));
+  }
+
+  -- one in the middle comes to the front
+  pub reordered-middle : (xs : List X) (x : X) (ys : List X) → Reordered f (xs ++ x ∷ ys) (x ∷ (xs ++ ys))
+  reordered-middle [] x ys = reordered-refl (x ∷ ys)
+  reordered-middle (z ∷ xs) x ys =
+      let neighbours : Reordered f (z ∷ x ∷ (xs ++ ys)) (x ∷ z ∷ (xs ++ ys)) = record { order = IsPermutation-middle (z ∷ []) x (xs ++ ys); part = same-middle (f z) (f x) (parts f (xs ++ ys)) } in
+      reordered-trans (z ∷ (xs ++ x ∷ ys)) (z ∷ x ∷ (xs ++ ys)) (x ∷ z ∷ (xs ++ ys)) (reordered-cons z (xs ++ x ∷ ys) (x ∷ (xs ++ ys)) (reordered-middle xs x ys)) neighbours
+
+  -- the one at a place comes to the front
+  pub reordered-front : (xs : List X) (place : ℕ) (x : X) → slice_get xs place ≡ Some x → Reordered f xs (x ∷ remove xs place)
+  reordered-front [] place x is = absurd (cc)
+  reordered-front (y ∷ xs) zero x is =
+      let same : y ≡ x = cc in
+      subst (λ z. Reordered f (y ∷ xs) (z ∷ xs)) same (reordered-refl (y ∷ xs))
+  reordered-front (y ∷ xs) (suc place) x is =
+      let rest = remove xs place in
+      let neighbours : Reordered f (y ∷ x ∷ rest) (x ∷ y ∷ rest) = record { order = IsPermutation-middle (y ∷ []) x rest; part = same-middle (f y) (f x) (parts f rest) } in
+      reordered-trans (y ∷ xs) (y ∷ x ∷ rest) (x ∷ y ∷ rest) (reordered-cons y xs (x ∷ rest) (reordered-front xs place x is)) neighbours
 
   -- two lots change places
   pub reordered-swap : (xs ys : List X) → Reordered f (xs ++ ys) (ys ++ xs)
@@ -102,6 +138,8 @@ module _ {J : Type 0} where
       sessions = h.sessions;
       balance = balanced_same w.desk (join hand (flight (queued w ms is))) (join hand (flight (queued w ns js)))
           (same-join hand hand (flight (queued w ms is)) (flight (queued w ns js)) (same-refl hand) flight_same) h.balance;
+      held = held_same (joined_in w) (join hand (flight (queued w ms is))) (join hand (flight (queued w ns js)))
+          (same-join hand hand (flight (queued w ms is)) (flight (queued w ns js)) (same-refl hand) flight_same) h.held;
     }
 
     pub fits_in_order : (opening : Database) (history : List Step) → Fits opening history (queued w ms is) → Fits opening history (queued w ns js)

@@ -36,7 +36,7 @@ module _ {J : Type 0} where
       → new ≡ record old { desk = record old.desk { sessions = new.desk.sessions } }
   of_sessions old new sessions h = λ i. record {
     catalog = h.0 i;
-    slices = h.1.0 i;
+    stations = h.1.0 i;
     inbox = h.1.1.0 i;
     outbox = h.1.1.1.0 i;
     desk = record { admitted = h.1.1.1.1.1.0 i; sessions = new.desk.sessions; active = h.1.1.1.1.1.1.0 i };
@@ -73,6 +73,7 @@ module _ {J : Type 0} where
             alone = subst (λ l. AreAlone l rest.pending) (sym sessions_are) alone;
             many = subst (λ l. AreMany l rest.pending) (sym sessions_are) many;
           };
+          held = h.held;
         } in
         subst (λ v. IsSoundWith shared nothing v) (sym (of_sessions w new all same)) sound
 

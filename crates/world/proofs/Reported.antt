@@ -19,7 +19,7 @@ use Rattle.rendezvous.specs.Awaited.{reported}
 use Rattle.world.specs.declared.flight.Flow.{Flow}
 use Rattle.world.specs.declared.flight.Report.{Report}
 use Rattle.world.specs.Flights.{part, join, parts, part_carried, part_met, unanswered_transaction}
-use Rattle.world.specs.Parted.{CanAllBeUndone}
+use Rattle.world.specs.Parted.{AreUndoneBy}
 use Rattle.world.specs.Following.{found_by, found_in, held_by, held_in, refusal_of, refused_by, refused_still}
 use Rattle.world.specs.Sound.{UnderWay, IsPlaceOf, IsWorkAt, IsSoundFlow, IsCarriedAt, IsSoundRan, IsSoundReport, IsSoundPhase}
 use Rattle.world.proofs.Joins.{IsSame, same-refl, same-trans, same-join, same-middle}
@@ -92,7 +92,7 @@ module _ {J : Type 0} where
   module _ (shared : Shared) (slot : ℕ) (u : UnderWay) where
     -- an action that ran has done this work, and all of it can be taken back
     abbrev pub HasRan : Work → Ran J → Type 0
-    HasRan work (ran.Done claims found) = HasDone shared work found claims × CanAllBeUndone claims
+    HasRan work (ran.Done claims found) = HasDone shared work found claims × AreUndoneBy u.age claims
     HasRan work (ran.Died group holder) = Unit {0}
     HasRan work ran.NoMemory = Unit {0}
 
@@ -106,7 +106,7 @@ module _ {J : Type 0} where
     ran_at place work (ran.Done claims found) at h =
         let other = h.1.0 in
         let same : h.0 ≡ work = cc in
-        subst (λ (w : Work). HasDone shared w found claims × CanAllBeUndone claims) same h.1.1
+        subst (λ (w : Work). HasDone shared w found claims × AreUndoneBy u.age claims) same h.1.1
     ran_at place work (ran.Died group holder) at h = tt
     ran_at place work ran.NoMemory at h = tt
 
@@ -208,16 +208,16 @@ module _ {J : Type 0} where
     all_done place (work ∷ works) [] h none = absurd h
     all_done place (work ∷ works) (r ∷ reports) h none = one_done work works reports r.ran h.0.1 (all_done (suc place) works reports h.1) none
 
-    pub all_undo : (place : ℕ) (works : List Work) (reports : List (Report J)) → HaveReported place works reports → All CanAllBeUndone (held_in reports)
-    all_undo place [] [] h = All-nil CanAllBeUndone
+    pub all_undo : (place : ℕ) (works : List Work) (reports : List (Report J)) → HaveReported place works reports → All (AreUndoneBy u.age) (held_in reports)
+    all_undo place [] [] h = All-nil (AreUndoneBy u.age)
     all_undo place [] (r ∷ reports) h = absurd h
     all_undo place (work ∷ works) [] h = absurd h
-    all_undo place (work ∷ works) (r ∷ reports) h = All-append CanAllBeUndone (held_by r.ran) (held_in reports) (one_undo r.ran h.0.1) (all_undo (suc place) works reports h.1)
+    all_undo place (work ∷ works) (r ∷ reports) h = All-append (AreUndoneBy u.age) (held_by r.ran) (held_in reports) (one_undo r.ran h.0.1) (all_undo (suc place) works reports h.1)
       where
-        one_undo : (own : Ran J) → HasRan work own → All CanAllBeUndone (held_by own)
-        one_undo (ran.Done claims found) has = All-cons CanAllBeUndone claims [] has.1 (All-nil CanAllBeUndone)
-        one_undo (ran.Died group holder) has = All-nil CanAllBeUndone
-        one_undo ran.NoMemory has = All-nil CanAllBeUndone
+        one_undo : (own : Ran J) → HasRan work own → All (AreUndoneBy u.age) (held_by own)
+        one_undo (ran.Done claims found) has = All-cons (AreUndoneBy u.age) claims [] has.1 (All-nil (AreUndoneBy u.age))
+        one_undo (ran.Died group holder) has = All-nil (AreUndoneBy u.age)
+        one_undo ran.NoMemory has = All-nil (AreUndoneBy u.age)
 
     -- those that hold claims are no more than they are
     pub few_hold : (place : ℕ) (works : List Work) (reports : List (Report J)) → HaveReported place works reports → length (held_in reports) ≤ length works

@@ -19,7 +19,7 @@ use Rattle.world.specs.Flights.{Token, InFlight, nothing, join, parts, part_mess
 use Rattle.world.specs.Sound.{IsSoundWith, IsSoundMessage, IsSoundItem, IsBalanced, WeighAlike, awaited, flight, is_here, reported_to}
 use Rattle.world.specs.Worlds.{FitsPart, Fits}
 use Rattle.world.proofs.Joins.{IsSame, same-sym, join-nothing}
-use Rattle.world.proofs.Balances.{fly, in_inbox, in_outbox, message_put, items_put, balanced_same}
+use Rattle.world.proofs.Balances.{fly, in_inbox, in_outbox, message_put, items_put, balanced_same, held_same}
 use Rattle.world.proofs.Fitting.{fits_same}
 use Rattle.world.proofs.Puts.{AreServed}
 
@@ -50,6 +50,7 @@ module _ {J : Type 0} where
         seats = h.seats;
         sessions = h.sessions;
         balance = balanced_same mid.desk (join (part_message message) (flight mid)) (flight next) (same-sym _ _ (message_put mid message)) h.balance;
+        held = held_same (joined_in mid) (join (part_message message) (flight mid)) (flight next) (same-sym _ _ (message_put mid message)) h.held;
       }
 
   pub pushes_fits : (opening : Database) (history : List Step) (mid : Parts J) (message : Message J)
@@ -77,6 +78,7 @@ module _ {J : Type 0} where
     seats = h.seats;
     sessions = h.sessions;
     balance = balanced_same mid.desk (join (part_item item) (flight mid)) (flight (record mid { outbox = mid.outbox ++ item ∷ [] })) (item_back mid item) h.balance;
+    held = held_same (joined_in mid) (join (part_item item) (flight mid)) (flight (record mid { outbox = mid.outbox ++ item ∷ [] })) (item_back mid item) h.held;
   }
 
   pub put_back_fits : (opening : Database) (history : List Step) (mid : Parts J) (item : Item J)

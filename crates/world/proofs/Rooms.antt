@@ -1,6 +1,8 @@
 -- There is always room in the outbox.
+use Rattle.std.proofs.lemmas.List.Elements.{All-head, All-tail}
+use Rattle.world.specs.declared.flight.Message.{Message}
 use Rattle.std.proofs.Common.{◌≡◌, ℕ, ◌+◌, ◌*◌, ◌≤◌, zero, suc, List, [], ◌∷◌, ◌++◌, length, Option, Some, None, replicate, refl, arith, length-append}
-use Rattle.std.specs.Prelude.{map}
+use Rattle.std.specs.Prelude.{map, All}
 use Rattle.std.specs.List.{sum_by}
 use Rattle.std.proofs.lemmas.List.Sums.{sum_by-cons, sum_by-append}
 use Rattle.rendezvous.specs.Awaited.{awaited_from}
@@ -14,10 +16,10 @@ use Rattle.world.specs.declared.flight.Message.TheVariants.{Start, Act, Settle, 
 use Rattle.world.specs.declared.flight.Item.{Item}
 use Rattle.world.specs.declared.flight.Item.TheVariants as item
 use Rattle.world.specs.declared.world.Parts.{Parts}
-use Rattle.world.specs.Flights.{Acting, Ending, InFlight, parts, part_item}
-use Rattle.world.specs.Sound.{Courses, UnderWay, IsSoundWith, IsSoundActive, AreSoundActive, awaited, awaited_by_all, flight}
+use Rattle.world.specs.Flights.{Acting, Ending, InFlight, parts, part_item, part_message}
+use Rattle.world.specs.Sound.{Courses, UnderWay, IsSoundWith, IsSoundActive, AreSoundActive, awaited, awaited_by_all, flight, IsSoundMessage}
 use Rattle.world.proofs.Balances.{in_inbox, in_outbox, in_meeting}
-use Rattle.world.proofs.Asking.{one_each}
+use Rattle.world.proofs.Asking.{one_each, some_token}
 
 length-more : {X : Type 0} (xs ys : List X) → length (xs ++ ys) ≡ length xs + length ys
 length-more xs ys = length-append xs ys
@@ -67,14 +69,26 @@ module _ {J : Type 0} where
         few_in_all shared at (suc slot) slots h.1,
       )
 
-  -- there is room for some more
-  pub has_room : (shared : Shared) (hand : InFlight) (w : Parts J) → IsSoundWith shared hand w → length w.outbox + (MOST_ACTIONS + 1) ≤ 4096
+  -- and a message has a token
+  messages_weigh : (shared : Shared) (at : Courses) (messages : List (Message J)) → All (IsSoundMessage shared at) messages → length messages ≤ sum_by one_each (parts part_message messages).tokens
+  messages_weigh shared at [] h = omega arith
+  messages_weigh shared at (message ∷ messages) h =
+      omega (
+        arith,
+        some_token shared at message (All-head (IsSoundMessage shared at) message messages h),
+        messages_weigh shared at messages (All-tail (IsSoundMessage shared at) message messages h),
+        sum_by-append one_each (part_message message).tokens (parts part_message messages).tokens,
+      )
+
+  -- there is room for some more, and for a report of each who waits
+  pub has_room : (shared : Shared) (hand : InFlight) (w : Parts J) → IsSoundWith shared hand w → length w.inbox + length w.outbox + (MOST_ACTIONS + 1) ≤ 4096
   has_room shared hand w h =
       let met = in_meeting w in
       let tokens = h.balance.tokens one_each in
       omega (
         arith,
         items_weigh w.outbox,
+        messages_weigh shared h.under_way w.inbox h.inbox,
         tokens,
         few_in_all shared h.under_way 0 w.desk.active h.active,
         h.slots,

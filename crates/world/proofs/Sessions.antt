@@ -17,14 +17,14 @@ get_set [] i x y is = absurd (cc)
 get_set (z ∷ xs) zero x y is = refl
 get_set (z ∷ xs) (suc i) x y is = get_set xs i x y is
 
-get_other : {X : Type 0} (xs : List X) (i k : ℕ) (y : X) → k ≢ i → slice_get (slice_set xs i y) k ≡ slice_get xs k
+pub get_other : {X : Type 0} (xs : List X) (i k : ℕ) (y : X) → k ≢ i → slice_get (slice_set xs i y) k ≡ slice_get xs k
 get_other [] i k y other = refl
 get_other (z ∷ xs) zero zero y other = absurd (other refl)
 get_other (z ∷ xs) zero (suc k) y other = refl
 get_other (z ∷ xs) (suc i) zero y other = refl
 get_other (z ∷ xs) (suc i) (suc k) y other = get_other xs i k y (λ same. other (ap suc same))
 
-sum_set : {X : Type 0} (f : X → ℕ) (xs : List X) (i : ℕ) (x y : X) → slice_get xs i ≡ Some x → sum_by f (slice_set xs i y) + f x ≡ sum_by f xs + f y
+pub sum_set : {X : Type 0} (f : X → ℕ) (xs : List X) (i : ℕ) (x y : X) → slice_get xs i ≡ Some x → sum_by f (slice_set xs i y) + f x ≡ sum_by f xs + f y
 sum_set f [] i x y is = absurd (cc)
 sum_set f (z ∷ xs) zero x y is =
     let same : z ≡ x = cc in

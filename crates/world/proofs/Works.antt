@@ -3,30 +3,29 @@ use Rattle.std.proofs.Common.{◌≡◌, ℕ, ◌+◌, ◌≤◌, zero, suc, Lis
 use Rattle.std.specs.Prelude.{All, Vec}
 use Rattle.std.specs.declared.alloc.Global.{Global}
 use Rattle.std.specs.List.{slice_get}
-use Rattle.std.proofs.lemmas.List.Elements.{All-nil, All-cons, All-head, All-tail}
+use Rattle.std.proofs.lemmas.List.Elements.{All-nil, All-cons, All-head, All-tail, All-weaker}
 use Rattle.partitions.specs.Parts.{Shared, shared_of}
 use Rattle.commit_log.specs.declared.entry.Entry.{Entry}
 use Rattle.tickets.specs.Claims.{Claiming, all_claims}
-use Rattle.slices.specs.Sliced.{AreSlicesOf, Joined, Sliced, SlicesKeep, joined}
+use Rattle.slices.specs.Sliced.{Joined, Sliced, SlicesKeep}
 use Rattle.transactions.specs.declared.work.Work.{Work}
 use Rattle.transactions.specs.declared.acting.Ran.{Ran}
 use Rattle.transactions.specs.declared.acting.Ran.TheVariants as ran
-use Rattle.transactions.specs.Acting.{claims_of_ran}
-use Rattle.transactions.specs.Works.{CanDo}
+use Rattle.transactions.specs.Acting.{IsBy, IsRanAs, claims_of_ran}
+use Rattle.transactions.specs.Works.{CanDo, HasDone}
 use Rattle.world.specs.declared.flight.Act.{Act as AnyAct}
 use Rattle.world.specs.declared.flight.Flow.{Flow}
 use Rattle.world.specs.declared.flight.Item.{Item}
 use Rattle.world.specs.declared.flight.Item.TheVariants as item
 use Rattle.world.specs.declared.flight.Message.{Message}
 use Rattle.world.specs.declared.flight.Message.TheVariants.{Start, Act, Settle, Undo}
-use Rattle.world.specs.declared.world.Parts.{Parts}
-use Rattle.world.specs.Flights.{Acting, InFlight, part, join, parts, part_carried, part_item, acting_from, unanswered_transaction}
+use Rattle.world.specs.Flights.{Acting, InFlight, part, join, parts, part_carried, part_item, part_message, acting_from, unanswered_transaction}
 use Rattle.world.specs.Following.{acts_from, acts_of}
-use Rattle.world.specs.Sound.{IsCarriedAt, IsSoundAct, IsSoundItem, IsSoundRan, IsSoundStart, IsPlaceOf, IsWorkAt, UnderWay, Courses}
-use Rattle.world.specs.Parted.{joined_in}
+use Rattle.world.specs.Sound.{IsCarriedAt, IsSoundAct, IsSoundItem, IsSoundMessage, IsSoundRan, IsSoundStart, IsPlaceOf, IsWorkAt, UnderWay, Courses}
+use Rattle.world.specs.Parted.{IsAged}
 use Rattle.transactions.proofs.Wished.{works_are_done_at_home}
 use Rattle.wait_die.specs.declared.deciding.Holder.{Holder}
-use Rattle.world.specs.Events.{ComesOf, TakesMessage, Works, holder_of}
+use Rattle.world.specs.Events.{carried_by, holder_of, report_of}
 use Rattle.world.proofs.Keeping.{more, stays}
 
 -- actions that carry nothing have their tokens alone
@@ -57,10 +56,10 @@ module _ {J : Type 0} where
 
   -- those from a number on are sound
   acts_fine_from : (shared : Shared) (log : List Entry) (at : Courses) (number place age slot : ℕ) (carried : Option (Flow J)) (works : List Work)
-      → (let u = at slot in IsPlaceOf u number place → IsCarriedAt slot u number carried → ((k : ℕ) (work : Work) → slice_get works k ≡ Some work → IsWorkAt u (number + k) work) → All (CanDo shared) works
+      → (let u = at slot in IsPlaceOf u number place → age ≡ u.age → IsCarriedAt slot u number carried → ((k : ℕ) (work : Work) → slice_get works k ≡ Some work → IsWorkAt u (number + k) work) → All (CanDo shared) works
       → All (IsSoundItem shared log at) (acts_from place age slot carried works))
-  acts_fine_from shared log at number place age slot carried [] is here does can = All-nil (IsSoundItem shared log at)
-  acts_fine_from shared log at number place age slot carried (work ∷ works) is here does can =
+  acts_fine_from shared log at number place age slot carried [] is aged here does can = All-nil (IsSoundItem shared log at)
+  acts_fine_from shared log at number place age slot carried (work ∷ works) is aged here does can =
       let u = at slot in
       let act : AnyAct J = record { place = place; age = age; slot = slot; work = work; flow = carried } in
       let first : number + 0 ≡ number = omega arith in
@@ -71,85 +70,78 @@ module _ {J : Type 0} where
         flow = here;
         work = subst (λ n. IsWorkAt u n work) first (does 0 work refl);
         can = All-head (CanDo shared) work works can;
+        age = aged;
       } in
       All-cons (IsSoundItem shared log at) (item.Push (Act act)) (acts_from (place + 1) age slot None works) sound
-      (acts_fine_from shared log at (number + 1) (place + 1) age slot None works (omega (arith, is)) (carried_later J slot u (number + 1) (omega arith))
+      (acts_fine_from shared log at (number + 1) (place + 1) age slot None works (omega (arith, is)) aged (carried_later J slot u (number + 1) (omega arith))
       (λ k other is. subst (λ n. IsWorkAt u n other) (later k) (does (suc k) other is)) (All-tail (CanDo shared) work works can))
 
   pub acts_fine : (shared : Shared) (log : List Entry) (at : Courses) (flow : Flow J) (works : List Work) → IsSoundStart shared (at flow.transaction.slot) flow works → All (IsSoundItem shared log at) (acts_of flow works)
   acts_fine shared log at flow works h =
       let u = at flow.transaction.slot in
       let from_zero : (k : ℕ) → k ≡ 0 + k = λ k. omega arith in
-      acts_fine_from shared log at 0 (length flow.transaction.held) flow.transaction.age flow.transaction.slot (Some flow) works (omega (arith, ap (λ (hs : List (List Claiming)). length hs) h.flow_is.held)) h.flow_is
+      acts_fine_from shared log at 0 (length flow.transaction.held) flow.transaction.age flow.transaction.slot (Some flow) works (omega (arith, ap (λ (hs : List (List Claiming)). length hs) h.flow_is.held)) h.flow_is.age h.flow_is
       (λ k work is. subst (λ n. IsWorkAt u n work) (from_zero k) (subst (λ (ws : List Work). slice_get ws k ≡ Some work) h.works_are is)) h.can
 
   -- ---- each message
 
+  -- What work on a message does to the rows, and the items that it puts: what is committed is kept, and no other claim comes or
+  -- goes; the items have with them the transactions and the tokens that came with the message; and they are as sound as it is.
+  pub record Works (shared : Shared) (message : Message J) (old : Joined) (items : List (Item J)) (new : Joined) : Type 0 where
+    pub kept : SlicesKeep (part_message message).claims old (parts part_item items).claims new
+    pub pending : (parts part_item items).pending ≡ (part_message message).pending
+    pub tokens : (parts part_item items).tokens ≡ (part_message message).tokens
+    pub fine : (at : Courses) (log : List Entry) → IsSoundMessage shared at message → All (IsSoundItem shared log at) items
+
   -- a transaction that starts puts the actions of its first phase
-  pub starts : (flow : Flow J) (works : Vec Work Global) (slices : Joined) → 1 ≤ length works.items → Works (Start flow works) slices (acts_of flow works.items) slices
-  starts flow works slices some =
+  pub starts : (shared : Shared) (flow : Flow J) (works : Vec Work Global) (slices : Joined) → 1 ≤ length works.items → Works shared (Start flow works) slices (acts_of flow works.items) slices
+  starts shared flow works slices some =
       let held = all_claims flow.transaction.held in
       let are = part_acts flow works.items some in
       record {
-        put = refl;
         kept = subst (λ (p : InFlight). SlicesKeep held slices p.claims slices) (sym are) (stays held slices);
         pending = ap (λ (p : InFlight). p.pending) are;
         tokens = ap (λ (p : InFlight). p.tokens) are;
-        fine = λ at log sound. acts_fine (shared_of slices.tables) log at flow works.items sound;
+        fine = λ at log sound. acts_fine shared log at flow works.items sound;
       }
 
-  ran_soundly : (u : UnderWay) (number : ℕ) (work : Work) (one : Ran J) (old new : Joined) → (by : Holder) → IsWorkAt u number work → ComesOf by old work one new → IsSoundRan (shared_of old.tables) u number one
-  ran_soundly u number work (ran.Done claims found) old new by here of = (work, (here, (of.done, (of.undone, (works_are_done_at_home (shared_of old.tables) work found claims of.done).1))))
-  ran_soundly u number work (ran.Died group holder) old new by here of = tt
-  ran_soundly u number work ran.NoMemory old new by here of = tt
+  ran_soundly : (shared : Shared) (u : UnderWay) (number : ℕ) (work : Work) (one : Ran J) (by : Holder) (old new : Sliced) → shared_of old.tables ≡ shared → IsWorkAt u number work → by.age ≡ u.age
+      → IsRanAs by.age by old work one new → IsSoundRan shared u number one
+  ran_soundly shared u number work (ran.Done claims found) by old new same here aged of =
+      let done : HasDone shared work found claims = subst (λ (s : Shared). HasDone s work found claims) same of.done in
+      (work, (here, (done, ((of.undone, (works_are_done_at_home shared work found claims done).1), All-weaker (IsBy by) (IsAged u.age) (λ claim is. ap (λ (h : Holder). h.age) is ∙ aged) claims of.own))))
+  ran_soundly shared u number work (ran.Died group holder) by old new same here aged of = tt
+  ran_soundly shared u number work ran.NoMemory by old new same here aged of = tt
 
   -- an action that runs puts its report
-  pub acts : (act : AnyAct J) (one : Ran J) (old new : Joined) → SlicesKeep [] old (claims_of_ran one) new → ComesOf (holder_of act) old act.work one new
-      → Works (Act act) old (item.Report (record { place = act.place; slot = act.slot; flow = act.flow; ran = one }) ∷ []) new
-  acts act one old new kept of =
+  pub acts : (shared : Shared) (act : AnyAct J) (one : Ran J) (was now : Sliced) (old new : Joined) → shared_of was.tables ≡ shared → IsRanAs act.age (holder_of act) was act.work one now → SlicesKeep [] old (claims_of_ran one) new
+      → Works shared (Act act) old (report_of act.place (carried_by act) one ∷ []) new
+  acts shared act one was now old new same of kept =
       let carried = part_carried act.flow in
       record {
-        put = (one, (refl, of));
         kept = subst (λ (claims : List Claiming). SlicesKeep carried.claims old claims new) (sym (append-nil (carried.claims ++ claims_of_ran one)))
             (more carried.claims (claims_of_ran one) old new kept);
         pending = append-nil carried.pending;
         tokens = refl;
         fine = λ at log fine.
-            one_fine (shared_of old.tables) log at (item.Report (record { place = act.place; slot = act.slot; flow = act.flow; ran = one }))
-            (record { number = fine.number; place = fine.place; flow = fine.flow; ran = ran_soundly (at act.slot) fine.number act.work one old new (holder_of act) fine.work of });
+            one_fine shared log at (report_of act.place (carried_by act) one)
+            (record { number = fine.number; place = fine.place; flow = fine.flow; ran = ran_soundly shared (at act.slot) fine.number act.work one (holder_of act) was now same fine.work fine.age of });
       }
 
   -- claims whose work is committed are given back
-  pub settles : (slot : ℕ) (claims : List Claiming) (old new : Joined) → SlicesKeep claims old [] new → Works {J = J} (Settle slot claims) old (item.Ended slot ∷ []) new
-  settles slot claims old new kept = record {
-    put = refl;
+  pub settles : (shared : Shared) (slot : ℕ) (claims : List Claiming) (old new : Joined) → SlicesKeep claims old [] new → Works shared (Settle slot claims) old (item.Ended slot ∷ []) new
+  settles shared slot claims old new kept = record {
     kept = kept;
     pending = refl;
     tokens = refl;
-    fine = λ at log fine. one_fine (shared_of old.tables) log at (item.Ended slot) tt;
+    fine = λ at log fine. one_fine shared log at (item.Ended slot) tt;
   }
 
   -- claims whose work is taken back are given back
-  pub undoes : (slot : ℕ) (claims : List Claiming) (old new : Joined) → SlicesKeep claims old [] new → Works {J = J} (Undo slot claims) old (item.Ended slot ∷ []) new
-  undoes slot claims old new kept = record {
-    put = refl;
+  pub undoes : (shared : Shared) (slot : ℕ) (claims : List Claiming) (old new : Joined) → SlicesKeep claims old [] new → Works shared (Undo slot claims) old (item.Ended slot ∷ []) new
+  undoes shared slot claims old new kept = record {
     kept = kept;
     pending = refl;
     tokens = refl;
-    fine = λ at log fine. one_fine (shared_of old.tables) log at (item.Ended slot) tt;
+    fine = λ at log fine. one_fine shared log at (item.Ended slot) tt;
   }
-
-  -- the message's items stand at the outbox's end, and nothing else changes but the slices
-  pub takes : (message same : Message J) (old : Parts J) (items outbox : List (Item J)) (slices : Vec Sliced Global) → message ≡ same
-      → outbox ≡ old.outbox ++ items → AreSlicesOf old.catalog slices.items → Works same (joined_in old) items (joined old.catalog slices.items)
-      → TakesMessage message old (record old { slices = slices; outbox = outbox })
-  takes message same old items outbox slices is put are works = (
-    items,
-    (
-      slices,
-      (
-        ap (λ (all : List (Item J)). record old { slices = slices; outbox = all }) put,
-        (are, subst (λ (m : Message J). Works m (joined_in old) items (joined old.catalog slices.items)) (sym is) works),
-      ),
-    ),
-  )

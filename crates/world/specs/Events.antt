@@ -1,8 +1,7 @@
 -- What one event does.
-use Rattle.std.specs.Prelude.{◌≡◌, ◌<◌, ◌≤◌, ℕ, ◌+◌, ◌-◌, Bool, true, false, List, [], ◌∷◌, ◌++◌, Option, Some, None, All, Vec, nat_lt, length, map, replicate, slice_set, ◌⊎◌}
+use Rattle.std.specs.Prelude.{◌≡◌, ◌<◌, ◌≤◌, ℕ, ◌+◌, ◌-◌, Bool, true, false, List, [], ◌∷◌, ◌++◌, Option, Some, None, All, nat_lt, length, map, replicate, slice_set, ◌⊎◌}
 use Rattle.std.specs.List.{slice_get}
-use Rattle.std.specs.declared.alloc.Global.{Global}
-use Rattle.partitions.specs.Parts.{Shared, shared_of}
+use Rattle.partitions.specs.Parts.{Shared}
 use Rattle.schema.specs.Database.{Database}
 use Rattle.requests.specs.declared.request.Request.{Request}
 use Rattle.requests.specs.declared.reply.Reply.TheVariants as reply
@@ -21,19 +20,18 @@ use Rattle.commit_log.specs.Passing.{after_item, after_refusal}
 use Rattle.history.specs.declared.event.EventAnswer.{EventAnswer}
 use Rattle.history.specs.declared.event.EventAnswer.TheVariants.{Sent, Full, Logged, Answered}
 use Rattle.wait_die.specs.declared.deciding.Holder.{Holder}
-use Rattle.wait_die.specs.declared.deciding.TheConstants.{YOUNGEST}
-use Rattle.local_locks.specs.Conflicts.{MustDie}
-use Rattle.slices.specs.Sliced.{AreAsBefore, AreSlicesOf, Joined, Sliced, SlicesKeep, joined}
-use Rattle.transactions.specs.Acting.{IsDoneBy}
-use Rattle.transactions.specs.Works.{HaveAllDone, CanDo, home_of, wants_of}
+use Rattle.slices.specs.Sliced.{SliceKeeps}
+use Rattle.transactions.specs.declared.station.Acted.{Acted}
+use Rattle.transactions.specs.declared.station.Acted.TheVariants as acted
+use Rattle.transactions.specs.declared.station.Turned.{Turned}
+use Rattle.transactions.specs.Stations.{ActsAs, OneTurn, Stationed}
+use Rattle.transactions.specs.Works.{HaveAllDone, CanDo, home_of}
 use Rattle.transactions.specs.Progresses.{FollowsFrom, IsReached, works_of}
 use Rattle.transactions.specs.declared.laws.TheConstants.{MOST_ACTIONS}
 use Rattle.transactions.specs.declared.progress.Gathered.{Gathered}
 use Rattle.transactions.specs.declared.progress.Gathered.TheVariants.{Next, Finish, RollBack}
 use Rattle.transactions.specs.declared.acting.Ran.{Ran}
-use Rattle.transactions.specs.declared.acting.Ran.TheVariants as ran
 use Rattle.transactions.specs.declared.work.Found.{Found}
-use Rattle.transactions.specs.declared.work.Work.{Work}
 use Rattle.transactions.specs.declared.progress.Progress.{Progress}
 use Rattle.rendezvous.specs.Awaited.{awaited_from}
 use Rattle.world.specs.declared.desk.Active.TheVariants.{Acting, Ending}
@@ -41,6 +39,7 @@ use Rattle.world.specs.declared.desk.SessionDesk.{SessionDesk}
 use Rattle.world.specs.declared.flight.Transaction.{Transaction}
 use Rattle.world.specs.declared.flight.Flow.{Flow}
 use Rattle.world.specs.declared.flight.Act.{Act as AnyAct}
+use Rattle.world.specs.declared.flight.Carried.{Carried}
 use Rattle.world.specs.declared.flight.Message.{Message}
 use Rattle.world.specs.declared.flight.Message.TheVariants.{Start, Act, Settle, Undo}
 use Rattle.world.specs.declared.flight.Report.{Report}
@@ -49,10 +48,10 @@ use Rattle.world.specs.declared.flight.ReplyItem.{ReplyItem}
 use Rattle.world.specs.declared.flight.Item.{Item}
 use Rattle.world.specs.declared.flight.Item.TheVariants as item
 use Rattle.world.specs.declared.world.Parts.{Parts}
-use Rattle.world.specs.Flights.{parts, part_message, part_item}
-use Rattle.world.specs.Parted.{CanAllBeSettled, CanAllBeUndone, joined_in}
+use Rattle.world.specs.Together.{home_of_claims}
+use Rattle.world.specs.Parted.{CanAllBeSettled, CanAllBeUndone}
+use Rattle.world.specs.Stations.{HaveToWait}
 use Rattle.world.specs.Following.{CarriesFirst, acts_of, committing, ending, entry_of, found_in, held_in, holding, is_settled, refusal_of, refused, release, releasing, putting, with_active}
-use Rattle.world.specs.Sound.{IsSoundMessage, IsSoundItem, Courses}
 
 -- the refusal by which a fault of the log is answered
 abbrev pub why_refused : AppendFault → Refusal
@@ -68,35 +67,71 @@ HasMet progress found =
 module _ {J : Type 0} where
   -- ---- a message is worked on
 
-  -- What comes of this work at its warehouse: nobody was in its way, and it was done under claims of its own, all of which can
-  -- be undone; or it died, on the first group on which somebody was, with the age of the oldest there; or there was no memory.
-  -- Then the slices are as they were.
-  abbrev pub ComesOf : Holder → Joined → Work → Ran J → Joined → Type 0
-  ComesOf by old work (ran.Done claims found) new = IsDoneBy by (old.holdings (home_of work)) (shared_of old.tables) work claims found
-  ComesOf by old work (ran.Died group holder) new = MustDie (old.holdings (home_of work)) YOUNGEST (wants_of work) group holder × (new ≡ old)
-  ComesOf by old work ran.NoMemory new = AreAsBefore old new
+  -- At the station of this warehouse this happens, and at no other; these items stand at the outbox's end; and nothing else
+  -- changes.
+  pub record AtStation (home : ℕ) (items : List (Item J)) (of : Stationed (Carried J) → Stationed (Carried J) → Type 0) (old new : Parts J) : Type 0 where
+    pub was : Stationed (Carried J)
+    pub now : Stationed (Carried J)
+    pub home_is : was.slice.home ≡ home
+    pub there : slice_get old.stations.items (home - 1) ≡ Some was
+    pub stations : new.stations.items ≡ slice_set old.stations.items (home - 1) now
+    pub rest : new ≡ record old { stations = new.stations; outbox = old.outbox ++ items }
+    pub happened : of was now
 
   -- who an action is to the lock tables: its transaction, by its age, and its place in it
   abbrev pub holder_of : AnyAct J → Holder
   holder_of act = record { age = act.age; place = act.place }
 
-  -- Which items a message's work puts: the actions of the first phase, in the order of their places; the report of an
-  -- action, with what came of it; or that an action has given its claims back.
-  abbrev pub PutsItems : Joined → Message J → List (Item J) → Joined → Type 0
-  PutsItems old (Start flow works) items new = items ≡ acts_of flow works.items
-  PutsItems old (Act act) items new =
-      (ran : Ran J) × ((items ≡ item.Report (record { place = act.place; slot = act.slot; flow = act.flow; ran = ran }) ∷ []) × ComesOf (holder_of act) old act.work ran new)
-  PutsItems old (Settle slot claims) items new = items ≡ item.Ended slot ∷ []
-  PutsItems old (Undo slot claims) items new = items ≡ item.Ended slot ∷ []
+  -- what an action keeps with it beside its work
+  abbrev pub carried_by : AnyAct J → Carried J
+  carried_by act = record { slot = act.slot; flow = act.flow }
 
-  -- What a message does to the rows, and the items that it puts: what is committed is kept; the items have with them the
-  -- transactions and the tokens that came with the message; and they are as sound as it is.
-  pub record Works (message : Message J) (old : Joined) (items : List (Item J)) (new : Joined) : Type 0 where
-    pub put : PutsItems old message items new
-    pub kept : SlicesKeep (part_message message).claims old (parts part_item items).claims new
-    pub pending : (parts part_item items).pending ≡ (part_message message).pending
-    pub tokens : (parts part_item items).tokens ≡ (part_message message).tokens
-    pub fine : (at : Courses) (log : List Entry) → IsSoundMessage (shared_of old.tables) at message → All (IsSoundItem (shared_of old.tables) log at) items
+  -- the report of an action of this place, which carries this, with what came of it
+  abbrev pub report_of : ℕ → Carried J → Ran J → Item J
+  report_of place carried ran = item.Report (record { place = place; slot = carried.slot; flow = carried.flow; ran = ran })
+
+  -- what is put for an action that asked: its report, or nothing while it waits
+  abbrev pub put_for : ℕ → Acted J (Carried J) → List (Item J)
+  put_for place (acted.Ran ran carried) = report_of place carried ran ∷ []
+  put_for place acted.Waits = []
+
+  -- An action asks at the station of its warehouse. It reports that it has done its work, or that it died of somebody who is not
+  -- younger, or that there was no memory; or it waits there, since all who are in its way are younger (`ActsAs` of transactions).
+  abbrev pub Asks : AnyAct J → Parts J → Parts J → Type 0
+  Asks act old new = (acted : Acted J (Carried J)) × AtStation (home_of act.work) (put_for act.place acted) (λ was now. ActsAs (holder_of act) act.work (carried_by act) was acted now) old new
+
+  -- The claims of an action are given back to the slice of their warehouse, which keeps what is committed; nobody's waiting changes.
+  abbrev pub GivesBack : ℕ → List Claiming → Parts J → Parts J → Type 0
+  GivesBack slot claims old new =
+      AtStation (home_of_claims claims) (item.Ended slot ∷ []) (λ was now. SliceKeeps claims was.slice [] now.slice × (now.parked ≡ was.parked)) old new
+
+  -- One who waits at the station of this warehouse has its turn, and reports (`OneTurn` of transactions).
+  abbrev pub TakesTurn : ℕ → Turned J (Carried J) → Parts J → Parts J → Type 0
+  TakesTurn home turned old new = AtStation home (report_of turned.by.place turned.carried turned.ran ∷ []) (λ was now. OneTurn was turned now) old new
+
+  -- nothing changes: the same stations are there
+  pub record Stays (old new : Parts J) : Type 0 where
+    pub stations : new.stations.items ≡ old.stations.items
+    pub rest : new ≡ record old { stations = new.stations }
+
+  -- these have their turns there, one after another
+  abbrev pub TurnsFollow : ℕ → List (Turned J (Carried J)) → Parts J → Parts J → Type 0
+  TurnsFollow home [] old new = Stays old new
+  TurnsFollow home (turned ∷ more) old new = (mid : Parts J) × (TakesTurn home turned old mid × TurnsFollow home more mid new)
+
+  -- Those who need not wait there any more have their turns, one after another, until all who wait there have to.
+  pub record AllTurns (home : ℕ) (old new : Parts J) : Type 0 where
+    pub turned : List (Turned J (Carried J))
+    pub follow : TurnsFollow home turned old new
+    pub over : (s : Stationed (Carried J)) → slice_get new.stations.items (home - 1) ≡ Some s → HaveToWait s
+
+  -- What a message does: the actions of a first phase are put, in the order of their places; an action asks, or claims are given
+  -- back, at the station of their warehouse, and then come the turns of those who waited there.
+  abbrev pub TakesMessage : Message J → Parts J → Parts J → Type 0
+  TakesMessage (Start flow works) old new = new ≡ record old { outbox = old.outbox ++ acts_of flow works.items }
+  TakesMessage (Act act) old new = (mid : Parts J) × (Asks act old mid × AllTurns (home_of act.work) mid new)
+  TakesMessage (Settle slot claims) old new = (mid : Parts J) × (GivesBack slot claims old mid × AllTurns (home_of_claims claims) mid new)
+  TakesMessage (Undo slot claims) old new = (mid : Parts J) × (GivesBack slot claims old mid × AllTurns (home_of_claims claims) mid new)
 
   -- what is asked of a message that is worked on
   abbrev pub CanWork : Shared → Message J → Type 0
@@ -104,14 +139,6 @@ module _ {J : Type 0} where
   CanWork shared (Act act) = CanDo shared act.work
   CanWork shared (Settle slot claims) = CanAllBeSettled claims
   CanWork shared (Undo slot claims) = CanAllBeUndone claims
-
-  -- the items that the message's work puts stand at the outbox's end, and nothing else changes but the slices, which are still
-  -- those of all warehouses
-  abbrev pub TakesMessage : Message J → Parts J → Parts J → Type 0
-  TakesMessage message old new =
-      (items : List (Item J)) × ((slices : Vec Sliced Global)
-      × ((new ≡ record old { slices = slices; outbox = old.outbox ++ items })
-      × (AreSlicesOf old.catalog slices.items × Works message (joined_in old) items (joined old.catalog slices.items))))
 
   -- ---- a message is pushed
 
@@ -205,7 +232,7 @@ module _ {J : Type 0} where
   -- nothing but the sessions changes
   abbrev pub with_sessions : Parts J → List (SessionDesk J) → Parts J → Type 0
   with_sessions old sessions new =
-      (new.catalog ≡ old.catalog) × ((new.slices ≡ old.slices) × ((new.inbox ≡ old.inbox) × ((new.outbox ≡ old.outbox) × ((new.log ≡ old.log)
+      (new.catalog ≡ old.catalog) × ((new.stations ≡ old.stations) × ((new.inbox ≡ old.inbox) × ((new.outbox ≡ old.outbox) × ((new.log ≡ old.log)
       × ((new.desk.admitted ≡ old.desk.admitted) × ((new.desk.active ≡ old.desk.active) × (new.desk.sessions.items ≡ sessions)))))))
 
   -- the session's pass is at the desk again

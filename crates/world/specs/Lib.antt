@@ -1,5 +1,6 @@
 pub mod Slots
 pub mod Flights
+pub mod Stations
 pub mod Parted
 pub mod Sound
 pub mod Following

@@ -21,9 +21,10 @@ use Rattle.world.specs.declared.world.GatherFault.{GatherFault}
 use Rattle.world.specs.declared.world.GatherFault.TheVariants as gather
 use Rattle.world.specs.declared.world.Core.{Core}
 use Rattle.world.specs.Parted.{joined_in}
+use Rattle.world.specs.Stations.{slices_in, waiting_in}
 use Rattle.world.specs.Slots.{count_active}
 use Rattle.world.specs.Together.{together}
-use Rattle.world.specs.Worlds.{Fits, HappenInTurn, tables_now}
+use Rattle.world.specs.Worlds.{Fits, HappenInTurn, IsNeverStuck, tables_now}
 
 -- A world's names were picked for these tables and this opening: there are agreements for each group of the tables, with what
 -- the group has; and the names of the groups' agreements and of the log's are those that were opened.
@@ -65,10 +66,11 @@ module _ {J : Type 0} where
   session_with lane = record { seat = lane.1; pass = Some lane.0 }
 
   -- A world of so many executors on these tables in which nothing has happened: it has a slice for each warehouse, all tickets
-  -- are at home, the warehouses are dealt out to the executors, the queues of each and the log are empty, no transaction was
+  -- are at home, nobody waits, the warehouses are dealt out to the executors, the queues of each and the log are empty, no transaction was
   -- admitted, and each of 64 sessions has its pass at the desk and has asked nothing.
   pub record IsNew (tables : Database) (executors : ℕ) (w : Core J) : Type 0 where
-    pub slices : AreSlicesOf w.parts.catalog w.parts.slices.items
+    pub slices : AreSlicesOf w.parts.catalog (slices_in w.parts)
+    pub none_waits : waiting_in w.parts ≡ []
     pub rows : joined_in w.parts ≡ all_at_rest tables
     pub routing : w.routing ≡ record { warehouses = tables.scale.warehouses; executors = executors }
     pub inboxes : w.inboxes ≡ replicate executors []
@@ -84,7 +86,7 @@ abbrev pub CanHave : ℕ → Type 0
 CanHave executors = (1 ≤ executors) × (executors ≤ 16)
 
 -- A schedule was simulated on tables with so many executors: in a new world on them its events happened in turn; this is what is
--- printed of them; with their answers they are a history that fits the last world; the log is that world's; and so are the
+-- printed of them; with their answers they are a history that fits the last world, which is not stuck; the log is that world's; and so are the
 -- tables, the machine's last, unless a transaction is active or there is no memory for them.
 pub record Simulates (J : Type 0) (opening : Database) (executors : ℕ) (schedule : List Scheduled) (s : Simulation) : Type 0 where
   pub first : Core J
@@ -94,5 +96,6 @@ pub record Simulates (J : Type 0) (opening : Database) (executors : ℕ) (schedu
   pub plays : Plays executors schedule s.outputs.items steps
   pub happen : HappenInTurn steps first last
   pub fits : Fits opening steps (together last)
+  pub never_stuck : IsNeverStuck last
   pub log : s.log.items ≡ last.parts.log
   pub tables : IsGathered (count_active last.parts.desk.active) (tables_now opening s.log.items) s.tables

@@ -8,7 +8,7 @@ use Rattle.requests.specs.declared.answer.Answer.{Answer}
 use Rattle.requests.specs.declared.answer.Answer.TheVariants.{Done, Refused}
 use Rattle.requests.specs.Check.{IsAccepted}
 use Rattle.tickets.specs.Claims.{Claiming, all_claims}
-use Rattle.slices.specs.Sliced.{AreSlicesOf}
+use Rattle.slices.specs.Sliced.{AreAllHeld, AreSlicesOf}
 use Rattle.commit_log.specs.declared.entry.Entry.{Entry}
 use Rattle.commit_log.specs.Claimed.{IsCarriedOut}
 use Rattle.commit_log.specs.Passing.{Passing}
@@ -37,7 +37,8 @@ use Rattle.world.specs.declared.flight.Item.{Item}
 use Rattle.world.specs.declared.flight.Item.TheVariants as item
 use Rattle.world.specs.declared.world.Parts.{Parts}
 use Rattle.world.specs.Flights.{Token, Acting, Committing, Ending, InFlight, join, parts, part_message, part_item, part_met}
-use Rattle.world.specs.Parted.{CanAllBeSettled, CanAllBeUndone}
+use Rattle.world.specs.Parted.{AreSettledBy, AreUndoneBy, joined_in}
+use Rattle.world.specs.Stations.{slices_in}
 
 -- an answer that is done names an entry with its reply
 abbrev pub IsAnswerIn : List Entry → Answer → Type 0
@@ -53,11 +54,12 @@ IsPassOf number (Some pass) = pass.session ≡ number
 abbrev pub WeighAlike : List Token → List Token → Type 0
 WeighAlike some others = (weight : Token → ℕ) → sum_by weight some ≡ sum_by weight others
 
--- A transaction whose phase is under way: what was asked, how far it has come, and what its earlier phases hold.
+-- A transaction that is under way: what was asked, how far it has come, what its earlier phases hold, and its age.
 pub record UnderWay : Type 0 where
   pub request : Request
   pub progress : Progress
   pub held : List (List Claiming)
+  pub age : ℕ
 
 -- how far the transaction in each slot has come
 abbrev pub Courses : Type 0
@@ -88,6 +90,7 @@ module _ {J : Type 0} where
     pub request : flow.transaction.request ≡ u.request
     pub held : flow.transaction.held ≡ u.held
     pub progress : flow.progress ≡ u.progress
+    pub age : flow.transaction.age ≡ u.age
 
   -- the transaction goes with the first action of its phase, and with no other
   abbrev pub IsCarriedAt : ℕ → UnderWay → ℕ → Option (Flow J) → Type 0
@@ -105,24 +108,25 @@ module _ {J : Type 0} where
     pub can : All (CanDo shared) works
     pub few : length flow.transaction.held + length works ≤ MOST_ACTIONS
 
-  -- an action does the work of its place, which can be done
+  -- an action does the work of its place, which can be done, and is of its transaction's age
   pub record IsSoundAct (shared : Shared) (u : UnderWay) (act : Act J) : Type 0 where
     pub number : ℕ
     pub place : IsPlaceOf u number act.place
     pub flow : IsCarriedAt act.slot u number act.flow
     pub work : IsWorkAt u number act.work
     pub can : CanDo shared act.work
+    pub age : act.age ≡ u.age
 
   -- a message is sound, by its kind, with how far its transaction has come
   abbrev pub IsSoundMessage : Shared → Courses → Message J → Type 0
   IsSoundMessage shared at (message.Start flow works) = IsSoundStart shared (at flow.transaction.slot) flow works.items
   IsSoundMessage shared at (message.Act act) = IsSoundAct shared (at act.slot) act
-  IsSoundMessage shared at (message.Settle slot claims) = CanAllBeSettled claims
-  IsSoundMessage shared at (message.Undo slot claims) = CanAllBeUndone claims
+  IsSoundMessage shared at (message.Settle slot claims) = AreSettledBy (at slot).age claims
+  IsSoundMessage shared at (message.Undo slot claims) = AreUndoneBy (at slot).age claims
 
-  -- an action that ran did the work of its number, and all of it can be taken back
+  -- an action that ran did the work of its number under claims of its transaction, and all of it can be taken back
   abbrev pub IsSoundRan : Shared → UnderWay → ℕ → Ran J → Type 0
-  IsSoundRan shared u number (ran.Done claims found) = (work : Work) × (IsWorkAt u number work × (HasDone shared work found claims × CanAllBeUndone claims))
+  IsSoundRan shared u number (ran.Done claims found) = (work : Work) × (IsWorkAt u number work × (HasDone shared work found claims × AreUndoneBy u.age claims))
   IsSoundRan shared u number (ran.Died group holder) = Unit {0}
   IsSoundRan shared u number ran.NoMemory = Unit {0}
 
@@ -135,11 +139,11 @@ module _ {J : Type 0} where
 
   -- A commit is of a request that its check accepts, and that was carried out under the transaction's claims with this
   -- reply, from any opening; and all can be undone.
-  pub record IsSoundCommit (shared : Shared) (commit : CommitItem J) : Type 0 where
+  pub record IsSoundCommit (shared : Shared) (u : UnderWay) (commit : CommitItem J) : Type 0 where
     pub asked : IsAskedBy commit.transaction
     pub accepted : IsAccepted shared.scale commit.transaction.request
     pub carried_out : (opening : Database) → shared_of opening ≡ shared → IsCarriedOut opening commit.transaction.request (all_claims commit.transaction.held) commit.reply
-    pub undo : All CanAllBeUndone commit.transaction.held
+    pub undo : All (AreUndoneBy u.age) commit.transaction.held
     pub few : length commit.transaction.held ≤ MOST_ACTIONS
 
   -- an answer is for one of 64 sessions, which asks its number, and the log has what it tells
@@ -151,7 +155,7 @@ module _ {J : Type 0} where
   IsSoundItem shared log at (item.Push message) = IsSoundMessage shared at message
   IsSoundItem shared log at (item.Report r) = IsSoundReport shared (at r.slot) r
   IsSoundItem shared log at (item.Ended slot) = Unit {0}
-  IsSoundItem shared log at (item.Commit commit) = IsSoundCommit shared commit
+  IsSoundItem shared log at (item.Commit commit) = IsSoundCommit shared (at commit.transaction.slot) commit
   IsSoundItem shared log at (item.Reply told) = IsSoundReply log told
 
   -- ---- the active transactions
@@ -186,7 +190,7 @@ module _ {J : Type 0} where
   pub record IsSoundPhase (shared : Shared) (slot : ℕ) (u : UnderWay) (first : ℕ) (slots : List (Option (Report J))) : Type 0 where
     pub first_is : first ≡ length u.held
     pub reached : IsReached shared u.request u.progress u.held
-    pub undo : All CanAllBeUndone u.held
+    pub undo : All (AreUndoneBy u.age) u.held
     pub many : length slots ≡ length (works_of u.progress)
     pub reports : (number : ℕ) (r : Report J) → slice_get slots number ≡ Some (Some r) → (r.place ≡ first + number) × ((r.slot ≡ slot) × IsSoundReport shared u r)
     pub awaits : 1 ≤ length (awaited_from 0 slots)
@@ -228,10 +232,10 @@ module _ {J : Type 0} where
     pub many : length under_way.pending + count_by is_here desk.sessions.items ≡ 64
 
   -- What the world keeps, with this in hand: there is a slice for each warehouse of this scale, in order, which share these items; and each thing under
-  -- way is sound, by how far its transaction has come; and there are 64 slots.
+  -- way is sound, by how far its transaction has come; there are 64 slots; and the claims that the lock tables have out are those under way.
   pub record IsSoundWith (shared : Shared) (hand : InFlight) (w : Parts J) : Type 0 where
     pub shared_is : w.catalog ≡ shared
-    pub slices : AreSlicesOf w.catalog w.slices.items
+    pub slices : AreSlicesOf w.catalog (slices_in w)
     pub under_way : Courses
     pub inbox : All (IsSoundMessage shared under_way) w.inbox
     pub outbox : All (IsSoundItem shared w.log under_way) w.outbox
@@ -240,3 +244,4 @@ module _ {J : Type 0} where
     pub seats : length w.desk.sessions.items ≡ 64
     pub sessions : (number : ℕ) (session : SessionDesk J) → slice_get w.desk.sessions.items number ≡ Some session → IsSessionOf number session
     pub balance : IsBalanced w.desk (join hand (flight w))
+    pub held : AreAllHeld (joined_in w).holdings (join hand (flight w)).claims

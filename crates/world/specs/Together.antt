@@ -1,5 +1,5 @@
 -- The executors' queues, in hand and all together; whose each message is; and what a world keeps.
-use Rattle.std.specs.Prelude.{◌≡◌, ◌≤◌, ℕ, All, List, [], ◌∷◌, length, slice_set, slice_index_or}
+use Rattle.std.specs.Prelude.{◌≡◌, ◌≤◌, ℕ, All, List, [], ◌∷◌, ◌++◌, length, slice_set, slice_index_or}
 use Rattle.std.specs.List.{flat_map}
 use Rattle.partitions.specs.Parts.{Shared}
 use Rattle.requests.specs.declared.request.Request.{Request}
@@ -16,6 +16,7 @@ use Rattle.world.specs.declared.world.Parts.{Parts}
 use Rattle.world.specs.declared.world.Core.{Core}
 use Rattle.world.specs.Flights.{nothing}
 use Rattle.world.specs.Sound.{IsSoundWith}
+use Rattle.world.specs.Stations.{HaveToWait, IsStationOf, waiting_in}
 
 -- what all queues have, that of each executor together
 abbrev pub all_of : {X : Type 0} → List (List X) → List X
@@ -91,9 +92,10 @@ module _ {J : Type 0} where
     outboxes = slice_set w.outboxes from w.parts.outbox;
   }
 
-  -- the world with all executors' queues as one
+  -- The world with all executors' queues as one. Who waits stands in front of all messages, as the one that it was: it is under way as
+  -- they are.
   abbrev pub together : Core J → Parts J
-  together w = record w.parts { inbox = all_of w.inboxes; outbox = all_of w.outboxes }
+  together w = record w.parts { inbox = waiting_in w.parts ++ all_of w.inboxes; outbox = all_of w.outboxes }
 
   -- the message is of a warehouse of this executor
   abbrev pub IsOf : Routes → ℕ → Message J → Type 0
@@ -101,10 +103,13 @@ module _ {J : Type 0} where
 
   -- ---- what a world keeps
 
-  -- All that is under way is sound, with the queues as one; each executor has its inbox and its outbox, and in its inbox messages
-  -- of its own warehouses alone; and no queue is in hand.
+  -- All that is under way is sound, with the queues as one; each station's lock table has just those who wait there, and all of
+  -- them have to; each executor has its inbox and its outbox, and in its inbox messages of its own warehouses alone; and no queue
+  -- is in hand.
   pub record IsSound (shared : Shared) (w : Core J) : Type 0 where
     pub all : IsSoundWith shared nothing (together w)
+    pub stations : All (IsStationOf shared.scale.warehouses) w.parts.stations.items
+    pub wait : All HaveToWait w.parts.stations.items
     pub routed : w.routing.warehouses ≡ shared.scale.warehouses
     pub inboxes : length w.inboxes ≡ w.routing.executors
     pub outboxes : length w.outboxes ≡ w.routing.executors

@@ -1,5 +1,5 @@
 -- What holds of a world and its history.
-use Rattle.std.specs.Prelude.{◌≡◌, ◌⊎◌, ℕ, ◌+◌, Bool, true, false, List, [], ◌∷◌, ◌++◌, Option, Some, None, Result, Ok, Err, nat_le, nat_lt, ◌&&◌, length, replicate, Vec, IsTrue, is_some, slice_set, slice_index_or, ◌<◌, ◌≤◌, ◌↔◌, count_by}
+use Rattle.std.specs.Prelude.{◌≡◌, ◌⊎◌, ℕ, ◌+◌, Bool, true, false, List, [], ◌∷◌, ◌++◌, Option, Some, None, All, Contains, Result, Ok, Err, nat_le, nat_lt, ◌&&◌, length, replicate, Vec, IsTrue, is_some, slice_set, slice_index_or, ◌<◌, ◌≤◌, ◌↔◌, count_by}
 use Rattle.std.specs.List.{slice_get}
 use Rattle.std.specs.declared.alloc.Global.{Global}
 use Rattle.partitions.specs.Parts.{Shared}
@@ -23,18 +23,21 @@ use Rattle.history.specs.declared.event.EventAnswer.TheVariants.{Accepted, Took,
 use Rattle.history.specs.History.{Step, step, is_of}
 use Rattle.history.specs.Fits.{Fits as HistoryFits}
 use Rattle.history.specs.Schedules.{IsIdle, Round}
+use Rattle.local_locks.specs.Conflicts.{Blocks}
+use Rattle.local_locks.specs.Laws.{Path}
+use Rattle.local_locks.specs.Locking.{Holding, Waiting}
 use Rattle.slices.specs.Sliced.{AreAllHeld, Joined, all_standing, everywhere}
 use Rattle.transactions.specs.declared.acting.Ran.{Ran}
 use Rattle.transactions.specs.declared.acting.Ran.TheVariants as ran
 use Rattle.transactions.specs.declared.work.Work.{Work}
 use Rattle.transactions.specs.Progresses.{IsReached, works_of}
+use Rattle.transactions.specs.Stations.{Stationed}
 use Rattle.world.specs.declared.desk.Active.TheVariants.{Acting}
 use Rattle.world.specs.declared.desk.SessionDesk.{SessionDesk}
 use Rattle.world.specs.declared.flight.Flow.{Flow}
-use Rattle.world.specs.declared.flight.Act.{Act}
+use Rattle.world.specs.declared.flight.Carried.{Carried}
 use Rattle.world.specs.declared.flight.Message.{Message}
 use Rattle.world.specs.declared.flight.Message.TheVariants as message
-use Rattle.world.specs.declared.flight.Report.{Report}
 use Rattle.world.specs.declared.flight.Item.{Item}
 use Rattle.world.specs.declared.flight.Item.TheVariants as item
 use Rattle.world.specs.declared.world.Parts.{Parts}
@@ -42,6 +45,7 @@ use Rattle.world.specs.declared.world.Core.{Core}
 use Rattle.world.specs.Slots.{count_active}
 use Rattle.world.specs.Flights.{InFlight}
 use Rattle.world.specs.Parted.{joined_in}
+use Rattle.world.specs.Stations.{waiting_in}
 use Rattle.world.specs.Sound.{IsSessionOf, flight}
 use Rattle.world.specs.Events.{TakesMessage, SendsItem}
 use Rattle.world.specs.Together.{IsOf, all_of, goes_to, home_of_request, in_hand, put_back, together}
@@ -121,7 +125,7 @@ module _ {J : Type 0} where
     pub pass_is : flow.transaction.pass ≡ with_asks pass (asking number asked pass.seen pass.mine)
     pub works_are : works.items ≡ works_of flow.progress
     pub catalog : new.catalog ≡ old.catalog
-    pub slices : new.slices ≡ old.slices
+    pub stations : new.stations ≡ old.stations
     pub inbox : new.inbox ≡ old.inbox ++ message.Start flow works ∷ []
     pub outbox : new.outbox ≡ old.outbox
     pub log : new.log ≡ old.log
@@ -246,11 +250,34 @@ module _ {J : Type 0} where
   HasNotDied (ran.Died group holder) = ⊥
   HasNotDied ran.NoMemory = Unit {0}
 
-  -- An action on which an executor works doesn't die: its report, which then stands at the outbox's end, tells of no death.
+  -- the item, if it is a report, tells of no death
+  abbrev pub TellsNoDeath : Item J → Type 0
+  TellsNoDeath (item.Report report) = HasNotDied report.ran
+  TellsNoDeath item = Unit {0}
+
+  -- No action dies as an executor works on a message: no report that is put tells of a death.
   abbrev pub NoneDies : Event → Core J → Core J → Type 0
   NoneDies (Take executor) old new =
-      (act : Act J) (rest : List (Message J)) (report : Report J)
-      → slice_index_or old.inboxes executor [] ≡ message.Act act ∷ rest
-      → slice_index_or new.outboxes executor [] ≡ slice_index_or old.outboxes executor [] ++ item.Report report ∷ []
-      → HasNotDied report.ran
+      (items : List (Item J)) → slice_index_or new.outboxes executor [] ≡ slice_index_or old.outboxes executor [] ++ items → All TellsNoDeath items
   NoneDies event old new = Unit {0}
+
+  -- ---- never stuck
+
+  -- one of age t waits, at some station, for a group on which one of age u has a claim that is in its way
+  pub record WaitsFor (w : Parts J) (t u : ℕ) : Type 0 where
+    pub station : Stationed (Carried J)
+    pub there : Contains w.stations.items station
+    pub waiting : Waiting
+    pub waits : Contains station.slice.waiters waiting
+    pub age : waiting.by.age ≡ t
+    pub holding : Holding
+    pub blocks : Blocks station.slice.holdings waiting.wants holding
+    pub holder : holding.by.age ≡ u
+
+  -- No world is stuck. Who waits is older than each that it waits for, and so none waits for itself, through any others. Where
+  -- nothing can be taken and nothing be sent, no transaction is active, nothing is under way, nobody waits, and no lock table has a
+  -- claim out.
+  pub record IsNeverStuck (w : Core J) : Type 0 where
+    pub rises : (t u : ℕ) → WaitsFor w.parts t u → t < u
+    pub no_circle : (t : ℕ) (ages : List ℕ) → Path (WaitsFor w.parts) t ages t → ⊥
+    pub idle : IsAtRest w → (count_active w.parts.desk.active ≡ 0) × ((flight (together w)).claims ≡ []) × (waiting_in w.parts ≡ []) × ((w_id : ℕ) → (joined_in w.parts).holdings w_id ≡ [])

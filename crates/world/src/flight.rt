@@ -40,6 +40,14 @@ pub struct Act<J: Names> {
     pub flow: Option<Flow<J>>,
 }
 
+/// What an action that waits keeps with it beside its work.
+#[derive(Drop)]
+pub struct Carried<J: Names> {
+    /// The slot of its transaction.
+    pub slot: usize,
+    pub flow: Option<Flow<J>>,
+}
+
 /// A message in the executor's inbox.
 #[derive(Drop)]
 pub enum Message<J: Names> {

@@ -24,11 +24,12 @@ mod queues;
 mod sending;
 mod simulating;
 mod slots;
+mod stations;
 mod working;
 mod world;
 
 pub use desk::{Active, Desk, SessionDesk};
-pub use flight::{Act, CommitItem, Flow, Item, Message, ReplyItem, Report, Transaction};
+pub use flight::{Act, Carried, CommitItem, Flow, Item, Message, ReplyItem, Report, Transaction};
 pub use held::HeldClaims;
 pub use opening::{OpenFault, Opening};
 pub use queue::Queue;

@@ -10,6 +10,7 @@ use crate::desk::{Desk, SessionDesk};
 use crate::queue::Queue;
 use crate::queues::Queues;
 use crate::slots::Slots;
+use crate::stations::open_stations;
 use crate::world::{Core, Parts, World};
 use commit_log::{Log, LogBook, Names, Pass, SessionSeat, UnnamedLog};
 use consistency::first_broken;
@@ -122,11 +123,12 @@ impl<J: Names> World<J> {
         let active = Slots::open(alloc)?;
         let (boxes, seats) = named_all::<J>(alloc, tables.scale().warehouses, groups)?;
         let (catalog, slices) = cut(alloc, tables, boxes)?;
+        let stations = open_stations(alloc, slices)?;
         let (book, lanes) = LogBook::<J>::open(alloc, log)?;
         let sessions = open_sessions(alloc, lanes)?;
         let parts = Parts {
             catalog,
-            slices,
+            stations,
             inbox,
             outbox,
             desk: Desk {

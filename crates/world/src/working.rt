@@ -1,54 +1,108 @@
 //! A message of the inbox is worked on.
-ghost use Rattle.std.specs.Prelude.{◌≡◌, ◌≤◌, ◌+◌, length};
+ghost use Rattle.std.specs.Prelude.{◌≡◌, ◌≤◌, ◌<◌, ◌+◌, ◌++◌, [], ◌∷◌, All, length};
 ghost use Rattle.slices.specs.Sliced.{AreSlicesOf};
-ghost use Rattle.world.specs.Events.{CanWork, TakesMessage};
+ghost use Rattle.transactions.specs.Works.{CanDo};
+ghost use Rattle.world.specs.Events.{AllTurns, Asks, CanWork, TakesMessage, report_of};
+ghost use Rattle.world.specs.Stations.{HasRoomFor, IsStationOf, slices_in, waiting_in};
 
-use crate::flight::{Act, Item, Message, Report};
+use crate::flight::{Act, Carried, Item, Message, Report};
 use crate::world::Parts;
 use commit_log::Names;
 use std::alloc::Global;
-use transactions::MOST_ACTIONS;
+use transactions::{Acted, MOST_ACTIONS, Ran, Turned};
 use wait_die::Holder;
 
 impl<J: Names> Parts<J> {
-    // Works on a message, at the slice of its warehouse.
+    // Works on a message, at the station of its warehouse. Then those who wait there have their turns.
     pub(crate) fn work(&mut self, alloc: Global, message: Message<J>)
         requires warehouses { J.warehouses ≡ self.old.catalog.scale.warehouses }
-        requires slices { AreSlicesOf self.old.catalog self.old.slices.items }
-        requires room { length self.old.outbox + MOST_ACTIONS ≤ 4096 }
+        requires slices { AreSlicesOf self.old.catalog (slices_in self.old) }
+        requires stations { All (IsStationOf J.warehouses) self.old.stations.items }
+        requires room { length self.old.outbox + MOST_ACTIONS + length (waiting_in self.old) < 4096 }
         requires can { CanWork self.old.catalog message }
-        ensures { TakesMessage message self.old self.new }
+        ensures takes { TakesMessage message self.old self.new }
+        ensures stations { All (IsStationOf J.warehouses) self.new.stations.items }
     {
         match message {
             Message::Start(flow, works) => self.put_acts(flow, works),
             Message::Act(act) => {
-                let Act {
-                    place,
-                    age,
-                    slot,
-                    work,
-                    flow,
-                } = act;
-                let home = work.home() as usize;
-                let by = Holder { age, place };
-                let ran = transactions::act(alloc, &mut self.slices[home - 1], by, work);
-                self.outbox.put(Item::Report(Report {
-                    place,
-                    slot,
-                    flow,
-                    ran,
-                }));
+                let home = act.work.home() as usize;
+                self.ask(alloc, act);
+                self.take_turns(alloc, home);
             }
             Message::Settle(slot, claims) => {
                 let home = claims.home() as usize;
-                transactions::settle(&mut self.slices[home - 1], claims);
+                self.stations[home - 1].settle(claims);
+                let _ = self.stations[home - 1].slice();
                 self.outbox.put(Item::Ended(slot));
+                self.take_turns(alloc, home);
             }
             Message::Undo(slot, claims) => {
                 let home = claims.home() as usize;
-                transactions::undo(&mut self.slices[home - 1], claims);
+                self.stations[home - 1].undo(claims);
+                let _ = self.stations[home - 1].slice();
                 self.outbox.put(Item::Ended(slot));
+                self.take_turns(alloc, home);
             }
         }
+    }
+
+    // An action asks for what its work needs, at the station of its warehouse. It reports, unless it waits there.
+    fn ask(&mut self, alloc: Global, act: Act<J>)
+        requires warehouses { J.warehouses ≡ self.old.catalog.scale.warehouses }
+        requires slices { AreSlicesOf self.old.catalog (slices_in self.old) }
+        requires stations { All (IsStationOf J.warehouses) self.old.stations.items }
+        requires room { length self.old.outbox < 4096 }
+        requires can { CanDo self.old.catalog act.work }
+        ensures asks { Asks act self.old self.new }
+        ensures stations { All (IsStationOf J.warehouses) self.new.stations.items }
+    {
+        let Act {
+            place,
+            age,
+            slot,
+            work,
+            flow,
+        } = act;
+        let home = work.home() as usize;
+        let by = Holder { age, place };
+        let carried = Carried { slot, flow };
+        let acted = self.stations[home - 1].act(alloc, by, work, carried);
+        let _ = self.stations[home - 1].slice();
+        match acted {
+            Acted::Ran(ran, carried) => self.put_report(place, carried, ran),
+            Acted::Waits => {}
+        }
+    }
+
+    // Those who wait at a warehouse and need not any more have their turns, one after another: each reports.
+    fn take_turns(&mut self, alloc: Global, home: usize)
+        requires home { 1 ≤ home }
+        requires warehouses { home ≤ self.old.catalog.scale.warehouses }
+        requires slices { AreSlicesOf self.old.catalog (slices_in self.old) }
+        requires stations { All (IsStationOf J.warehouses) self.old.stations.items }
+        requires room { HasRoomFor home self.old }
+        ensures turns { AllTurns home self.old self.new }
+        ensures stations { All (IsStationOf J.warehouses) self.new.stations.items }
+    {
+        while let Some(turned) = self.stations[home - 1].turn(alloc) {
+            let Turned { by, ran, carried } = turned;
+            let _ = self.stations[home - 1].slice();
+            self.put_report(by.place, carried, ran);
+        }
+    }
+
+    // Puts the report of an action that has run.
+    fn put_report(&mut self, place: usize, carried: Carried<J>, ran: Ran<J>)
+        requires room { length self.old.outbox < 4096 }
+        ensures { self.new ≡ record self.old { outbox = self.old.outbox ++ report_of place carried ran ∷ [] } }
+    {
+        let Carried { slot, flow } = carried;
+        self.outbox.put(Item::Report(Report {
+            place,
+            slot,
+            flow,
+            ran,
+        }));
     }
 }

@@ -1,26 +1,26 @@
-ghost use Rattle.std.specs.Prelude.{◌≡◌, ◌↔◌, ◌≤◌, [], ◌∷◌, length, IfOk, IsErrAnd, IsTrue, OnErr};
+ghost use Rattle.std.specs.Prelude.{◌≡◌, ◌↔◌, ◌≤◌, [], ◌∷◌, length, IfOk, IsErrAnd, IsTrue, OnErr, OnOk};
 ghost use Rattle.schema.specs.Database.{Database};
 ghost use Rattle.std.specs.Prelude.{List};
 ghost use Rattle.history.specs.History.{Step, step as one_step};
 ghost use Rattle.world.specs.Openings.{IsGathered};
 ghost use Rattle.world.specs.Slots.{count_active};
-ghost use Rattle.world.specs.Sound.{flight};
 ghost use Rattle.world.specs.Together.{together};
-ghost use Rattle.world.specs.Worlds.{Advances, CannotHappen, Fits, HappenInTurn, Happens, IsAtRest, IsBusyExactly, NoneDies, TakesItsOwn, steps_of, tables_now};
+ghost use Rattle.world.specs.Worlds.{Advances, CannotHappen, Fits, HappenInTurn, Happens, IsAtRest, IsBusyExactly, IsNeverStuck, NoneDies, TakesItsOwn, steps_of, tables_now};
 
 use crate::desk::Desk;
-use crate::flight::{Item, Message};
+use crate::flight::{Carried, Item, Message};
 use crate::queue::Queue;
 use crate::queues::Queues;
+use crate::stations::{copy_whole, into_slices};
 use commit_log::{Entry, Log, Names};
 use history::{Event, EventAnswer};
 use partitions::Catalog;
 use routing::Routing;
 use schema::{NoMemory, Tables};
-use slices::{Slice, copy_whole, whole};
+use slices::whole;
 use std::alloc::Global;
 use std::marker::Model;
-use transactions::claims_are_of_the_footprint;
+use transactions::{Station, claims_are_of_the_footprint};
 
 /// How many messages an inbox takes.
 pub const INBOX: usize = 1024;
@@ -30,8 +30,8 @@ pub const INBOX: usize = 1024;
 pub struct Parts<J: Names> {
     /// What the slices share.
     pub catalog: Catalog,
-    /// One for each warehouse, in order.
-    pub slices: Vec<Slice<J>>,
+    /// One for each warehouse, in order: its slice, and the actions that wait there.
+    pub stations: Vec<Station<J, Carried<J>>>,
     /// An executor's, in hand while an event puts a message there or takes one; else it has nothing.
     pub inbox: Queue<Message<J>, 1024>,
     /// An executor's, in hand while an event puts items there or takes one; else it has nothing.
@@ -82,19 +82,19 @@ impl<J: Names> Model for World<J> {
 }
 
 impl<J: Names> Parts<J> {
-    // The log's entries, and the slices with what they share.
-    fn into_log_and_slices(self) -> (Vec<Entry>, Catalog, Vec<Slice<J>>)
+    // The log's entries, and the stations with what their slices share.
+    fn into_log_and_stations(self) -> (Vec<Entry>, Catalog, Vec<Station<J, Carried<J>>>)
         ensures log { result.0.items ≡ self.log }
         ensures catalog { result.1 ≡ self.catalog }
-        ensures slices { result.2.items ≡ self.slices.items }
+        ensures stations { result.2.items ≡ self.stations.items }
     {
         let Parts {
             catalog,
-            slices,
+            stations,
             log,
             ..
         } = self;
-        (log.into_entries(), catalog, slices)
+        (log.into_entries(), catalog, stations)
     }
 }
 
@@ -115,8 +115,9 @@ impl<J: Names> World<J> {
     /// it leaves are the committed ones; each transaction is whole, and stands behind those that were
     /// answered before it was submitted. What the event changes is told exactly, and what can't happen
     /// is answered `Nothing` and changes nothing. An executor works on messages of its own warehouses alone.
-    /// Up to 64 transactions are active at a time: `Busy` exactly where they are. While a transaction is the only one that is
-    /// active, no action of it dies.
+    /// Up to 64 transactions are active at a time: `Busy` exactly where they are. Who is in another's way is waited for where it is
+    /// younger, and else the other dies: so nobody waits in a circle, and while anything is active something can be taken or sent.
+    /// While a transaction is the only one that is active, no action of it dies.
     pub fn step(&mut self, alloc: Global, event: &Event) -> EventAnswer
         ensures advances { Advances (together self.old) (one_step event.now result ∷ []) (together self.new) }
         ensures happens { Happens event.now self.old result self.new }
@@ -124,6 +125,7 @@ impl<J: Names> World<J> {
         ensures busy { IsBusyExactly event.now self.old result }
         ensures own { TakesItsOwn event.now self.old }
         ensures routing { self.new.routing ≡ self.old.routing }
+        ensures never_stuck { IsNeverStuck self.new }
         ensures alone { (opening : Database) (history : List Step) → Fits opening history (together self.old) → count_active self.old.parts.desk.active ≡ 1 → NoneDies event.now self.old self.new }
     {
         claims_are_of_the_footprint();
@@ -135,6 +137,7 @@ impl<J: Names> World<J> {
         ensures advances { IfOk result (λ answers. Advances (together self.old) (steps_of events.now answers.items) (together self.new)) }
         ensures happen { IfOk result (λ answers. HappenInTurn (steps_of events.now answers.items) self.old self.new) }
         ensures count { IfOk result (λ answers. length answers.items ≡ length events.now) }
+        ensures never_stuck { OnOk result (IsNeverStuck self.new) }
         ensures err { OnErr result (self.new ≡ self.old) }
     {
         let mut answers = Vec::with_capacity(alloc, events.len())?;
@@ -142,6 +145,8 @@ impl<J: Names> World<J> {
             let answer = self.step(alloc, event);
             answers.push_reserved(answer);
         }
+        // It is never stuck, whatever has happened: that is so of every world, and looking at one tells it.
+        let _ = self.is_quiet();
         Ok(answers)
     }
 
@@ -157,7 +162,7 @@ impl<J: Names> World<J> {
         if parts.desk.active.count() > 0 {
             return Err(GatherFault::NotIdle);
         }
-        match copy_whole(alloc, &parts.catalog, &parts.slices) {
+        match copy_whole(alloc, &parts.catalog, &parts.stations) {
             Ok(tables) => Ok(tables),
             Err(NoMemory) => Err(GatherFault::NoMemory),
         }
@@ -171,25 +176,28 @@ impl<J: Names> World<J> {
         ensures tables { (opening : Database) (history : List Step) → Fits opening history (together self) → IsGathered (count_active self.parts.desk.active) (tables_now opening self.parts.log) result.1 }
         ensures idle { IsErrAnd result.1 (λ fault. fault ≡ GatherFault.NotIdle) ↔ (1 ≤ count_active self.parts.desk.active) }
         ensures at_rest { IsAtRest self → count_active self.parts.desk.active ≡ 0 }
+        ensures never_stuck { IsNeverStuck self }
     {
         let World { core } = self;
         let Core { parts, .. } = core;
         let is_idle = parts.desk.active.count() == 0;
-        let (entries, catalog, slices) = parts.into_log_and_slices();
+        let (entries, catalog, stations) = parts.into_log_and_stations();
         if !is_idle {
             return (entries, Err(GatherFault::NotIdle));
         }
+        let Ok(slices) = into_slices(stations) else {
+            return (entries, Err(GatherFault::NoMemory));
+        };
         match whole(catalog, slices) {
             Ok(tables) => (entries, Ok(tables)),
             Err(NoMemory) => (entries, Err(GatherFault::NoMemory)),
         }
     }
 
-    /// Whether no message can be taken and no item be sent. Then no transaction is active and no claim is
-    /// out.
+    /// Whether no message can be taken and no item be sent. Then no transaction is active, no claim is out, and nobody waits.
     pub fn is_quiet(&self) -> bool
         ensures quiet { IsTrue result ↔ IsAtRest self.now }
-        ensures rest { IsTrue result → (count_active self.now.parts.desk.active ≡ 0) × ((flight (together self.now)).claims ≡ []) }
+        ensures never_stuck { IsNeverStuck self.now }
     {
         self.core.inboxes.are_empty() && self.core.outboxes.are_empty()
     }

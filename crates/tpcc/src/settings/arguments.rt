@@ -1,48 +1,117 @@
 //! Options and arguments of several commands.
-ghost use Rattle.std.specs.Prelude.{◌≡◌, ◌≤◌, option_map, IfOk, None, Ok};
+ghost use Rattle.std.specs.Prelude.{◌≡◌, ◌≤◌, [], codes, option_map, IfOk, IfErr, None, Ok};
 ghost use Rattle.clap.specs.Words.{found_of};
+ghost use Rattle.tpcc.specs.CommandLine.{alone, argument, arguments, command, flag, option, IsArgument, IsCommand};
+ghost use Rattle.tpcc.specs.Mistakes.{IsMomentFault, IsNumberFault, IsNumberWord};
 ghost use Rattle.tpcc.specs.Words.{word_of, IsNumber, IsMoment};
 
 use crate::usage::UsageFault;
-use clap::{Arg, ArgAction, ArgMatches};
+use clap::{Arg, ArgAction, ArgMatches, Command};
 use files::{parse_moment, parse_whole};
 use schema::Moment;
 use std::alloc::Global;
 
-/// The dataset that a command reads.
-pub fn data<'a>(alloc: Global) -> Arg<'a> {
-    Arg::new(alloc, "DATA")
-        .help("The dataset to start from")
+/// A command with what its help tells, and no arguments yet.
+pub fn named<'a>(
+    alloc: Global,
+    name: &'static str,
+    about: &'static str,
+    after: &'static str,
+) -> Command<'a>
+    ensures { IsCommand (alone (command name.now [])) result }
+{
+    Command::new(alloc, name).about(about).after_help(after)
+}
+
+/// An argument that has to be there, known by its place.
+pub fn argument<'a>(alloc: Global, id: &'static str, help: &'static str) -> Arg<'a>
+    ensures { IsArgument (argument id.now) result }
+{
+    Arg::new(alloc, id).help(help).required(true)
+}
+
+/// Arguments of which one has to be there, known by their place.
+pub fn arguments<'a>(alloc: Global, id: &'static str, help: &'static str) -> Arg<'a>
+    ensures { IsArgument (arguments id.now) result }
+{
+    Arg::new(alloc, id)
+        .help(help)
         .required(true)
+        .num_args(1..)
+        .action(ArgAction::Append)
+}
+
+/// An option with a value, which help calls so.
+pub fn option<'a>(
+    alloc: Global,
+    name: &'static str,
+    value: &'static str,
+    help: &'static str,
+) -> Arg<'a>
+    ensures { IsArgument (option name.now) result }
+{
+    Arg::new(alloc, name)
+        .long(name)
+        .value_name(value)
+        .help(help)
+}
+
+/// An option that is there or not.
+pub fn flag<'a>(alloc: Global, name: &'static str, help: &'static str) -> Arg<'a>
+    ensures { IsArgument (flag name.now) result }
+{
+    Arg::new(alloc, name)
+        .long(name)
+        .help(help)
+        .action(ArgAction::SetTrue)
+}
+
+/// The dataset that a command reads.
+pub fn data<'a>(alloc: Global) -> Arg<'a>
+    ensures { IsArgument (argument (codes "DATA")) result }
+{
+    argument(alloc, "DATA", "The dataset to start from")
 }
 
 /// The log that a command writes.
-pub fn log<'a>(alloc: Global) -> Arg<'a> {
-    Arg::new(alloc, "log")
-        .long("log")
-        .value_name("FILE")
-        .help("Where the log of what was carried out is written")
+pub fn log<'a>(alloc: Global) -> Arg<'a>
+    ensures { IsArgument (option (codes "log")) result }
+{
+    option(
+        alloc,
+        "log",
+        "FILE",
+        "Where the log of what was carried out is written",
+    )
 }
 
 /// The option that has summed up what was done.
-pub fn summary<'a>(alloc: Global) -> Arg<'a> {
-    Arg::new(alloc, "summary")
-        .long("summary")
-        .help("Tells on the standard error what it came to, as on a terminal in any case")
-        .action(ArgAction::SetTrue)
+pub fn summary<'a>(alloc: Global) -> Arg<'a>
+    ensures { IsArgument (flag (codes "summary")) result }
+{
+    flag(
+        alloc,
+        "summary",
+        "Tells on the standard error what it came to, as on a terminal in any case",
+    )
 }
 
 /// The option that leaves out what is told of the work.
-pub fn quiet<'a>(alloc: Global) -> Arg<'a> {
-    Arg::new(alloc, "quiet")
-        .long("quiet")
-        .help("Leaves out what is told on a terminal of progress, and any summary")
-        .action(ArgAction::SetTrue)
+pub fn quiet<'a>(alloc: Global) -> Arg<'a>
+    ensures { IsArgument (flag (codes "quiet")) result }
+{
+    flag(
+        alloc,
+        "quiet",
+        "Leaves out what is told on a terminal of progress, and any summary",
+    )
 }
 
 /// An option that is a number.
-pub fn counted<'a>(alloc: Global, name: &'static str, help: &'static str) -> Arg<'a> {
-    Arg::new(alloc, name).long(name).value_name("N").help(help)
+pub fn counted<'a>(alloc: Global, name: &'static str, help: &'static str) -> Arg<'a>
+    ensures { IsArgument (option name.now) result }
+{
+    option(alloc, name, "N", help)
 }
 
 /// The word that stands for an argument, the empty one if none does.
@@ -67,6 +136,8 @@ pub fn number(
     ensures limits { IfOk result (λ number. (low ≤ number) × (number ≤ high)) }
     ensures absent { words.entry ≡ None → result ≡ Ok default }
     ensures value { IfOk result (IsNumber (option_map (λ word. word.now) words.entry) default) }
+    ensures fits { IfOk result (λ number. IsNumberWord low high (option_map (λ word. word.now) words.entry)) }
+    ensures mistake { IfErr result (IsNumberFault option.entry.now low high (option_map (λ word. word.now) words.entry)) }
 {
     let Some(words) = words else {
         return Ok(default);
@@ -79,7 +150,8 @@ pub fn number(
 
 /// The moment that an option asks for, the beginning of 2024 where it is absent.
 pub fn moment(words: Option<&str>) -> Result<Moment, UsageFault>
-    ensures { IfOk result (IsMoment (option_map (λ word. word.now) words.entry)) }
+    ensures value { IfOk result (IsMoment (option_map (λ word. word.now) words.entry)) }
+    ensures mistake { IfErr result (IsMomentFault (option_map (λ word. word.now) words.entry)) }
 {
     match words {
         None => Ok(Moment::new(1_704_067_200)),

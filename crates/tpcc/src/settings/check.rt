@@ -1,8 +1,10 @@
+ghost use Rattle.std.specs.Prelude.{IfOk};
 ghost use Rattle.clap.specs.Words.{found_of};
+ghost use Rattle.tpcc.specs.CommandLine.{alone, check_command, IsCommand};
 ghost use Rattle.tpcc.specs.Words.{AsksToCheck};
 
-use crate::settings::arguments::{data, quiet, word};
-use clap::{Arg, ArgAction, ArgMatches, Command};
+use crate::settings::arguments::{data, flag, named, quiet, word};
+use clap::{ArgMatches, Command};
 use std::alloc::{AllocError, Global};
 
 /// What `tpcc check` was asked to do: the path of the dataset, and whether it is a fresh one at full scale.
@@ -26,17 +28,21 @@ pub fn read<'a>(matches: &ArgMatches<'a>) -> CheckSettings<'a>
 }
 
 /// The command and its options.
-pub fn command<'a>(alloc: Global) -> Result<Command<'a>, AllocError> {
-    let fresh = Arg::new(alloc, "fresh")
-        .long("fresh")
-        .help("Asks condition 11 too, which holds of a fresh dataset at full scale")
-        .action(ArgAction::SetTrue);
-    Command::new(alloc, "check")
-        .about("Tells of each of the twelve conditions of consistency whether the dataset meets it")
-        .after_help(HELP)
+pub fn command<'a>(alloc: Global) -> Result<Command<'a>, AllocError>
+    ensures { IfOk result (IsCommand (alone check_command)) }
+{
+    let about =
+        "Tells of each of the twelve conditions of consistency whether the dataset meets it";
+    let fresh = flag(
+        alloc,
+        "fresh",
+        "Asks condition 11 too, which holds of a fresh dataset at full scale",
+    );
+    let command = named(alloc, "check", about, HELP)
         .arg(data(alloc))?
         .arg(fresh)?
-        .arg(quiet(alloc))
+        .arg(quiet(alloc))?;
+    Ok(command)
 }
 
 // What is told after the arguments by `tpcc check --help`.

@@ -1,4 +1,4 @@
-ghost use Rattle.std.specs.Prelude.{option_map, IfOk};
+ghost use Rattle.std.specs.Prelude.{◌≡◌, option_map, IfOk, IfErr, IsSome};
 ghost use Rattle.tpcc.specs.Words.{IsStandardMix};
 
 use crate::usage::UsageFault;
@@ -13,7 +13,8 @@ const LETTERS: [&str; 5] = ["N", "P", "O", "D", "L"];
 
 /// The mix that an option asks for, that of the benchmark where it is absent.
 pub fn mix(words: Option<&str>) -> Result<Mix, UsageFault>
-    ensures { IfOk result (IsStandardMix (option_map (λ word. word.now) words.entry)) }
+    ensures value { IfOk result (IsStandardMix (option_map (λ word. word.now) words.entry)) }
+    ensures mistake { IfErr result (λ fault. (fault ≡ UsageFault.Mix) × IsSome words.entry) }
 {
     let mix = match words {
         None => Mix::checked_new(45, 43, 4, 4, 4),

@@ -1,10 +1,12 @@
-ghost use Rattle.std.specs.Prelude.{IfOk};
+ghost use Rattle.std.specs.Prelude.{IfOk, IfErr};
 ghost use Rattle.clap.specs.Words.{found_of};
+ghost use Rattle.tpcc.specs.CommandLine.{alone, populate_command, IsCommand};
+ghost use Rattle.tpcc.specs.Mistakes.{IsPopulateFault};
 ghost use Rattle.tpcc.specs.Words.{AsksToPopulate};
 
-use crate::settings::arguments::{counted, moment, number, quiet, word};
+use crate::settings::arguments::{argument, counted, moment, named, number, option, quiet, word};
 use crate::usage::UsageFault;
-use clap::{Arg, ArgMatches, Command};
+use clap::{ArgMatches, Command};
 use schema::{Moment, Scale};
 use std::alloc::{AllocError, Global};
 
@@ -22,7 +24,8 @@ pub struct PopulateSettings<'a> {
 
 /// What the words of `tpcc populate` ask for.
 pub fn read<'a>(matches: &ArgMatches<'a>) -> Result<PopulateSettings<'a>, UsageFault>
-    ensures { IfOk result (AsksToPopulate (found_of matches.now)) }
+    ensures asked { IfOk result (AsksToPopulate (found_of matches.now)) }
+    ensures mistake { IfErr result (IsPopulateFault (found_of matches.now)) }
 {
     let warehouses = number(matches.get_str("warehouses"), 1, 1, 64, "--warehouses")?;
     let items = number(matches.get_str("items"), 100_000, 1, 100_000, "--items")?;
@@ -40,14 +43,12 @@ pub fn read<'a>(matches: &ArgMatches<'a>) -> Result<PopulateSettings<'a>, UsageF
 }
 
 /// The command and its options.
-pub fn command<'a>(alloc: Global) -> Result<Command<'a>, AllocError> {
-    let file = Arg::new(alloc, "FILE")
-        .help("Where the dataset is written")
-        .required(true);
-    Command::new(alloc, "populate")
-        .about("Makes a dataset as the benchmark begins with, after clause 4.3")
-        .after_help(HELP)
-        .arg(file)?
+pub fn command<'a>(alloc: Global) -> Result<Command<'a>, AllocError>
+    ensures { IfOk result (IsCommand (alone populate_command)) }
+{
+    let about = "Makes a dataset as the benchmark begins with, after clause 4.3";
+    let command = named(alloc, "populate", about, HELP)
+        .arg(argument(alloc, "FILE", "Where the dataset is written"))?
         .arg(counted(
             alloc,
             "warehouses",
@@ -68,12 +69,14 @@ pub fn command<'a>(alloc: Global) -> Result<Command<'a>, AllocError> {
             "seed",
             "The seed of all draws, 0 to 4,294,967,295; 1 by default",
         ))?
-        .arg(
-            Arg::new(alloc, "now").long("now").value_name("MOMENT").help(
-                "The date and time of all rows; 2024-01-01T00:00:00 by default",
-            ),
-        )?
-        .arg(quiet(alloc))
+        .arg(option(
+            alloc,
+            "now",
+            "MOMENT",
+            "The date and time of all rows; 2024-01-01T00:00:00 by default",
+        ))?
+        .arg(quiet(alloc))?;
+    Ok(command)
 }
 
 // What is told after the arguments by `tpcc populate --help`.

@@ -1,8 +1,10 @@
+ghost use Rattle.std.specs.Prelude.{IfOk};
 ghost use Rattle.clap.specs.Words.{found_of};
+ghost use Rattle.tpcc.specs.CommandLine.{alone, replay_command, IsCommand};
 ghost use Rattle.tpcc.specs.Words.{AsksToReplay};
 
-use crate::settings::arguments::{data, quiet, summary, word};
-use clap::{Arg, ArgMatches, Command};
+use crate::settings::arguments::{argument, data, named, option, quiet, summary, word};
+use clap::{ArgMatches, Command};
 use std::alloc::{AllocError, Global};
 
 /// What `tpcc replay` was asked to do: paths of files.
@@ -31,22 +33,28 @@ pub fn read<'a>(matches: &ArgMatches<'a>) -> ReplaySettings<'a>
 }
 
 /// The command and its options.
-pub fn command<'a>(alloc: Global) -> Result<Command<'a>, AllocError> {
-    let entries = Arg::new(alloc, "LOG")
-        .help("The log of what was carried out from that dataset on")
-        .required(true);
-    let tables = Arg::new(alloc, "tables")
-        .long("tables")
-        .value_name("FILE")
-        .help("Where the tables at the end are written, as a dataset, if the log is equal");
-    Command::new(alloc, "replay")
-        .about("Carries out a log's requests one at a time, and compares the replies")
-        .after_help(HELP)
+pub fn command<'a>(alloc: Global) -> Result<Command<'a>, AllocError>
+    ensures { IfOk result (IsCommand (alone replay_command)) }
+{
+    let about = "Carries out a log's requests one at a time, and compares the replies";
+    let entries = argument(
+        alloc,
+        "LOG",
+        "The log of what was carried out from that dataset on",
+    );
+    let tables = option(
+        alloc,
+        "tables",
+        "FILE",
+        "Where the tables at the end are written, as a dataset, if the log is equal",
+    );
+    let command = named(alloc, "replay", about, HELP)
         .arg(data(alloc))?
         .arg(entries)?
         .arg(tables)?
         .arg(summary(alloc))?
-        .arg(quiet(alloc))
+        .arg(quiet(alloc))?;
+    Ok(command)
 }
 
 // What is told after the arguments by `tpcc replay --help`.

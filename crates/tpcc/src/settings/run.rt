@@ -1,11 +1,13 @@
-ghost use Rattle.std.specs.Prelude.{IfOk};
+ghost use Rattle.std.specs.Prelude.{IfOk, IfErr};
 ghost use Rattle.clap.specs.Words.{found_of};
+ghost use Rattle.tpcc.specs.CommandLine.{alone, run_command, IsCommand};
+ghost use Rattle.tpcc.specs.Mistakes.{IsRunFault};
 ghost use Rattle.tpcc.specs.Settings.{HasSessions};
 ghost use Rattle.tpcc.specs.Words.{AsksToRun};
 
-use crate::settings::arguments::{data, log, quiet, summary, word};
+use crate::settings::arguments::{arguments, data, log, named, quiet, summary, word};
 use crate::usage::UsageFault;
-use clap::{Arg, ArgAction, ArgMatches, Command};
+use clap::{ArgMatches, Command};
 use engine::MOST_SESSIONS;
 use std::alloc::{AllocError, Global};
 
@@ -26,6 +28,7 @@ pub struct RunSettings<'a> {
 pub fn read<'a>(alloc: Global, matches: &ArgMatches<'a>) -> Result<RunSettings<'a>, UsageFault>
     ensures limits { IfOk result HasSessions }
     ensures asked { IfOk result (AsksToRun (found_of matches.now)) }
+    ensures mistake { IfErr result (IsRunFault (found_of matches.now)) }
 {
     let scripts = matches.get_strs("SCRIPT").unwrap_or(&[]);
     if !(1..=MOST_SESSIONS).contains(&scripts.len()) {
@@ -41,20 +44,22 @@ pub fn read<'a>(alloc: Global, matches: &ArgMatches<'a>) -> Result<RunSettings<'
 }
 
 /// The command and its options.
-pub fn command<'a>(alloc: Global) -> Result<Command<'a>, AllocError> {
-    let scripts = Arg::new(alloc, "SCRIPT")
-        .help("Scripts of requests, one for each session, at most 64")
-        .required(true)
-        .num_args(1..)
-        .action(ArgAction::Append);
-    Command::new(alloc, "run")
-        .about("Serves scripts of requests and prints their answers, by session and number")
-        .after_help(HELP)
+pub fn command<'a>(alloc: Global) -> Result<Command<'a>, AllocError>
+    ensures { IfOk result (IsCommand (alone run_command)) }
+{
+    let about = "Serves scripts of requests and prints their answers, by session and number";
+    let scripts = arguments(
+        alloc,
+        "SCRIPT",
+        "Scripts of requests, one for each session, at most 64",
+    );
+    let command = named(alloc, "run", about, HELP)
         .arg(data(alloc))?
         .arg(scripts)?
         .arg(log(alloc))?
         .arg(summary(alloc))?
-        .arg(quiet(alloc))
+        .arg(quiet(alloc))?;
+    Ok(command)
 }
 
 // What is told after the arguments by `tpcc run --help`.

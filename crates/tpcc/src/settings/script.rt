@@ -1,13 +1,17 @@
-ghost use Rattle.std.specs.Prelude.{option_map, IfOk};
+ghost use Rattle.std.specs.Prelude.{◌≡◌, codes, map, option_map, IfOk, IfErr, IsTrue};
 ghost use Rattle.clap.specs.Words.{found_of};
+ghost use Rattle.tpcc.specs.CommandLine.{alone, script_command, IsCommand};
+ghost use Rattle.tpcc.specs.Mistakes.{HasPathTwice, IsNumberFault, IsRemoteFault, IsScriptFault};
 ghost use Rattle.tpcc.specs.Settings.{HasFiles};
 ghost use Rattle.tpcc.specs.Words.{AsksForScripts, IsHome, IsRemote};
 
 use crate::other_name::are_one;
-use crate::settings::arguments::{counted, data, moment, number, quiet, word};
+use crate::settings::arguments::{
+    arguments, counted, data, moment, named, number, option, quiet, word,
+};
 use crate::settings::mix::mix;
 use crate::usage::UsageFault;
-use clap::{Arg, ArgAction, ArgMatches, Command};
+use clap::{ArgMatches, Command};
 use engine::MOST_SESSIONS;
 use schema::Moment;
 use std::alloc::{AllocError, Global};
@@ -37,6 +41,7 @@ pub struct ScriptSettings<'a> {
 pub fn read<'a>(alloc: Global, matches: &ArgMatches<'a>) -> Result<ScriptSettings<'a>, UsageFault>
     ensures limits { IfOk result HasFiles }
     ensures asked { IfOk result (AsksForScripts (found_of matches.now)) }
+    ensures mistake { IfErr result (IsScriptFault (found_of matches.now)) }
 {
     let files = matches.get_strs("FILE").unwrap_or(&[]);
     if !(1..=MOST_SESSIONS).contains(&files.len()) {
@@ -65,7 +70,9 @@ pub fn read<'a>(alloc: Global, matches: &ArgMatches<'a>) -> Result<ScriptSetting
 }
 
 // Whether a path is there twice.
-fn has_twice(files: &[&str]) -> bool {
+fn has_twice(files: &[&str]) -> bool
+    ensures { IsTrue result → HasPathTwice (map (λ file. file.now) files.now) }
+{
     for (place, file) in files.iter().enumerate() {
         for earlier in &files[..place] {
             if are_one(earlier, file) {
@@ -78,7 +85,8 @@ fn has_twice(files: &[&str]) -> bool {
 
 // The home warehouse that an option asks for.
 fn home(words: Option<&str>) -> Result<Option<u32>, UsageFault>
-    ensures { IfOk result (IsHome (option_map (λ word. word.now) words.entry)) }
+    ensures value { IfOk result (IsHome (option_map (λ word. word.now) words.entry)) }
+    ensures mistake { IfErr result (IsNumberFault (codes "--home") 1 64 (option_map (λ word. word.now) words.entry)) }
 {
     match words {
         None => Ok(None),
@@ -88,7 +96,8 @@ fn home(words: Option<&str>) -> Result<Option<u32>, UsageFault>
 
 // Whether other warehouses take part, which they do where no option tells.
 fn remote(words: Option<&str>) -> Result<bool, UsageFault>
-    ensures { IfOk result (IsRemote (option_map (λ word. word.now) words.entry)) }
+    ensures value { IfOk result (IsRemote (option_map (λ word. word.now) words.entry)) }
+    ensures mistake { IfErr result (λ fault. (fault ≡ UsageFault.Remote) × IsRemoteFault (option_map (λ word. word.now) words.entry)) }
 {
     match words {
         None | Some("on") => Ok(true),
@@ -98,17 +107,17 @@ fn remote(words: Option<&str>) -> Result<bool, UsageFault>
 }
 
 /// The command and its options.
-pub fn command<'a>(alloc: Global) -> Result<Command<'a>, AllocError> {
-    let files = Arg::new(alloc, "FILE")
-        .help("Where the scripts are written, one for each session, at most 64")
-        .required(true)
-        .num_args(1..)
-        .action(ArgAction::Append);
-    Command::new(alloc, "script")
-        .about(
-            "Makes scripts of requests as the benchmark's terminals would, after clauses 2.4 to 2.8",
-        )
-        .after_help(HELP)
+pub fn command<'a>(alloc: Global) -> Result<Command<'a>, AllocError>
+    ensures { IfOk result (IsCommand (alone script_command)) }
+{
+    let about =
+        "Makes scripts of requests as the benchmark's terminals would, after clauses 2.4 to 2.8";
+    let files = arguments(
+        alloc,
+        "FILE",
+        "Where the scripts are written, one for each session, at most 64",
+    );
+    let command = named(alloc, "script", about, HELP)
         .arg(data(alloc))?
         .arg(files)?
         .arg(counted(
@@ -121,28 +130,32 @@ pub fn command<'a>(alloc: Global) -> Result<Command<'a>, AllocError> {
             "seed",
             "The seed of all draws, 0 to 4,294,967,295; 1 by default",
         ))?
-        .arg(
-            Arg::new(alloc, "mix").long("mix").value_name("LIST").help(
-                "How many cards of each kind a deck has; N=45,P=43,O=4,D=4,L=4 by default",
-            ),
-        )?
-        .arg(
-            Arg::new(alloc, "home").long("home").value_name("W").help(
-                "The home warehouse of all sessions; each has its own by default",
-            ),
-        )?
-        .arg(
-            Arg::new(alloc, "remote")
-                .long("remote")
-                .value_name("WORD")
-                .help("Whether other warehouses take part, on or off; on by default"),
-        )?
-        .arg(
-            Arg::new(alloc, "now").long("now").value_name("MOMENT").help(
-                "The date and time of each first request; 2024-01-01T00:00:00 by default",
-            ),
-        )?
-        .arg(quiet(alloc))
+        .arg(option(
+            alloc,
+            "mix",
+            "LIST",
+            "How many cards of each kind a deck has; N=45,P=43,O=4,D=4,L=4 by default",
+        ))?
+        .arg(option(
+            alloc,
+            "home",
+            "W",
+            "The home warehouse of all sessions; each has its own by default",
+        ))?
+        .arg(option(
+            alloc,
+            "remote",
+            "WORD",
+            "Whether other warehouses take part, on or off; on by default",
+        ))?
+        .arg(option(
+            alloc,
+            "now",
+            "MOMENT",
+            "The date and time of each first request; 2024-01-01T00:00:00 by default",
+        ))?
+        .arg(quiet(alloc))?;
+    Ok(command)
 }
 
 // What is told after the arguments by `tpcc script --help`.

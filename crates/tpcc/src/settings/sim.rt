@@ -1,12 +1,16 @@
-ghost use Rattle.std.specs.Prelude.{IfOk};
+ghost use Rattle.std.specs.Prelude.{◌↔◌, option_map, IfOk, IfErr, IsTrue};
 ghost use Rattle.clap.specs.Words.{found_of};
+ghost use Rattle.tpcc.specs.CommandLine.{alone, sim_command, IsCommand};
+ghost use Rattle.tpcc.specs.Mistakes.{AreOnePath, IsSimFault};
 ghost use Rattle.tpcc.specs.Settings.{HasExecutors};
 ghost use Rattle.tpcc.specs.Words.{AsksToSimulate};
 
 use crate::other_name::are_one;
-use crate::settings::arguments::{counted, data, log, number, quiet, word};
+use crate::settings::arguments::{
+    argument, counted, data, log, named, number, option, quiet, word,
+};
 use crate::usage::UsageFault;
-use clap::{Arg, ArgMatches, Command};
+use clap::{ArgMatches, Command};
 use std::alloc::{AllocError, Global};
 
 /// What `tpcc sim` was asked to do: paths of files, and how many executors there are.
@@ -27,6 +31,7 @@ pub struct SimSettings<'a> {
 pub fn read<'a>(matches: &ArgMatches<'a>) -> Result<SimSettings<'a>, UsageFault>
     ensures limits { IfOk result HasExecutors }
     ensures asked { IfOk result (AsksToSimulate (found_of matches.now)) }
+    ensures mistake { IfErr result (IsSimFault (found_of matches.now)) }
 {
     let log = matches.get_str("log");
     let picture = matches.get_str("picture");
@@ -46,7 +51,9 @@ pub fn read<'a>(matches: &ArgMatches<'a>) -> Result<SimSettings<'a>, UsageFault>
 }
 
 // Whether both are to be written, under one path.
-fn same(one: Option<&str>, other: Option<&str>) -> bool {
+fn same(one: Option<&str>, other: Option<&str>) -> bool
+    ensures { IsTrue result ↔ AreOnePath (option_map (λ path. path.now) one.entry) (option_map (λ path. path.now) other.entry) }
+{
     match (one, other) {
         (Some(one), Some(other)) => are_one(one, other),
         _ => false,
@@ -54,33 +61,41 @@ fn same(one: Option<&str>, other: Option<&str>) -> bool {
 }
 
 /// The command and its options.
-pub fn command<'a>(alloc: Global) -> Result<Command<'a>, AllocError> {
-    let schedule = Arg::new(alloc, "SCHEDULE")
-        .help("What is to happen: submissions, takes, sends and rounds, one after another")
-        .required(true);
+pub fn command<'a>(alloc: Global) -> Result<Command<'a>, AllocError>
+    ensures { IfOk result (IsCommand (alone sim_command)) }
+{
+    let about = "Plays a schedule, event by event, and prints what comes of each event";
+    let schedule = argument(
+        alloc,
+        "SCHEDULE",
+        "What is to happen: submissions, takes, sends and rounds, one after another",
+    );
     let executors = counted(
         alloc,
         "executors",
         "How many executors there are, 1 to 16; 2 by default",
     );
-    let picture = Arg::new(alloc, "picture")
-        .long("picture")
-        .value_name("FILE")
-        .help("Where a picture of the schedule is written, as SVG");
-    let tables = Arg::new(alloc, "tables")
-        .long("tables")
-        .value_name("FILE")
-        .help("Where the tables are written, as a dataset, if no transaction is active at the end");
-    Command::new(alloc, "sim")
-        .about("Plays a schedule, event by event, and prints what comes of each event")
-        .after_help(HELP)
+    let picture = option(
+        alloc,
+        "picture",
+        "FILE",
+        "Where a picture of the schedule is written, as SVG",
+    );
+    let tables = option(
+        alloc,
+        "tables",
+        "FILE",
+        "Where the tables are written, as a dataset, if no transaction is active at the end",
+    );
+    let command = named(alloc, "sim", about, HELP)
         .arg(data(alloc))?
         .arg(schedule)?
         .arg(executors)?
         .arg(log(alloc))?
         .arg(picture)?
         .arg(tables)?
-        .arg(quiet(alloc))
+        .arg(quiet(alloc))?;
+    Ok(command)
 }
 
 // What is told after the arguments by `tpcc sim --help`.

@@ -1,3 +1,5 @@
+use Rattle.dataset.specs.Columns.{address_columns}
+use Rattle.dataset.proofs.ColumnsRead.{cents, several, credit, moment, and_then, whole, words}
 use Rattle.dataset.specs.Records.{address_fields}
 use Rattle.files.specs.Word.{credit_text}
 use Rattle.dataset.proofs.Taking.{takes-fields, takes-then, takes-words, takes-number, takes-money, takes-date}
@@ -41,3 +43,19 @@ returns-clause-reads c = λ row rest h awaits.
     let delivery_cnt = reads-number c.ranged-2.new.self c.ranged-2.result row.delivery_cnt row.delivery_cnt (λ more next. c.ranged-2.ensures.reads row.delivery_cnt more next h.delivery_cnt.0 h.delivery_cnt.1) c.ranged-2.ensures.left payment_cnt.1 in
     let words = reads-words c.text-5.new.self c.text-5.result row.data row.data (λ more next. c.text-5.ensures.reads row.data more next h.customer_data) c.text-5.ensures.left delivery_cnt.1 in
     (λ i. record { first = first.0 i; middle = middle.0 i; last = last.0 i; address = address.0 i; phone = phone.0 i; since = since.0 i; credit = credit.0 i; credit_lim = credit_lim.0 i; discount = discount.0 i; balance = balance.0 i; ytd_payment = ytd_payment.0 i; payment_cnt = payment_cnt.0 i; delivery_cnt = delivery_cnt.0 i; «data» = words.0 i }, words.1)
+
+pub returns-clause-columns : goal.returns-clause-columns
+returns-clause-columns c = λ s. (and_then (words 16 c.args.fields.now c.text.new.self c.text.ensures.field)
+    (and_then (words 2 c.text.new.self c.text-2.new.self c.text-2.ensures.field)
+    (and_then (words 16 c.text-2.new.self c.text-3.new.self c.text-3.ensures.field)
+    (and_then (several address_columns c.text-3.new.self c.address.new.fields c.address.ensures.columns)
+    (and_then (words 16 c.address.new.fields c.text-4.new.self c.text-4.ensures.field)
+    (and_then (moment c.text-4.new.self c.moment.new.self c.moment.ensures.field)
+    (and_then (credit c.moment.new.self c.credit.new.self c.credit.ensures.field)
+    (and_then (cents c.credit.new.self c.cents.new.self c.cents.ensures.field)
+    (and_then (whole 0 9999 c.cents.new.self c.rate.new.self c.rate.ensures.field)
+    (and_then (cents c.rate.new.self c.cents-2.new.self c.cents-2.ensures.field)
+    (and_then (cents c.cents-2.new.self c.cents-3.new.self c.cents-3.ensures.field)
+    (and_then (whole 0 999999999 c.cents-3.new.self c.ranged.new.self c.ranged.ensures.field)
+    (and_then (whole 0 999999999 c.ranged.new.self c.ranged-2.new.self c.ranged-2.ensures.field)
+    (words 500 c.ranged-2.new.self c.text-5.new.self c.text-5.ensures.field)))))))))))))).is

@@ -1,3 +1,7 @@
+use Rattle.std.proofs.Common.{◌≡◌}
+use Rattle.files.specs.FieldRead.{taking}
+use Rattle.dataset.specs.Columns.{Count, take_columns}
+use Rattle.dataset.proofs.ColumnsRead.{and_then, count, several}
 use Rattle.std.proofs.Common.{rules, [], ◌∷◌, List, length, map, sum, subst}
 use Rattle.rows.specs.declared.records.History.{History}
 use Rattle.files.specs.Taken.{Takes}
@@ -37,3 +41,19 @@ returns-clause-reads c = λ small awaits.
     let s7 = reads-count c.expect_count-7.new.self _ (length rows.new_orders.entries) (search rules) c.expect_count-7.ensures.reads c.expect_count-7.ensures.left s6 in
     let s8 = reads-count c.expect_count-8.new.self _ (length rows.lines.entries) (search rules) c.expect_count-8.ensures.reads c.expect_count-8.ensures.left s7 in
     s8
+
+pub returns-clause-columns : goal.returns-clause-columns
+returns-clause-columns c = λ small.
+    let rows = c.args.rows.now in
+    let lists = c.deref.result.now in
+    let few : sum (map length lists) < 2 ^ 64 = subst (λ l. sum (map length l) < 2 ^ 64) (sym c.deref.ensures.value) small in
+    let paid = subst (λ l. taking c.check_payments.new.fields ≡ take_columns (Count (sum (map length l)) ∷ []) (taking c.expect_count-5.new.self)) c.deref.ensures.value (c.check_payments.ensures.columns few) in
+    (and_then (count (length rows.items.items) _ c.args.fields.now c.expect_count.new.self (search rules) c.expect_count.ensures.field)
+    (and_then (count (length rows.warehouses.items) _ c.expect_count.new.self c.expect_count-2.new.self (search rules) c.expect_count-2.ensures.field)
+    (and_then (count (length rows.districts.items) _ c.expect_count-2.new.self c.expect_count-3.new.self (search rules) c.expect_count-3.ensures.field)
+    (and_then (count (length rows.stocks.items) _ c.expect_count-3.new.self c.expect_count-4.new.self (search rules) c.expect_count-4.ensures.field)
+    (and_then (count (length rows.customers.items) _ c.expect_count-4.new.self c.expect_count-5.new.self (search rules) c.expect_count-5.ensures.field)
+    (and_then (several (Count (sum (map length rows.histories.items)) ∷ []) c.expect_count-5.new.self c.check_payments.new.fields paid)
+    (and_then (count (length rows.orders.entries) _ c.check_payments.new.fields c.expect_count-6.new.self (search rules) c.expect_count-6.ensures.field)
+    (and_then (count (length rows.new_orders.entries) _ c.expect_count-6.new.self c.expect_count-7.new.self (search rules) c.expect_count-7.ensures.field)
+    (count (length rows.lines.entries) _ c.expect_count-7.new.self c.expect_count-8.new.self (search rules) c.expect_count-8.ensures.field))))))))).is

@@ -1,3 +1,7 @@
+use Rattle.dataset.proofs.ColumnsRead.{and_then, ended, whole}
+use Rattle.dataset.proofs.HeaderFault.{header_made, header_told, no_header, not_five, other_name, other_version}
+use Rattle.schema.specs.Limits.{IsScale}
+use Rattle.files.specs.Taken.{fault_of}
 use Rattle.std.proofs.Common.{codes, sym, ◌∙◌, lit<}
 use Rattle.std.proofs.lemmas.Fmt.{decimal_digit}
 use Rattle.files.specs.declared.fault.FaultKind.TheVariants.{OutOfRange}
@@ -66,3 +70,52 @@ returns-in-None-clause-reads c = λ scale awaits.
     let n = reads-number c.whole-customers.new.self c.whole-customers.result scale.customers scale.customers (λ more next. c.whole-customers.ensures.reads scale.customers more next limits.some_customer limits.most_customers) c.whole-customers.ensures.left i.1 in
     scale_read c.ok_or.result c.checked_new.result OutOfRange scale c.whole-warehouses.result c.whole-items.result c.whole-customers.result c.ok_or.ensures.value w.0 i.0 n.0
     c.checked_new.ensures.fits.1 c.checked_new.ensures.warehouses c.checked_new.ensures.items c.checked_new.ensures.customers
+
+pub returns-then-left-ne5-clause-exact : goal.returns-then-left-ne5-clause-exact
+returns-then-left-ne5-clause-exact c = λ free.
+    let left = fields_left c.args.fields.now in
+    elim c.then-left-ne5.branch [
+      | then-left-ne5-via-then-left-ne5 w ↦ no_header left (not_five left (λ five. omega arith))
+      | then-left-ne5-via-else-left-ne5+then-ne w ↦
+          let five : length left ≡ 5 = omega arith in
+          no_header left (other_name left w.word.result.now five (λ field rest is utf8. (w.word.ensures.text field rest is utf8).0) (λ e. no_difference w.word.result.now (codes "TPCC") w.ne.result w.ne.ensures e w.if-ne.true))
+      | then-left-ne5-via-else-left-ne5+else-ne+then-ne-2 w ↦
+          let five : length left ≡ 5 = omega arith in
+          no_header left (other_version left (fields_left w.word.new.self) w.word-else-ne.result.now five w.word.ensures.left (λ field rest is utf8. (w.word-else-ne.ensures.text field rest is utf8).0)
+          (λ e. no_difference w.word-else-ne.result.now (codes "1") w.ne-else-ne.result w.ne-else-ne.ensures e w.if-ne-2.true))
+    ]
+
+pub returns-in-Some-clause-exact : goal.returns-in-Some-clause-exact
+returns-in-Some-clause-exact c = λ free.
+    let name = same_word c.word.result.now (codes "TPCC") c.ne.result c.ne.ensures c.if-ne.false in
+    let version = same_word c.word-else-ne.result.now (codes "1") c.ne-else-ne.result c.ne-else-ne.ensures c.if-ne-2.false in
+    let five : length (fields_left c.args.fields.now) ≡ 5 = omega arith in
+    let told = header_told c.args.fields.now c.word.new.self c.word-else-ne.new.self c.whole-customers.new.self c.word.result.now c.word-else-ne.result.now (fault_of c.finish.new.self) free five name c.word.ensures.field version c.word-else-ne.ensures.field
+    (and_then (whole 1 64 c.word-else-ne.new.self c.whole-warehouses.new.self c.whole-warehouses.ensures.field)
+    (and_then (whole 1 100000 c.whole-warehouses.new.self c.whole-items.new.self c.whole-items.ensures.field)
+    (whole 1 3000 c.whole-items.new.self c.whole-customers.new.self c.whole-customers.ensures.field))).is
+    (ended (fields_left c.whole-customers.new.self) (fault_of c.whole-customers.new.self) (fault_of c.finish.new.self) c.finish.ensures.none_left c.finish.ensures.some_left) in
+    sym told ∙ sym c.finish.ensures.fault ∙ c.in-Some.is
+
+pub returns-in-None-clause-exact : goal.returns-in-None-clause-exact
+returns-in-None-clause-exact c = λ free.
+    let name = same_word c.word.result.now (codes "TPCC") c.ne.result c.ne.ensures c.if-ne.false in
+    let version = same_word c.word-else-ne.result.now (codes "1") c.ne-else-ne.result c.ne-else-ne.ensures c.if-ne-2.false in
+    let five : length (fields_left c.args.fields.now) ≡ 5 = omega arith in
+    let told = header_told c.args.fields.now c.word.new.self c.word-else-ne.new.self c.whole-customers.new.self c.word.result.now c.word-else-ne.result.now (fault_of c.finish.new.self) free five name c.word.ensures.field version c.word-else-ne.ensures.field
+    (and_then (whole 1 64 c.word-else-ne.new.self c.whole-warehouses.new.self c.whole-warehouses.ensures.field)
+    (and_then (whole 1 100000 c.whole-warehouses.new.self c.whole-items.new.self c.whole-items.ensures.field)
+    (whole 1 3000 c.whole-items.new.self c.whole-customers.new.self c.whole-customers.ensures.field))).is
+    (ended (fields_left c.whole-customers.new.self) (fault_of c.whole-customers.new.self) (fault_of c.finish.new.self) c.finish.ensures.none_left c.finish.ensures.some_left) in
+    let w = c.whole-warehouses.ensures.range (omega arith) in
+    let i = c.whole-items.ensures.range (omega arith) in
+    let n = c.whole-customers.ensures.range (omega arith) in
+    let fits : IsScale c.whole-warehouses.result c.whole-items.result c.whole-customers.result = record {
+      some_warehouse = w.0;
+      most_warehouses = w.1;
+      some_item = i.0;
+      most_items = i.1;
+      some_customer = n.0;
+      most_customers = n.1;
+    } in
+    header_made c.ok_or.result c.checked_new.result OutOfRange (fields_left c.args.fields.now) c.ok_or.ensures.value (c.checked_new.ensures.fits.1 fits) (sym told ∙ sym c.finish.ensures.fault ∙ c.in-None.is)

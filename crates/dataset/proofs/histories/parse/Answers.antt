@@ -1,3 +1,5 @@
+use Rattle.dataset.specs.Columns.{Customers, key_columns, sizes}
+use Rattle.dataset.proofs.ColumnsRead.{cents, several, moment, and_then, words}
 use Rattle.dataset.specs.Records.{customer_key_fields}
 use Rattle.dataset.proofs.Taking.{takes-fields, takes-then, takes-words, takes-money, takes-date}
 use Rattle.files.proofs.Ascii.{utf8_moment}
@@ -20,3 +22,9 @@ returns-clause-reads c = λ row rest h awaits.
     let amount = reads-money c.cents.new.self c.cents.result row.amount row.amount (λ more next. c.cents.ensures.reads row.amount more next h.in_range.amount) c.cents.ensures.left date.1 in
     let words = reads-words c.text.new.self c.text.result row.data row.data (λ more next. c.text.ensures.reads row.data more next h.in_range.history_data) c.text.ensures.left amount.1 in
     (λ i. record { customer = payer.0 i; date = date.0 i; amount = amount.0 i; «data» = words.0 i }, words.1)
+
+pub returns-clause-columns : goal.returns-clause-columns
+returns-clause-columns c = (and_then (several (key_columns (sizes c.args.scale) Customers) c.args.fields.now c.key.new.fields c.key.ensures.columns)
+    (and_then (moment c.key.new.fields c.moment.new.self c.moment.ensures.field)
+    (and_then (cents c.moment.new.self c.cents.new.self c.cents.ensures.field)
+    (words 24 c.cents.new.self c.text.new.self c.text.ensures.field)))).is

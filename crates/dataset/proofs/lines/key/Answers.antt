@@ -1,3 +1,4 @@
+use Rattle.dataset.proofs.ColumnsRead.{and_then, whole}
 use Rattle.dataset.proofs.Taking.{takes-then, takes-number}
 use Rattle.dataset.proofs.Bounds.{bounds, both}
 use Rattle.dataset.proofs.Reading.{reads-number}
@@ -22,3 +23,9 @@ returns-clause-reads c = λ key rest h awaits.
     let o_id = reads-number c.whole-3.new.self c.whole-3.result key.o_id key.o_id (λ more next. c.whole-3.ensures.reads key.o_id more next n.0 n.1) c.whole-3.ensures.left d_id.1 in
     let number = reads-number c.whole-4.new.self c.whole-4.result key.number key.number (λ more next. c.whole-4.ensures.reads key.number more next m.0 m.1) c.whole-4.ensures.left o_id.1 in
     (λ i. record { w_id = w_id.0 i; d_id = d_id.0 i; o_id = o_id.0 i; number = number.0 i }, number.1)
+
+pub returns-clause-columns : goal.returns-clause-columns
+returns-clause-columns c = (and_then (whole 1 c.args.scale.warehouses c.args.fields.now c.whole.new.self c.whole.ensures.field)
+    (and_then (whole 1 10 c.whole.new.self c.whole-2.new.self c.whole-2.ensures.field)
+    (and_then (whole 1 9999999 c.whole-2.new.self c.whole-3.new.self c.whole-3.ensures.field)
+    (whole 1 15 c.whole-3.new.self c.whole-4.new.self c.whole-4.ensures.field)))).is

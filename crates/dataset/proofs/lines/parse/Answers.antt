@@ -1,4 +1,7 @@
 use Rattle.std.proofs.Common.{[], ◌∷◌}
+use Rattle.dataset.specs.Columns.{MaybeMoment}
+use Rattle.dataset.proofs.ColumnsRead.{several, and_then, whole, words}
+use Rattle.std.proofs.Common.{[], ◌∷◌}
 use Rattle.dataset.specs.Records.{delivery_field}
 use Rattle.dataset.proofs.Taking.{takes-fields, takes-then, takes-words, takes-number}
 use Rattle.std.proofs.Common.{[], ◌∷◌, ◌++◌}
@@ -27,3 +30,11 @@ returns-clause-reads c = λ row rest h awaits.
     let amount = reads-number c.ranged-2.new.self c.ranged-2.result row.amount row.amount (λ more next. c.ranged-2.ensures.reads row.amount more next h.in_range.amount.0 h.in_range.amount.1) c.ranged-2.ensures.left quantity.1 in
     let info = reads-words c.text.new.self c.text.result row.dist_info row.dist_info (λ more next. c.text.ensures.reads row.dist_info more next h.in_range.dist_info) c.text.ensures.left amount.1 in
     (λ i. record { i_id = i_id.0 i; supply_w_id = supply.0 i; delivery_d = delivery.0 i; quantity = quantity.0 i; amount = amount.0 i; dist_info = info.0 i }, info.1)
+
+pub returns-clause-columns : goal.returns-clause-columns
+returns-clause-columns c = (and_then (whole 1 c.args.scale.items c.args.fields.now c.whole.new.self c.whole.ensures.field)
+    (and_then (whole 1 c.args.scale.warehouses c.whole.new.self c.whole-2.new.self c.whole-2.ensures.field)
+    (and_then (several (MaybeMoment ∷ []) c.whole-2.new.self c.delivery.new.fields c.delivery.ensures.columns)
+    (and_then (whole 1 10 c.delivery.new.fields c.ranged.new.self c.ranged.ensures.field)
+    (and_then (whole 0 999999 c.ranged.new.self c.ranged-2.new.self c.ranged-2.ensures.field)
+    (words 24 c.ranged-2.new.self c.text.new.self c.text.ensures.field)))))).is

@@ -1,3 +1,6 @@
+use Rattle.files.specs.Taken.{fault_of, fields_left}
+use Rattle.dataset.specs.Columns.{MaybeWhole, Orders, Whole, other_columns, sizes}
+use Rattle.dataset.proofs.ColumnsRead.{and_then, ended, moment, several, took_all, whole}
 use Rattle.std.proofs.Common.{◌≡◌, true, false, not, [], ◌∷◌, None, ap, ◌∙◌}
 use Rattle.std.specs.Prelude.{if◌then◌else◌}
 use Rattle.std.specs.BTreeMap.{insert_entry}
@@ -44,3 +47,23 @@ returns-else-is_none-clause-reads c = λ row h awaits.
     let test = rw result at c.is_none.ensures in
     let no : false ≡ true = test ∙ ap not c.if-is_none.false in
     absurd cc
+
+pub returns-in_ok-insert-clause-columns : goal.returns-in_ok-insert-clause-columns
+returns-in_ok-insert-clause-columns c =
+    took_all (other_columns (sizes c.args.scale) Orders) c.args.fields.now c.is_all_local.new.fields (fault_of c.finish.new.self)
+    (and_then (whole 1 c.args.scale.customers c.args.fields.now c.whole.new.self c.whole.ensures.field)
+    (and_then (moment c.whole.new.self c.moment.new.self c.moment.ensures.field)
+    (and_then (several (MaybeWhole 1 10 ∷ []) c.moment.new.self c.carrier.new.fields c.carrier.ensures.columns)
+    (and_then (whole 1 15 c.carrier.new.fields c.ranged.new.self c.ranged.ensures.field)
+    (several (Whole 0 1 ∷ []) c.ranged.new.self c.is_all_local.new.fields c.is_all_local.ensures.columns))))).is
+    (ended (fields_left c.is_all_local.new.fields) (fault_of c.is_all_local.new.fields) (fault_of c.finish.new.self) c.finish.ensures.none_left c.finish.ensures.some_left)
+
+pub returns-else-is_none-clause-columns : goal.returns-else-is_none-clause-columns
+returns-else-is_none-clause-columns c =
+    took_all (other_columns (sizes c.args.scale) Orders) c.args.fields.now c.is_all_local.new.fields (fault_of c.finish.new.self)
+    (and_then (whole 1 c.args.scale.customers c.args.fields.now c.whole.new.self c.whole.ensures.field)
+    (and_then (moment c.whole.new.self c.moment.new.self c.moment.ensures.field)
+    (and_then (several (MaybeWhole 1 10 ∷ []) c.moment.new.self c.carrier.new.fields c.carrier.ensures.columns)
+    (and_then (whole 1 15 c.carrier.new.fields c.ranged.new.self c.ranged.ensures.field)
+    (several (Whole 0 1 ∷ []) c.ranged.new.self c.is_all_local.new.fields c.is_all_local.ensures.columns))))).is
+    (ended (fields_left c.is_all_local.new.fields) (fault_of c.is_all_local.new.fields) (fault_of c.finish.new.self) c.finish.ensures.none_left c.finish.ensures.some_left)

@@ -1,3 +1,4 @@
+use Rattle.dataset.proofs.ColumnsRead.{whole}
 use Rattle.std.specs.Prelude.{if◌then◌else◌, nat_eq}
 use Rattle.std.proofs.Common.{◌≡◌, ◌≤◌, Bool, true, false, refl, ap, ◌∙◌, arith}
 use Rattle.dataset.proofs.Reading.{reads-number}
@@ -18,3 +19,6 @@ returns-clause-reads c = λ flag rest _ awaits.
     let is = flag_read flag in
     let read = reads-number c.whole.new.self c.whole.result number number (λ more next. c.whole.ensures.reads number more next (omega arith) is.0) c.whole.ensures.left awaits in
     (ap (λ n. nat_eq n 1) read.0 ∙ is.1, read.1)
+
+pub returns-clause-columns : goal.returns-clause-columns
+returns-clause-columns c = (whole 0 1 c.args.fields.now c.whole.new.self c.whole.ensures.field).is

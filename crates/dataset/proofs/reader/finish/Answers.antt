@@ -1,3 +1,9 @@
+use Rattle.std.proofs.Common.{inr, subst}
+use Rattle.std.proofs.lemmas.Result.{err_from_is_err_and}
+use Rattle.files.specs.Place.{HasLeft, record_number}
+use Rattle.files.specs.declared.fault.FaultKind.TheVariants.{ScaleBroken}
+use Rattle.dataset.specs.FirstFault.{fault_at}
+use Rattle.dataset.proofs.HeaderFault.{more_found}
 use Rattle.std.proofs.Common.{[], ◌∷◌, ◌++◌}
 use Rattle.dataset.proofs.Expecting.{is_no_err}
 use Rattle.dataset.proofs.reader.finish.Goals as goal
@@ -11,3 +17,13 @@ returns-in-Ok-clause-tables g c = λ text ended.
 pub returns-clause-fault : goal.returns-clause-fault
 returns-clause-fault g c = λ fault t within completes left.
     is_no_err c.in_ok-tables.field-0 c.in-Err.field-0 (c.in_ok-tables.ensures.completes t within completes) c.in-Err.is
+
+pub returns-in_err-expect_end-clause-first : goal.returns-in_err-expect_end-clause-first
+returns-in_err-expect_end-clause-first g c =
+    let p = err_from_is_err_and c.from_residual.result c.from_residual.ensures.1 in
+    let failed = c.in_err-expect_end.ensures in
+    rw (p.1, p.2) (λ more left few.
+    more_found _ more (record_number c.args.records) (record_number c.expect_end.new.self) (c.expect_end.ensures.number few) failed.faults (λ after none. failed.after_end after (subst (λ l. HasLeft g.R.Read.remaining l c.args.records) none left)))
+
+pub returns-clause-first : goal.returns-clause-first
+returns-clause-first g c = λ more left few. inr (inr (c.in_ok-expect_end.ensures.none_left more left, λ i. fault_at ScaleBroken (c.number-end.ensures i)))

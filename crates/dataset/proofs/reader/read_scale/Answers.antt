@@ -12,3 +12,7 @@ pub returns-clause-fault : goal.returns-clause-fault
 returns-clause-fault g c =
     MatchResult-weaker c.read_header.result c.read_header.ensures.fault (λ x p. p) (λ error no fault text known s header rows spelt csv.
     no fault s header rows spelt (c.new-records.ensures.all_left text (header ∷ rows) known csv))
+
+pub returns-clause-first : goal.returns-clause-first
+returns-clause-first g c = λ text rows known csv.
+    MatchResult-weaker c.read_header.result (c.read_header.ensures.first rows c.new-records.ensures.number (c.new-records.ensures.all_left text rows known csv)) (λ scale begun. tt) (λ error told. told)

@@ -1,3 +1,6 @@
+use Rattle.dataset.specs.Columns.{other_columns, Stocks}
+use Rattle.dataset.proofs.ColumnsRead.{took_all}
+use Rattle.files.specs.Taken.{fault_of}
 use Rattle.dataset.proofs.Reading.{awaits-whole}
 use Rattle.dataset.specs.Records.{stock_columns}
 use Rattle.std.proofs.lemmas.Result.{on_ok_weaker}
@@ -10,3 +13,7 @@ returns-clause-reads c =
     let read = c.parse-row.ensures.reads row [] h (awaits-whole (stock_columns row) awaits) in
     let done = pushes read.1 in
     (done.0, done.1 ∙ ap (λ x. c.args.stocks.now.items ++ (x ∷ [])) read.0)) c.push.ensures.reads
+
+pub returns-clause-columns : goal.returns-clause-columns
+returns-clause-columns c =
+    on_ok_weaker c.push.result (λ end. λ s. took_all (other_columns s Stocks) c.args.fields.now c.parse-row.new.fields (fault_of c.push.new.fields) (c.parse-row.ensures.columns s) end) c.push.ensures.ended

@@ -1,3 +1,5 @@
+use Rattle.dataset.specs.Columns.{info_columns}
+use Rattle.dataset.proofs.ColumnsRead.{several, and_then, whole, words}
 use Rattle.std.proofs.Common.{map}
 use Rattle.dataset.specs.Records.{Words}
 use Rattle.dataset.proofs.Taking.{takes-fields, takes-then, takes-words, takes-number}
@@ -24,3 +26,11 @@ returns-clause-reads c = λ row rest h awaits.
     let remote_cnt = reads-number c.ranged-4.new.self c.ranged-4.result row.remote_cnt row.remote_cnt (λ more next. c.ranged-4.ensures.reads row.remote_cnt more next h.remote_cnt.0 h.remote_cnt.1) c.ranged-4.ensures.left order_cnt.1 in
     let words = reads-words c.text.new.self c.text.result row.data row.data (λ more next. c.text.ensures.reads row.data more next h.stock_data) c.text.ensures.left remote_cnt.1 in
     (λ i. record { quantity = quantity.0 i; dist = dist.0 i; ytd = ytd.0 i; order_cnt = order_cnt.0 i; remote_cnt = remote_cnt.0 i; «data» = words.0 i }, words.1)
+
+pub returns-clause-columns : goal.returns-clause-columns
+returns-clause-columns c = λ s. (and_then (whole 10 100 c.args.fields.now c.ranged.new.self c.ranged.ensures.field)
+    (and_then (several info_columns c.ranged.new.self c.district_infos.new.fields c.district_infos.ensures.columns)
+    (and_then (whole 0 999999999 c.district_infos.new.fields c.ranged-2.new.self c.ranged-2.ensures.field)
+    (and_then (whole 0 999999999 c.ranged-2.new.self c.ranged-3.new.self c.ranged-3.ensures.field)
+    (and_then (whole 0 999999999 c.ranged-3.new.self c.ranged-4.new.self c.ranged-4.ensures.field)
+    (words 50 c.ranged-4.new.self c.text.new.self c.text.ensures.field)))))).is

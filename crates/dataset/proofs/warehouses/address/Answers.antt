@@ -1,3 +1,4 @@
+use Rattle.dataset.proofs.ColumnsRead.{and_then, words}
 use Rattle.dataset.proofs.Taking.{takes-then, takes-words}
 use Rattle.dataset.proofs.Reading.{reads-words}
 use Rattle.dataset.proofs.warehouses.address.Goals as goal
@@ -18,3 +19,10 @@ returns-clause-reads c = λ row rest h awaits.
     let state = reads-words c.text-4.new.self c.text-4.result row.state row.state (λ more next. c.text-4.ensures.reads row.state more next h.state) c.text-4.ensures.left city.1 in
     let zip = reads-words c.text-5.new.self c.text-5.result row.zip row.zip (λ more next. c.text-5.ensures.reads row.zip more next h.zip) c.text-5.ensures.left state.1 in
     (λ i. record { street_1 = street_1.0 i; street_2 = street_2.0 i; city = city.0 i; state = state.0 i; zip = zip.0 i }, zip.1)
+
+pub returns-clause-columns : goal.returns-clause-columns
+returns-clause-columns c = (and_then (words 20 c.args.fields.now c.text.new.self c.text.ensures.field)
+    (and_then (words 20 c.text.new.self c.text-2.new.self c.text-2.ensures.field)
+    (and_then (words 20 c.text-2.new.self c.text-3.new.self c.text-3.ensures.field)
+    (and_then (words 2 c.text-3.new.self c.text-4.new.self c.text-4.ensures.field)
+    (words 9 c.text-4.new.self c.text-5.new.self c.text-5.ensures.field))))).is

@@ -1,3 +1,4 @@
+use Rattle.dataset.proofs.ColumnsRead.{whole}
 use Rattle.dataset.proofs.Taking.{takes-number}
 use Rattle.dataset.proofs.Bounds.{bounds}
 use Rattle.dataset.proofs.Reading.{reads-number}
@@ -12,3 +13,6 @@ returns-clause-reads c = λ key rest h awaits.
     let w = bounds 1 c.args.scale.warehouses key h in
     let w_id = reads-number c.whole.new.self c.whole.result key key (λ more next. c.whole.ensures.reads key more next w.0 w.1) c.whole.ensures.left awaits in
     (λ i. w_id.0 i, w_id.1)
+
+pub returns-clause-columns : goal.returns-clause-columns
+returns-clause-columns c = (whole 1 c.args.scale.warehouses c.args.fields.now c.whole.new.self c.whole.ensures.field).is

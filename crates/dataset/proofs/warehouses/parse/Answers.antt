@@ -1,3 +1,5 @@
+use Rattle.dataset.specs.Columns.{address_columns}
+use Rattle.dataset.proofs.ColumnsRead.{cents, several, and_then, whole, words}
 use Rattle.dataset.specs.Records.{address_fields}
 use Rattle.dataset.proofs.Taking.{takes-fields, takes-then, takes-words, takes-number, takes-money}
 use Rattle.std.proofs.Common.{[], ◌∷◌, ◌++◌}
@@ -19,3 +21,9 @@ returns-clause-reads c = λ row rest h awaits.
     let tax = reads-number c.rate.new.self c.rate.result row.tax row.tax (λ more next. c.rate.ensures.reads row.tax more next h.tax) c.rate.ensures.left address.1 in
     let ytd = reads-money c.cents.new.self c.cents.result row.ytd row.ytd (λ more next. c.cents.ensures.reads row.ytd more next h.ytd) c.cents.ensures.left tax.1 in
     (λ i. record { name = name.0 i; address = address.0 i; tax = tax.0 i; ytd = ytd.0 i }, ytd.1)
+
+pub returns-clause-columns : goal.returns-clause-columns
+returns-clause-columns c = λ s. (and_then (words 10 c.args.fields.now c.text.new.self c.text.ensures.field)
+    (and_then (several address_columns c.text.new.self c.address.new.fields c.address.ensures.columns)
+    (and_then (whole 0 9999 c.address.new.fields c.rate.new.self c.rate.ensures.field)
+    (cents c.rate.new.self c.cents.new.self c.cents.ensures.field)))).is

@@ -4,7 +4,14 @@ use Rattle.std.proofs.lemmas.Int.{ints, to_z-of_z}
 use Rattle.files.specs.Number.{is_number}
 use Rattle.files.proofs.Numerals.{signed-parsed, is_number-signed}
 use Rattle.files.proofs.Amounts.{money-some, money-none, money_fits}
+use Rattle.std.proofs.Common.{refl}
+use Rattle.files.proofs.KindsRead.{too_much}
 use Rattle.files.proofs.numbers.parse_cents.Goals as goal
+
+pub returns-in-Err-clause-exact : goal.returns-in-Err-clause-exact
+returns-in-Err-clause-exact c =
+    let spelt : is_number c.args.field.now ≡ true = cc in
+    rw (spelt, too_much c.args.field.now c.parse.result c.in-Err.field-0 c.parse.ensures.value.0 spelt c.in-Err.is) refl
 
 pub returns-then-not-is_number-clause-reads : goal.returns-then-not-is_number-clause-reads
 returns-then-not-is_number-clause-reads c = λ z e m.

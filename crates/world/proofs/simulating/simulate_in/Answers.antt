@@ -21,6 +21,7 @@ returns-clause-simulates g c = λ opening executors new fits.
       plays = subst (λ (n : ℕ). Plays n c.args.schedule.now c.in_ok-outputs.outputs.items played.0) (ap (λ (r : Routes). r.executors) new.routing) played.1.0;
       happen = played.1.1.0;
       fits = after;
+      never_stuck = c.close-log.ensures.never_stuck;
       log = log;
       tables = subst (λ (l : List Entry). IsGathered (count_active last.parts.desk.active) (tables_now opening l) c.close-log.result.1) (sym log)
           (c.close-log.ensures.tables opening played.0 after);

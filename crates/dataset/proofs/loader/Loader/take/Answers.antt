@@ -1,3 +1,7 @@
+use Rattle.files.specs.Taken.{fault_of, fields_left}
+use Rattle.dataset.specs.Columns.{Items, Warehouses, Districts, Stocks, Customers, Histories, Orders, NewOrders, Lines}
+use Rattle.dataset.proofs.ColumnsRead.{ended}
+use Rattle.dataset.proofs.LetterFault.{end_is, other_is, row_is}
 use Rattle.std.proofs.Common.{codes, refl, ◌∙◌}
 use Rattle.files.proofs.Ascii.{utf8_words}
 use Rattle.dataset.specs.Writing.{row_counts}
@@ -124,3 +128,49 @@ pub returns-in_default-clause-end : goal.returns-in_default-clause-end
 returns-in_default-clause-end c = λ small awaits.
     let first = letter_read c.word.new.self c.word.result.now c.word.ensures.text c.word.ensures.left (codes "END") (row_counts c.args.self.now.rows) (utf8_words (codes "END") refl) awaits in
     absurd (c.in_default.not-END first.0)
+
+pub returns-in_ok-take_item-in-I-clause-exact : goal.returns-in_ok-take_item-in-I-clause-exact
+returns-in_ok-take_item-in-I-clause-exact c = λ none.
+    row_is Items c.args.self.now c.take_item.new.self c.args.fields.now c.word.new.self c.take_item.new.fields c.word.result.now c.in-I.is c.word.ensures.field c.in_ok-take_item-in-I.ensures.exact none
+
+pub returns-in_ok-take_warehouse-in-W-clause-exact : goal.returns-in_ok-take_warehouse-in-W-clause-exact
+returns-in_ok-take_warehouse-in-W-clause-exact c = λ none.
+    row_is Warehouses c.args.self.now c.take_warehouse.new.self c.args.fields.now c.word.new.self c.take_warehouse.new.fields c.word.result.now c.in-W.is c.word.ensures.field c.in_ok-take_warehouse-in-W.ensures.exact none
+
+pub returns-in_ok-take_district-in-D-clause-exact : goal.returns-in_ok-take_district-in-D-clause-exact
+returns-in_ok-take_district-in-D-clause-exact c = λ none.
+    row_is Districts c.args.self.now c.take_district.new.self c.args.fields.now c.word.new.self c.take_district.new.fields c.word.result.now c.in-D.is c.word.ensures.field c.in_ok-take_district-in-D.ensures.exact none
+
+pub returns-in_ok-take_stock-in-S-clause-exact : goal.returns-in_ok-take_stock-in-S-clause-exact
+returns-in_ok-take_stock-in-S-clause-exact c = λ none.
+    row_is Stocks c.args.self.now c.take_stock.new.self c.args.fields.now c.word.new.self c.take_stock.new.fields c.word.result.now c.in-S.is c.word.ensures.field c.in_ok-take_stock-in-S.ensures.exact none
+
+pub returns-in_ok-take_customer-in-C-clause-exact : goal.returns-in_ok-take_customer-in-C-clause-exact
+returns-in_ok-take_customer-in-C-clause-exact c = λ none.
+    row_is Customers c.args.self.now c.take_customer.new.self c.args.fields.now c.word.new.self c.take_customer.new.fields c.word.result.now c.in-C.is c.word.ensures.field c.in_ok-take_customer-in-C.ensures.exact none
+
+pub returns-in_ok-take_history-in-H-clause-exact : goal.returns-in_ok-take_history-in-H-clause-exact
+returns-in_ok-take_history-in-H-clause-exact c = λ none.
+    row_is Histories c.args.self.now c.take_history.new.self c.args.fields.now c.word.new.self c.take_history.new.fields c.word.result.now c.in-H.is c.word.ensures.field c.in_ok-take_history-in-H.ensures.exact none
+
+pub returns-in_ok-take_order-in-O-clause-exact : goal.returns-in_ok-take_order-in-O-clause-exact
+returns-in_ok-take_order-in-O-clause-exact c = λ none.
+    row_is Orders c.args.self.now c.take_order.new.self c.args.fields.now c.word.new.self c.take_order.new.fields c.word.result.now c.in-O.is c.word.ensures.field c.in_ok-take_order-in-O.ensures.exact none
+
+pub returns-in_ok-take_new_order-in-N-clause-exact : goal.returns-in_ok-take_new_order-in-N-clause-exact
+returns-in_ok-take_new_order-in-N-clause-exact c = λ none.
+    row_is NewOrders c.args.self.now c.take_new_order.new.self c.args.fields.now c.word.new.self c.take_new_order.new.fields c.word.result.now c.in-N.is c.word.ensures.field c.in_ok-take_new_order-in-N.ensures.exact none
+
+pub returns-in_ok-take_line-in-L-clause-exact : goal.returns-in_ok-take_line-in-L-clause-exact
+returns-in_ok-take_line-in-L-clause-exact c = λ none.
+    row_is Lines c.args.self.now c.take_line.new.self c.args.fields.now c.word.new.self c.take_line.new.fields c.word.result.now c.in-L.is c.word.ensures.field c.in_ok-take_line-in-L.ensures.exact none
+
+pub returns-in-END-clause-exact : goal.returns-in-END-clause-exact
+returns-in-END-clause-exact c = λ none.
+    end_is c.args.self.now c.args.fields.now c.word.new.self c.check.new.fields c.finish.new.self c.word.result.now c.in-END.is c.word.ensures.field c.check.ensures.columns
+    (ended (fields_left c.check.new.fields) (fault_of c.check.new.fields) (fault_of c.finish.new.self) c.finish.ensures.none_left c.finish.ensures.some_left) none
+
+pub returns-in_default-clause-exact : goal.returns-in_default-clause-exact
+returns-in_default-clause-exact c = λ none.
+    other_is c.args.self.now c.args.fields.now c.word.new.self c.note.new.self c.word.result.now c.in_default.not-I c.in_default.not-W c.in_default.not-D c.in_default.not-S c.in_default.not-C c.in_default.not-H c.in_default.not-O c.in_default.not-N c.in_default.not-L c.in_default.not-END
+    c.word.ensures.field c.note.ensures.fault none

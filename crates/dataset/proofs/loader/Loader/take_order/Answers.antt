@@ -1,3 +1,7 @@
+use Rattle.std.proofs.Common.{ap, refl, [], ◌∷◌, ◌∙◌}
+use Rattle.files.specs.FieldRead.{taking}
+use Rattle.dataset.specs.Columns.{Orders, columns_end, other_columns, sizes}
+use Rattle.dataset.proofs.RowFault.{row_taken, small_order}
 use Rattle.std.proofs.Common.{◌≡◌, None, OnOk, IsTrue, codes, sym, subst}
 use Rattle.std.proofs.lemmas.Result.{on_ok_weaker}
 use Rattle.std.specs.BTreeMap.{insert_entry}
@@ -46,3 +50,12 @@ returns-clause-reads c =
     c.key-key.ensures.reads c.stand_at.ensures.in_order c.stand_at.ensures.left adds refl refl
     (λ row texts follow added spelt read h. load_order l (rows l) key row read texts h follow added spelt) k row fits.0 fits.1 follow awaits))
     c.add.ensures.reads
+
+pub returns-clause-exact : goal.returns-clause-exact
+returns-clause-exact c =
+    let l = c.args.self.now in
+    let key = c.key-key.result in
+    on_ok_weaker c.add.result (λ end. row_taken Orders l _ (at.Order key) (key.w_id ∷ key.d_id ∷ key.o_id ∷ []) c.args.fields.now c.key-key.new.fields c.stand_at.new.fields c.add.new.fields
+    c.key-key.ensures.columns c.key-key.ensures.taken (small_order l.scale key c.key-key.ensures.district c.key-key.ensures.number) refl refl refl
+    c.stand_at.ensures.placed c.stand_at.ensures.in_order c.stand_at.ensures.out_of_order c.stand_at.ensures.left (end ∙ ap (λ s. columns_end (other_columns (sizes s.scale) Orders) (taking c.stand_at.new.fields)) c.stand_at.ensures.same)
+    (ap (λ s. s.last) c.stand_at.ensures.same) (ap (λ s. s.scale) c.stand_at.ensures.same)) c.add.ensures.columns

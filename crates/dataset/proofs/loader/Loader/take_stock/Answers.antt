@@ -1,3 +1,6 @@
+use Rattle.std.proofs.Common.{ap, refl, [], ◌∷◌}
+use Rattle.dataset.specs.Columns.{Stocks, sizes}
+use Rattle.dataset.proofs.RowFault.{row_taken, small_stock}
 use Rattle.std.proofs.Common.{◌≡◌, [], ◌∷◌, ◌++◌, None, OnOk, IsTrue, codes, sym, subst}
 use Rattle.std.proofs.lemmas.Result.{on_ok_weaker}
 use Rattle.schema.specs.declared.table_rows.TableRows.{TableRows}
@@ -45,3 +48,12 @@ returns-clause-reads c =
     c.key-key.ensures.reads c.stand_at.ensures.in_order c.stand_at.ensures.left adds refl refl
     (λ row texts follow added spelt read h. load_stock l (rows l) key row read texts h follow c.key-key.ensures.known added spelt) k row fits.0 fits.1 follow awaits))
     c.add.ensures.reads
+
+pub returns-clause-exact : goal.returns-clause-exact
+returns-clause-exact c =
+    let l = c.args.self.now in
+    let key = c.key-key.result in
+    on_ok_weaker c.add.result (λ end. row_taken Stocks l _ (at.Stock key) (key.w_id ∷ key.i_id ∷ []) c.args.fields.now c.key-key.new.fields c.stand_at.new.fields c.add.new.fields
+    c.key-key.ensures.columns c.key-key.ensures.taken (small_stock l.scale key c.key-key.ensures.known) refl refl refl
+    c.stand_at.ensures.placed c.stand_at.ensures.in_order c.stand_at.ensures.out_of_order c.stand_at.ensures.left (end (sizes l.scale))
+    (ap (λ s. s.last) c.stand_at.ensures.same) (ap (λ s. s.scale) c.stand_at.ensures.same)) c.add.ensures.columns

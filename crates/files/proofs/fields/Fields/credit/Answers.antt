@@ -1,17 +1,22 @@
-use Rattle.std.proofs.Common.{◌≡◌, List, ℕ, Result, Ok, ◌∙◌}
-use Rattle.rows.specs.declared.records.Credit.{Credit}
-use Rattle.rows.specs.declared.records.Credit.TheVariants.{Good, Bad}
+use Rattle.std.proofs.Common.{refl}
+use Rattle.rows.specs.declared.records.Credit.TheVariants.{Good}
+use Rattle.files.specs.KindsRead.{credit_read}
 use Rattle.files.specs.Word.{credit_text}
-use Rattle.files.proofs.Ascii.{utf8_credit}
+use Rattle.files.proofs.KindsRead.{field_from, reads_field, takes_field, credit_complete, credit_sound}
+use Rattle.files.proofs.FieldsRead.{no_range}
 use Rattle.files.proofs.fields.Fields.credit.Goals as goal
+
+pub returns-clause-field : goal.returns-clause-field
+returns-clause-field c =
+    let b = c.bytes.ensures in
+    let n = c.or_note.ensures in
+    field_from credit_read Good Good c.or_note.result c.args.self.now c.bytes.new.self c.or_note.new.self c.bytes.result.now c.read_credit-credit.result
+    (no_range refl) c.read_credit-credit.ensures refl b.left b.none b.some n.left n.ok n.err n.stands_in
 
 pub returns-clause-reads : goal.returns-clause-reads
 returns-clause-reads c = λ credit rest next.
-    let word = c.word.ensures.text (credit_text credit) rest next (utf8_credit credit) in
-    let read : c.parse_credit-credit.result ≡ Ok credit = by credit word.0 c.parse_credit-credit.ensures.good.1 c.parse_credit-credit.ensures.bad.1 in
-    let note = rw read at c.or_note.ensures.ok in
-    (note.0, note.1 ∙ word.1)
-  where
-    by : {E : Type 0} {r : Result Credit E} {field : List ℕ} (credit : Credit) → field ≡ credit_text credit → (field ≡ credit_text Good → r ≡ Ok Good) → (field ≡ credit_text Bad → r ≡ Ok Bad) → r ≡ Ok credit
-    by Good e good bad = good e
-    by Bad e good bad = bad e
+    reads_field credit_read Good c.or_note.result c.args.self.now c.or_note.new.self (credit_text credit) rest credit (returns-clause-field c) next (credit_complete credit)
+
+pub returns-clause-taken : goal.returns-clause-taken
+returns-clause-taken c =
+    takes_field credit_read Good c.or_note.result c.args.self.now c.or_note.new.self (credit_text c.or_note.result) (returns-clause-field c) (λ text read. credit_sound text c.or_note.result read)

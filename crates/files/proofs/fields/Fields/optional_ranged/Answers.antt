@@ -1,25 +1,28 @@
-use Rattle.std.proofs.Common.{◌≡◌, ◌<◌, ◌^◌, Some, decimal, sym, ap, ◌∙◌, arith}
-use Rattle.files.proofs.FieldsLeft.{no_bytes}
+use Rattle.std.proofs.Common.{◌<◌, ◌^◌, [], decimal, Some, None, refl, arith}
+use Rattle.files.specs.FieldRead.{whole_read}
+use Rattle.files.specs.KindsRead.{optional_read}
+use Rattle.files.proofs.FieldsRead.{Stands}
+use Rattle.files.proofs.KindsRead.{field_from, reads_field, optional_some, optional_takes, whole_complete, whole_sound}
 use Rattle.files.proofs.Numerals.{some_digits}
 use Rattle.files.proofs.fields.Fields.optional_ranged.Goals as goal
 
-pub returns-then-is_empty-clause-reads : goal.returns-then-is_empty-clause-reads
-returns-then-is_empty-clause-reads g c = λ number rest next low high.
-    let small : number < 2 ^ 64 = omega arith in
-    let word = c.bytes-bytes.ensures.some (decimal number) rest next in
-    absurd (some_digits number small (sym word.0 ∙ no_bytes c.bytes-bytes.result.now (sym c.is_empty.ensures ∙ c.if-is_empty.true)))
+pub returns-clause-field : goal.returns-clause-field
+returns-clause-field g c =
+    let b = c.bytes.ensures in
+    let n = c.or_note.ensures in
+    field_from (optional_read (whole_read g.row.LOW g.row.HIGH)) None None c.or_note.result c.args.self.now c.bytes.new.self c.or_note.new.self c.bytes.result.now c.read_optional-number.result
+    (Stands refl) c.read_optional-number.ensures refl b.left b.none b.some n.left n.ok n.err n.stands_in
 
-pub returns-in-Ok-clause-reads : goal.returns-in-Ok-clause-reads
-returns-in-Ok-clause-reads g c = λ number rest next low high.
+pub returns-clause-reads : goal.returns-clause-reads
+returns-clause-reads g c = λ number rest next low high.
     let small : number < 2 ^ 64 = omega arith in
-    let word = c.bytes-bytes.ensures.some (decimal number) rest next in
-    let read = c.read_ranged.ensures.reads number (sym word.0) low high in
-    let same : c.in-Ok.number ≡ number = cc in
-    (ap Some same, word.1)
+    reads_field (optional_read (whole_read g.row.LOW g.row.HIGH)) None c.or_note.result c.args.self.now c.or_note.new.self (decimal number) rest (Some number) (returns-clause-field g c) next
+    (optional_some (whole_read g.row.LOW g.row.HIGH) (decimal number) number (some_digits number small) (whole_complete g.row.LOW g.row.HIGH number small low high))
 
-pub returns-in-Err-clause-reads : goal.returns-in-Err-clause-reads
-returns-in-Err-clause-reads g c = λ number rest next low high.
-    let small : number < 2 ^ 64 = omega arith in
-    let word = c.bytes-bytes.ensures.some (decimal number) rest next in
-    let read = c.read_ranged.ensures.reads number (sym word.0) low high in
-    absurd cc
+pub returns-clause-reads_null : goal.returns-clause-reads_null
+returns-clause-reads_null g c = λ rest next.
+    reads_field (optional_read (whole_read g.row.LOW g.row.HIGH)) None c.or_note.result c.args.self.now c.or_note.new.self [] rest None (returns-clause-field g c) next refl
+
+pub returns-clause-taken : goal.returns-clause-taken
+returns-clause-taken g c =
+    optional_takes (whole_read g.row.LOW g.row.HIGH) decimal c.or_note.result c.args.self.now c.or_note.new.self (returns-clause-field g c) (λ text n read. whole_sound g.row.LOW g.row.HIGH text n (omega arith) read)

@@ -1,8 +1,8 @@
 use Rattle.std.proofs.Common.{◌≡◌, ◌<◌, ◌^◌, decimal, sym, arith}
-use Rattle.std.proofs.Common.{inl, refl, rules, ◌∙◌, Ok, Err}
+use Rattle.std.proofs.Common.{refl, rules, ◌∙◌, Ok, Err}
 use Rattle.files.specs.FieldRead.{whole_read}
 use Rattle.files.specs.Taken.{fields_left, fault_of}
-use Rattle.files.proofs.FieldsRead.{field_is, given_by, whole_is}
+use Rattle.files.proofs.FieldsRead.{no_kind, field_is, given_by, whole_is}
 use Rattle.files.proofs.fields.Fields.whole.Goals as goal
 
 pub returns-in-Ok-clause-reads : goal.returns-in-Ok-clause-reads
@@ -30,7 +30,7 @@ returns-in-Ok-clause-field c =
     let read = whole_is c.from.result c.from-2.result c.bytes.result.now c.read_whole.result (omega (arith, high)) parsed.value parsed.range parsed.reads parsed.not_of_kind parsed.faults in
     let is = sym c.in-Ok.is ∙ (rw (low, high) at read) in
     field_is (whole_read c.args.low c.args.high) c.args.low c.in-Ok.number (fields_left f) (fields_left g) (fault_of f) (fault_of g) (fault_of g) c.bytes.result.now
-    c.bytes.ensures.left c.bytes.ensures.none c.bytes.ensures.some (inl refl)
+    c.bytes.ensures.left c.bytes.ensures.none c.bytes.ensures.some (no_kind refl)
     (given_by (whole_read c.args.low c.args.high c.bytes.result.now) (Ok c.in-Ok.number) c.args.low c.in-Ok.number (fault_of g) (fault_of g) is (refl, refl))
 
 pub returns-in-Err-clause-field : goal.returns-in-Err-clause-field
@@ -44,5 +44,5 @@ returns-in-Err-clause-field c =
     let read = whole_is c.from.result c.from-2.result c.bytes.result.now c.read_whole.result (omega (arith, high)) parsed.value parsed.range parsed.reads parsed.not_of_kind parsed.faults in
     let is = sym c.in-Err.is ∙ (rw (low, high) at read) in
     field_is (whole_read c.args.low c.args.high) c.args.low c.args.low (fields_left f) (fields_left n) (fault_of f) (fault_of g) (fault_of n) c.bytes.result.now
-    (c.note.ensures.left ∙ c.bytes.ensures.left) c.bytes.ensures.none c.bytes.ensures.some (inl refl)
+    (c.note.ensures.left ∙ c.bytes.ensures.left) c.bytes.ensures.none c.bytes.ensures.some (no_kind refl)
     (given_by (whole_read c.args.low c.args.high c.bytes.result.now) (Err c.in-Err.kind) c.args.low c.args.low (fault_of g) (fault_of n) is (refl, c.note.ensures.fault))

@@ -1,121 +1,155 @@
-use Rattle.std.proofs.Common.{◌≡◌, ◌≤◌, ℕ, [], ◌∷◌, sym, subst, ap, arith, ◌∙◌}
-use Rattle.std.specs.Prelude.{All, IsTrue}
-use Rattle.partitions.specs.Parts.{Shared}
-use Rattle.std.proofs.lemmas.List.Elements.{All-nil}
-use Rattle.schema.specs.Scale.{has_warehouse}
-use Rattle.slices.specs.Sliced.{IsClaimAt}
-use Rattle.transactions.specs.Acting.{claims_of_ran}
+use Rattle.std.proofs.Common.{◌≡◌, ◌≤◌, ◌-◌, ℕ, [], ◌∷◌, sym, subst, ap, refl, ◌∙◌, arith}
+use Rattle.std.specs.Prelude.{All}
+use Rattle.std.specs.Vec.{with_item}
+use Rattle.slices.specs.Sliced.{IsClaimAt, SliceKeeps}
+use Rattle.transactions.specs.Stations.{Stationed}
 use Rattle.transactions.specs.Works.{CanDo, home_of}
-use Rattle.transactions.specs.declared.work.Work.{Work}
-use Rattle.transactions.proofs.Wished.{works_are_at_warehouses}
+use Rattle.world.specs.declared.flight.Carried.{Carried}
 use Rattle.world.specs.declared.flight.Item.TheVariants as item
 use Rattle.world.specs.declared.flight.Message.{Message}
 use Rattle.world.specs.declared.flight.Message.TheVariants.{Act, Settle, Undo}
-use Rattle.world.specs.Events.{CanWork, Works, holder_of}
-use Rattle.world.specs.Following.{acts_of}
-use Rattle.world.specs.Parted.{CanAllBeSettled, CanAllBeUndone, joined_in}
-use Rattle.world.proofs.Parted.{all_keep, claims_at_home, comes_of, here, ran_at_home, shared_is, warehouse_within}
-use Rattle.world.proofs.Works.{acts, settles, starts, takes, undoes}
+use Rattle.world.specs.declared.world.Parts.{Parts}
+use Rattle.world.specs.Events.{AllTurns, CanWork, TakesMessage}
+use Rattle.world.specs.Parted.{CanAllBeSettled, CanAllBeUndone}
+use Rattle.world.specs.Stations.{HasRoomFor}
+use Rattle.world.proofs.Parted.{claims_at_home, work_within}
+use Rattle.world.proofs.Placed.{home_there, place_within, placed_with, stations_set}
+use Rattle.world.proofs.Turning.{asks_catalog, asks_room, asks_slices, claims_home, gives_room, gives_slices, gives_turns}
+use Rattle.world.proofs.world.Parts.work.Given as given
 use Rattle.world.proofs.world.Parts.work.Goals as goal
+use Rattle.world.proofs.world.Parts.work.Goals.{After-ask}
 
--- the work of an action is at a warehouse of the scale
-within : (shared : Shared) (work : Work) (home : ℕ) → home ≡ home_of work → CanDo shared work → (1 ≤ home) × (home ≤ shared.scale.warehouses)
-within shared work home is can = warehouse_within shared.scale home (subst (λ n. IsTrue (has_warehouse shared.scale n)) (sym is) (works_are_at_warehouses shared work can))
+-- ---- an action
 
-pub overflow_sub-home : goal.overflow_sub-home
-overflow_sub-home g c =
-    let can : CanDo c.args.self.now.catalog c.in-Act.act.work = subst (λ (m : Message g.row.J.Denot). CanWork c.args.self.now.catalog m) c.in-Act.is c.requires.can in
-    (within c.args.self.now.catalog c.in-Act.act.work c.home-home.result c.home-home.ensures can).0
+can_do : (g : given.Over) (c : After-ask g) → CanDo c.args.self.now.catalog c.in-Act.act.work
+can_do g c = subst (λ (m : Message g.row.J.Denot). CanWork c.args.self.now.catalog m) c.in-Act.is c.requires.can
 
-pub index_mut-requires : goal.index_mut-requires
-index_mut-requires g c =
-    let can : CanDo c.args.self.now.catalog c.in-Act.act.work = subst (λ (m : Message g.row.J.Denot). CanWork c.args.self.now.catalog m) c.in-Act.is c.requires.can in
-    let own = within c.args.self.now.catalog c.in-Act.act.work c.home-home.result c.home-home.ensures can in
-    omega (arith, own.0, own.1, c.requires.slices.many)
+within : (g : given.Over) (c : After-ask g) → (1 ≤ c.home-home.result) × (c.home-home.result ≤ c.args.self.now.catalog.scale.warehouses)
+within g c = work_within c.args.self.now.catalog c.in-Act.act.work c.home-home.result c.home-home.ensures (can_do g c)
 
-pub act-ran-requires-clause-warehouses : goal.act-ran-requires-clause-warehouses
-act-ran-requires-clause-warehouses g c =
+pub take_turns-requires-clause-home : goal.take_turns-requires-clause-home
+take_turns-requires-clause-home g c = (within g (goal.at.take_turns-requires-clause-home g c).After-ask).0
+
+pub take_turns-requires-clause-warehouses : goal.take_turns-requires-clause-warehouses
+take_turns-requires-clause-warehouses g c =
+    omega (arith, (within g (goal.at.take_turns-requires-clause-warehouses g c).After-ask).1, ap (λ s. s.scale.warehouses) (asks_catalog c.args.self.now c.ask.new.self c.requires.slices c.in-Act.act c.ask.ensures.asks))
+
+pub take_turns-requires-clause-slices : goal.take_turns-requires-clause-slices
+take_turns-requires-clause-slices g c = asks_slices c.args.self.now c.ask.new.self c.requires.slices c.in-Act.act c.ask.ensures.asks
+
+pub take_turns-requires-clause-room : goal.take_turns-requires-clause-room
+take_turns-requires-clause-room g c =
+    subst (λ n. HasRoomFor n c.ask.new.self) (sym c.home-home.ensures) (asks_room c.args.self.now c.ask.new.self c.requires.slices c.in-Act.act c.ask.ensures.asks c.requires.room)
+
+pub returns-in-Act-clause-takes : goal.returns-in-Act-clause-takes
+returns-in-Act-clause-takes g c =
+    subst (λ (m : Message g.row.J.Denot). TakesMessage m c.args.self.now c.take_turns.new.self) (sym c.in-Act.is)
+    (c.ask.new.self, (c.ask.ensures.asks, subst (λ n. AllTurns n c.ask.new.self c.take_turns.new.self) c.home-home.ensures c.take_turns.ensures.turns))
+
+-- ---- claims that are settled
+
+pub settle-requires-clause-home : goal.settle-requires-clause-home
+settle-requires-clause-home g c =
     let old = c.args.self.now in
-    let can : CanDo old.catalog c.in-Act.act.work = subst (λ (m : Message g.row.J.Denot). CanWork old.catalog m) c.in-Act.is c.requires.can in
-    let own = within old.catalog c.in-Act.act.work c.home-home.result c.home-home.ensures can in
-    c.requires.warehouses
-    ∙ ap (λ s. s.scale.warehouses) (sym (shared_is old.catalog old.slices.items c.requires.slices c.home-home.result c.index_mut.result.now own.0 own.1 c.index_mut.ensures.value))
-
-pub act-ran-requires-clause-can : goal.act-ran-requires-clause-can
-act-ran-requires-clause-can g c =
-    let old = c.args.self.now in
-    let can : CanDo old.catalog c.in-Act.act.work = subst (λ (m : Message g.row.J.Denot). CanWork old.catalog m) c.in-Act.is c.requires.can in
-    let own = within old.catalog c.in-Act.act.work c.home-home.result c.home-home.ensures can in
-    subst (λ s. CanDo s c.in-Act.act.work)
-    (sym (shared_is old.catalog old.slices.items c.requires.slices c.home-home.result c.index_mut.result.now own.0 own.1 c.index_mut.ensures.value)) can
-
-pub act-ran-requires-clause-home : goal.act-ran-requires-clause-home
-act-ran-requires-clause-home g c =
-    let old = c.args.self.now in
-    let can : CanDo old.catalog c.in-Act.act.work = subst (λ (m : Message g.row.J.Denot). CanWork old.catalog m) c.in-Act.is c.requires.can in
-    let own = within old.catalog c.in-Act.act.work c.home-home.result c.home-home.ensures can in
-    let is_here = here old.catalog old.slices.items c.requires.slices c.home-home.result c.index_mut.result.now own.0 own.1 c.index_mut.ensures.value in
-    sym c.home-home.ensures ∙ omega (arith, own.0, is_here.home)
-
-pub returns-in-Start : goal.returns-in-Start
-returns-in-Start g c =
-    let old = c.args.self.now in
-    let flow = c.in-Start.flow in
-    let works = c.in-Start.works in
-    let some = (subst (λ (m : Message g.row.J.Denot). CanWork old.catalog m) c.in-Start.is c.requires.can).0 in (
-      acts_of flow works.items,
-      (
-        old.slices,
-        (
-          c.put_acts.ensures,
-          (
-            c.requires.slices,
-            subst (λ (m : Message g.row.J.Denot). Works m (joined_in old) (acts_of flow works.items) (joined_in old)) (sym c.in-Start.is) (starts flow works (joined_in old) some),
-          ),
-        ),
-      ),
-    )
-
-pub returns-in-Act : goal.returns-in-Act
-returns-in-Act g c =
-    let old = c.args.self.now in
-    let act = c.in-Act.act in
-    let ran = c.act-ran.result in
-    let slice = c.index_mut.result.now in
-    let home = c.home-home.result in
-    let can : CanDo old.catalog act.work = subst (λ (m : Message g.row.J.Denot). CanWork old.catalog m) c.in-Act.is c.requires.can in
-    let own = within old.catalog act.work home c.home-home.ensures can in
-    let at_home : All (IsClaimAt home) (claims_of_ran ran) = subst (λ n. All (IsClaimAt n) (claims_of_ran ran)) (sym c.home-home.ensures) (ran_at_home (holder_of act) slice c.act-ran.new.slice act.work ran c.act-ran.ensures.done) in
-    let kept = all_keep old.catalog old.slices.items c.requires.slices home slice own.0 own.1 c.index_mut.ensures.value c.act-ran.new.slice [] (claims_of_ran ran)
-    (All-nil (IsClaimAt home)) at_home c.act-ran.ensures.kept in
-    let comes = comes_of old.catalog old.slices.items c.requires.slices home slice own.0 own.1 c.index_mut.ensures.value (holder_of act) act.work ran c.act-ran.new.slice (sym c.home-home.ensures) c.act-ran.ensures.done in
-    takes c.args.message (Act act) old (item.Report (record { place = act.place; slot = act.slot; flow = act.flow; ran = ran }) ∷ []) c.put.new.self _ c.in-Act.is c.put.ensures
-    kept.0 (acts act ran (joined_in old) _ kept.1 comes)
-
-pub returns-in-Settle : goal.returns-in-Settle
-returns-in-Settle g c =
-    let old = c.args.self.now in
-    let slot = c.in-Settle.slot in
-    let claims = c.in-Settle.claims in
-    let slice = c.index_mut-in-Settle.result.now in
     let home = c.home-home-in-Settle.result in
+    let can : CanAllBeSettled c.in-Settle.claims = subst (λ (m : Message g.row.J.Denot). CanWork old.catalog m) c.in-Settle.is c.requires.can in
+    let last : home ≤ old.catalog.scale.warehouses = subst (λ n. home ≤ n) c.requires.warehouses c.home-home-in-Settle.ensures.known.1 in
+    subst (λ n. All (IsClaimAt n) c.in-Settle.claims) (sym (home_there old c.requires.slices home c.home-home-in-Settle.ensures.known.0 last c.index_mut.result.now c.index_mut.ensures.value))
+    (claims_at_home c.in-Settle.claims home c.home-home-in-Settle.ensures.home can.1)
+
+pub take_turns-requires-in-Settle-clause-slices : goal.take_turns-requires-in-Settle-clause-slices
+take_turns-requires-in-Settle-clause-slices g c =
+    let old = c.args.self.now in
+    let home = c.home-home-in-Settle.result in
+    let claims = c.in-Settle.claims in
     let can : CanAllBeSettled claims = subst (λ (m : Message g.row.J.Denot). CanWork old.catalog m) c.in-Settle.is c.requires.can in
     let last : home ≤ old.catalog.scale.warehouses = subst (λ n. home ≤ n) c.requires.warehouses c.home-home-in-Settle.ensures.known.1 in
-    let kept = all_keep old.catalog old.slices.items c.requires.slices home slice c.home-home-in-Settle.ensures.known.0 last c.index_mut-in-Settle.ensures.value c.settle.new.slice claims []
-    (claims_at_home claims home c.home-home-in-Settle.ensures.home can.1) (All-nil (IsClaimAt home)) c.settle.ensures in
-    takes c.args.message (Settle slot claims) old (item.Ended slot ∷ []) c.put-in-Settle.new.self _ c.in-Settle.is c.put-in-Settle.ensures
-    kept.0 (settles slot claims (joined_in old) _ kept.1)
+    gives_slices old _ c.requires.slices home c.in-Settle.slot claims
+    (placed_with old c.requires.slices home c.home-home-in-Settle.ensures.known.0 last c.index_mut.result.now c.index_mut.ensures.value home refl c.settle.new.self (with_item old.stations (home - 1) c.settle.new.self) (item.Ended c.in-Settle.slot ∷ []) c.put.new.self
+    (λ was now. SliceKeeps claims was.slice [] now.slice × (now.parked ≡ was.parked)) refl c.put.ensures (c.settle.ensures.kept, c.settle.ensures.parked))
+    (claims_at_home claims home c.home-home-in-Settle.ensures.home can.1)
 
-pub returns-in-Undo : goal.returns-in-Undo
-returns-in-Undo g c =
+pub take_turns-requires-in-Settle-clause-stations : goal.take_turns-requires-in-Settle-clause-stations
+take_turns-requires-in-Settle-clause-stations g c =
     let old = c.args.self.now in
-    let slot = c.in-Undo.slot in
-    let claims = c.in-Undo.claims in
-    let slice = c.index_mut-in-Undo.result.now in
+    let home = c.home-home-in-Settle.result in
+    let last : home ≤ old.catalog.scale.warehouses = subst (λ n. home ≤ n) c.requires.warehouses c.home-home-in-Settle.ensures.known.1 in
+    stations_set g.J.GroupNames.warehouses old.stations.items (home - 1) c.settle.new.self c.index.result.now (place_within old c.requires.slices home c.home-home-in-Settle.ensures.known.0 last) c.requires.stations c.index.ensures c.slice.ensures.station
+
+pub take_turns-requires-in-Settle-clause-room : goal.take_turns-requires-in-Settle-clause-room
+take_turns-requires-in-Settle-clause-room g c =
+    let old = c.args.self.now in
+    let home = c.home-home-in-Settle.result in
+    let claims = c.in-Settle.claims in
+    let last : home ≤ old.catalog.scale.warehouses = subst (λ n. home ≤ n) c.requires.warehouses c.home-home-in-Settle.ensures.known.1 in
+    gives_room old _ c.requires.slices home c.in-Settle.slot claims
+    (placed_with old c.requires.slices home c.home-home-in-Settle.ensures.known.0 last c.index_mut.result.now c.index_mut.ensures.value home refl c.settle.new.self (with_item old.stations (home - 1) c.settle.new.self) (item.Ended c.in-Settle.slot ∷ []) c.put.new.self
+    (λ was now. SliceKeeps claims was.slice [] now.slice × (now.parked ≡ was.parked)) refl c.put.ensures (c.settle.ensures.kept, c.settle.ensures.parked))
+    c.requires.room
+
+pub returns-in-Settle-clause-takes : goal.returns-in-Settle-clause-takes
+returns-in-Settle-clause-takes g c =
+    let old = c.args.self.now in
+    let home = c.home-home-in-Settle.result in
+    let claims = c.in-Settle.claims in
+    let can : CanAllBeSettled claims = subst (λ (m : Message g.row.J.Denot). CanWork old.catalog m) c.in-Settle.is c.requires.can in
+    let last : home ≤ old.catalog.scale.warehouses = subst (λ n. home ≤ n) c.requires.warehouses c.home-home-in-Settle.ensures.known.1 in
+    subst (λ (m : Message g.row.J.Denot). TakesMessage m old c.take_turns-in-Settle.new.self) (sym c.in-Settle.is)
+    (gives_turns home c.in-Settle.slot claims old _ c.take_turns-in-Settle.new.self (claims_home claims home can.1 c.home-home-in-Settle.ensures.home)
+    (placed_with old c.requires.slices home c.home-home-in-Settle.ensures.known.0 last c.index_mut.result.now c.index_mut.ensures.value home refl c.settle.new.self (with_item old.stations (home - 1) c.settle.new.self) (item.Ended c.in-Settle.slot ∷ []) c.put.new.self
+    (λ was now. SliceKeeps claims was.slice [] now.slice × (now.parked ≡ was.parked)) refl c.put.ensures (c.settle.ensures.kept, c.settle.ensures.parked))
+    c.take_turns-in-Settle.ensures.turns)
+
+-- ---- claims whose work is taken back
+
+pub undo-requires-clause-home : goal.undo-requires-clause-home
+undo-requires-clause-home g c =
+    let old = c.args.self.now in
     let home = c.home-home-in-Undo.result in
+    let can : CanAllBeUndone c.in-Undo.claims = subst (λ (m : Message g.row.J.Denot). CanWork old.catalog m) c.in-Undo.is c.requires.can in
+    let last : home ≤ old.catalog.scale.warehouses = subst (λ n. home ≤ n) c.requires.warehouses c.home-home-in-Undo.ensures.known.1 in
+    subst (λ n. All (IsClaimAt n) c.in-Undo.claims) (sym (home_there old c.requires.slices home c.home-home-in-Undo.ensures.known.0 last c.index_mut-in-Undo.result.now c.index_mut-in-Undo.ensures.value))
+    (claims_at_home c.in-Undo.claims home c.home-home-in-Undo.ensures.home can.1)
+
+pub take_turns-requires-in-Undo-clause-slices : goal.take_turns-requires-in-Undo-clause-slices
+take_turns-requires-in-Undo-clause-slices g c =
+    let old = c.args.self.now in
+    let home = c.home-home-in-Undo.result in
+    let claims = c.in-Undo.claims in
     let can : CanAllBeUndone claims = subst (λ (m : Message g.row.J.Denot). CanWork old.catalog m) c.in-Undo.is c.requires.can in
     let last : home ≤ old.catalog.scale.warehouses = subst (λ n. home ≤ n) c.requires.warehouses c.home-home-in-Undo.ensures.known.1 in
-    let kept = all_keep old.catalog old.slices.items c.requires.slices home slice c.home-home-in-Undo.ensures.known.0 last c.index_mut-in-Undo.ensures.value c.undo.new.slice claims []
-    (claims_at_home claims home c.home-home-in-Undo.ensures.home can.1) (All-nil (IsClaimAt home)) c.undo.ensures in
-    takes c.args.message (Undo slot claims) old (item.Ended slot ∷ []) c.put-in-Undo.new.self _ c.in-Undo.is c.put-in-Undo.ensures
-    kept.0 (undoes slot claims (joined_in old) _ kept.1)
+    gives_slices old _ c.requires.slices home c.in-Undo.slot claims
+    (placed_with old c.requires.slices home c.home-home-in-Undo.ensures.known.0 last c.index_mut-in-Undo.result.now c.index_mut-in-Undo.ensures.value home refl c.undo.new.self (with_item old.stations (home - 1) c.undo.new.self) (item.Ended c.in-Undo.slot ∷ []) c.put-in-Undo.new.self
+    (λ was now. SliceKeeps claims was.slice [] now.slice × (now.parked ≡ was.parked)) refl c.put-in-Undo.ensures (c.undo.ensures.kept, c.undo.ensures.parked))
+    (claims_at_home claims home c.home-home-in-Undo.ensures.home can.1)
+
+pub take_turns-requires-in-Undo-clause-stations : goal.take_turns-requires-in-Undo-clause-stations
+take_turns-requires-in-Undo-clause-stations g c =
+    let old = c.args.self.now in
+    let home = c.home-home-in-Undo.result in
+    let last : home ≤ old.catalog.scale.warehouses = subst (λ n. home ≤ n) c.requires.warehouses c.home-home-in-Undo.ensures.known.1 in
+    stations_set g.J.GroupNames.warehouses old.stations.items (home - 1) c.undo.new.self c.index-in-Undo.result.now (place_within old c.requires.slices home c.home-home-in-Undo.ensures.known.0 last) c.requires.stations c.index-in-Undo.ensures c.slice-in-Undo.ensures.station
+
+pub take_turns-requires-in-Undo-clause-room : goal.take_turns-requires-in-Undo-clause-room
+take_turns-requires-in-Undo-clause-room g c =
+    let old = c.args.self.now in
+    let home = c.home-home-in-Undo.result in
+    let claims = c.in-Undo.claims in
+    let last : home ≤ old.catalog.scale.warehouses = subst (λ n. home ≤ n) c.requires.warehouses c.home-home-in-Undo.ensures.known.1 in
+    gives_room old _ c.requires.slices home c.in-Undo.slot claims
+    (placed_with old c.requires.slices home c.home-home-in-Undo.ensures.known.0 last c.index_mut-in-Undo.result.now c.index_mut-in-Undo.ensures.value home refl c.undo.new.self (with_item old.stations (home - 1) c.undo.new.self) (item.Ended c.in-Undo.slot ∷ []) c.put-in-Undo.new.self
+    (λ was now. SliceKeeps claims was.slice [] now.slice × (now.parked ≡ was.parked)) refl c.put-in-Undo.ensures (c.undo.ensures.kept, c.undo.ensures.parked))
+    c.requires.room
+
+pub returns-in-Undo-clause-takes : goal.returns-in-Undo-clause-takes
+returns-in-Undo-clause-takes g c =
+    let old = c.args.self.now in
+    let home = c.home-home-in-Undo.result in
+    let claims = c.in-Undo.claims in
+    let can : CanAllBeUndone claims = subst (λ (m : Message g.row.J.Denot). CanWork old.catalog m) c.in-Undo.is c.requires.can in
+    let last : home ≤ old.catalog.scale.warehouses = subst (λ n. home ≤ n) c.requires.warehouses c.home-home-in-Undo.ensures.known.1 in
+    subst (λ (m : Message g.row.J.Denot). TakesMessage m old c.take_turns-in-Undo.new.self) (sym c.in-Undo.is)
+    (gives_turns home c.in-Undo.slot claims old _ c.take_turns-in-Undo.new.self (claims_home claims home can.1 c.home-home-in-Undo.ensures.home)
+    (placed_with old c.requires.slices home c.home-home-in-Undo.ensures.known.0 last c.index_mut-in-Undo.result.now c.index_mut-in-Undo.ensures.value home refl c.undo.new.self (with_item old.stations (home - 1) c.undo.new.self) (item.Ended c.in-Undo.slot ∷ []) c.put-in-Undo.new.self
+    (λ was now. SliceKeeps claims was.slice [] now.slice × (now.parked ≡ was.parked)) refl c.put-in-Undo.ensures (c.undo.ensures.kept, c.undo.ensures.parked))
+    c.take_turns-in-Undo.ensures.turns)

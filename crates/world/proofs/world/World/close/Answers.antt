@@ -1,4 +1,7 @@
-use Rattle.std.proofs.Common.{◌≡◌, ℕ, ◌≤◌, zero, suc, List, Result, Ok, Err, inl, inr, refl, sym, ◌∙◌, ap, subst, arith}
+use Rattle.std.proofs.Common.{◌≡◌, ℕ, ◌≤◌, zero, suc, List, Result, Ok, Err, inl, inr, refl, sym, ◌∙◌, ap, subst, arith, map}
+use Rattle.world.specs.Stations.{slice_of}
+use Rattle.world.specs.declared.flight.Carried.{Carried}
+use Rattle.transactions.specs.Stations.{Stationed}
 use Rattle.partitions.specs.Parts.{Shared, shared_of}
 use Rattle.schema.specs.Database.{Database}
 use Rattle.slices.specs.Sliced.{Sliced, joined}
@@ -10,7 +13,8 @@ use Rattle.world.specs.Parted.{joined_in}
 use Rattle.world.specs.Slots.{count_active}
 use Rattle.world.specs.Together.{together}
 use Rattle.world.specs.Worlds.{Fits, tables_now}
-use Rattle.world.proofs.Quiet.{idle_tables, rests_idle}
+use Rattle.world.proofs.NeverStuck.{never_stuck_seen, rests_idle}
+use Rattle.world.proofs.Quiet.{idle_tables}
 use Rattle.world.proofs.world.World.close.Goals as goal
 
 -- nothing is gathered while a transaction is active
@@ -18,25 +22,48 @@ not_idle : (active : ℕ) (tables : Database) → 1 ≤ active → IsGathered ac
 not_idle zero tables some = absurd (omega (arith, some))
 not_idle (suc n) tables some = refl
 
+pub returns-then-not-is_idle-clause-never_stuck : goal.returns-then-not-is_idle-clause-never_stuck
+returns-then-not-is_idle-clause-never_stuck g c = never_stuck_seen (shared_of g.J.LogNames.opening) c.self.inside.core c.args.self c.self.view_is c.self.invariant.0
+
+pub returns-in_default-clause-never_stuck : goal.returns-in_default-clause-never_stuck
+returns-in_default-clause-never_stuck g c = never_stuck_seen (shared_of g.J.LogNames.opening) c.self.inside.core c.args.self c.self.view_is c.self.invariant.0
+
+pub returns-in-Ok-whole-clause-never_stuck : goal.returns-in-Ok-whole-clause-never_stuck
+returns-in-Ok-whole-clause-never_stuck g c = never_stuck_seen (shared_of g.J.LogNames.opening) c.self.inside.core c.args.self c.self.view_is c.self.invariant.0
+
+pub returns-clause-never_stuck : goal.returns-clause-never_stuck
+returns-clause-never_stuck g c = never_stuck_seen (shared_of g.J.LogNames.opening) c.self.inside.core c.args.self c.self.view_is c.self.invariant.0
+
 pub returns-then-not-is_idle-clause-at_rest : goal.returns-then-not-is_idle-clause-at_rest
 returns-then-not-is_idle-clause-at_rest g c = rests_idle (shared_of g.J.LogNames.opening) c.self.inside.core c.args.self c.self.view_is c.self.invariant.0
 
-pub returns-in-Ok-clause-at_rest : goal.returns-in-Ok-clause-at_rest
-returns-in-Ok-clause-at_rest g c = rests_idle (shared_of g.J.LogNames.opening) c.self.inside.core c.args.self c.self.view_is c.self.invariant.0
+pub returns-in_default-clause-at_rest : goal.returns-in_default-clause-at_rest
+returns-in_default-clause-at_rest g c = rests_idle (shared_of g.J.LogNames.opening) c.self.inside.core c.args.self c.self.view_is c.self.invariant.0
+
+pub returns-in-Ok-whole-clause-at_rest : goal.returns-in-Ok-whole-clause-at_rest
+returns-in-Ok-whole-clause-at_rest g c = rests_idle (shared_of g.J.LogNames.opening) c.self.inside.core c.args.self c.self.view_is c.self.invariant.0
 
 pub returns-clause-at_rest : goal.returns-clause-at_rest
 returns-clause-at_rest g c = rests_idle (shared_of g.J.LogNames.opening) c.self.inside.core c.args.self c.self.view_is c.self.invariant.0
 
-pub returns-in-Ok-clause-tables : goal.returns-in-Ok-clause-tables
-returns-in-Ok-clause-tables g c opening history f =
+pub returns-in-Ok-whole-clause-tables : goal.returns-in-Ok-whole-clause-tables
+returns-in-Ok-whole-clause-tables g c opening history f =
     let w = together c.self.inside.core in
-    let left = c.into_log_and_slices-entries in
+    let left = c.into_log_and_stations-entries in
+    let slices = c.in-Ok.slices.items in
     let none : count_active w.desk.active ≡ 0 = sym c.count-is_idle.ensures ∙ c.if-not-is_idle.false in
-    let moved : (joined left.result.1 left.result.2.items).tables ≡ (joined_in w).tables =
-    ap (λ (s : Shared). (joined s left.result.2.items).tables) left.ensures.catalog ∙ ap (λ (l : List Sliced). (joined w.catalog l).tables) left.ensures.slices in
+    let moved : (joined left.result.1 slices).tables ≡ (joined_in w).tables =
+    ap (λ (s : Shared). (joined s slices).tables) left.ensures.catalog ∙ ap (λ (l : List Sliced). (joined w.catalog l).tables) (c.in-Ok.ensures ∙ ap (λ (l : List (Stationed (Carried g.row.J.Denot))). map slice_of l) left.ensures.stations) in
     let is = idle_tables (shared_of g.J.LogNames.opening) w c.self.invariant.0.all none opening history (subst (λ (v : Core g.row.J.Denot). Fits opening history (together v)) (sym c.self.view_is) f) in
-    subst (λ (v : Core g.row.J.Denot). IsGathered (count_active v.parts.desk.active) (tables_now opening v.parts.log) (Ok c.in-Ok.tables)) c.self.view_is
-    (subst (λ n. IsGathered n (tables_now opening w.log) (Ok c.in-Ok.tables)) (sym none) (inl (ap Ok (c.in-Ok.ensures ∙ moved ∙ is))))
+    subst (λ (v : Core g.row.J.Denot). IsGathered (count_active v.parts.desk.active) (tables_now opening v.parts.log) (Ok c.in-Ok-whole.tables)) c.self.view_is
+    (subst (λ n. IsGathered n (tables_now opening w.log) (Ok c.in-Ok-whole.tables)) (sym none) (inl (ap Ok (c.in-Ok-whole.ensures ∙ moved ∙ is))))
+
+pub returns-in_default-clause-tables : goal.returns-in_default-clause-tables
+returns-in_default-clause-tables g c opening history f =
+    let w = together c.self.inside.core in
+    let none : count_active w.desk.active ≡ 0 = sym c.count-is_idle.ensures ∙ c.if-not-is_idle.false in
+    subst (λ (v : Core g.row.J.Denot). IsGathered (count_active v.parts.desk.active) (tables_now opening v.parts.log) (Err gather.NoMemory)) c.self.view_is
+    (subst (λ n. IsGathered n (tables_now opening w.log) (Err gather.NoMemory)) (sym none) (inr refl))
 
 pub returns-clause-tables : goal.returns-clause-tables
 returns-clause-tables g c opening history f =

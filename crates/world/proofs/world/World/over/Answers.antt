@@ -1,14 +1,17 @@
-use Rattle.std.proofs.Common.{refl, sym, ap, subst, ◌∙◌, arith, None}
+use Rattle.std.proofs.Common.{refl, sym, ap, subst, ◌∙◌, arith, None, ◌≡◌, ℕ, [], map}
+use Rattle.slices.specs.Sliced.{Joined, holdings_in}
+use Rattle.std.specs.Prelude.{All}
 use Rattle.schema.specs.Database.{Database}
 use Rattle.schema.specs.declared.scale.Scale.{Scale}
-use Rattle.partitions.specs.Parts.{shared_of}
+use Rattle.partitions.specs.Parts.{shared_of, parts_of}
 use Rattle.groups.specs.Content.{content}
 use Rattle.tickets.specs.LogSeats.{SeatsTell}
 use Rattle.tickets.specs.Places.{AreInPlace}
 use Rattle.slices.specs.Openings.{AreBoxesOf}
 use Rattle.slices.proofs.Opened.{opened_groups_have_boxes}
 use Rattle.world.specs.declared.world.Core.{Core}
-use Rattle.world.proofs.Opened.{cut_slices, opened_core, opened_fits, opened_new, seats_tell}
+use Rattle.world.specs.Stations.{HaveToWait, IsStationOf, NobodyWaitsIn, slice_of}
+use Rattle.world.proofs.Opened.{cut_slices, cut_waits, have_not_to_wait, opened_core, opened_fits, opened_new, opened_stations, seats_tell}
 use Rattle.world.proofs.world.World.over.Goals as goal
 
 pub cut-requires-clause-boxes : goal.cut-requires-clause-boxes
@@ -28,9 +31,13 @@ pub invariant_of-result : goal.invariant_of-result
 invariant_of-result g c =
     let cut = c.in_ok-catalog in
     let scale = ap (λ (t : Database). t.scale) c.requires.named.tables_are in
-    let slices = cut_slices c.args.tables cut.catalog cut.slices.items c.scale.ensures.within cut.ensures.catalog cut.ensures.slices in (
+    let slices = cut_slices c.args.tables cut.catalog cut.slices.items c.scale.ensures.within cut.ensures.catalog cut.ensures.slices in
+    let set = opened_stations c.args.tables cut.catalog cut.slices.items c.in_ok-stations.stations.items slices c.in_ok-stations.ensures.made in
+    let wait = subst (All HaveToWait) (sym c.in_ok-stations.ensures.made) (have_not_to_wait cut.slices.items (subst (All NobodyWaitsIn) (sym cut.ensures.slices) (cut_waits (parts_of c.args.tables)))) in
+    let none : (w_id : ℕ) → holdings_in (map slice_of c.in_ok-stations.stations.items) w_id ≡ [] = λ w_id. ap (λ (j : Joined). j.holdings w_id) set.1.1 in (
       opened_core (shared_of g.J.LogNames.opening) c.args.executors c.in_ok-book.lanes.items _ (record { many = omega (arith, c.in_ok-book.lanes.ok.0, c.in_ok-book.ensures.count); each = c.in_ok-book.ensures.sessions })
-          (cut.ensures.catalog ∙ ap shared_of (sym c.requires.named.tables_are)) slices.0 (c.opening-routing.ensures ∙ ap (λ (s : Scale). record { warehouses = s.warehouses; executors = c.args.executors }) (c.scale.ensures.value ∙ sym scale))
+          (cut.ensures.catalog ∙ ap shared_of (sym c.requires.named.tables_are)) set.0 none set.1.0
+          (subst (λ n. All (IsStationOf n) c.in_ok-stations.stations.items) (c.requires.named.warehouses ∙ sym (ap (λ s. s.warehouses) scale)) c.in_ok-stations.ensures.stations) wait (c.opening-routing.ensures ∙ ap (λ (s : Scale). record { warehouses = s.warehouses; executors = c.args.executors }) (c.scale.ensures.value ∙ sym scale))
           c.in_ok-inboxes.ensures c.in_ok-outboxes.ensures c.in_ok-inbox.ensures c.in_ok-outbox.ensures c.in_ok-active.ensures c.in_ok-sessions.ensures,
       c.requires.named.warehouses ∙ sym (ap (λ s. s.warehouses) scale),
     )
@@ -42,7 +49,7 @@ returns-clause-fits g c =
     let core : Core g.row.J.Denot = record {
       parts = record {
         catalog = cut.catalog;
-        slices = cut.slices;
+        stations = c.in_ok-stations.stations;
         inbox = c.in_ok-inbox.inbox;
         outbox = c.in_ok-outbox.outbox;
         desk = record { admitted = 0; sessions = c.in_ok-sessions.sessions; active = c.in_ok-active.active };
@@ -52,7 +59,8 @@ returns-clause-fits g c =
       inboxes = c.in_ok-inboxes.inboxes;
       outboxes = c.in_ok-outboxes.outboxes;
     } in
-    opened_fits c.args.tables c.requires.consistent c.args.executors core slices.1 c.new.ensures c.in_ok-inboxes.ensures c.in_ok-outboxes.ensures c.in_ok-active.ensures refl
+    let set = opened_stations c.args.tables cut.catalog cut.slices.items c.in_ok-stations.stations.items slices c.in_ok-stations.ensures.made in
+    opened_fits c.args.tables c.requires.consistent c.args.executors core set.1.0 set.1.1 c.new.ensures c.in_ok-inboxes.ensures c.in_ok-outboxes.ensures c.in_ok-active.ensures refl
 
 pub returns-clause-new : goal.returns-clause-new
 returns-clause-new g c =
@@ -61,7 +69,7 @@ returns-clause-new g c =
     let core : Core g.row.J.Denot = record {
       parts = record {
         catalog = cut.catalog;
-        slices = cut.slices;
+        stations = c.in_ok-stations.stations;
         inbox = c.in_ok-inbox.inbox;
         outbox = c.in_ok-outbox.outbox;
         desk = record { admitted = 0; sessions = c.in_ok-sessions.sessions; active = c.in_ok-active.active };
@@ -71,7 +79,11 @@ returns-clause-new g c =
       inboxes = c.in_ok-inboxes.inboxes;
       outboxes = c.in_ok-outboxes.outboxes;
     } in
+    let set = opened_stations c.args.tables cut.catalog cut.slices.items c.in_ok-stations.stations.items slices c.in_ok-stations.ensures.made in
     opened_new c.args.tables c.args.executors c.in_ok-book.lanes.items core
     (record { many = omega (arith, c.in_ok-book.lanes.ok.0, c.in_ok-book.ensures.count); each = c.in_ok-book.ensures.sessions })
-    slices.0 slices.1 (c.opening-routing.ensures ∙ ap (λ (s : Scale). record { warehouses = s.warehouses; executors = c.args.executors }) c.scale.ensures.value)
+    set.0 set.1.0 set.1.1 (c.opening-routing.ensures ∙ ap (λ (s : Scale). record { warehouses = s.warehouses; executors = c.args.executors }) c.scale.ensures.value)
     c.in_ok-inboxes.ensures c.in_ok-outboxes.ensures c.new.ensures refl c.in_ok-active.ensures c.in_ok-sessions.ensures
+
+pub open_stations-requires : goal.open_stations-requires
+open_stations-requires g c = subst (All NobodyWaitsIn) (sym c.in_ok-catalog.ensures.slices) (cut_waits (parts_of c.args.tables))

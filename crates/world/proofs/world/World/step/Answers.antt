@@ -8,6 +8,7 @@ use Rattle.world.specs.Together.{together}
 use Rattle.world.specs.Worlds.{Advances, Fits, Happens, IsBusyExactly, NoneDies, TakesItsOwn}
 use Rattle.world.proofs.Alone.{none_dies}
 use Rattle.world.proofs.Executing.{takes_its_own}
+use Rattle.world.proofs.NeverStuck.{never_stuck}
 use Rattle.world.proofs.Busy.{busy_exactly}
 use Rattle.world.proofs.Answered.{nothing_exactly}
 use Rattle.world.proofs.Schedules.{routing_stays}
@@ -39,3 +40,6 @@ returns-clause-routing g c =
 
 pub returns-clause-own : goal.returns-clause-own
 returns-clause-own g c = subst (λ (old : Core g.row.J.Denot). TakesItsOwn c.args.event.now old) c.self.view_is (takes_its_own (shared_of g.J.LogNames.opening) c.args.event.now c.self.inside.core c.self.invariant.0)
+
+pub returns-clause-never_stuck : goal.returns-clause-never_stuck
+returns-clause-never_stuck g c = never_stuck (shared_of g.J.LogNames.opening) c.happen.new.self c.happen.ensures.sound

@@ -1,0 +1,59 @@
+-- Fields that are taken as those of columns, some more at a time.
+use Rattle.std.proofs.Common.{◌≡◌, ◌≢◌, ℕ, ℤ, pos, List, [], ◌∷◌, ◌++◌, Option, Some, None, refl, sym, ap, ◌∙◌}
+use Rattle.rows.specs.declared.records.Credit.{Credit}
+use Rattle.rows.specs.declared.records.Credit.TheVariants.{Good}
+use Rattle.files.specs.declared.fault.FaultKind.{FaultKind}
+use Rattle.files.specs.declared.fault.FaultKind.TheVariants.{WrongShape}
+use Rattle.files.specs.declared.fields.Fields.{Fields}
+use Rattle.files.specs.FieldRead.{Taking, taking, field_read, whole_read}
+use Rattle.files.specs.KindsRead.{count_read, credit_read, moment_read, money_read, optional_read}
+use Rattle.files.specs.Taken.{fault_of, fields_left, with_fault}
+use Rattle.files.specs.Word.{text_read}
+use Rattle.dataset.specs.Columns.{Column, Whole, Words, Cents, Moment, Credit as CreditColumn, MaybeWhole, MaybeMoment, Count, at_end, columns_end, take_column, take_columns}
+
+-- the fields were taken so: a record, by which the columns are found
+pub record TakesColumns (columns : List Column) (old new : Fields) : Type 0 where
+  pub is : taking new ≡ take_columns columns (taking old)
+
+pub take-append : (columns more : List Column) (t : Taking) → take_columns (columns ++ more) t ≡ take_columns more (take_columns columns t)
+take-append [] more t = refl
+take-append (column ∷ columns) more t = take-append columns more (take_column column t)
+
+pub several : (columns : List Column) (old new : Fields) → taking new ≡ take_columns columns (taking old) → TakesColumns columns old new
+several columns old new is = record { is = is }
+
+pub and_then : {columns more : List Column} {old mid new : Fields} → TakesColumns columns old mid → TakesColumns more mid new → TakesColumns (columns ++ more) old new
+and_then {columns} {more} {old} {mid} {new} h g = record { is = g.is ∙ ap (take_columns more) h.is ∙ sym (take-append columns more (taking old)) }
+
+pub whole : (low high : ℕ) {value : ℕ} (old new : Fields) → ◌≡◌ {A = ℕ × Taking} (value, taking new) (field_read (whole_read low high) low (taking old)) → TakesColumns (Whole low high ∷ []) old new
+whole low high old new is = record { is = ap (λ (p : ℕ × Taking). p.1) is }
+
+pub words : (width : ℕ) {value : List ℕ} (old new : Fields) → ◌≡◌ {A = List ℕ × Taking} (value, taking new) (field_read (text_read width) [] (taking old)) → TakesColumns (Words width ∷ []) old new
+words width old new is = record { is = ap (λ (p : List ℕ × Taking). p.1) is }
+
+pub cents : {value : ℤ} (old new : Fields) → ◌≡◌ {A = ℤ × Taking} (value, taking new) (field_read money_read (pos 0) (taking old)) → TakesColumns (Cents ∷ []) old new
+cents old new is = record { is = ap (λ (p : ℤ × Taking). p.1) is }
+
+pub moment : {value : ℕ} (old new : Fields) → ◌≡◌ {A = ℕ × Taking} (value, taking new) (field_read moment_read 0 (taking old)) → TakesColumns (Moment ∷ []) old new
+moment old new is = record { is = ap (λ (p : ℕ × Taking). p.1) is }
+
+pub credit : {value : Credit} (old new : Fields) → ◌≡◌ {A = Credit × Taking} (value, taking new) (field_read credit_read Good (taking old)) → TakesColumns (CreditColumn ∷ []) old new
+credit old new is = record { is = ap (λ (p : Credit × Taking). p.1) is }
+
+pub maybe_whole : (low high : ℕ) {value : Option ℕ} (old new : Fields) → ◌≡◌ {A = Option ℕ × Taking} (value, taking new) (field_read (optional_read (whole_read low high)) None (taking old)) → TakesColumns (MaybeWhole low high ∷ []) old new
+maybe_whole low high old new is = record { is = ap (λ (p : Option ℕ × Taking). p.1) is }
+
+pub maybe_moment : {value : Option ℕ} (old new : Fields) → ◌≡◌ {A = Option ℕ × Taking} (value, taking new) (field_read (optional_read moment_read) None (taking old)) → TakesColumns (MaybeMoment ∷ []) old new
+maybe_moment old new is = record { is = ap (λ (p : Option ℕ × Taking). p.1) is }
+
+pub count : (number expected : ℕ) (old new : Fields) → expected ≡ number → taking new ≡ (field_read (count_read expected) expected (taking old)).1 → TakesColumns (Count number ∷ []) old new
+count number expected old new same is = record { is = is ∙ ap (λ n. (field_read (count_read n) n (taking old)).1) same }
+
+-- what is told where no more fields should be left
+pub ended : (left : List (List ℕ)) (old new : Option FaultKind) → (left ≡ [] → new ≡ old) → (left ≢ [] → new ≡ Some (with_fault old WrongShape)) → new ≡ at_end left old
+ended [] old new none some = none refl
+ended (field ∷ fields) old new none some = some (λ e. cc)
+
+-- all columns that are left were taken
+pub took_all : (columns : List Column) (old taken : Fields) (fault : Option FaultKind) → taking taken ≡ take_columns columns (taking old) → fault ≡ at_end (fields_left taken) (fault_of taken) → fault ≡ columns_end columns (taking old)
+took_all columns old taken fault is end = end ∙ ap (λ (t : Taking). at_end t.left t.fault) is

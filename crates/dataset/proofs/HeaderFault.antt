@@ -1,0 +1,173 @@
+-- The fault of a header.
+use Rattle.std.proofs.Common.{◌≡◌, ◌≢◌, ◌≤◌, ◌==◌, ◌&&◌, ◌+◌, ◌⊎◌, inl, inr, ℕ, List, [], ◌∷◌, length, drop, get_or, Bool, true, false, nat_lt, Option, Some, None, Result, IsUtf8, codes, refl, sym, ap, subst, ◌∙◌, arith}
+use Rattle.std.specs.Prelude.{IsSome}
+use Rattle.std.specs.Option.{ok_or}
+use Rattle.std.specs.Str.{bytes_eq}
+use Rattle.std.specs.Str.Parse.{digits_value}
+use Rattle.std.proofs.lemmas.Bool.Decides.{nat_tests}
+use Rattle.std.proofs.lemmas.Fmt.{decimal_is_IsNumeral}
+use Rattle.schema.specs.declared.scale.Scale.{Scale}
+use Rattle.files.specs.declared.fault.FaultKind.{FaultKind}
+use Rattle.files.specs.declared.fault.FaultKind.TheVariants as fault
+use Rattle.files.specs.declared.fault.FileFault.{FileFault}
+use Rattle.files.specs.declared.fault.FileError.{FileError}
+use Rattle.files.specs.declared.fault.FileError.TheVariants.{NoMemory, File}
+use Rattle.files.specs.declared.fields.Fields.{Fields}
+use Rattle.files.specs.FieldRead.{Taking, taking, field_read}
+use Rattle.files.specs.KindsRead.{word_read}
+use Rattle.files.specs.Place.{FirstIsTooLong, file_fault}
+use Rattle.files.specs.Span.{record_size}
+use Rattle.files.specs.Taken.{fault_of, fields_left}
+use Rattle.files.proofs.Ascii.{utf8_words}
+use Rattle.std.specs.Prelude.{MatchOption}
+use Rattle.dataset.specs.declared.loader.Loader.{Loader}
+use Rattle.dataset.specs.declared.place.Place.TheVariants as at
+use Rattle.dataset.specs.Expecting.{IsFault}
+use Rattle.dataset.specs.Loading.{HasLoaded}
+use Rattle.dataset.specs.Order.{place_numbers}
+use Rattle.dataset.specs.Columns.{kind_of, at_end, columns_fault, sizes, take_columns}
+use Rattle.dataset.specs.FirstFault.{HasNoTables, Tells, kind_place, behind_end, fault_at, first_fault, header_columns, header_fault, header_sizes, is_header, rows_fault, told_header}
+use Rattle.dataset.specs.Records.{AreSpelt, header_fields}
+use Rattle.dataset.specs.TakenAs.{IsAt, IsHeaderAs, TellsEnd, TellsFault}
+use Rattle.dataset.proofs.LetterFault.{other, some_word}
+use Rattle.dataset.proofs.RowsFault.{not_advanced}
+
+pub no_header : (fields : List (List ℕ)) → is_header fields ≡ false → told_header fields ≡ Some fault.NoHeader
+no_header fields e = rw e refl
+
+pub not_five : (fields : List (List ℕ)) → length fields ≢ 5 → is_header fields ≡ false
+not_five fields apart = let no : (length fields == 5) ≡ false = grind (arith, nat_tests, apart) in rw no refl
+
+-- the first word is another one
+not_word : (left : List (List ℕ)) (known word : List ℕ) → ((field : List ℕ) (rest : List (List ℕ)) → left ≡ field ∷ rest → IsUtf8 field → word ≡ field) → length left ≢ 0 → IsUtf8 known → (word ≡ known → ⊥)
+    → bytes_eq (get_or left 0 []) known ≡ false
+not_word [] known word reads some utf8 apart = absurd (some refl)
+not_word (field ∷ rest) known word reads some utf8 apart = other field known (λ e. apart (reads field rest refl (subst IsUtf8 (sym e) utf8) ∙ e))
+
+and_false : (a : Bool) → (a && false) ≡ false
+and_false true = refl
+and_false false = refl
+
+pub other_name : (left : List (List ℕ)) (word : List ℕ) → length left ≡ 5 → ((field : List ℕ) (rest : List (List ℕ)) → left ≡ field ∷ rest → IsUtf8 field → word ≡ field) → (word ≡ codes "TPCC" → ⊥) → is_header left ≡ false
+other_name left word five reads apart =
+    let no = not_word left (codes "TPCC") word reads (omega arith) (utf8_words (codes "TPCC") refl) apart in
+    rw no (and_false (length left == 5))
+
+second : (left : List (List ℕ)) → get_or (drop 1 left) 0 [] ≡ get_or left 1 []
+second [] = refl
+second (field ∷ rest) = refl
+
+tail_length : (left : List (List ℕ)) → length left ≡ 5 → length (drop 1 left) ≢ 0
+tail_length [] five = absurd (omega arith)
+tail_length (field ∷ rest) five = λ e. omega (arith, e, five)
+
+pub other_version : (left mid : List (List ℕ)) (word : List ℕ) → length left ≡ 5 → mid ≡ drop 1 left → ((field : List ℕ) (rest : List (List ℕ)) → mid ≡ field ∷ rest → IsUtf8 field → word ≡ field) → (word ≡ codes "1" → ⊥) → is_header left ≡ false
+other_version left mid word five is reads apart =
+    let some : length mid ≢ 0 = subst (λ l. length l ≢ 0) (sym is) (tail_length left five) in
+    let no = ap (λ f. bytes_eq f (codes "1")) (sym (second left) ∙ ap (λ l. get_or l 0 []) (sym is)) ∙ not_word mid (codes "1") word reads some (utf8_words (codes "1") refl) apart in
+    rw (no, and_false (bytes_eq (get_or left 0 []) (codes "TPCC"))) (and_false (length left == 5))
+
+-- a header of five fields
+pub header_told : (old mid next last : Fields) (name version : List ℕ) (end : Option FaultKind) → fault_of old ≡ None → length (fields_left old) ≡ 5
+    → name ≡ codes "TPCC" → ◌≡◌ {A = List ℕ × Taking} (name, taking mid) (field_read word_read [] (taking old))
+    → version ≡ codes "1" → ◌≡◌ {A = List ℕ × Taking} (version, taking next) (field_read word_read [] (taking mid))
+    → taking last ≡ take_columns header_columns (taking next) → end ≡ at_end (fields_left last) (fault_of last) → end ≡ told_header (fields_left old)
+header_told old mid next last name version end none five is_name read_name is_version read_version took ended =
+    let one = some_word (codes "TPCC") 3 name (fields_left old) (fault_of old) (taking mid) refl is_name read_name in
+    let two = some_word (codes "1") 0 version (fields_left mid) (fault_of mid) (taking next) refl is_version read_version in
+    let all : fields_left old ≡ codes "TPCC" ∷ codes "1" ∷ fields_left next = one.left ∙ ap (λ l. codes "TPCC" ∷ l) two.left in
+    let three : length (fields_left next) ≡ 3 = let e = ap length all in omega (arith, e, five) in
+    let start : taking next ≡ record { left = fields_left next; fault = None } = ap (λ (f : Option FaultKind). record { left = fields_left next; fault = f }) (two.fault ∙ one.fault ∙ none) in
+    let long : (length (codes "TPCC" ∷ codes "1" ∷ fields_left next) == 5) ≡ true = grind (arith, nat_tests, three) in
+    let told : told_header (codes "TPCC" ∷ codes "1" ∷ fields_left next) ≡ columns_fault header_columns (fields_left next) = rw long refl in
+    ended ∙ ap (λ (t : Taking). at_end t.left t.fault) (took ∙ ap (take_columns header_columns) start) ∙ sym told ∙ ap told_header (sym all)
+
+pub header_made : (result : Result Scale FaultKind) (made : Option Scale) (kind : FaultKind) (fields : List (List ℕ)) → result ≡ ok_or made kind → IsSome made → told_header fields ≡ None → IsHeaderAs result fields
+header_made result (Some scale) kind fields is some none = subst (λ r. IsHeaderAs r fields) (sym is) none
+header_made result None kind fields is some none = let clash : true ≡ false = sym some in absurd cc
+
+-- the sizes that a header spells
+pub sizes_spelt : (scale : Scale) (fields : List (List ℕ)) → AreSpelt (header_fields scale) fields → sizes scale ≡ header_sizes fields
+sizes_spelt scale (name ∷ version ∷ w ∷ i ∷ c ∷ []) spelt =
+    let limits = scale.limits in
+    let most_w = limits.most_warehouses in
+    let most_i = limits.most_items in
+    let most_c = limits.most_customers in
+    let ew : digits_value 10 w ≡ scale.warehouses = ap (digits_value 10) spelt.1.1.0 ∙ (decimal_is_IsNumeral scale.warehouses (omega (arith, most_w))).1 in
+    let ei : digits_value 10 i ≡ scale.items = ap (digits_value 10) spelt.1.1.1.0 ∙ (decimal_is_IsNumeral scale.items (omega (arith, most_i))).1 in
+    let ec : digits_value 10 c ≡ scale.customers = ap (digits_value 10) spelt.1.1.1.1.0 ∙ (decimal_is_IsNumeral scale.customers (omega (arith, most_c))).1 in
+    λ j. record { warehouses = sym ew j; items = sym ei j; customers = sym ec j }
+sizes_spelt scale [] spelt = absurd spelt
+sizes_spelt scale (a ∷ []) spelt = absurd spelt.1
+sizes_spelt scale (a ∷ b ∷ []) spelt = absurd spelt.1.1
+sizes_spelt scale (a ∷ b ∷ c ∷ []) spelt = absurd spelt.1.1.1
+sizes_spelt scale (a ∷ b ∷ c ∷ d ∷ []) spelt = absurd spelt.1.1.1.1
+sizes_spelt scale (a ∷ b ∷ c ∷ d ∷ e ∷ f ∷ rest) spelt = absurd spelt.1.1.1.1.1
+
+-- ---- the first record
+
+short_header : (fields : List (List ℕ)) → record_size fields ≤ 65536 → header_fault fields ≡ told_header fields
+short_header fields short = let no : nat_lt 65536 (record_size fields) ≡ false = grind (arith, nat_tests) in rw no refl
+
+pub header_passes : (scale : Scale) (header : List (List ℕ)) (more : List (List (List ℕ))) → record_size header ≤ 65536 → told_header header ≡ None → AreSpelt (header_fields scale) header
+    → first_fault (header ∷ more) ≡ rows_fault (sizes scale) (header ∷ []) more
+unfolding first_fault
+header_passes scale header more short none spelt =
+    let pass : first_fault (header ∷ more) ≡ rows_fault (header_sizes header) (header ∷ []) more = rw (short_header header short ∙ none) refl in
+    pass ∙ ap (λ s. rows_fault s (header ∷ []) more) (sym (sizes_spelt scale header spelt))
+
+pub header_fails : (kind : FaultKind) (header : List (List ℕ)) (more : List (List (List ℕ))) → record_size header ≤ 65536 → told_header header ≡ Some kind → first_fault (header ∷ more) ≡ Some (fault_at kind 1)
+unfolding first_fault
+header_fails kind header more short told = rw (short_header header short ∙ told) refl
+
+pub no_records : first_fault [] ≡ Some (fault_at fault.NoHeader 1)
+unfolding first_fault
+no_records = refl
+
+long_header : (rows : List (List (List ℕ))) → FirstIsTooLong rows → first_fault rows ≡ Some (fault_at fault.WrongShape 1)
+unfolding first_fault
+long_header [] long = absurd long
+long_header (header ∷ more) long = let yes : nat_lt 65536 (record_size header) ≡ true = grind (arith, nat_tests) in rw yes refl
+
+pub header_unread : (error : FileError) (number : ℕ) (rows : List (List (List ℕ))) → number ≡ 1 → (error ≡ NoMemory) ⊎ (error ≡ file_fault fault.Io number) ⊎ (error ≡ file_fault fault.WrongShape number)
+    → (error ≡ file_fault fault.WrongShape number → FirstIsTooLong rows) → TellsFault error (first_fault rows)
+header_unread error number rows one faults long =
+    not_advanced error number (first_fault rows) faults (λ e. long_header rows (long e) ∙ ap (λ n. Some (fault_at fault.WrongShape n)) (sym one))
+
+pub header_error : (error : FileError) (kind : FaultKind) (number : ℕ) (first : Option FileFault) → error ≡ file_fault kind number → number ≡ 1 → first ≡ Some (fault_at kind 1) → TellsFault error first
+header_error error kind number first is one found = subst (λ e. TellsFault e first) (sym is) (inr (found ∙ ap (λ n. Some (fault_at kind n)) (sym one)))
+
+-- ---- behind the end record
+
+pub more_found : (error : FileError) (more : List (List (List ℕ))) (number next : ℕ) → next ≡ number + 1
+    → (error ≡ NoMemory) ⊎ (error ≡ file_fault fault.Io next) ⊎ (error ≡ file_fault fault.AfterEnd next) → (error ≡ file_fault fault.AfterEnd next → more ≡ [] → ⊥) → TellsEnd error more number
+more_found error more number next is (inl e) some = subst (λ x. TellsEnd x more number) (sym e) tt
+more_found error more number next is (inr (inl e)) some = subst (λ x. TellsEnd x more number) (sym e) (inl refl)
+more_found error [] number next is (inr (inr e)) some = absurd (some e refl)
+more_found error (row ∷ rows) number next is (inr (inr e)) some = subst (λ x. TellsEnd x (row ∷ rows) number) (sym e) (inr (inl (ap (λ n. Some (fault_at fault.AfterEnd n)) (sym is))))
+
+-- ---- in all
+
+-- the loader before the first row
+pub header_at : (l : Loader) (header : List (List ℕ)) → l.last ≡ at.Header → HasLoaded l (header ∷ []) → IsAt l (header ∷ [])
+header_at l [] last loaded = absurd loaded.are_spelt.0
+header_at l (name ∷ fields) last loaded =
+    record { loaded = loaded; last = ap place_numbers last ∙ sym (ap (λ word. kind_place (sizes l.scale) (kind_of word) fields) loaded.are_spelt.0.0) }
+
+-- the first fault is told
+pub tells_first : (error : FileError) (rows : List (List (List ℕ))) (first : Option FileFault) → first_fault rows ≡ first → TellsFault error first → Tells rows error
+tells_first NoMemory rows first is tells = tt
+tells_first (File f) rows first is (inl io) = inl io
+tells_first (File f) rows first is (inr e) = inr (subst (λ o. MatchOption o ((f ≡ fault_at fault.ScaleBroken (length rows)) × HasNoTables rows) (λ x. f ≡ x)) (sym (is ∙ e)) refl)
+
+broken : (f : FileFault) (number : ℕ) → f ≡ fault_at fault.ScaleBroken number → f.kind ≢ fault.Io
+broken f number is io = let clash : fault.ScaleBroken ≡ fault.Io = sym (ap (λ (x : FileFault). x.kind) is) ∙ io in absurd cc
+
+pub tells_end : (error : FileError) (rows more : List (List (List ℕ))) (number : ℕ) → first_fault rows ≡ behind_end number more → number + length more ≡ length rows → TellsEnd error more number → (IsFault error → HasNoTables rows) → Tells rows error
+tells_end NoMemory rows more number is long tells none = tt
+tells_end (File f) rows more number is long (inl io) none = inl io
+tells_end (File f) rows more number is long (inr (inl e)) none = tells_first (File f) rows (behind_end number more) is (inr e)
+tells_end (File f) rows more number is long (inr (inr h)) none =
+    let all : number ≡ length rows = let e = ap length h.0 in omega (arith, long, e) in
+    inr (subst (λ o. MatchOption o ((f ≡ fault_at fault.ScaleBroken (length rows)) × HasNoTables rows) (λ x. f ≡ x)) (sym (is ∙ ap (behind_end number) h.0))
+    (h.1 ∙ ap (λ n. fault_at fault.ScaleBroken n) all, none (broken f number h.1)))

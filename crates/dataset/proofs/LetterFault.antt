@@ -1,0 +1,180 @@
+-- The fault of a record, by what its first field says that it is.
+use Rattle.std.proofs.Common.{◌≡◌, ◌<◌, ◌^◌, ℕ, suc, List, [], ◌∷◌, map, length, sum, Bool, true, false, Option, Some, None, codes, IsUtf8, refl, sym, ap, subst, ◌∙◌}
+use Rattle.std.specs.Prelude.{if◌then◌else◌}
+use Rattle.std.specs.Cmp.Lexicographic.{bytes_decides}
+use Rattle.std.specs.Str.{bytes_eq, is_utf8}
+use Rattle.std.proofs.lemmas.Str.{is_utf8-from_IsUtf8, IsUtf8-from_is_utf8}
+use Rattle.files.specs.declared.fault.FaultKind.{FaultKind}
+use Rattle.files.specs.declared.fault.FaultKind.TheVariants as fault
+use Rattle.files.specs.declared.fields.Fields.{Fields}
+use Rattle.files.specs.FieldRead.{Taking, taking, field_read, next_read}
+use Rattle.files.specs.KindsRead.{word_read}
+use Rattle.files.specs.Taken.{fault_of, fields_left, with_fault}
+use Rattle.files.proofs.Ascii.{utf8_words}
+use Rattle.files.proofs.KindsRead.{word_is, no_word}
+use Rattle.dataset.specs.declared.loader.Loader.{Loader}
+use Rattle.dataset.specs.declared.loader.Taken.TheVariants.{Row, End}
+use Rattle.dataset.specs.Columns.{Column, Count, Of, Table, Items, Warehouses, Districts, Stocks, Customers, Histories, Orders, NewOrders, Lines, at_end, fields_fault, kind_fault, kind_of, letter, sizes, take_columns}
+use Rattle.dataset.specs.FirstFault.{is_end, kind_place, record_place}
+use Rattle.dataset.specs.Order.{place_numbers}
+use Rattle.dataset.specs.TakenAs.{IsRowOf, IsTakenAs}
+use Rattle.dataset.specs.Writing.{table_counts}
+
+-- a word that is none of the known ones
+false_unless : (b : Bool) → (b ≡ true → ⊥) → b ≡ false
+false_unless true h = absurd (h refl)
+false_unless false h = refl
+
+pub other : (word known : List ℕ) → (word ≡ known → ⊥) → bytes_eq word known ≡ false
+other word known none = false_unless (bytes_eq word known) (λ h. none ((bytes_decides word known).0 h))
+
+-- a word that was taken, and what is left behind it
+pub record TookWord (word : List ℕ) (before : List (List ℕ)) (known : Option FaultKind) (new : Taking) : Type 0 where
+  pub left : before ≡ word ∷ new.left
+  pub fault : new.fault ≡ known
+
+pub some_word : (letter : List ℕ) (n : ℕ) (word : List ℕ) (left : List (List ℕ)) (known : Option FaultKind) (new : Taking) → length letter ≡ suc n → word ≡ letter
+    → ◌≡◌ {A = List ℕ × Taking} (word, new) (next_read word_read [] left known) → TookWord letter left known new
+some_word letter n word [] known new some is e =
+    let none : word ≡ [] = ap (λ (p : List ℕ × Taking). p.0) e in
+    let clash : suc n ≡ 0 = sym some ∙ ap length (sym is ∙ none) in
+    absurd cc
+some_word letter n word (field ∷ rest) known new some is e = by (is_utf8 field) refl
+  where
+    by : (b : Bool) → is_utf8 field ≡ b → TookWord letter (field ∷ rest) known new
+    by true utf8 =
+        let read = word_is field (IsUtf8-from_is_utf8 field utf8) in
+        let done = rw read at e in
+        let word_same : word ≡ field = ap (λ (p : List ℕ × Taking). p.0) done in
+        let left_same : new.left ≡ rest = ap (λ (p : List ℕ × Taking). p.1.left) done in
+        record { left = λ i. (sym word_same ∙ is) i ∷ sym left_same i; fault = ap (λ (p : List ℕ × Taking). p.1.fault) done }
+    by false not_utf8 =
+        let read = no_word field (λ u. let yes = is_utf8-from_IsUtf8 field u in let no : true ≡ false = sym yes ∙ not_utf8 in cc) in
+        let done = rw read at e in
+        let none : word ≡ [] = ap (λ (p : List ℕ × Taking). p.0) done in
+        let clash : suc n ≡ 0 = sym some ∙ ap length (sym is ∙ none) in
+        absurd cc
+
+kind_of_letter : (table : Table) → kind_of (letter table) ≡ Some (Of table)
+kind_of_letter Items = refl
+kind_of_letter Warehouses = refl
+kind_of_letter Districts = refl
+kind_of_letter Stocks = refl
+kind_of_letter Customers = refl
+kind_of_letter Histories = refl
+kind_of_letter Orders = refl
+kind_of_letter NewOrders = refl
+kind_of_letter Lines = refl
+
+letter_is_not_end : (table : Table) → bytes_eq (letter table) (codes "END") ≡ false
+letter_is_not_end Items = refl
+letter_is_not_end Warehouses = refl
+letter_is_not_end Districts = refl
+letter_is_not_end Stocks = refl
+letter_is_not_end Customers = refl
+letter_is_not_end Histories = refl
+letter_is_not_end Orders = refl
+letter_is_not_end NewOrders = refl
+letter_is_not_end Lines = refl
+
+one_letter : (table : Table) → length (letter table) ≡ 1
+one_letter Items = refl
+one_letter Warehouses = refl
+one_letter Districts = refl
+one_letter Stocks = refl
+one_letter Customers = refl
+one_letter Histories = refl
+one_letter Orders = refl
+one_letter NewOrders = refl
+one_letter Lines = refl
+
+-- a row's record, behind its letter
+pub row_is : (table : Table) (l m : Loader) (old mid new : Fields) (word : List ℕ) → word ≡ letter table
+    → ◌≡◌ {A = List ℕ × Taking} (word, taking mid) (field_read word_read [] (taking old)) → (fault_of mid ≡ None → IsRowOf table l m mid new)
+    → fault_of old ≡ None → IsTakenAs Row l m old new
+row_is table l m old mid new word is field taken none =
+    let took = some_word (letter table) 0 word (fields_left old) (fault_of old) (taking mid) (one_letter table) is field in
+    let row = taken (took.fault ∙ none) in
+    record {
+      fault = λ few. row.fault ∙ sym (ap (λ fields. fields_fault (sizes l.scale) (place_numbers l.last) (table_counts l.rows) fields) took.left
+          ∙ ap (λ kind. kind_fault (sizes l.scale) (place_numbers l.last) (table_counts l.rows) kind (fields_left mid)) (kind_of_letter table));
+      kind = λ free. sym (ap (λ fields. if is_end fields then End else Row) took.left ∙ ap (λ b. if b then End else Row) (letter_is_not_end table));
+      last = λ free row_taken. row.last free ∙ sym (ap (record_place (sizes l.scale)) took.left ∙ ap (λ kind. kind_place (sizes l.scale) kind (fields_left mid)) (kind_of_letter table));
+      scale = row.scale;
+    }
+
+-- the end record
+pub end_is : (l : Loader) (old mid checked new : Fields) (word : List ℕ) → word ≡ codes "END"
+    → ◌≡◌ {A = List ℕ × Taking} (word, taking mid) (field_read word_read [] (taking old))
+    → (sum (map length l.rows.histories.items) < 2 ^ 64 → taking checked ≡ take_columns (map (λ count. Count count) (table_counts l.rows)) (taking mid))
+    → fault_of new ≡ at_end (fields_left checked) (fault_of checked) → fault_of old ≡ None → IsTakenAs End l l old new
+end_is l old mid checked new word is field counted ended none =
+    let took = some_word (codes "END") 2 word (fields_left old) (fault_of old) (taking mid) refl is field in
+    let start : taking mid ≡ record { left = fields_left mid; fault = None } = ap (λ (f : Option FaultKind). record { left = fields_left mid; fault = f }) (took.fault ∙ none) in
+    let columns : List Column = map (λ count. Count count) (table_counts l.rows) in
+    record {
+      fault = λ few. ended ∙ ap (λ (t : Taking). at_end t.left t.fault) (counted few ∙ ap (take_columns columns) start)
+          ∙ sym (ap (λ fields. fields_fault (sizes l.scale) (place_numbers l.last) (table_counts l.rows) fields) took.left);
+      kind = λ free. sym (ap (λ fields. if is_end fields then End else Row) took.left);
+      last = λ free row. let clash : End ≡ Row = row in absurd cc;
+      scale = refl;
+    }
+
+no_kind : (word : List ℕ) → (word ≡ codes "I" → ⊥) → (word ≡ codes "W" → ⊥) → (word ≡ codes "D" → ⊥) → (word ≡ codes "S" → ⊥) → (word ≡ codes "C" → ⊥) → (word ≡ codes "H" → ⊥) → (word ≡ codes "O" → ⊥) → (word ≡ codes "N" → ⊥) → (word ≡ codes "L" → ⊥) → (word ≡ codes "END" → ⊥) → kind_of word ≡ None
+no_kind word n0 n1 n2 n3 n4 n5 n6 n7 n8 n9 = rw (
+  other word (codes "I") n0,
+  other word (codes "W") n1,
+  other word (codes "D") n2,
+  other word (codes "S") n3,
+  other word (codes "C") n4,
+  other word (codes "H") n5,
+  other word (codes "O") n6,
+  other word (codes "N") n7,
+  other word (codes "L") n8,
+  other word (codes "END") n9,
+) refl
+
+-- bytes that are no text are none of the words
+no_text_kind : (field : List ℕ) → (IsUtf8 field → ⊥) → kind_of field ≡ None
+no_text_kind field none =
+    no_kind field (no (codes "I") (utf8_words (codes "I") refl)) (no (codes "W") (utf8_words (codes "W") refl)) (no (codes "D") (utf8_words (codes "D") refl))
+    (no (codes "S") (utf8_words (codes "S") refl)) (no (codes "C") (utf8_words (codes "C") refl)) (no (codes "H") (utf8_words (codes "H") refl))
+    (no (codes "O") (utf8_words (codes "O") refl)) (no (codes "N") (utf8_words (codes "N") refl)) (no (codes "L") (utf8_words (codes "L") refl)) (no (codes "END") (utf8_words (codes "END") refl))
+  where
+    no : (known : List ℕ) → IsUtf8 known → field ≡ known → ⊥
+    no known utf8 same = none (subst IsUtf8 (sym same) utf8)
+
+-- a record that begins with none of the words
+other_fault : (word : List ℕ) (left : List (List ℕ)) (new : Taking) (end : Option FaultKind) → ◌≡◌ {A = List ℕ × Taking} (word, new) (next_read word_read [] left None) → kind_of word ≡ None
+    → end ≡ Some (with_fault new.fault fault.WrongShape) → (l : Loader) → end ≡ fields_fault (sizes l.scale) (place_numbers l.last) (table_counts l.rows) left
+other_fault word [] new end e none is l = is ∙ ap (λ f. Some (with_fault f fault.WrongShape)) (ap (λ (p : List ℕ × Taking). p.1.fault) e)
+other_fault word (field ∷ rest) new end e none is l = by (is_utf8 field) refl
+  where
+    by : (b : Bool) → is_utf8 field ≡ b → end ≡ fields_fault (sizes l.scale) (place_numbers l.last) (table_counts l.rows) (field ∷ rest)
+    by true utf8 =
+        let read = word_is field (IsUtf8-from_is_utf8 field utf8) in
+        let done = rw read at e in
+        let kind : kind_of field ≡ None = ap kind_of (sym (ap (λ (p : List ℕ × Taking). p.0) done)) ∙ none in
+        is ∙ ap (λ f. Some (with_fault f fault.WrongShape)) (ap (λ (p : List ℕ × Taking). p.1.fault) done)
+        ∙ sym (ap (λ k. kind_fault (sizes l.scale) (place_numbers l.last) (table_counts l.rows) k rest) kind)
+    by false not_utf8 =
+        let no_text : IsUtf8 field → ⊥ = λ u. let yes = is_utf8-from_IsUtf8 field u in let no : true ≡ false = sym yes ∙ not_utf8 in cc in
+        let done = rw (no_word field no_text) at e in
+        is ∙ ap (λ f. Some (with_fault f fault.WrongShape)) (ap (λ (p : List ℕ × Taking). p.1.fault) done)
+        ∙ sym (ap (λ k. kind_fault (sizes l.scale) (place_numbers l.last) (table_counts l.rows) k rest) (no_text_kind field no_text))
+
+pub other_is : (l : Loader) (old mid new : Fields) (word : List ℕ)
+    → (word ≡ codes "I" → ⊥) → (word ≡ codes "W" → ⊥) → (word ≡ codes "D" → ⊥) → (word ≡ codes "S" → ⊥) → (word ≡ codes "C" → ⊥) → (word ≡ codes "H" → ⊥) → (word ≡ codes "O" → ⊥) → (word ≡ codes "N" → ⊥) → (word ≡ codes "L" → ⊥) → (word ≡ codes "END" → ⊥)
+    → ◌≡◌ {A = List ℕ × Taking} (word, taking mid) (field_read word_read [] (taking old)) → fault_of new ≡ Some (with_fault (fault_of mid) fault.WrongShape)
+    → fault_of old ≡ None → IsTakenAs Row l l old new
+other_is l old mid new word n0 n1 n2 n3 n4 n5 n6 n7 n8 n9 field is none =
+    let e : ◌≡◌ {A = List ℕ × Taking} (word, taking mid) (next_read word_read [] (fields_left old) None) = field ∙ ap (next_read word_read [] (fields_left old)) none in
+    record {
+      fault = λ few. other_fault word (fields_left old) (taking mid) (fault_of new) e (no_kind word n0 n1 n2 n3 n4 n5 n6 n7 n8 n9) is l;
+      kind = λ free. absurd (some free);
+      last = λ free row. absurd (some free);
+      scale = refl;
+    }
+  where
+    some : fault_of new ≡ None → ⊥
+    some free = let clash : None ≡ Some (with_fault (fault_of mid) fault.WrongShape) = sym free ∙ is in cc

@@ -1,0 +1,209 @@
+-- The columns of a dataset's records, and what is faulty in a record.
+use Rattle.std.specs.Prelude.{ℕ, pos, List, [], ◌∷◌, ◌++◌, map, take, length, Bool, true, false, nat_lt, codes, Option, Some, None, if◌then◌else◌}
+use Rattle.std.specs.Ordering.{nat_cmp, is_le, is_lt}
+use Rattle.std.specs.Cmp.Lexicographic.{slice_cmp}
+use Rattle.std.specs.Str.{bytes_eq}
+use Rattle.std.specs.Str.Parse.{digits_value}
+use Rattle.rows.specs.declared.records.Credit.TheVariants.{Good}
+use Rattle.schema.specs.declared.scale.Scale.{Scale}
+use Rattle.files.specs.declared.fault.FaultKind.{FaultKind}
+use Rattle.files.specs.declared.fault.FaultKind.TheVariants.{WrongShape, OutOfOrder}
+use Rattle.files.specs.FieldRead.{Taking, field_read, noted, whole_read}
+use Rattle.files.specs.KindsRead.{count_read, credit_read, moment_read, money_read, optional_read}
+use Rattle.files.specs.Span.{record_size}
+use Rattle.files.specs.Word.{text_read}
+
+-- ---- the tables and their columns
+
+-- how many warehouses, items, and customers of a district a header tells
+pub record Sizes : Type 0 where
+  pub warehouses : ℕ
+  pub items : ℕ
+  pub customers : ℕ
+
+abbrev pub sizes : Scale → Sizes
+sizes scale = record { warehouses = scale.warehouses; items = scale.items; customers = scale.customers }
+
+-- the nine tables
+pub data Table : Type 0 where
+  Items : Table
+  Warehouses : Table
+  Districts : Table
+  Stocks : Table
+  Customers : Table
+  Histories : Table
+  Orders : Table
+  NewOrders : Table
+  Lines : Table
+
+-- a column: a number from low to high, a text of at most so many bytes, money, a moment, GC or BC, a number or a
+-- moment that may be null, and a count that is known before
+pub data Column : Type 0 where
+  Whole : ℕ → ℕ → Column
+  Words : ℕ → Column
+  Cents : Column
+  Moment : Column
+  Credit : Column
+  MaybeWhole : ℕ → ℕ → Column
+  MaybeMoment : Column
+  Count : ℕ → Column
+
+-- the letter with which a table's records begin
+abbrev pub letter : Table → List ℕ
+letter Items = codes "I"
+letter Warehouses = codes "W"
+letter Districts = codes "D"
+letter Stocks = codes "S"
+letter Customers = codes "C"
+letter Histories = codes "H"
+letter Orders = codes "O"
+letter NewOrders = codes "N"
+letter Lines = codes "L"
+
+-- the tables in the order of a dataset, from 1
+abbrev pub table_number : Table → ℕ
+table_number Items = 1
+table_number Warehouses = 2
+table_number Districts = 3
+table_number Stocks = 4
+table_number Customers = 5
+table_number Histories = 6
+table_number Orders = 7
+table_number NewOrders = 8
+table_number Lines = 9
+
+-- W_ID and D_ID
+abbrev pub district_columns : Sizes → List Column
+district_columns scale = Whole 1 scale.warehouses ∷ Whole 1 10 ∷ []
+
+-- W_ID, D_ID and C_ID
+abbrev pub customer_key : Sizes → List Column
+customer_key scale = Whole 1 scale.warehouses ∷ Whole 1 10 ∷ Whole 1 scale.customers ∷ []
+
+-- W_ID, D_ID and O_ID
+abbrev pub order_key : Sizes → List Column
+order_key scale = Whole 1 scale.warehouses ∷ Whole 1 10 ∷ Whole 1 9999999 ∷ []
+
+-- the columns behind the letter that tell where a record stands: its key, and of HISTORY the district
+abbrev pub key_columns : Sizes → Table → List Column
+key_columns scale Items = Whole 1 scale.items ∷ []
+key_columns scale Warehouses = Whole 1 scale.warehouses ∷ []
+key_columns scale Districts = district_columns scale
+key_columns scale Stocks = Whole 1 scale.warehouses ∷ Whole 1 scale.items ∷ []
+key_columns scale Customers = customer_key scale
+key_columns scale Histories = district_columns scale
+key_columns scale Orders = order_key scale
+key_columns scale NewOrders = order_key scale
+key_columns scale Lines = Whole 1 scale.warehouses ∷ Whole 1 10 ∷ Whole 1 9999999 ∷ Whole 1 15 ∷ []
+
+-- street_1, street_2, city, state and zip
+abbrev pub address_columns : List Column
+address_columns = Words 20 ∷ Words 20 ∷ Words 20 ∷ Words 2 ∷ Words 9 ∷ []
+
+-- S_DIST_01 to S_DIST_10
+abbrev pub info_columns : List Column
+info_columns =
+    Words 24 ∷ Words 24 ∷ Words 24 ∷ Words 24 ∷ Words 24 ∷ Words 24 ∷ Words 24 ∷ Words 24 ∷ Words 24 ∷ Words 24 ∷ []
+
+-- a count that only grows
+abbrev pub counter : Column
+counter = Whole 0 999999999
+
+-- the columns behind those
+abbrev pub other_columns : Sizes → Table → List Column
+other_columns scale Items = Whole 1 10000 ∷ Words 24 ∷ Whole 1 99999 ∷ Words 50 ∷ []
+other_columns scale Warehouses = Words 10 ∷ address_columns ++ Whole 0 9999 ∷ Cents ∷ []
+other_columns scale Districts = Words 10 ∷ address_columns ++ Whole 0 9999 ∷ Cents ∷ Whole 1 10000000 ∷ []
+other_columns scale Stocks = Whole 10 100 ∷ info_columns ++ counter ∷ counter ∷ counter ∷ Words 50 ∷ []
+other_columns scale Customers =
+    Words 16 ∷ Words 2 ∷ Words 16 ∷ address_columns ++ Words 16 ∷ Moment ∷ Credit
+    ∷ Cents ∷ Whole 0 9999 ∷ Cents ∷ Cents ∷ counter ∷ counter ∷ Words 500 ∷ []
+other_columns scale Histories = customer_key scale ++ Moment ∷ Cents ∷ Words 24 ∷ []
+other_columns scale Orders = Whole 1 scale.customers ∷ Moment ∷ MaybeWhole 1 10 ∷ Whole 1 15 ∷ Whole 0 1 ∷ []
+other_columns scale NewOrders = []
+other_columns scale Lines =
+    Whole 1 scale.items ∷ Whole 1 scale.warehouses ∷ MaybeMoment ∷ Whole 1 10 ∷ Whole 0 999999 ∷ Words 24 ∷ []
+
+-- ---- the fault of fields
+
+-- the next field is read as one of the column: the least fault so far, and the fields that are left
+abbrev pub take_column : Column → Taking → Taking
+take_column (Whole low high) t = (field_read (whole_read low high) low t).1
+take_column (Words width) t = (field_read (text_read width) [] t).1
+take_column Cents t = (field_read money_read (pos 0) t).1
+take_column Moment t = (field_read moment_read 0 t).1
+take_column Credit t = (field_read credit_read Good t).1
+take_column (MaybeWhole low high) t = (field_read (optional_read (whole_read low high)) None t).1
+take_column MaybeMoment t = (field_read (optional_read moment_read) None t).1
+take_column (Count count) t = (field_read (count_read count) count t).1
+
+-- the same of several, from left to right
+abbrev pub take_columns : List Column → Taking → Taking
+take_columns [] t = t
+take_columns (column ∷ columns) t = take_columns columns (take_column column t)
+
+-- fields that are left over are too many
+abbrev pub at_end : List (List ℕ) → Option FaultKind → Option FaultKind
+at_end [] fault = fault
+at_end (field ∷ fields) fault = noted fault WrongShape
+
+-- the least fault, where these are all columns that are left
+abbrev pub columns_end : List Column → Taking → Option FaultKind
+columns_end columns t = let u : Taking = take_columns columns t in at_end u.left u.fault
+
+-- the least fault of a record's fields, where these are its columns
+abbrev pub columns_fault : List Column → List (List ℕ) → Option FaultKind
+columns_fault columns fields = columns_end columns (record { left = fields; fault = None })
+
+-- ---- the fault of a record
+
+-- what a record's first field says that it is: a table's, or the end
+pub data Kind : Type 0 where
+  Of : Table → Kind
+  Ending : Kind
+
+abbrev pub kind_of : List ℕ → Option Kind
+kind_of word =
+    if bytes_eq word (letter Items) then Some (Of Items)
+    else (if bytes_eq word (letter Warehouses) then Some (Of Warehouses)
+    else (if bytes_eq word (letter Districts) then Some (Of Districts)
+    else (if bytes_eq word (letter Stocks) then Some (Of Stocks)
+    else (if bytes_eq word (letter Customers) then Some (Of Customers)
+    else (if bytes_eq word (letter Histories) then Some (Of Histories)
+    else (if bytes_eq word (letter Orders) then Some (Of Orders)
+    else (if bytes_eq word (letter NewOrders) then Some (Of NewOrders)
+    else (if bytes_eq word (letter Lines) then Some (Of Lines)
+    else (if bytes_eq word (codes "END") then Some Ending else None)))))))))
+
+-- where a table's record stands: the table's number, and the numbers of its key
+abbrev pub place_in : Sizes → Table → List (List ℕ) → List ℕ
+place_in scale table fields = table_number table ∷ map (digits_value 10) (take (length (key_columns scale table)) fields)
+
+-- Whether a table's record may come right after one at that place. Only the rows of HISTORY, which have no key, may share
+-- a place.
+abbrev pub comes_after : Table → List ℕ → List ℕ → Bool
+comes_after Histories place last = is_le (slice_cmp nat_cmp last place)
+comes_after table place last = is_lt (slice_cmp nat_cmp last place)
+
+-- a record out of order, if it has no lesser fault
+abbrev pub or_order : Option FaultKind → Bool → Option FaultKind
+or_order (Some kind) in_order = Some kind
+or_order None true = None
+or_order None false = Some OutOfOrder
+
+-- the fault of a record of that kind, behind one at that place, with so many records of each table before it
+abbrev pub kind_fault : Sizes → List ℕ → List ℕ → Option Kind → List (List ℕ) → Option FaultKind
+kind_fault scale last counts None fields = Some WrongShape
+kind_fault scale last counts (Some Ending) fields = columns_fault (map (λ count. Count count) counts) fields
+kind_fault scale last counts (Some (Of table)) fields =
+    or_order (columns_fault (key_columns scale table ++ other_columns scale table) fields) (comes_after table (place_in scale table fields) last)
+
+-- the fault of a record, whatever its length
+abbrev pub fields_fault : Sizes → List ℕ → List ℕ → List (List ℕ) → Option FaultKind
+fields_fault scale last counts [] = Some WrongShape
+fields_fault scale last counts (word ∷ fields) = kind_fault scale last counts (kind_of word) fields
+
+-- a record may have 65,536 bytes, with one for the end of each field
+abbrev pub record_fault : Sizes → List ℕ → List ℕ → List (List ℕ) → Option FaultKind
+record_fault scale last counts fields =
+    if nat_lt 65536 (record_size fields) then Some WrongShape else fields_fault scale last counts fields

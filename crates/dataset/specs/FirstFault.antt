@@ -1,0 +1,120 @@
+-- The first fault of a dataset, by its record and its kind.
+use Rattle.std.specs.Prelude.{◌≡◌, ◌+◌, ◌⊎◌, ℕ, List, [], ◌∷◌, ◌++◌, length, drop, get_or, Bool, false, ◌&&◌, ◌==◌, nat_lt, codes, Option, Some, None, MatchOption, if◌then◌else◌}
+use Rattle.std.specs.Str.{bytes_eq}
+use Rattle.std.specs.Str.Parse.{digits_value}
+use Rattle.schema.specs.Database.{Database, IsWithinScale}
+use Rattle.files.specs.declared.fault.FaultKind.{FaultKind}
+use Rattle.files.specs.declared.fault.FaultKind.TheVariants.{NoHeader, WrongShape, NoEnd, AfterEnd, ScaleBroken, Io}
+use Rattle.files.specs.declared.fault.FileFault.{FileFault}
+use Rattle.files.specs.declared.fault.FileError.{FileError}
+use Rattle.files.specs.declared.fault.FileError.TheVariants.{NoMemory, File}
+use Rattle.files.specs.Span.{record_size}
+use Rattle.dataset.specs.Columns.{Sizes, Column, Table, Kind, Of, Ending, Whole, Items, Warehouses, Districts, Stocks, Customers, Histories, Orders, NewOrders, Lines, columns_fault, kind_of, letter, place_in, record_fault}
+use Rattle.dataset.specs.Ranges.{InRange}
+use Rattle.dataset.specs.Records.{AreRecords}
+
+-- ---- what is known of the records before one
+
+-- whether a record is one of that table
+abbrev pub is_of : Table → List (List ℕ) → Bool
+is_of table [] = false
+is_of table (word ∷ fields) = bytes_eq word (letter table)
+
+-- how many of the records are of that table
+unfoldable pub number_of : Table → List (List (List ℕ)) → ℕ
+number_of table [] = 0
+number_of table (row ∷ rows) = (if is_of table row then 1 else 0) + number_of table rows
+
+-- how many are of each table
+abbrev pub counts : List (List (List ℕ)) → List ℕ
+counts rows =
+    number_of Items rows ∷ number_of Warehouses rows ∷ number_of Districts rows ∷ number_of Stocks rows
+    ∷ number_of Customers rows ∷ number_of Histories rows ∷ number_of Orders rows ∷ number_of NewOrders rows
+    ∷ number_of Lines rows ∷ []
+
+-- where a record of that kind stands; the header stands before all tables
+abbrev pub kind_place : Sizes → Option Kind → List (List ℕ) → List ℕ
+kind_place scale (Some (Of table)) fields = place_in scale table fields
+kind_place scale (Some Ending) fields = 0 ∷ []
+kind_place scale None fields = 0 ∷ []
+
+abbrev pub record_place : Sizes → List (List ℕ) → List ℕ
+record_place scale [] = 0 ∷ []
+record_place scale (word ∷ fields) = kind_place scale (kind_of word) fields
+
+-- where the last of the records stands
+abbrev pub last_place : Sizes → List (List (List ℕ)) → List ℕ
+last_place scale [] = 0 ∷ []
+last_place scale (row ∷ []) = record_place scale row
+last_place scale (row ∷ next ∷ rows) = last_place scale (next ∷ rows)
+
+-- whether it is the end record
+abbrev pub is_end : List (List ℕ) → Bool
+is_end [] = false
+is_end (word ∷ fields) = bytes_eq word (codes "END")
+
+-- ---- the first fault
+
+-- of that kind, at that record
+abbrev pub fault_at : FaultKind → ℕ → FileFault
+fault_at kind number = record { kind = kind; «record» = number }
+
+-- records that come after the end record, which has that number
+abbrev pub behind_end : ℕ → List (List (List ℕ)) → Option FileFault
+behind_end number [] = None
+behind_end number (row ∷ rows) = Some (fault_at AfterEnd (number + 1))
+
+-- a record's fault, or what is found from the next one on
+abbrev pub fault_or : Option FaultKind → ℕ → Option FileFault → Option FileFault
+fault_or (Some kind) number next = Some (fault_at kind number)
+fault_or None number next = next
+
+-- The first fault of the records that come after those before, the first of which is the header. Each record is seen
+-- beside those before it: it comes after the last of them, and the end record counts them.
+unfoldable pub rows_fault : Sizes → List (List (List ℕ)) → List (List (List ℕ)) → Option FileFault
+rows_fault scale before [] = Some (fault_at NoEnd (length before + 1))
+rows_fault scale before (row ∷ rows) =
+    fault_or (record_fault scale (last_place scale before) (counts before) row) (length before + 1)
+    (if is_end row then behind_end (length before + 1) rows else rows_fault scale (before ++ row ∷ []) rows)
+
+-- the three numbers of a header
+abbrev pub header_columns : List Column
+header_columns = Whole 1 64 ∷ Whole 1 100000 ∷ Whole 1 3000 ∷ []
+
+abbrev pub header_sizes : List (List ℕ) → Sizes
+header_sizes fields = record {
+  warehouses = digits_value 10 (get_or fields 2 []);
+  items = digits_value 10 (get_or fields 3 []);
+  customers = digits_value 10 (get_or fields 4 []);
+}
+
+-- a header has five fields: the name and the number of the format, and those
+abbrev pub is_header : List (List ℕ) → Bool
+is_header fields = length fields == 5 && (bytes_eq (get_or fields 0 []) (codes "TPCC") && bytes_eq (get_or fields 1 []) (codes "1"))
+
+-- the fault of the first record, whatever its length, and in all
+abbrev pub told_header : List (List ℕ) → Option FaultKind
+told_header fields = if is_header fields then columns_fault header_columns (drop 2 fields) else Some NoHeader
+
+abbrev pub header_fault : List (List ℕ) → Option FaultKind
+header_fault fields = if nat_lt 65536 (record_size fields) then Some WrongShape else told_header fields
+
+-- the first fault of a text with these records, but for a rule of the scale that its rows break
+unfoldable pub first_fault : List (List (List ℕ)) → Option FileFault
+first_fault [] = Some (fault_at NoHeader 1)
+first_fault (header ∷ rows) = fault_or (header_fault header) 1 (rows_fault (header_sizes header) (header ∷ []) rows)
+
+-- no tables within their scale have these records
+abbrev pub HasNoTables : List (List (List ℕ)) → Type 0
+HasNoTables rows = (t : Database) → IsWithinScale t → InRange t → AreRecords t rows → ⊥
+
+-- The fault of a text with these records: the first one; and where there is none, but no tables have the records, that a
+-- rule of the scale is broken, at the end record.
+abbrev pub IsFaultOf : List (List (List ℕ)) → FileFault → Type 0
+IsFaultOf rows fault =
+    MatchOption (first_fault rows) ((fault ≡ fault_at ScaleBroken (length rows)) × HasNoTables rows) (λ first. fault ≡ first)
+
+-- an error that is told of such a text: its fault, beside want of memory and a reader that failed
+abbrev pub Tells : List (List (List ℕ)) → FileError → Type 0
+Tells rows NoMemory = Unit {0}
+Tells rows (File fault) = (fault.kind ≡ Io) ⊎ IsFaultOf rows fault

@@ -1,0 +1,116 @@
+-- What the records of scripts, schedules and logs tell.
+use Rattle.std.specs.Prelude.{◌≡◌, ◌<◌, ◌^◌, ℕ, List, length, IfSome}
+use Rattle.std.specs.List.{AllByRecursion}
+use Rattle.amounts.specs.Money.{IsMoney}
+use Rattle.rows.specs.declared.keys.DistrictKey.{DistrictKey}
+use Rattle.requests.specs.declared.request.Request.{Request}
+use Rattle.requests.specs.declared.request.Request.TheVariants as request
+use Rattle.requests.specs.declared.new_order.OrderedLine.{OrderedLine}
+use Rattle.requests.specs.declared.new_order.NewOrderLine.{NewOrderLine}
+use Rattle.requests.specs.declared.order_status.StatusLine.{StatusLine}
+use Rattle.requests.specs.declared.order_status.StatusOrder.{StatusOrder}
+use Rattle.requests.specs.declared.reply.Fault.{Fault}
+use Rattle.requests.specs.declared.reply.Fault.TheVariants.{NoCustomer, NoItem, Range}
+use Rattle.requests.specs.declared.reply.Reply.{Reply}
+use Rattle.requests.specs.declared.reply.Reply.TheVariants.{Done, RolledBack}
+use Rattle.requests.specs.declared.reply.Shown.{Shown}
+use Rattle.requests.specs.declared.reply.Shown.TheVariants as shown
+use Rattle.commit_log.specs.declared.entry.Entry.{Entry}
+use Rattle.history.specs.declared.event.Event.{Event}
+use Rattle.history.specs.declared.event.Event.TheVariants.{Submit, Take, Send}
+use Rattle.history.specs.declared.schedule.Scheduled.{Scheduled}
+use Rattle.history.specs.declared.schedule.Scheduled.TheVariants as scheduled
+use Rattle.terminals.specs.ChoiceLaws.{IsChoice}
+use Rattle.terminals.specs.Script.{IsScript}
+use Rattle.terminals.specs.Schedule.{IsSchedule}
+use Rattle.terminals.specs.LogRecord.{IsLog}
+
+-- ---- what the types keep of every value
+
+-- a number of 32 bits
+abbrev pub IsWord : ℕ → Type 0
+IsWord number = number < 2 ^ 32
+
+-- the key of a district
+abbrev pub IsDistrictKey : DistrictKey → Type 0
+IsDistrictKey key = IsWord key.w_id × IsWord key.d_id
+
+-- a line of an order, as it is placed
+abbrev pub IsOrderedLine : OrderedLine → Type 0
+IsOrderedLine line = IsWord line.i_id × IsWord line.supply_w_id × IsWord line.quantity
+
+-- a request that can be made
+abbrev pub CanBeAsked : Request → Type 0
+CanBeAsked (request.NewOrder n) = IsDistrictKey n.home × IsWord n.c_id × IsWord (length n.lines) × AllByRecursion IsOrderedLine n.lines
+CanBeAsked (request.Payment p) = IsDistrictKey p.home × IsDistrictKey p.customer_home × IsChoice p.customer × IsWord p.amount
+CanBeAsked (request.OrderStatus o) = IsDistrictKey o.home × IsChoice o.customer
+CanBeAsked (request.Delivery d) = IsWord d.w_id × IsWord d.carrier_id
+CanBeAsked (request.StockLevel s) = IsDistrictKey s.home × IsWord s.threshold
+
+-- a line of an order, as a New-Order shows it
+abbrev pub IsShownLine : NewOrderLine → Type 0
+IsShownLine line =
+    IsWord line.supply_w_id × IsWord line.i_id × IsWord line.quantity × IsWord line.stock_quantity × IsWord line.price × IsWord line.amount
+
+-- a line of an order, as an Order-Status shows it
+abbrev pub IsLineOfStatus : StatusLine → Type 0
+IsLineOfStatus line = IsWord line.i_id × IsWord line.supply_w_id × IsWord line.quantity × IsWord line.amount
+
+-- an order, as an Order-Status shows it
+abbrev pub IsOrderOfStatus : StatusOrder → Type 0
+IsOrderOfStatus order = IsWord order.o_id × IfSome order.carrier_id IsWord × AllByRecursion IsLineOfStatus order.lines
+
+-- what can be shown
+abbrev pub CanBeShown : Shown → Type 0
+CanBeShown (shown.NewOrder n) =
+    IsWord n.discount × IsWord n.warehouse_tax × IsWord n.district_tax × IsWord n.o_id × IsMoney n.total × AllByRecursion IsShownLine n.lines
+CanBeShown (shown.Payment p) = IsWord p.c_id × IsWord p.discount × IsMoney p.balance
+CanBeShown (shown.OrderStatus o) = IsWord o.c_id × IsMoney o.balance × IfSome o.order IsOrderOfStatus
+CanBeShown (shown.Delivery d) = IsWord d.carrier_id × AllByRecursion (λ order. IfSome order IsWord) d.orders
+CanBeShown (shown.StockLevel s) = IsWord s.count
+
+-- why a transaction can have changed nothing
+abbrev pub CanBeFault : Fault → Type 0
+CanBeFault NoCustomer = Unit {0}
+CanBeFault (NoItem last credit o_id) = IsWord o_id
+CanBeFault Range = Unit {0}
+
+-- a reply that can be given
+abbrev pub CanBeReplied : Reply → Type 0
+CanBeReplied (Done shown) = CanBeShown shown
+CanBeReplied (RolledBack fault) = CanBeFault fault
+
+-- an entry that can be logged
+abbrev pub CanBeLogged : Entry → Type 0
+CanBeLogged entry = IsWord entry.session × IsWord entry.number × CanBeAsked entry.request × CanBeReplied entry.reply
+
+-- an event that can be asked for
+abbrev pub CanBeEvent : Event → Type 0
+CanBeEvent (Submit session number request) = IsWord session × IsWord number × CanBeAsked request
+CanBeEvent (Take executor) = IsWord executor
+CanBeEvent (Send executor) = IsWord executor
+
+-- an item that can be scheduled
+abbrev pub CanBeScheduled : Scheduled → Type 0
+CanBeScheduled (scheduled.Event event) = CanBeEvent event
+CanBeScheduled scheduled.Rounds = Unit {0}
+
+-- ---- the laws
+
+-- different scripts have different records
+abbrev pub ScriptsDiffer : Type 0
+ScriptsDiffer =
+    (one other : List Request) → AllByRecursion CanBeAsked one → AllByRecursion CanBeAsked other
+    → (rows : List (List (List ℕ))) → IsScript one rows → IsScript other rows → one ≡ other
+
+-- different schedules have different records
+abbrev pub SchedulesDiffer : Type 0
+SchedulesDiffer =
+    (one other : List Scheduled) → AllByRecursion CanBeScheduled one → AllByRecursion CanBeScheduled other
+    → (rows : List (List (List ℕ))) → IsSchedule one rows → IsSchedule other rows → one ≡ other
+
+-- different logs have different records
+abbrev pub LogsDiffer : Type 0
+LogsDiffer =
+    (one other : List Entry) → AllByRecursion CanBeLogged one → AllByRecursion CanBeLogged other
+    → (rows : List (List (List ℕ))) → IsLog one rows → IsLog other rows → one ≡ other

@@ -1,0 +1,44 @@
+use Rattle.std.proofs.Common.{◌≡◌, ◌+◌, ◌<◌, ℕ, List, length, take, drop, get_or, Option, sym, ap, subst, ◌∙◌, arith}
+use Rattle.std.specs.List.{All}
+use Rattle.std.proofs.lemmas.List.{drop-drop, get_or-drop}
+use Rattle.requests.specs.Check.{IsAccepted}
+use Rattle.requests.specs.declared.request.Request.{Request}
+use Rattle.terminals.specs.Script.{IsScript}
+use Rattle.tpcc.specs.Edges.{NamesFile}
+use Rattle.tpcc.specs.Script.{AreDrawn, NamesScripts}
+use Rattle.tpcc.proofs.ScriptFiles.{names-first, on_any_err, scripts-more}
+use Rattle.tpcc.proofs.script.write_scripts.Goals as goal
+
+pub returns-in_err-script-clause-some : goal.returns-in_err-script-clause-some
+returns-in_err-script-clause-some g c =
+    on_any_err c.from_residual.result
+    (names-first g.T.Write.contents c.args.workload.now c.args.files.items c.loop-session.session (g.N.Shelf.named c.args.shelf.now) (g.N.Shelf.named c.loop-session.shelf) c.loop-session.invariant.named)
+
+pub returns-in_err-write_requests-clause-some : goal.returns-in_err-write_requests-clause-some
+returns-in_err-write_requests-clause-some g c =
+    let Names : Option (List (Option (List ℕ))) → Type 0 = λ n. NamesScripts g.T.Write.contents c.args.workload.now 0 (take c.loop-session.session c.args.files.items) (g.N.Shelf.named c.args.shelf.now) n in
+    on_any_err c.from_residual-in_err-write_requests.result
+    (names-first g.T.Write.contents c.args.workload.now c.args.files.items c.loop-session.session (g.N.Shelf.named c.args.shelf.now) (g.N.Shelf.named c.write_requests.new.shelf)
+    (subst Names (sym c.in_err-write_requests.ensures.err) c.loop-session.invariant.named))
+
+pub loop-session-preserved : goal.loop-session-preserved
+loop-session-preserved g c =
+    let session = c.loop-session.session in
+    let files = c.args.files.items in
+    let left = c.loop-session.files.items in
+    let file = c.remove-file.result in
+    let workload = c.args.workload.now in
+    let there : session < length files = omega (arith, c.loop-session-test.true, c.requires.files) in
+    let is_left : left ≡ drop session files = c.loop-session.invariant.left in
+    let at : session + 0 ≡ session = omega arith in
+    let is : file ≡ get_or files session file =
+    c.remove-file.ensures.value ∙ ap (λ l. get_or l 0 file) is_left ∙ get_or-drop session files 0 file ∙ ap (λ n. get_or files n file) at in
+    let ok = c.in_ok-write_requests.ensures.ok in
+    let Accepted : List Request → Type 0 = λ l. All (IsAccepted workload.scale) l in
+    let Scripts : List Request → Type 0 = λ l. IsScript l ok.1.0 in
+    let drawn : AreDrawn workload session ok.1.0 = (subst Scripts c.in_ok-script.ensures.drawn ok.1.1, subst Accepted c.in_ok-script.ensures.drawn c.in_ok-script.ensures.accepted) in
+    record {
+      left = c.remove-file.ensures.items ∙ ap (drop 1) is_left ∙ drop-drop 1 session files;
+      named = scripts-more g.T.Write.contents workload files session file (g.N.Shelf.named c.args.shelf.now) (g.N.Shelf.named c.loop-session.shelf) (g.N.Shelf.named c.write_requests.new.shelf) there is
+          c.loop-session.invariant.named (ok.0, (ok.1.0, drawn, ok.1.2), ok.2);
+    }

@@ -1,0 +1,79 @@
+-- How `tpcc script` ends.
+use Rattle.std.specs.Prelude.{◌≡◌, ◌⊎◌, ◌+◌, ℕ, false, List, [], ◌∷◌, ◌++◌, Option, Some}
+use Rattle.std.specs.List.{All}
+use Rattle.schema.specs.declared.scale.Scale.{Scale}
+use Rattle.schema.specs.Scale.{has_warehouse}
+use Rattle.dataset.specs.FirstRecord.{BeginsWith}
+use Rattle.dataset.specs.Records.{AreSpelt, header_fields}
+use Rattle.requests.specs.Check.{IsAccepted}
+use Rattle.workload.specs.declared.sessions.Workload.{Workload}
+use Rattle.workload.specs.Sessions.{script_drawn}
+use Rattle.terminals.specs.Script.{IsScript}
+use Rattle.tpcc.specs.declared.settings.script.ScriptSettings.{ScriptSettings}
+use Rattle.tpcc.specs.declared.command_fault.CommandFault.{CommandFault}
+use Rattle.tpcc.specs.declared.command_fault.CommandFault.TheVariants as fault
+use Rattle.tpcc.specs.declared.status.Status.{Status}
+use Rattle.tpcc.specs.declared.status.Status.TheVariants as status
+use Rattle.tpcc.specs.Edges.{NamesFile}
+use Rattle.tpcc.specs.Faults.{EndsEarly}
+
+-- where it is known what a source gives, that begins with the header of a dataset of this scale
+abbrev pub GivesScale : Option (List ℕ) → Scale → Type 0
+GivesScale source scale = (text : List ℕ) → source ≡ Some text → (header : List (List ℕ)) × AreSpelt (header_fields scale) header × BeginsWith text header
+
+-- what the settings ask for, at this scale
+pub record IsWorkload (s : ScriptSettings) (at_scale : Scale) (w : Workload) : Type 0 where
+  pub scale : w.scale ≡ at_scale
+  pub home : w.home ≡ s.home
+  pub remote : w.remote ≡ s.remote
+  pub mix : w.mix ≡ s.mix
+  pub start : w.start ≡ s.start
+  pub seed : w.seed ≡ s.seed
+  pub requests : w.requests ≡ s.requests
+
+-- the records of the script that is drawn for a session, none of whose requests the check refuses
+abbrev pub AreDrawn : Workload → ℕ → List (List (List ℕ)) → Type 0
+AreDrawn workload session rows = IsScript (script_drawn workload session) rows × All (IsAccepted workload.scale) (script_drawn workload session)
+
+-- the settings name a home warehouse that the scale has not
+abbrev pub IsNoWarehouse : Option ℕ → Scale → CommandFault → Type 0
+IsNoWarehouse home scale (fault.NoWarehouse warehouse) = (home ≡ Some warehouse) × (has_warehouse scale warehouse ≡ false)
+IsNoWarehouse home scale _ = ⊥
+
+-- no memory, a fault of a file, or that the scale that the source tells has not the home warehouse
+abbrev pub IsOfMaking : Option ℕ → Option (List ℕ) → CommandFault → Type 0
+IsOfMaking home source fault.NoMemory = Unit {0}
+IsOfMaking home source (fault.File path of) = Unit {0}
+IsOfMaking home source (fault.NoWarehouse warehouse) = (scale : Scale) × GivesScale source scale × IsNoWarehouse home scale (fault.NoWarehouse warehouse)
+IsOfMaking home source _ = ⊥
+
+module _ {F : Type 0} (contents : F → Option (List ℕ)) where
+  -- these files have got their names in turn, each with the script of a session, the first of them with that of this session
+  abbrev pub NamesScripts : Workload → ℕ → List F → Option (List (Option (List ℕ))) → Option (List (Option (List ℕ))) → Type 0
+  NamesScripts workload session [] named named' = named' ≡ named
+  NamesScripts workload session (file ∷ files) named named' =
+      (between : Option (List (Option (List ℕ)))) × NamesFile contents (Some file) named between (AreDrawn workload session) × NamesScripts workload (session + 1) files between named'
+
+  -- the first of these files have got their names so, and those behind them have not
+  abbrev pub NamesFirstScripts : Workload → List F → Option (List (Option (List ℕ))) → Option (List (Option (List ℕ))) → Type 0
+  NamesFirstScripts workload files named named' =
+      (first : List F) × (others : List F) × (files ≡ first ++ others) × NamesScripts workload 0 first named named'
+
+  module _ (settings : ScriptSettings) («data» : Option (List ℕ)) (files : List F) (named named' : Option (List (Option (List ℕ)))) where
+    -- each file has got its name, with the script of its session, drawn at the scale that the source begins with
+    abbrev pub MakesAll : Type 0
+    MakesAll =
+        (scale : Scale) × GivesScale «data» scale × (workload : Workload) × IsWorkload settings scale workload
+        × NamesScripts workload 0 files named named'
+
+    -- no file has got a name; or the first of them have, so
+    abbrev pub MakesSome : Type 0
+    MakesSome =
+        (named' ≡ named)
+        ⊎ ((scale : Scale) × GivesScale «data» scale × (workload : Workload) × IsWorkload settings scale workload
+        × NamesFirstScripts workload files named named')
+
+    -- by the exit status: all files are there; or the first of them are at most, and a fault was told
+    abbrev pub ScriptEnds : Option (List CommandFault) → Option (List CommandFault) → Status → Type 0
+    ScriptEnds told told' status.Success = MakesAll × (told' ≡ told)
+    ScriptEnds told told' ended = MakesSome × EndsEarly (IsOfMaking settings.home «data») told told' ended

@@ -1,0 +1,197 @@
+-- Nobody waits for itself, through any others, and where nothing can be taken or sent nobody waits at all.
+use Rattle.std.proofs.Common.{◌≡◌, ℕ, ◌+◌, ◌<◌, ◌≤◌, zero, suc, List, [], ◌∷◌, ◌++◌, length, map, Option, Some, None, refl, sym, ap, subst, ◌∙◌, cond, append-nil, ⊎_elim, arith, ◌==◌}
+use Rattle.std.specs.Prelude.{All, Contains}
+use Rattle.std.specs.List.{flat_map, slice_get, sum_by}
+use Rattle.std.specs.List.Sorted.{IsPermutation}
+use Rattle.std.proofs.lemmas.List.Elements.{All-append, All-contains, All-head, All-nil, All-tail, Contains-append_cases}
+use Rattle.std.proofs.lemmas.List.Sorted.{Contains-permutation, length_permutation}
+use Rattle.std.proofs.lemmas.List.Sums.{sum_by-append, sum_by-cons}
+use Rattle.std.proofs.lemmas.Map.Views.{exact_unsigned_eq}
+use Rattle.partitions.specs.Parts.{Shared}
+use Rattle.tickets.specs.Claims.{Claiming, all_claims}
+use Rattle.local_locks.specs.Asking.{StillWaits, held_by}
+use Rattle.local_locks.specs.Laws.{Path}
+use Rattle.local_locks.specs.Locking.{Holding, Waiting}
+use Rattle.local_locks.proofs.Members.{contains_cases, contains_here, contains_none, contains_there, joined_contains, contains_joined}
+use Rattle.rendezvous.specs.Awaited.{awaited_from, reported}
+use Rattle.slices.specs.Sliced.{AreAllHeld, Joined, at_home, held_at}
+use Rattle.transactions.specs.declared.acting.Ran.{Ran}
+use Rattle.transactions.specs.declared.acting.Ran.TheVariants as ran
+use Rattle.transactions.specs.declared.station.Parked.{Parked}
+use Rattle.transactions.specs.Acting.{claims_of_ran}
+use Rattle.transactions.specs.Stations.{Stationed, waiting_of}
+use Rattle.world.specs.declared.desk.Active.{Active}
+use Rattle.world.specs.declared.desk.Active.TheVariants as active
+use Rattle.world.specs.declared.flight.Carried.{Carried}
+use Rattle.world.specs.declared.flight.Flow.{Flow}
+use Rattle.world.specs.declared.flight.Item.{Item}
+use Rattle.world.specs.declared.flight.Message.{Message}
+use Rattle.world.specs.declared.flight.Report.{Report}
+use Rattle.world.specs.declared.world.Core.{Core}
+use Rattle.world.specs.declared.world.Parts.{Parts}
+use Rattle.world.specs.Flights.{InFlight, Token, Acting, nothing, parts, part_carried, part_item, part_message, part_met}
+use Rattle.world.specs.Parted.{AreUndoneBy, IsAged, joined_in}
+use Rattle.world.specs.Slots.{count_active}
+use Rattle.world.specs.Sound.{AreSoundActive, Courses, IsCarriedAt, IsSoundAct, IsSoundMessage, IsSoundPhase, IsSoundRan, IsSoundReport, IsSoundWith, UnderWay, awaited_by_all, flight, reported_to, reported_to_all, awaited}
+use Rattle.world.specs.Stations.{HaveToWait, IsStationOf, act_of, message_of, slices_in, waiting_at, waiting_in}
+use Rattle.world.specs.Together.{IsSound, all_of, together}
+use Rattle.world.specs.Worlds.{IsAtRest, IsNeverStuck, WaitsFor}
+use Rattle.world.proofs.OneSlot.{awaited_of, of_slot, sound_in, weigh_slots}
+use Rattle.world.proofs.Quiet.{quiet_rests}
+use Rattle.world.proofs.Stationed.{stands_among}
+use Rattle.world.proofs.Tokens.{by_bool}
+use Rattle.world.proofs.Holders.{active_awaits, claim_of, contains_mapped, counted_in, empty_of, holder_active, mapped_contains, whose_token}
+use Rattle.world.proofs.Reported.{met_tokens}
+
+-- ---- who waits is older than whom it waits for
+
+module _ {J : Type 0} where
+  pub older : (w : Parts J) → All HaveToWait w.stations.items → (t u : ℕ) → WaitsFor w t u → t < u
+  older w wait t u waits =
+      let have : HaveToWait waits.station = All-contains HaveToWait w.stations.items waits.station wait waits.there in
+      let must = All-contains (StillWaits waits.station.slice.holdings) waits.station.slice.waiters waits.waiting have waits.waits in
+      omega (arith, must.younger waits.holding waits.blocks, waits.age, waits.holder)
+
+-- ages rise along a path
+path_rises : (waits : ℕ → ℕ → Type 0) → ((t u : ℕ) → waits t u → t < u) → (t : ℕ) (ages : List ℕ) (u : ℕ) → Path waits t ages u → t < u
+path_rises waits rises t [] u path = rises t u path
+path_rises waits rises t (next ∷ ages) u path = omega (arith, rises t next path.0, path_rises waits rises next ages u path.1)
+
+module _ {J : Type 0} where
+  -- ---- where nothing can be taken or sent
+
+  -- somebody of this age waits at a station
+  abbrev Waits : Parts J → ℕ → Type 0
+  Waits w n = (s : Stationed (Carried J)) × (Contains w.stations.items s × ((p : Parked (Carried J)) × (Contains s.parked p × (p.by.age ≡ n))))
+
+  -- who stands in front of all messages waits
+  who_waits : (w : Parts J) (m : Message J) → Contains (waiting_in w) m → (s : Stationed (Carried J)) × (Contains w.stations.items s × ((p : Parked (Carried J)) × (Contains s.parked p × (message_of p ≡ m))))
+  who_waits w m is =
+      let in_lists = joined_contains (λ queue. queue) (map waiting_at w.stations.items) m is in
+      let station = mapped_contains waiting_at w.stations.items in_lists.0 in_lists.1 in
+      let action = mapped_contains message_of station.0.parked m (subst (λ (q : List (Message J)). Contains q m) (sym station.1.1) in_lists.2) in
+      (station.0, (station.1.0, (action.0, (action.1.0, action.1.1))))
+
+  module _ (shared : Shared) (w : Core J) (h : IsSound shared w) (rest : IsAtRest w) where
+    abbrev all : Parts J
+    all = together w
+
+    abbrev waiting : List (Message J)
+    waiting = waiting_in w.parts
+
+    inbox_is : all.inbox ≡ waiting
+    inbox_is = ap (λ (q : List (Message J)). waiting ++ q) rest.0 ∙ append-nil waiting
+
+    abbrev at : Courses
+    at = h.all.under_way
+
+    -- what is under way is with who waits, or has met
+    tokens_are : (weight : Token → ℕ) → sum_by weight (parts part_message waiting).tokens ≡ sum_by weight (awaited_by_all 0 all.desk.active)
+    tokens_are weight =
+        let met = parts part_met (reported_to_all all.desk.active) in
+        let of_outbox = parts part_item all.outbox in
+        omega (
+          arith,
+          h.all.balance.tokens weight,
+          ap (λ (q : List (Message J)). sum_by weight (parts part_message q).tokens) inbox_is,
+          ap (λ (is : List (Item J)). sum_by weight (parts part_item is).tokens) rest.1,
+          sum_by-append weight (parts part_message all.inbox).tokens (of_outbox.tokens ++ met.tokens),
+          sum_by-append weight of_outbox.tokens met.tokens,
+          ap (λ (ts : List Token). sum_by weight ts) (met_tokens (reported_to_all all.desk.active)),
+        )
+
+    sound_waiting : (m : Message J) → Contains waiting m → IsSoundMessage shared at m
+    sound_waiting m is = All-contains (IsSoundMessage shared at) waiting m (subst (All (IsSoundMessage shared at)) inbox_is h.all.inbox) is
+
+    -- somebody waits in each slot whose transaction awaits something
+    slot_waits : (slot : ℕ) → 1 ≤ sum_by (weigh_slots (of_slot slot)) (awaited_by_all 0 all.desk.active) → Waits w.parts (at slot).age
+    slot_waits slot some =
+        let one = whose_token part_message (weigh_slots (of_slot slot)) waiting (omega (arith, some, tokens_are (weigh_slots (of_slot slot)))) in
+        let who = who_waits w.parts one.0 one.1.0 in
+        let p = who.1.1.0 in
+        let weighs : 1 ≤ sum_by (weigh_slots (of_slot slot)) (part_message (message_of p)).tokens = subst (λ (m : Message J). 1 ≤ sum_by (weigh_slots (of_slot slot)) (part_message m).tokens) (sym who.1.1.1.1) one.1.1 in
+        let fine : IsSoundAct shared (at p.carried.slot) (act_of p) = subst (λ (m : Message J). IsSoundMessage shared at m) (sym who.1.1.1.1) (sound_waiting one.0 one.1.0) in
+        let same : slot ≡ p.carried.slot =
+        by_bool (slot == p.carried.slot)
+        (λ is. exact_unsigned_eq slot p.carried.slot is)
+        (λ other. absurd (omega (arith, weighs, sum_by-cons (weigh_slots (of_slot slot)) (Acting p.carried.slot p.by.place) [], ap {B = ℕ} (λ b. cond b 1 0) other))) in
+        (who.0, (who.1.0, (p, (who.1.1.1.0, fine.age ∙ ap (λ n. (at n).age) (sym same)))))
+
+    -- who has a claim that is out waits too
+    holder_waits : (c : Claiming) → Contains (flight all).claims c → Waits w.parts c.by.age
+    holder_waits c is =
+        let holder = holder_active shared all h.all c is in
+        let slot = holder.0 in
+        let some = active_awaits shared slot (at slot) holder.1.0 (sound_in shared at slot all.desk.active (Some holder.1.0) h.all.active holder.1.1.0) in
+        subst (Waits w.parts) (sym holder.1.1.1)
+        (slot_waits slot (omega (arith, some, awaited_of (weigh_slots (of_slot slot)) slot all.desk.active (Some holder.1.0) holder.1.1.0)))
+
+    -- who waits, waits for somebody younger who waits too
+    younger_waits : (n : ℕ) → Waits w.parts n → (m : ℕ) × ((n < m) × Waits w.parts m)
+    younger_waits n waits =
+        let s = waits.0 in
+        let p = waits.1.1.0 in
+        let station = All-contains (IsStationOf shared.scale.warehouses) w.parts.stations.items s h.stations waits.1.0 in
+        let have : HaveToWait s = All-contains HaveToWait w.parts.stations.items s h.wait waits.1.0 in
+        let parked : Contains (map waiting_of s.parked) (waiting_of p) = contains_mapped waiting_of s.parked p waits.1.1.1.0 in
+        let must = All-contains (StillWaits s.slice.holdings) s.slice.waiters (waiting_of p) have (subst (λ (ws : List Waiting). Contains ws (waiting_of p)) (sym station.waiters) parked) in
+        let holding = must.some.0 in
+        let w_id = s.slice.home in
+        let held : Contains ((joined_in w.parts).holdings w_id) holding =
+        subst (λ (hs : List Holding). Contains hs holding) (sym (stands_among w.parts h.all.slices s waits.1.0)) must.some.1.0 in
+        let out = Contains-permutation ((joined_in w.parts).holdings w_id) (held_at w_id (flight all).claims) holding (h.all.held w_id) held in
+        let claim = claim_of w_id (flight all).claims holding out in
+        (claim.0.by.age, (omega (arith, must.younger holding must.some.1, waits.1.1.1.1, ap (λ (x : Holding). x.by.age) claim.1.1), holder_waits claim.0 claim.1.0))
+
+    -- so whoever waits, some wait who are as young as one likes
+    as_young : (bound n : ℕ) → Waits w.parts n → (m : ℕ) × ((bound ≤ m) × Waits w.parts m)
+    as_young zero n waits = (n, (omega arith, waits))
+    as_young (suc bound) n waits =
+        let one = as_young bound n waits in
+        let next = younger_waits one.0 one.1.1 in
+        (next.0, (omega (arith, one.1.0, next.1.0), next.1.1))
+
+    none_waits : (n : ℕ) → Waits w.parts n → ⊥
+    none_waits n waits =
+        let bound = sum_by (λ (s : Stationed (Carried J)). sum_by (λ (p : Parked (Carried J)). p.by.age) s.parked) w.parts.stations.items in
+        let one = as_young (suc bound) n waits in
+        let who = one.1.1 in
+        omega (
+          arith,
+          one.1.0,
+          who.1.1.1.1,
+          counted_in (λ (p : Parked (Carried J)). p.by.age) who.0.parked who.1.1.0 who.1.1.1.0,
+          counted_in (λ (s : Stationed (Carried J)). sum_by (λ (p : Parked (Carried J)). p.by.age) s.parked) w.parts.stations.items who.0 who.1.0,
+        )
+
+    nobody_waits : waiting ≡ []
+    nobody_waits = by waiting refl
+      where
+        by : (ms : List (Message J)) → waiting ≡ ms → ms ≡ []
+        by [] is = refl
+        by (m ∷ ms) is =
+            let who = who_waits w.parts m (subst (λ (q : List (Message J)). Contains q m) (sym is) (contains_here m ms)) in
+            absurd (none_waits who.1.1.0.by.age (who.0, (who.1.0, (who.1.1.0, (who.1.1.1.0, refl)))))
+
+    pub rests : (count_active w.parts.desk.active ≡ 0) × ((flight all).claims ≡ []) × (waiting ≡ []) × ((w_id : ℕ) → (joined_in w.parts).holdings w_id ≡ [])
+    rests =
+        let both = quiet_rests shared all h.all (inbox_is ∙ nobody_waits) rest.1 in (
+          both.0,
+          both.1,
+          nobody_waits,
+          λ w_id. empty_of ((joined_in w.parts).holdings w_id) (subst (λ (cs : List Claiming). IsPermutation ((joined_in w.parts).holdings w_id) (held_at w_id cs)) both.1 (h.all.held w_id)),
+        )
+
+  pub never_stuck : (shared : Shared) (w : Core J) → IsSound shared w → IsNeverStuck w
+  never_stuck shared w h = record {
+    rises = older w.parts h.wait;
+    no_circle = λ t ages path. let up = path_rises (WaitsFor w.parts) (older w.parts h.wait) t ages t path in omega (arith, up);
+    idle = λ rest. rests shared w h rest;
+  }
+
+  -- it is so of how the world is seen
+  pub never_stuck_seen : (shared : Shared) (w seen : Core J) → w ≡ seen → IsSound shared w → IsNeverStuck seen
+  never_stuck_seen shared w seen same h = subst IsNeverStuck same (never_stuck shared w h)
+
+  pub rests_idle : (shared : Shared) (w seen : Core J) → w ≡ seen → IsSound shared w → IsAtRest seen → count_active seen.parts.desk.active ≡ 0
+  rests_idle shared w seen same h rest = ((never_stuck_seen shared w seen same h).idle rest).0
