@@ -1,9 +1,12 @@
-"""Passes the tests: ./gate.sh [--anew] [--record NAME]
+"""Passes the tests: ./gate.sh [--anew] [--whole] [--record NAME]
 
-First come the definitions that documents quote, and the examples by a program that is built without its proofs. Then `rt ci`
-proves every crate and its tests from nothing, has the prover refuse every must-fail edit, and runs the tests and the stored
-run. Last, all scenarios are run by the program that was proved, and each of its allocations is refused in turn. The last line
-is `rt ci`'s: N passed, 0 failed. The exit status is 0 where all is well.
+First come the definitions that documents quote, a look at each edit, and the examples by a program that is built without its
+proofs. Then `rt ci` proves every crate and its tests from nothing, has the prover refuse every must-fail edit, and runs the tests
+and the stored run. Last, all scenarios are run by the program that was proved, and each of its allocations is refused in turn. The
+last line is `rt ci`'s: N passed, 0 failed. The exit status is 0 where all is well.
+
+With --whole the prover has to refuse the crates' further wrong programs too, those of wrong-programs/, which takes about as long
+again; each crate of them counts as one that passed or failed.
 
 Where the toolchain's `rt ci` keeps what it passed before on this machine, it does not do that again, of the same files over the
 same libraries; with --anew it does. Where it keeps nothing it does all in every run, and --anew asks for nothing more. (It keeps
@@ -22,6 +25,7 @@ import sys
 import time
 
 from costs import Costs, record
+from edits import faults, further
 
 ROOT = os.path.dirname(os.path.dirname(os.path.abspath(__file__)))
 PROGRAM = "crates/tpcc/out/tpcc"
@@ -95,10 +99,15 @@ def passes(what, *words):
     return subprocess.run([sys.executable, "-B", *words], cwd=ROOT, check=False).returncode == 0
 
 
-def run(anew):
+def run(anew, whole):
     """Runs all parts, up to the first that fails. Returns how many passed and failed."""
     examples = sorted(it for it in os.listdir(f"{ROOT}/scenarios") if it.startswith("the_examples"))
     if not passes("the definitions that the documents quote", "docs/quotes.py"):
+        return 0, 1
+    say("that each edit turns what it names")
+    found = faults(ROOT, crates())
+    if found:
+        print("\n".join(found))
         return 0, 1
     if not passes("part 1 of 4: the examples by a program that is built without its proofs", "scenarios/run", *examples):
         return 0, 1
@@ -107,6 +116,10 @@ def run(anew):
     if not failed:
         failed += not passes("part 3 of 4: all scenarios by the program that was proved", "scenarios/run", "--program", PROGRAM)
         failed += not passes("part 4 of 4: each allocation of that program refused in turn", "gate/allocations.py", PROGRAM)
+    if whole and not failed:
+        say("the further wrong programs")
+        counts = further(ROOT, crates())
+        passed, failed = passed + counts[0], failed + counts[1]
     return passed, failed
 
 
@@ -119,12 +132,13 @@ def commit():
 def main():
     words = argparse.ArgumentParser(prog="gate.sh", description=__doc__, formatter_class=argparse.RawDescriptionHelpFormatter)
     words.add_argument("--anew", action="store_true", help="do also what the toolchain keeps of earlier runs on this machine")
+    words.add_argument("--whole", action="store_true", help="have the prover refuse the further wrong programs too")
     words.add_argument("--record", metavar="NAME", help="write the costs of this run into docs/COSTS.md under this name")
     words = words.parse_args()
     signal.signal(signal.SIGTERM, signal.default_int_handler)
     try:
         with Costs(say) as costs:
-            passed, failed = run(words.anew)
+            passed, failed = run(words.anew, words.whole)
     except KeyboardInterrupt:
         say("ended early, and nothing is passed")
         return 130
