@@ -1,6 +1,6 @@
 """Passes the tests: ./gate.sh [--anew] [--whole] [--record NAME]
 
-First come the definitions that documents quote, a look at each edit, and the examples by a program that is built without its
+First come the definitions that documents quote and list, a look at each edit, and the examples by a program that is built without its
 proofs. Then `rt ci` proves every crate and its tests from nothing, has the prover refuse every must-fail edit, and runs the tests
 and the stored run. Last, all scenarios are run by the program that was proved, and each of its allocations is refused in turn. The
 last line is `rt ci`'s: N passed, 0 failed. The exit status is 0 where all is well.
@@ -103,6 +103,8 @@ def run(anew, whole):
     """Runs all parts, up to the first that fails. Returns how many passed and failed."""
     examples = sorted(it for it in os.listdir(f"{ROOT}/scenarios") if it.startswith("the_examples"))
     if not passes("the definitions that the documents quote", "docs/quotes.py"):
+        return 0, 1
+    if not passes("the definitions that the documents list", "docs/definitions.py"):
         return 0, 1
     say("that each edit turns what it names")
     found = faults(ROOT, crates())
