@@ -19,7 +19,7 @@ use Rattle.wait_die.specs.declared.deciding.Holder.{Holder}
 use Rattle.local_locks.specs.declared.rulings.Ruling.TheVariants.{Free}
 use Rattle.local_locks.specs.Locking.{Holding, Stand, Locking, left_in}
 use Rattle.local_locks.specs.Conflicts.{IsFree, MustWait, MustDie}
-use Rattle.local_locks.specs.Wishes.{IsOwn, IsWanted, CanAsk, wishes}
+use Rattle.local_locks.specs.Wishes.{IsOwn, CanAsk, wishes}
 use Rattle.local_locks.specs.Asking.{Grants, claim_for, held_for, waiting}
 use Rattle.local_locks.specs.Locks.{Locked, locked, Parked, parked, waiting_of, holding, holdings_of, stand_in, locking, AreLocksOf, IsParked}
 use Rattle.local_locks.specs.Rulings.{Spot, spot, spots_of, conflicting_at, IsRuling}
@@ -47,9 +47,6 @@ home_there warehouses w_id locks are =
     let at = are.each 0 no_lock (omega (arith, are.all_there)) in
     let known = home_known warehouses (get_or locks 0 no_lock).ticket_box.group at.known in
     (omega (arith, known.0, at.here), omega (arith, known.1, at.here))
-
-pub wanted_there : (warehouses w_id : ℕ) (wants : List Want) → All (IsOwn warehouses w_id) wants → All (IsWanted warehouses) wants
-wanted_there warehouses w_id wants own = All-weaker (IsOwn warehouses w_id) (IsWanted warehouses) (λ want is. is.0) wants own
 
 -- what stands at a group's place is what stands in the group
 stands_there : (warehouses w_id : ℕ) (locks : List Locked) (group : Group) → AreLocksOf warehouses w_id locks → IsGroupOf warehouses group → warehouse_of group ≡ w_id

@@ -16,7 +16,7 @@ use Rattle.groups.specs.declared.wishes.Mode.TheVariants.{Shared, Exclusive}
 use Rattle.tickets.proofs.Apart.{by_mode}
 use Rattle.tickets.specs.Boxes.{Boxed, sharing}
 use Rattle.groups.specs.declared.wants.Want.{Want}
-use Rattle.tickets.specs.Claims.{Claiming, fresh}
+use Rattle.tickets.specs.Claims.{Claiming}
 use Rattle.tickets.specs.Places.{IsGroupOf, place_in_warehouse}
 use Rattle.tickets.specs.Unset.{nothing}
 use Rattle.wait_die.specs.declared.deciding.Holder.{Holder}
@@ -120,10 +120,6 @@ one_lock warehouses w_id locks number lock new here is group agree are = record 
 
 stand_there : (locks : List Locked) (number : ℕ) (lock : Locked) → number < length locks → lock ≡ get_or locks number lock → stand_at (map stand_in locks) number ≡ stand_in lock
 stand_there locks number lock here is = get_or-map stand_in locks number lock _ here ∙ ap stand_in (sym is)
-
-pub claim_there : (by : Holder) (locks : List Locked) (number : ℕ) (mode : Mode) (lock : Locked) → number < length locks → lock ≡ get_or locks number lock
-    → fresh by lock.ticket_box.group mode lock.ticket_box.left ≡ claim_at by (map stand_in locks) (spot number mode)
-claim_there by locks number mode lock here is = ap (λ (s : Stand). fresh by s.group mode s.left) (sym (stand_there locks number lock here is))
 
 pub granted_one : (warehouses : ℕ) (by : Holder) (locks : List Locked) (number : ℕ) (mode : Mode) (lock new : Locked) → number < length locks → lock ≡ get_or locks number lock → IsLocked lock → IsLocked new
     → conflicting mode lock ≡ [] → new ≡ locked (given_out mode lock.ticket_box) (lock.holders ++ by ∷ []) → AreGranted warehouses by (spot number mode ∷ []) locks (set locks number new)

@@ -1,6 +1,6 @@
 -- What is said to one who wants the group at one place, and to one who wants more.
 use Rattle.std.proofs.Common.{◌≡◌, ◌⊎◌, ℕ, zero, suc, ◌+◌, ◌<◌, ◌≤◌, Bool, true, false, List, [], ◌∷◌, ◌++◌, length, get_or, take, ltb, refl, sym, ap, subst, ◌∙◌, ⊎_elim, arith}
-use Rattle.std.specs.Prelude.{◌≢◌, Contains, nat_lt, if◌then◌else◌}
+use Rattle.std.specs.Prelude.{Contains, if◌then◌else◌}
 use Rattle.std.specs.List.{flat_map}
 use Rattle.std.proofs.lemmas.List.{get_or-map}
 use Rattle.std.proofs.lemmas.List.Elements.{All-contains, Contains-append_cases, Contains-append_left, Contains-append_right}
@@ -12,7 +12,7 @@ use Rattle.wait_die.specs.Verdicts.{IsVerdict}
 use Rattle.local_locks.specs.declared.rulings.Ruling.{Ruling}
 use Rattle.local_locks.specs.declared.rulings.Ruling.TheVariants.{Free, Waits, Dies}
 use Rattle.local_locks.specs.Locks.{Locked, conflicting, is_taken}
-use Rattle.local_locks.specs.Rulings.{Spot, spot, conflicting_at, Stops, FirstNotYounger, IsRuling, NeverWaits, joined, spots_of}
+use Rattle.local_locks.specs.Rulings.{Spot, spot, conflicting_at, Stops, FirstNotYounger, IsRuling, joined, spots_of}
 use Rattle.local_locks.proofs.Spots.{joined_walked}
 use Rattle.local_locks.proofs.Members.{contains_none, contains_one, contains_itself, some_of}
 
@@ -30,9 +30,6 @@ stopped_there locks number other mode holder s =
     let same : spot number mode ≡ spot other s.mode = contains_one (spot number mode) (spot other s.mode) s.wants in
     let P : Spot → Type 0 = λ t. Contains (conflicting_at locks t.mode t.number) holder in
     (ap (λ (t : Spot). t.number) same, subst P (sym same) s.holds)
-
-pub free_there : (age : ℕ) (locks : List Locked) (number : ℕ) (mode : Mode) → conflicting_at locks mode number ≡ [] → IsRuling age locks (spot number mode ∷ []) Free
-free_there age locks number mode none = λ other holder s. contains_none holder (subst (λ hs. Contains hs holder) none (stopped_there locks number other mode holder s).1)
 
 pub waits_there : (age : ℕ) (locks : List Locked) (number : ℕ) (mode : Mode) → IsVerdict age (conflicting_at locks mode number) decision.Waits → IsRuling age locks (spot number mode ∷ []) Waits
 waits_there age locks number mode v =
@@ -172,28 +169,3 @@ pub walked : (age : ℕ) (locks : List Locked) (wants : List Want) (i : ℕ) (d 
 walked age locks wants i d r s small before here =
     let P : List Spot → Type 0 = λ wanted. IsRuling age locks wanted (joined r s) in
     subst P (sym (joined_walked spots_of wants i d small)) (both age locks (flat_map spots_of (take i wants)) (spots_of (get_or wants i d)) r s before here)
-
--- ---- one that is younger than all
-
-free_is_no_wait : Free ≢ Waits
-free_is_no_wait same = cc
-
-death_is_no_wait : (number oldest : ℕ) → Dies number oldest ≢ Waits
-death_is_no_wait number oldest same = cc
-
-pub free_never_waits : (age : ℕ) → NeverWaits age Free
-free_never_waits age = λ youngest. free_is_no_wait
-
--- it never waits for more than it wants so far
-pub never_joined : (age : ℕ) (a b : Ruling) → NeverWaits age a → NeverWaits age b → NeverWaits age (joined a b)
-never_joined age Free b never_a never_b = never_b
-never_joined age Waits Free never_a never_b = never_a
-never_joined age Waits Waits never_a never_b = never_b
-never_joined age Waits (Dies number oldest) never_a never_b = never_b
-never_joined age (Dies number oldest) Free never_a never_b = never_a
-never_joined age (Dies number oldest) Waits never_a never_b = never_a
-never_joined age (Dies number oldest) (Dies second other) never_a never_b = λ youngest. each (nat_lt second number)
-  where
-    each : (b : Bool) → (if b then Dies second other else Dies number oldest) ≢ Waits
-    each true = death_is_no_wait second other
-    each false = death_is_no_wait number oldest

@@ -28,9 +28,6 @@ new_lock b = locked b []
 abbrev pub IsIdle : Boxed → Type 0
 IsIdle b = b ≡ sharing b.group b.left 0
 
-pub all_idle : (warehouses w_id : ℕ) (boxes : List Boxed) → AreBoxesOf warehouses w_id boxes → All IsIdle boxes
-all_idle warehouses w_id boxes are = λ k d small. (are.each k d (omega (arith, small, are.all_there))).idle
-
 idle_locked : (b : Boxed) → IsIdle b → IsLocked (new_lock b)
 idle_locked b idle = subst (λ (m : Mode). Agree m b []) (sym (ap (λ (c : Boxed). c.mode) idle)) (idle, omega arith)
 

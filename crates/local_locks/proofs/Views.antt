@@ -62,9 +62,6 @@ are_from warehouses w_id first (lock ∷ locks) each =
 
 -- ---- shared claims
 
-tells_shared : Group → Holding → Bool
-tells_shared group h = is_same h.group group && is_shared h.mode
-
 abbrev pub shared_count : Mode → List Holder → ℕ
 shared_count Shared holders = length holders
 shared_count Exclusive holders = 0

@@ -112,22 +112,12 @@ pub record IsTurnOf (index : ℕ) (waiting : Waiting) (old new : Locking) : Type
 -- ---- what is answered
 
 module _ {J : Type 0} where
-  -- what is answered to one who asks and is taken for so old, and what the table is then
-  abbrev pub AnswersAs : ℕ → Holder → List Want → Locking → Asked J → Locking → Type 0
-  AnswersAs age by wants old (asked.Granted claims) new = Grants by wants old claims.items new × (new.waiters ≡ old.waiters)
-  AnswersAs age by wants old asked.Waits new =
-      MustWait old.holdings age wants × (new ≡ record old { waiters = old.waiters ++ waiting by wants ∷ [] })
-  AnswersAs age by wants old (asked.Dies group holder) new = MustDie old.holdings age wants group holder × (new ≡ old)
-
   -- what is answered to one who asks, and what the table is then
   abbrev pub Answers : Holder → List Want → Locking → Asked J → Locking → Type 0
-  Answers by wants old asked new = AnswersAs by.age by wants old asked new
-
-  -- it does not wait
-  abbrev pub IsNoWait : Asked J → Type 0
-  IsNoWait (asked.Granted claims) = Unit {0}
-  IsNoWait asked.Waits = ⊥
-  IsNoWait (asked.Dies group holder) = Unit {0}
+  Answers by wants old (asked.Granted claims) new = Grants by wants old claims.items new × (new.waiters ≡ old.waiters)
+  Answers by wants old asked.Waits new =
+      MustWait old.holdings by.age wants × (new ≡ record old { waiters = old.waiters ++ waiting by wants ∷ [] })
+  Answers by wants old (asked.Dies group holder) new = MustDie old.holdings by.age wants group holder × (new ≡ old)
 
   -- whose turn it is and what is said to that one, and what the table is then
   abbrev pub TakesTurn : Locking → Turn J → Locking → Type 0

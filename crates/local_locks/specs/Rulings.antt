@@ -1,5 +1,5 @@
 -- What is said to one who wants some groups, by their places among the groups of the warehouse.
-use Rattle.std.specs.Prelude.{◌≡◌, ◌≢◌, ℕ, zero, suc, ◌<◌, ◌≤◌, List, [], ◌∷◌, Contains, map, slice_index_or, nat_lt, if◌then◌else◌}
+use Rattle.std.specs.Prelude.{◌≡◌, ℕ, zero, suc, ◌<◌, ◌≤◌, List, [], ◌∷◌, Contains, map, slice_index_or, nat_lt, if◌then◌else◌}
 use Rattle.groups.specs.declared.wishes.Mode.{Mode}
 use Rattle.groups.specs.declared.wants.Kind.{Kind}
 use Rattle.groups.specs.declared.wants.Kind.TheVariants.{Warehouse, District, Customers, Orders, History, Stock}
@@ -8,7 +8,6 @@ use Rattle.groups.specs.declared.wants.Extent.TheVariants.{One, Every}
 use Rattle.groups.specs.declared.wants.Want.{Want}
 use Rattle.tickets.specs.Places.{place_in_warehouse}
 use Rattle.wait_die.specs.declared.deciding.Holder.{Holder}
-use Rattle.wait_die.specs.declared.deciding.TheConstants.{YOUNGEST}
 use Rattle.local_locks.specs.declared.rulings.Ruling.{Ruling}
 use Rattle.local_locks.specs.declared.rulings.Ruling.TheVariants.{Free, Waits, Dies}
 use Rattle.local_locks.specs.Locks.{Locked, conflicting}
@@ -90,10 +89,6 @@ abbrev pub IsRuling : ℕ → List Locked → List Spot → Ruling → Type 0
 IsRuling age locks wanted Free = (number : ℕ) (holder : Holder) → Stops locks wanted number holder → ⊥
 IsRuling age locks wanted Waits = AllYounger age locks wanted
 IsRuling age locks wanted (Dies number oldest) = FirstNotYounger age locks wanted number oldest
-
--- one that is younger than all never waits
-abbrev pub NeverWaits : ℕ → Ruling → Type 0
-NeverWaits age ruling = age ≡ YOUNGEST → ruling ≢ Waits
 
 -- to die of the first place goes before all, and to wait before being free
 abbrev pub joined : Ruling → Ruling → Ruling

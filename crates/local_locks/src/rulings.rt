@@ -1,7 +1,7 @@
 //! What is said to one who wants some groups.
 ghost use Rattle.std.specs.Prelude.{◌≡◌, ◌<◌, ◌≤◌, ◌+◌, ◌∷◌, [], All, length};
 ghost use Rattle.std.specs.List.{flat_map};
-ghost use Rattle.local_locks.specs.Rulings.{IsRuling, NeverWaits, joined, spot, spots_of};
+ghost use Rattle.local_locks.specs.Rulings.{IsRuling, joined, spot, spots_of};
 ghost use Rattle.local_locks.specs.Wishes.{IsWanted};
 
 use crate::lock::Lock;
@@ -38,8 +38,7 @@ impl Ruling {
 // What is said to a wish for the group at a place.
 fn ruling_at<J: GroupNames>(locks: &[Lock<J>], age: Age, number: usize, mode: Mode) -> Ruling
     requires { number < length locks.now }
-    ensures ruling { IsRuling age locks.now (spot number mode ∷ []) result }
-    ensures youngest { NeverWaits age result }
+    ensures { IsRuling age locks.now (spot number mode ∷ []) result }
 {
     match verdict(age, locks[number].conflicting(mode)) {
         Decision::Free => Ruling::Free,
@@ -52,8 +51,7 @@ fn ruling_at<J: GroupNames>(locks: &[Lock<J>], age: Age, number: usize, mode: Mo
 fn ruling_on_want<J: GroupNames>(locks: &[Lock<J>], age: Age, want: Want) -> Ruling
     requires there { IsWanted J.warehouses want }
     requires places { 105 ≤ length locks.now }
-    ensures ruling { IsRuling age locks.now (spots_of want) result }
-    ensures youngest { NeverWaits age result }
+    ensures { IsRuling age locks.now (spots_of want) result }
 {
     let (first, end) = places_of::<J>(want.extent);
     let mut ruling = Ruling::Free;
@@ -67,8 +65,7 @@ fn ruling_on_want<J: GroupNames>(locks: &[Lock<J>], age: Age, want: Want) -> Rul
 pub(crate) fn ruling_on<J: GroupNames>(locks: &[Lock<J>], age: Age, wants: &[Want]) -> Ruling
     requires there { All (IsWanted J.warehouses) wants.now }
     requires places { 105 ≤ length locks.now }
-    ensures ruling { IsRuling age locks.now (flat_map spots_of wants.now) result }
-    ensures youngest { NeverWaits age result }
+    ensures { IsRuling age locks.now (flat_map spots_of wants.now) result }
 {
     let mut ruling = Ruling::Free;
     for want in wants {

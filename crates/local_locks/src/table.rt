@@ -5,7 +5,7 @@ ghost use Rattle.groups.specs.Groups.{warehouse_of};
 ghost use Rattle.groups.specs.declared.wishes.Mode.TheVariants.{Exclusive};
 ghost use Rattle.tickets.specs.Claims.{leaving};
 ghost use Rattle.tickets.specs.Places.{IsGroupOf};
-ghost use Rattle.local_locks.specs.Asking.{all_kept_after, held_by, kept_after, AreHeld, AreTogether, Answers, AnswersAs, IsNoWait, IsOfHome, IsSettled, StillWaits, TakesTurn, leaving_in};
+ghost use Rattle.local_locks.specs.Asking.{all_kept_after, held_by, kept_after, AreHeld, AreTogether, Answers, IsOfHome, IsSettled, StillWaits, TakesTurn, leaving_in};
 ghost use Rattle.local_locks.specs.Conflicts.{MustDie};
 ghost use Rattle.local_locks.specs.Laws.{AreUntouched, CouldAsk, IsClaimOf, NoneConflict};
 ghost use Rattle.local_locks.specs.Locking.{back_in, left_in, opened, AreBoxesOf, AreStandsOf};
@@ -23,7 +23,7 @@ use schema::NoMemory;
 use std::alloc::Global;
 use std::marker::Model;
 use tickets::{Claim, GroupNames, TicketBox};
-use wait_die::{Age, Holder, YOUNGEST};
+use wait_die::{Age, Holder};
 
 /// What is answered to an action that asks for groups.
 #[derive(Drop)]
@@ -112,42 +112,7 @@ impl<J: GroupNames> LockTable<J> {
         ensures death_takes_none { OnErr result ((group : AnyGroup) (age : ℕ) → MustDie self.old.holdings by.age wants.now group age → ⊥) }
         ensures nothing_takes_none { wants.now ≡ [] → IsOk result }
     {
-        self.answer(alloc, by, by.age, wants)
-    }
-
-    /// An action that can't wait asks for all its groups at once, as one that is younger than all: it is granted
-    /// all exactly where each is free, and else dies. Want of memory changes nothing.
-    pub fn ask_at_once(
-        &mut self,
-        alloc: Global,
-        by: Holder,
-        wants: &[Want],
-    ) -> Result<Asked<J>, NoMemory>
-        requires { CanAsk J.warehouses self.old.w_id wants.now }
-        ensures answers { IfOk result (λ asked. AnswersAs YOUNGEST by wants.now self.old asked self.new) }
-        ensures never_waits { IfOk result IsNoWait }
-        ensures err { OnErr result (self.new ≡ self.old) }
-        ensures death_takes_none { OnErr result ((group : AnyGroup) (age : ℕ) → MustDie self.old.holdings YOUNGEST wants.now group age → ⊥) }
-    {
-        self.answer(alloc, by, YOUNGEST, wants)
-    }
-
-    // What is answered to an action that is taken for so old.
-    fn answer(
-        &mut self,
-        alloc: Global,
-        by: Holder,
-        age: Age,
-        wants: &[Want],
-    ) -> Result<Asked<J>, NoMemory>
-        requires { CanAsk J.warehouses self.old.w_id wants.now }
-        ensures answers { IfOk result (λ asked. AnswersAs age by wants.now self.old asked self.new) }
-        ensures youngest { age ≡ YOUNGEST → IfOk result IsNoWait }
-        ensures err { OnErr result (self.new ≡ self.old) }
-        ensures death_takes_none { OnErr result ((group : AnyGroup) (oldest : ℕ) → MustDie self.old.holdings age wants.now group oldest → ⊥) }
-        ensures nothing_takes_none { wants.now ≡ [] → IsOk result }
-    {
-        match ruling_on(&self.locks, age, wants) {
+        match ruling_on(&self.locks, by.age, wants) {
             Ruling::Free => {
                 let mut claims = Vec::with_capacity(alloc, count_of::<J>(wants))?;
                 grant_all(&mut self.locks, wants, by, &mut claims);

@@ -22,7 +22,7 @@ use Rattle.local_locks.specs.declared.table.Asked.{Asked}
 use Rattle.local_locks.specs.declared.table.Asked.TheVariants as asked
 use Rattle.local_locks.specs.declared.table.Turn.{Turn}
 use Rattle.local_locks.specs.declared.table.Turn.TheVariants as turn
-use Rattle.local_locks.specs.Asking.{AnswersAs, AreTogether, Grants, IsNoWait, IsTurnOf, TakesTurn, claim_for, claimed, held_by, held_for, waiting}
+use Rattle.local_locks.specs.Asking.{Answers, AreTogether, Grants, IsTurnOf, TakesTurn, claim_for, claimed, held_by, held_for, waiting}
 use Rattle.local_locks.specs.Keeping.{IsNewOn}
 use Rattle.local_locks.specs.Laws.{CouldAsk, NoneConflict}
 use Rattle.local_locks.specs.Locking.{AreStandsOf, Holding, Locking, Stand, Waiting}
@@ -110,27 +110,21 @@ module _ (warehouses : ℕ) (p : Part) (old new : Locking) (grounds : List Groun
   turn_in index one t = record { inside = t.inside; there = t.there; rest = t.rest; waiters = t.waiters; first = t.first }
 
   module _ {J : Type 0} where
-    pub answered : (age : ℕ) (by : Holder) (wants : List Want) (result : Asked J) → CanAsk warehouses old.w_id wants → AnswersAs age by wants old result new
-        → AnswersIn age by wants (sliced p old) result (sliced p new) × SliceKeeps [] (with_waiters new.waiters (sliced p old)) (claims_asked result) (sliced p new) × IsSlice warehouses p new grounds
-    answered age by wants (asked.Granted claims) can answers =
+    pub answered : (by : Holder) (wants : List Want) (result : Asked J) → CanAsk warehouses old.w_id wants → Answers by wants old result new
+        → AnswersIn by wants (sliced p old) result (sliced p new) × SliceKeeps [] (with_waiters new.waiters (sliced p old)) (claims_asked result) (sliced p new) × IsSlice warehouses p new grounds
+    answered by wants (asked.Granted claims) can answers =
         let grants = grants_in by wants claims.items can answers.0 in
         ((grants, answers.1), grants_keep_slice by wants claims.items grants, stays_slice answers.0.stands answers.0.w_id)
-    answered age by wants asked.Waits can answers = (
+    answered by wants asked.Waits can answers = (
       (answers.0, ap (λ (t : Locking). sliced p t) answers.1),
       nothing_keeps (ap (λ (t : Locking). t.holdings) answers.1),
       stays_slice (ap (λ (t : Locking). t.stands) answers.1) (ap (λ (t : Locking). t.w_id) answers.1),
     )
-    answered age by wants (asked.Dies group holder) can answers = (
+    answered by wants (asked.Dies group holder) can answers = (
       (answers.0, ap (λ (t : Locking). sliced p t) answers.1),
       nothing_keeps (ap (λ (t : Locking). t.holdings) answers.1),
       stays_slice (ap (λ (t : Locking). t.stands) answers.1) (ap (λ (t : Locking). t.w_id) answers.1),
     )
-
-    -- who does not wait leaves all who wait as they were
-    pub none_waits : (age : ℕ) (by : Holder) (wants : List Want) (result : Asked J) → IsNoWait result → AnswersAs age by wants old result new → new.waiters ≡ old.waiters
-    none_waits age by wants (asked.Granted claims) calm answers = answers.1
-    none_waits age by wants asked.Waits calm answers = absurd calm
-    none_waits age by wants (asked.Dies group holder) calm answers = ap (λ (t : Locking). t.waiters) answers.1
 
     pub turned : (result : Turn J) → All (CouldAsk warehouses old.w_id) old.waiters → TakesTurn old result new
         → TakesTurnIn (sliced p old) result (sliced p new) × SliceKeeps [] (with_waiters new.waiters (sliced p old)) (claims_of_turn result) (sliced p new) × IsSlice warehouses p new grounds

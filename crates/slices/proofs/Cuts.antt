@@ -1,7 +1,7 @@
--- Slices that are cut one after another, and parts that are taken out of slices.
-use Rattle.std.proofs.Common.{◌≡◌, ℕ, suc, ◌+◌, ◌<◌, List, [], ◌∷◌, ◌++◌, length, get_or, take, map, sym, ap, ◌∙◌, arith, append_assoc, length-append}
+-- Slices that are cut one after another.
+use Rattle.std.proofs.Common.{◌≡◌, ◌+◌, ◌<◌, List, [], ◌∷◌, ◌++◌, length, get_or, map, sym, ap, ◌∙◌, arith, append_assoc, length-append}
 use Rattle.std.specs.Prelude.{reverse}
-use Rattle.std.proofs.Math.Seq.{get_or-append_seam, take-suc}
+use Rattle.std.proofs.Math.Seq.{get_or-append_seam}
 use Rattle.std.proofs.lemmas.List.{map-append, reverse-append}
 use Rattle.schema.specs.Database.{Database}
 use Rattle.partitions.specs.Parts.{Part, part_of, parts_of}
@@ -35,25 +35,3 @@ one_slice_more t parts rest p slices later slice so_far next is longer =
     ∙ sym (append_assoc (map at_rest rest) (at_rest p ∷ []) (reverse slices))
     ∙ sym (ap (λ l. l ++ reverse slices) (ap (map at_rest) next ∙ map-append at_rest rest (p ∷ [])))
     ∙ so_far
-
--- ---- the parts of slices
-
--- the first slices gave their parts, in order, and the rest not yet
-pub one_part_more : (slices rest more : List Sliced) (parts later : List Part) (slice : Sliced) (p : Part) → parts ++ map part_in rest ≡ map part_in slices → rest ≡ slice ∷ more → p ≡ part_in slice
-    → later ≡ parts ++ p ∷ [] → later ++ map part_in more ≡ map part_in slices
-one_part_more slices rest more parts later slice p so_far next is longer =
-    ap (λ l. l ++ map part_in more) (longer ∙ ap (λ q. parts ++ q ∷ []) is)
-    ∙ append_assoc parts (part_in slice ∷ []) (map part_in more)
-    ∙ ap (λ l. parts ++ map part_in l) (sym next) ∙ so_far
-
--- the same, where the slices stay
-pub one_copy_more : (slices : List Sliced) (n : ℕ) (parts later : List Part) (slice : Sliced) (p : Part) → n < length slices → parts ≡ map part_in (take n slices) → slice ≡ get_or slices n slice
-    → p ≡ part_in slice → later ≡ parts ++ p ∷ [] → later ≡ map part_in (take (suc n) slices)
-one_copy_more slices n parts later slice p small so_far found is longer =
-    longer ∙ (λ i. so_far i ++ (is i ∷ []))
-    ∙ sym (ap (map part_in) (take-suc slices n slice small ∙ ap (λ s. take n slices ++ s ∷ []) (sym found)) ∙ map-append part_in (take n slices) (slice ∷ []))
-
--- with no part left, the slices stand in reverse
-pub all_cut : (t : Database) (parts : List Part) (slices : List Sliced) → AreCutSoFar t parts slices → length parts ≡ 0 → reverse slices ≡ map at_rest (parts_of t)
-all_cut t [] slices so_far none = so_far
-all_cut t (p ∷ parts) slices so_far none = absurd (omega (arith, none))

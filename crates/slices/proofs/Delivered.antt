@@ -3,9 +3,8 @@ use Rattle.std.proofs.Common.{◌≡◌, ◌≢◌, ℕ, ◌+◌, ◌-◌, ◌<�
 use Rattle.std.specs.List.{filter}
 use Rattle.std.specs.Option.{option_map, option_and_then}
 use Rattle.std.specs.declared.cmp.Ordering.{Ordering}
-use Rattle.std.specs.declared.cmp.Ordering.TheVariants.{Less, Equal, Greater}
 use Rattle.std.specs.Cmp.{IsTotalOrder}
-use Rattle.std.specs.Ordering.{is_eq, is_lt}
+use Rattle.std.specs.Ordering.{is_lt}
 use Rattle.std.specs.FinMap as table
 use Rattle.std.specs.FinMap.{FinMap, get, get-retain_keys, same_map, IsAntisymmetric, entries, entries_sorted, entries-from_sorted}
 use Rattle.std.specs.FinMap.Entries.{is_sorted, below_all}
@@ -45,11 +44,6 @@ use Rattle.slices.specs.declared.kept.Kept.TheVariants as k
 use Rattle.slices.specs.Undo.{CanTakeBackDelivery, ChangesGroup, IsStep, with_order_delivered, with_order_undelivered}
 use Rattle.slices.proofs.Orders.{row_here, row_elsewhere}
 use Rattle.slices.proofs.Steps.{changes_to}
-
-is_equal : (r : Ordering) → is_eq r ≡ true → r ≡ Equal
-is_equal Less h = absurd cc
-is_equal Equal h = refl
-is_equal Greater h = absurd cc
 
 -- ---- rows that are changed in their places
 

@@ -36,8 +36,5 @@ not_home home group apart = ⊎_elim
 abbrev pub AreAlike : (Group → Bool) → Standing → Standing → Type 0
 AreAlike here a b = (group : Group) → IsTrue (here group) → (b.rows group ≡ a.rows group) × (b.free group ≡ a.free group)
 
-pub alike_back : (here : Group → Bool) (a b : Standing) → AreAlike here a b → AreAlike here b a
-alike_back here a b same = λ group near. (sym (same group near).0, sym (same group near).1)
-
 pub seen : (here : Group → Bool) (tables : Group → Content) (a b : Standing) (claims : List Claiming) → AreAlike here a b → AreCommitted here tables a claims → AreCommitted here tables b claims
 seen here tables a b claims same h = AreCommitted-same here tables tables a b claims (λ _ _. refl) (λ group near. (same group near).0) (λ group near. (same group near).1) h

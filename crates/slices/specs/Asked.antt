@@ -1,5 +1,5 @@
 -- What a slice answers to an action that asks for groups, and what it is then.
-use Rattle.std.specs.Prelude.{◌≡◌, ℕ, List, [], ◌∷◌, ◌++◌, map}
+use Rattle.std.specs.Prelude.{◌≡◌, List, [], ◌∷◌, ◌++◌, map}
 use Rattle.std.specs.List.Sorted.{IsPermutation}
 use Rattle.groups.specs.Content.{content}
 use Rattle.groups.specs.declared.wishes.Wish.{Wish}
@@ -34,11 +34,11 @@ pub record GrantsIn (by : Holder) (wants : List Want) (old : Sliced) (granted : 
   pub tables : new.tables ≡ old.tables
 
 module _ {J : Type 0} where
-  -- what is answered to one who asks and is taken for so old, and what the slice is then
-  abbrev pub AnswersIn : ℕ → Holder → List Want → Sliced → Asked J → Sliced → Type 0
-  AnswersIn age by wants old (asked.Granted claims) new = GrantsIn by wants old claims.items new × (new.waiters ≡ old.waiters)
-  AnswersIn age by wants old asked.Waits new = MustWait old.holdings age wants × (new ≡ record old { waiters = old.waiters ++ waiting by wants ∷ [] })
-  AnswersIn age by wants old (asked.Dies group holder) new = MustDie old.holdings age wants group holder × (new ≡ old)
+  -- what is answered to one who asks, and what the slice is then
+  abbrev pub AnswersIn : Holder → List Want → Sliced → Asked J → Sliced → Type 0
+  AnswersIn by wants old (asked.Granted claims) new = GrantsIn by wants old claims.items new × (new.waiters ≡ old.waiters)
+  AnswersIn by wants old asked.Waits new = MustWait old.holdings by.age wants × (new ≡ record old { waiters = old.waiters ++ waiting by wants ∷ [] })
+  AnswersIn by wants old (asked.Dies group holder) new = MustDie old.holdings by.age wants group holder × (new ≡ old)
 
   -- the claims that are granted with the answer
   abbrev pub claims_asked : Asked J → List Claiming

@@ -123,11 +123,6 @@ all_standing j = record { rows = content j.tables; free = λ group. free_at (j.h
 abbrev pub all_at_rest : Database → Joined
 all_at_rest tables = record { tables = tables; holdings = λ w_id. [] }
 
--- the slices are as they were: so many claims of each holder on each group are out, and the rows are the same
-pub record AreAsBefore (old new : Joined) : Type 0 where
-  pub tables : new.tables ≡ old.tables
-  pub holdings : (w_id : ℕ) → IsPermutation (new.holdings w_id) (old.holdings w_id)
-
 -- those of these claims that are on groups of the warehouse
 abbrev pub held_at : ℕ → List Claiming → List Holding
 held_at w_id claims = map held_by (filter (λ claim. at_home w_id claim.group) claims)

@@ -45,19 +45,3 @@ pub fn whole<J: GroupNames>(catalog: Catalog, slices: Vec<Slice<J>>) -> Result<T
     }
     partitions::whole(catalog, parts)
 }
-
-/// Tables equal to those that the slices make. The slices stay, and nothing more is left after an error.
-pub fn copy_whole<J: GroupNames>(
-    alloc: Global,
-    catalog: &Catalog,
-    slices: &[Slice<J>],
-) -> Result<Tables, NoMemory>
-    requires { AreSlicesOf catalog.now slices.now }
-    ensures { IfOk result (λ tables. tables ≡ (joined catalog.now slices.now).tables) }
-{
-    let mut parts = Vec::with_capacity(alloc, slices.len())?;
-    for slice in slices {
-        parts.push(slice.partition().try_clone()?)?;
-    }
-    partitions::whole(catalog.share()?, parts)
-}

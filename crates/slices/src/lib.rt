@@ -20,7 +20,7 @@ mod row_steps;
 mod slice;
 mod step;
 
-pub use cutting::{copy_whole, cut, whole};
+pub use cutting::{cut, whole};
 pub use laws::{
     cut_slices_are_at_rest, groups_are_told, one_slice_keeps_all, opened_groups_have_boxes,
 };

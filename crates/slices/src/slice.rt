@@ -15,7 +15,7 @@ ghost use Rattle.indexes.specs.LatestIndex.{FitsLatestBy};
 ghost use Rattle.indexes.specs.NameOrder.{FitsNamesBy};
 ghost use Rattle.tickets.specs.Claims.{leaving};
 ghost use Rattle.tickets.specs.Places.{IsGroupOf, place_in_warehouse};
-ghost use Rattle.local_locks.specs.Asking.{IsNoWait, StillWaits};
+ghost use Rattle.local_locks.specs.Asking.{StillWaits};
 ghost use Rattle.local_locks.specs.Conflicts.{MustDie};
 ghost use Rattle.local_locks.specs.Laws.{CouldAsk, IsClaimOf, NoneConflict};
 ghost use Rattle.local_locks.specs.Wishes.{CanAsk};
@@ -42,7 +42,7 @@ use schema::{
 use std::alloc::Global;
 use std::marker::Model;
 use tickets::{Claim, GROUPS_PER_WAREHOUSE, GroupNames, TicketBox};
-use wait_die::{Holder, YOUNGEST};
+use wait_die::Holder;
 
 /// The rows of one warehouse, who of its customers has which name and which order is the customer's latest, the
 /// lock table of its 105 groups, and what takes back what was done in each.
@@ -139,7 +139,7 @@ impl<J: GroupNames> Slice<J> {
     /// for younger holders alone, or dies of one that is not younger. Want of memory changes nothing.
     pub fn ask(&mut self, alloc: Global, by: Holder, wants: &[Want]) -> Result<Asked<J>, NoMemory>
         requires { CanAsk J.warehouses self.old.home wants.now }
-        ensures answers { IfOk result (λ asked. AnswersIn by.age by wants.now self.old asked self.new) }
+        ensures answers { IfOk result (λ asked. AnswersIn by wants.now self.old asked self.new) }
         ensures kept { IfOk result (λ asked. SliceKeeps [] (with_waiters self.new.waiters self.old) (claims_asked asked) self.new) }
         ensures err { OnErr result (self.new ≡ self.old) }
         ensures death_takes_none { OnErr result ((group : AnyGroup) (age : ℕ) → MustDie self.old.holdings by.age wants.now group age → ⊥) }
@@ -147,27 +147,6 @@ impl<J: GroupNames> Slice<J> {
         // What stands in the groups is known before; that no two claims conflict, is so after.
         self.locks.agree();
         let asked = self.locks.ask(alloc, by, wants)?;
-        self.locks.agree();
-        Ok(asked)
-    }
-
-    /// An action that can't wait asks for all its groups at once, as one that is younger than all: it is granted
-    /// all exactly where each is free, and else dies. Want of memory changes nothing.
-    pub fn ask_at_once(
-        &mut self,
-        alloc: Global,
-        by: Holder,
-        wants: &[Want],
-    ) -> Result<Asked<J>, NoMemory>
-        requires { CanAsk J.warehouses self.old.home wants.now }
-        ensures answers { IfOk result (λ asked. AnswersIn YOUNGEST by wants.now self.old asked self.new) }
-        ensures never_waits { IfOk result IsNoWait }
-        ensures kept { IfOk result (λ asked. SliceKeeps [] self.old (claims_asked asked) self.new) }
-        ensures err { OnErr result (self.new ≡ self.old) }
-        ensures death_takes_none { OnErr result ((group : AnyGroup) (age : ℕ) → MustDie self.old.holdings YOUNGEST wants.now group age → ⊥) }
-    {
-        self.locks.agree();
-        let asked = self.locks.ask_at_once(alloc, by, wants)?;
         self.locks.agree();
         Ok(asked)
     }

@@ -21,7 +21,6 @@ use Rattle.groups.specs.declared.wishes.Wish.{Wish}
 use Rattle.groups.specs.Footprint.{exclusively, footprint, groups_of, delivery_footprint}
 use Rattle.tickets.specs.Claims.{Claiming, all_claims}
 use Rattle.tickets.specs.Places.{IsGroupOf}
-use Rattle.machine.specs.Delivery.{HasCarrier}
 use Rattle.transactions.specs.declared.delivery.work.Work.{Work}
 use Rattle.transactions.specs.declared.delivery.work.Work.TheVariants.{DeliverOrders, CreditCustomers}
 use Rattle.transactions.specs.declared.delivery.work.Found.{Found}
@@ -98,19 +97,6 @@ warehouse_there : (scale : Scale) (d : Delivery) → IsAccepted scale (request.D
 warehouse_there scale d accepted =
     let others = BadDistrict ∷ BadLines ∷ BadQuantity ∷ BadSupply ∷ BadAmount ∷ BadThreshold ∷ BadCarrier ∷ [] in
     not-false _ (not_first (applies scale (request.Delivery d)) BadWarehouse others accepted).0
-
--- and its carrier is one
-pub carrier_there : (scale : Scale) (d : Delivery) → IsAccepted scale (request.Delivery d) → HasCarrier d
-carrier_there scale d accepted =
-    let test = applies scale (request.Delivery d) in
-    let first = not_first test BadWarehouse (BadDistrict ∷ BadLines ∷ BadQuantity ∷ BadSupply ∷ BadAmount ∷ BadThreshold ∷ BadCarrier ∷ []) accepted in
-    let second = not_first test BadDistrict (BadLines ∷ BadQuantity ∷ BadSupply ∷ BadAmount ∷ BadThreshold ∷ BadCarrier ∷ []) first.1 in
-    let third = not_first test BadLines (BadQuantity ∷ BadSupply ∷ BadAmount ∷ BadThreshold ∷ BadCarrier ∷ []) second.1 in
-    let fourth = not_first test BadQuantity (BadSupply ∷ BadAmount ∷ BadThreshold ∷ BadCarrier ∷ []) third.1 in
-    let fifth = not_first test BadSupply (BadAmount ∷ BadThreshold ∷ BadCarrier ∷ []) fourth.1 in
-    let sixth = not_first test BadAmount (BadThreshold ∷ BadCarrier ∷ []) fifth.1 in
-    let seventh = not_first test BadThreshold (BadCarrier ∷ []) sixth.1 in
-    not-false _ (not_first test BadCarrier [] seventh.1).0
 
 -- the groups of both actions are there, those of the first before those of the second
 both_there : (scale : Scale) (d : Delivery) → IsAccepted scale (request.Delivery d)

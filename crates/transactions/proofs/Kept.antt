@@ -3,7 +3,6 @@ use Rattle.std.proofs.Common.{◌≡◌, [], ◌∷◌, ◌++◌, List, Result, 
 use Rattle.std.specs.List.Sorted.{IsPermutation}
 use Rattle.std.proofs.lemmas.List.{append-nil, map-append}
 use Rattle.std.proofs.lemmas.List.Sorted.{IsPermutation-append_comm, IsPermutation-append_left, IsPermutation-map, IsPermutation-trans}
-use Rattle.partitions.specs.Parts.{shared_of}
 use Rattle.tickets.specs.Claims.{Claiming}
 use Rattle.tickets.specs.Committed.{AreCommitted, KeepsCommitted}
 use Rattle.tickets.proofs.Committed.{keeps_permuted}
@@ -93,7 +92,3 @@ pub one_fewer : (claims : List Claiming) (claim : Claiming) (first : List Claimi
 one_fewer claims claim first start old new kept returned =
     then first (claims ++ claim ∷ []) claims start old new kept
     (subst (λ after. SliceKeeps (claims ++ claim ∷ []) old after new) (append-nil claims) (after_more claims (claim ∷ []) [] old new returned))
-
--- the scale and the items stay
-pub same_shared : (before after : List Claiming) (old new : Sliced) → SliceKeeps before old after new → shared_of new.tables ≡ shared_of old.tables
-same_shared before after old new kept = λ i. record { scale = kept.scale i; items = kept.items i }

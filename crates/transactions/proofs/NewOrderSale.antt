@@ -1,7 +1,7 @@
 -- What is sold of the lines of a group, as they are gone through.
 use Rattle.std.proofs.Common.{◌≡◌, ◌<◌, ◌+◌, ℕ, true, false, cond, filter, drop, length, get_or, subst, List, [], ◌∷◌, ◌++◌, map, Option, Some, None, append_assoc, refl, sym, ap, ◌∙◌}
 use Rattle.std.specs.Option.{option_map}
-use Rattle.std.proofs.lemmas.List.{append-nil, at_drop_more}
+use Rattle.std.proofs.lemmas.List.{at_drop_more}
 use Rattle.requests.specs.declared.group.Group.{Group}
 use Rattle.requests.specs.declared.new_order.OrderedLine.{OrderedLine}
 use Rattle.machine.specs.NewOrder.{all_there}
@@ -12,9 +12,6 @@ abbrev pub AreSoFar : {X Y : Type 0} → (X → Option Y) → List Y → List X 
 AreSoFar f done rest all = option_map (λ found. done ++ found) (all_there (map f rest)) ≡ all_there (map f all)
 
 module _ {X Y : Type 0} (f : X → Option Y) where
-  pub none_so_far : (all : List X) → AreSoFar f [] all all
-  none_so_far all = elim (all_there (map f all)) as (λ o. option_map (λ (found : List Y). [] ++ found) o ≡ o) [ None ↦ refl | Some found ↦ refl ]
-
   pub one_more : (done : List Y) (x : X) (y : Y) (rest all : List X) → f x ≡ Some y → AreSoFar f done (x ∷ rest) all → AreSoFar f (done ++ y ∷ []) rest all
   one_more done x y rest all is so_far =
       elim (all_there (map f rest)) as (λ o. option_map (λ found. (done ++ y ∷ []) ++ found) o ≡ option_map (λ found. done ++ found) (option_map (λ found. y ∷ found) o)) [
@@ -23,14 +20,6 @@ module _ {X Y : Type 0} (f : X → Option Y) where
       ]
       ∙ ap (λ o. option_map (λ found. done ++ found) (all_there (o ∷ map f rest))) (sym is)
       ∙ so_far
-
-  -- where one isn't there, they aren't
-  pub one_missing : (done : List Y) (x : X) (rest all : List X) → f x ≡ None → AreSoFar f done (x ∷ rest) all → all_there (map f all) ≡ None
-  one_missing done x rest all is so_far = sym so_far ∙ ap (λ o. option_map (λ found. done ++ found) (all_there (o ∷ map f rest))) is
-
-  -- and in the end all are
-  pub all_done : (done : List Y) (all : List X) → AreSoFar f done [] all → all_there (map f all) ≡ Some done
-  all_done done all so_far = sym so_far ∙ ap Some (append-nil done)
 
 -- ---- the lines that a group supplies, from an index on
 

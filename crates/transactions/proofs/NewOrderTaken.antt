@@ -326,10 +326,7 @@ module _
               ∙ sym (ap (content (taken s)) (own ∙ on.group));
         }
 
--- by whether each item is there, and all lines can be sold
-pub found_no_item : (t : Database) (n : NewOrder) (lines : List Numbered) → list_all (has_item_of t) lines ≡ false → NoItem ≡ stock_found t n lines
-found_no_item t n lines none = sym (ap (λ b. cond b (sold_or_out (all_there (map (line_sold t n) lines))) NoItem) none)
-
+-- where each item is there, by whether all lines can be sold
 pub found_out : (t : Database) (n : NewOrder) (lines : List Numbered) → list_all (has_item_of t) lines ≡ true → all_there (map (line_sold t n) lines) ≡ None → OutOfRange ≡ stock_found t n lines
 found_out t n lines all none =
     sym (ap (λ b. cond b (sold_or_out (all_there (map (line_sold t n) lines))) NoItem) all ∙ ap sold_or_out none)

@@ -1,5 +1,5 @@
 -- What each action does is what its facts say, by what stood in the tables when it began.
-use Rattle.std.proofs.Common.{◌≡◌, ◌⊎◌, Option, Some, None, inl, inr, refl, sym, ap, ◌∙◌}
+use Rattle.std.proofs.Common.{◌≡◌, ◌⊎◌, Option, Some, None, refl, sym, ap, ◌∙◌}
 use Rattle.std.specs.Prelude.{pos}
 use Rattle.std.specs.FinMap as map
 use Rattle.rows.specs.declared.keys.CustomerKey.{CustomerKey}
@@ -80,12 +80,6 @@ module _ (p : Payment) (t : Database) where
 
         left_d : new_district.left ≡ new_district.told
         left_d = untouched district new_district fresh_district district_same
-
-        pub no_warehouse : map.get t.warehouses p.home.w_id ≡ None → IsHomePaid p h.Missing new_warehouse new_district
-        no_warehouse none = record { warehouse_claim = on_w; district_claim = on_d; rows = record { none = inl (told_w None none); warehouse_left = left_w; district_left = left_d } }
-
-        pub no_district : map.get t.districts p.home ≡ None → IsHomePaid p h.Missing new_warehouse new_district
-        no_district none = record { warehouse_claim = on_w; district_claim = on_d; rows = record { none = inr (told_d None none); warehouse_left = left_w; district_left = left_d } }
 
         pub home_out : (w : Warehouse) (d : District) → map.get t.warehouses p.home.w_id ≡ Some w → map.get t.districts p.home ≡ Some d
             → (warehouse_paid w (pos p.amount) ≡ None) ⊎ (district_paid d (pos p.amount) ≡ None) → IsHomePaid p h.OutOfRange new_warehouse new_district

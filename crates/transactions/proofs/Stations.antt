@@ -2,10 +2,9 @@
 use Rattle.std.proofs.Common.{◌≡◌, ℕ, ◌<◌, List, [], ◌∷◌, ◌++◌, length, get_or, map, refl, sym, ap, subst, ◌∙◌, arith}
 use Rattle.std.specs.Prelude.{All, slice_index_or}
 use Rattle.std.specs.List.{remove}
-use Rattle.std.specs.List.Sorted.{IsPermutation}
 use Rattle.std.proofs.lemmas.List.{get_or-map, get_or_default, length-map, map-append}
 use Rattle.std.proofs.lemmas.List.Elements.{All-get_or, All-push, All-tail, All-weaker}
-use Rattle.std.proofs.lemmas.List.Sorted.{All-permutation, IsPermutation-refl, IsPermutation-remove}
+use Rattle.std.proofs.lemmas.List.Sorted.{All-permutation, IsPermutation-remove}
 use Rattle.partitions.specs.Parts.{Shared, shared_of}
 use Rattle.requests.specs.declared.group.Group.{Group}
 use Rattle.groups.specs.declared.wants.Want.{Want}
@@ -16,13 +15,13 @@ use Rattle.local_locks.specs.Conflicts.{MustDie}
 use Rattle.local_locks.specs.Locking.{Waiting}
 use Rattle.local_locks.proofs.Taken.{map_removed}
 use Rattle.slices.specs.Asked.{GrantsIn, locking_in}
-use Rattle.slices.specs.Sliced.{IsAsBefore, SliceKeeps, Sliced, with_waiters}
+use Rattle.slices.specs.Sliced.{SliceKeeps, Sliced, with_waiters}
 use Rattle.transactions.specs.declared.acting.Ran.{Ran}
-use Rattle.transactions.specs.declared.acting.Ran.TheVariants.{Died, NoMemory}
+use Rattle.transactions.specs.declared.acting.Ran.TheVariants.{Died}
 use Rattle.transactions.specs.declared.station.Acted.TheVariants as acted
 use Rattle.transactions.specs.declared.station.Parked.{Parked}
 use Rattle.transactions.specs.declared.work.Work.{Work}
-use Rattle.transactions.specs.Acting.{IsRanAs, IsRanUnder, claims_of_ran}
+use Rattle.transactions.specs.Acting.{IsRan, IsRanUnder, claims_of_ran}
 use Rattle.transactions.specs.Stations.{ActsAs, CanDoThere, IsStation, OneTurn, Stationed, parked, stationed, waiting_of}
 use Rattle.transactions.specs.Granted.{AreGrantedFor}
 use Rattle.transactions.specs.Works.{CanDo, home_of, wants_of, wishes_of}
@@ -41,14 +40,6 @@ module _ {T : Type 0} where
   all_able : (old new : Sliced) (all : List (Parked T)) → new.home ≡ old.home → new.tables.scale ≡ old.tables.scale → new.tables.items ≡ old.tables.items → All (CanDoThere old) all → All (CanDoThere new) all
   all_able old new all home scale items able = All-weaker (CanDoThere old) (CanDoThere new) (still_able old new home scale items) all able
 
-  -- whatever claims come and go
-  pub still_station : (warehouses : ℕ) (before after : List Claiming) (old new : Sliced) (all : List (Parked T)) → IsStation warehouses old all → SliceKeeps before old after new → IsStation warehouses new all
-  still_station warehouses before after old new all is keeps = record {
-    warehouses_are = is.warehouses_are ∙ ap (λ s. s.warehouses) (sym keeps.scale);
-    waiters = keeps.waiters ∙ is.waiters;
-    able = all_able old new all keeps.home keeps.scale keeps.items is.able;
-  }
-
   -- one more waits
   pub one_more : (warehouses : ℕ) (old : Sliced) (all : List (Parked T)) (by : Holder) (work : Work) (carried : T) → IsStation warehouses old all → CanDo (shared_of old.tables) work → home_of work ≡ old.home
       → IsStation warehouses (with_waiters (old.waiters ++ waiting by (wants_of work) ∷ []) old) (all ++ parked by work carried ∷ [])
@@ -64,17 +55,6 @@ module _ {T : Type 0} where
 -- ---- an action asks
 
 module _ {T : Type 0} (by : Holder) (work : Work) (carried : T) (old : Stationed T) (left : List (Parked T)) (same : left ≡ old.parked) where
-  -- there is no memory for it
-  pub acts_for_nothing : (J : Type 0) (new : Sliced) → new ≡ old.slice → ActsAs {J = J} by work carried old (acted.Ran NoMemory carried) (stationed new left)
-  acts_for_nothing J new stays =
-      let before : IsAsBefore old.slice new = record {
-        home = ap (λ (s : Sliced). s.home) stays;
-        tables = ap (λ (s : Sliced). s.tables) stays;
-        holdings = subst (λ (s : Sliced). IsPermutation s.holdings old.slice.holdings) (sym stays) (IsPermutation-refl old.slice.holdings);
-        waiters = ap (λ (s : Sliced). s.waiters) stays;
-      } in
-      (refl, before, kept.unchanged [] [] old.slice new refl stays, same)
-
   pub acts_and_dies : (J : Type 0) (group : Group) (holder : ℕ) (new : Sliced) → MustDie old.slice.holdings by.age (wants_of work) group holder → new ≡ old.slice
       → ActsAs {J = J} by work carried old (acted.Ran (Died group holder) carried) (stationed new left)
   acts_and_dies J group holder new death stays = (refl, (death, stays), kept.unchanged [] [] old.slice new refl stays, same)
@@ -84,7 +64,7 @@ module _ {T : Type 0} (by : Holder) (work : Work) (carried : T) (old : Stationed
       → ActsAs by work carried old (acted.Ran ran carried) (stationed new left)
   acts_at_once ran claims mid new grants wait first under keeps =
       let here : SliceKeeps [] old.slice claims mid = subst (λ ws. SliceKeeps [] (with_waiters ws old.slice) claims mid) wait first in
-      (refl, ran_of by.age by old.slice mid new work claims ran grants wait under keeps, kept.then [] claims (claims_of_ran ran) old.slice mid new here keeps, same)
+      (refl, ran_of by old.slice mid new work claims ran grants wait under keeps, kept.then [] claims (claims_of_ran ran) old.slice mid new here keeps, same)
 
 -- ---- a turn
 
@@ -121,7 +101,7 @@ module _ {T : Type 0} (warehouses : ℕ) (old mid : Sliced) (all rest : List (Pa
   }
 
   -- what comes of it is its turn
-  one_turn : {J : Type 0} (ran : Ran J) (new : Sliced) → (StillWaits old.holdings (waiting by wants) → ⊥) → IsRanAs by.age by (with_waiters new.waiters old) p.work ran new
+  one_turn : {J : Type 0} (ran : Ran J) (new : Sliced) → (StillWaits old.holdings (waiting by wants) → ⊥) → IsRan by (with_waiters new.waiters old) p.work ran new
       → SliceKeeps [] (with_waiters new.waiters old) (claims_of_ran ran) new → OneTurn (stationed old all) (record { by = by; ran = ran; carried = p.carried }) (stationed new rest)
   one_turn ran new over of keeps = record {
     index = index;
@@ -145,7 +125,7 @@ module _ {T : Type 0} (warehouses : ℕ) (old mid : Sliced) (all rest : List (Pa
       (record { free = grants.free; claims = grants.claims; holdings = grants.holdings; home = grants.home; tables = grants.tables }) in
       let from : SliceKeeps [] before claims mid = subst (λ (ws : List Waiting). SliceKeeps [] (with_waiters ws old) claims mid) (sym keeps.waiters) first in
       let keep = kept.then [] claims (claims_of_ran ran) before mid new from keeps in (
-        one_turn ran new (λ wait. grants.free wait.some.0 wait.some.1) (ran_of by.age by before mid new p.work claims ran all_granted (sym keeps.waiters) under keeps) keep,
+        one_turn ran new (λ wait. grants.free wait.some.0 wait.some.1) (ran_of by before mid new p.work claims ran all_granted (sym keeps.waiters) under keeps) keep,
         rest_there new keeps.waiters keep.home keep.scale keep.items,
       )
 

@@ -1,10 +1,8 @@
 -- What the actions of a Stock-Level found is what every tables show that their claims tell.
-use Rattle.std.proofs.Common.{◌≡◌, ℕ, zero, suc, ◌+◌, ◌<◌, List, [], ◌∷◌, Option, None, length, map, refl, sym, ap, subst, ◌∙◌, arith}
+use Rattle.std.proofs.Common.{◌≡◌, ℕ, zero, suc, ◌+◌, ◌<◌, List, [], ◌∷◌, None, length, map, refl, sym, ap, subst, ◌∙◌, arith}
 use Rattle.std.specs.Prelude.{slice_index_or}
 use Rattle.std.specs.List.{range_with_len}
-use Rattle.std.specs.FinMap as table
 use Rattle.rows.specs.declared.keys.DistrictKey.{DistrictKey}
-use Rattle.rows.specs.declared.records.District.{District as DistrictRow}
 use Rattle.schema.specs.Database.{Database}
 use Rattle.requests.specs.declared.group.Group.{Group}
 use Rattle.requests.specs.declared.group.Group.TheVariants as g
@@ -13,28 +11,12 @@ use Rattle.groups.specs.Content.{content}
 use Rattle.groups.specs.Content.Content.{OfDistrict}
 use Rattle.groups.specs.declared.wishes.Mode.TheVariants.{Shared}
 use Rattle.tickets.specs.Claims.{Claiming}
-use Rattle.machine.specs.StockLevel.{low_stock, next_order, recent_items}
+use Rattle.machine.specs.StockLevel.{low_stock, recent_items}
 use Rattle.machine.proofs.StockLevelGroups.{same_items, same_low}
 use Rattle.transactions.specs.Granted.{AreGrantedFor, AreLeft, IsSharedOn}
-use Rattle.transactions.specs.StockLevel.{AreItemsFound, AreSharedOn, IsLowFound, IsNextFound, stock_of}
+use Rattle.transactions.specs.StockLevel.{AreItemsFound, AreSharedOn, IsLowFound, stock_of}
 use Rattle.transactions.proofs.StockLevelWorks.{stock_wishes}
 use Rattle.transactions.proofs.OrderStatusShown.{on_still, told_here}
-
-same_row : (row other : Option DistrictRow) → OfDistrict row ≡ OfDistrict other → row ≡ other
-same_row row other same = cc
-
--- the district's next number
-pub next_is_found : (t : Database) (home : DistrictKey) (next : ℕ) (was now : Claiming) → IsSharedOn (g.District home.w_id home.d_id) was
-    → was.left ≡ content t was.group → (was.mode ≡ Shared → was.left ≡ was.told) → now ≡ was → next ≡ next_order (table.get t.districts home) → IsNextFound home next now
-next_is_found t home next was now on left untouched same is =
-    let own : Group = g.District home.w_id home.d_id in
-    let claim = on_still t own was now on left untouched same in
-    record {
-      claim = claim;
-      shown = λ s tells.
-          let alike : content t own ≡ content s own = sym (told_here t own was now on left untouched same) ∙ sym tells ∙ ap (content s) claim.group in
-          is ∙ ap next_order (same_row (table.get t.districts home) (table.get s.districts home) alike);
-    }
 
 -- the items of its last orders
 pub items_are_found : (t : Database) (home : DistrictKey) (next : ℕ) (items : List ℕ) (was now : Claiming) → IsSharedOn (g.Orders home.w_id home.d_id) was

@@ -19,7 +19,7 @@ use Rattle.slices.specs.Sliced.{SliceKeeps, Sliced}
 use Rattle.transactions.specs.declared.acting.Ran.{Ran}
 use Rattle.transactions.specs.declared.acting.Ran.TheVariants.{Done, Died, NoMemory}
 use Rattle.transactions.specs.declared.work.Work.{Work}
-use Rattle.transactions.specs.Acting.{claims_of_ran, IsBy, IsRanAs, IsRanUnder}
+use Rattle.transactions.specs.Acting.{claims_of_ran, IsBy, IsRan, IsRanUnder}
 use Rattle.transactions.specs.Granted.{AreGrantedFor, AreLeft, AreWishesAt}
 use Rattle.transactions.specs.Works.{CanDo, HasDone, home_of, want_of, wants_of, wishes_of}
 use Rattle.transactions.proofs.Wished.{left_undone, works_claim_at_home, works_have_their_groups, works_wish_once}
@@ -87,16 +87,16 @@ granted_by by work old new granted grants =
 -- ---- what comes of it
 
 -- what comes of work under claims that were granted for it is what comes of the action
-pub ran_of : {J : Type 0} (age : ℕ) (by : Holder) (old mid new : Sliced) (work : Work) (granted : List Claiming) (ran : Ran J) → GrantsIn by (wants_of work) old granted mid → mid.waiters ≡ old.waiters
-    → IsRanUnder mid work granted ran new → SliceKeeps granted mid (claims_of_ran ran) new → IsRanAs age by old work ran new
-ran_of age by old mid new work granted (Done claims found) grants wait under keeps = record {
+pub ran_of : {J : Type 0} (by : Holder) (old mid new : Sliced) (work : Work) (granted : List Claiming) (ran : Ran J) → GrantsIn by (wants_of work) old granted mid → mid.waiters ≡ old.waiters
+    → IsRanUnder mid work granted ran new → SliceKeeps granted mid (claims_of_ran ran) new → IsRan by old work ran new
+ran_of by old mid new work granted (Done claims found) grants wait under keeps = record {
   free = grants.free;
   done = subst (λ (t : Database). HasDone (shared_of t) work found claims) grants.tables under.0;
   undone = left_undone (wishes_of work) granted claims (granted_for by work old mid granted grants) under.1;
   own = left_by by granted claims under.1 (granted_by by work old mid granted grants);
 }
-ran_of age by old mid new work granted (Died group holder) grants wait under keeps = absurd under
-ran_of age by old mid new work granted NoMemory grants wait under keeps = record {
+ran_of by old mid new work granted (Died group holder) grants wait under keeps = absurd under
+ran_of by old mid new work granted NoMemory grants wait under keeps = record {
   home = keeps.home ∙ grants.home;
   tables = under ∙ grants.tables;
   holdings = keeps.holdings old.holdings grants.holdings;

@@ -1,10 +1,9 @@
 -- What comes of an action, from its claims to their return.
-use Rattle.std.specs.Prelude.{◌≡◌, ℕ, List, [], All}
+use Rattle.std.specs.Prelude.{◌≡◌, List, [], All}
 use Rattle.partitions.specs.Parts.{Shared, shared_of}
 use Rattle.groups.specs.declared.wishes.Mode.TheVariants.{Exclusive}
 use Rattle.tickets.specs.Claims.{Claiming}
 use Rattle.wait_die.specs.declared.deciding.Holder.{Holder}
-use Rattle.wait_die.specs.declared.deciding.TheConstants.{YOUNGEST}
 use Rattle.local_locks.specs.Conflicts.{IsFree, MustDie}
 use Rattle.local_locks.specs.Locking.{Holding}
 use Rattle.slices.specs.Sliced.{Sliced, IsAsBefore}
@@ -43,16 +42,12 @@ pub record IsDoneBy (by : Holder) (holdings : List Holding) (shared : Shared) (w
   pub undone : All CanBeUndone claims
   pub own : All (IsBy by) claims
 
--- What comes of this work in this slice, where the action is taken for so old: it was done; or it died; or there was no memory.
--- Then the slice is as it was.
-abbrev pub IsRanAs : {J : Type 0} → ℕ → Holder → Sliced → Work → Ran J → Sliced → Type 0
-IsRanAs age by old work (Done claims found) new = IsDoneBy by old.holdings (shared_of old.tables) work claims found
-IsRanAs age by old work (Died group holder) new = MustDie old.holdings age (wants_of work) group holder × (new ≡ old)
-IsRanAs age by old work NoMemory new = IsAsBefore old new
-
--- what comes of an action that can't wait: it dies as one that is younger than all would
-abbrev pub IsRanOf : {J : Type 0} → Holder → Sliced → Work → Ran J → Sliced → Type 0
-IsRanOf by old work ran new = IsRanAs YOUNGEST by old work ran new
+-- What comes of an action's work in this slice: it was done; or it died, of somebody who is not younger; or there was no memory.
+-- In these two cases the slice is as it was.
+abbrev pub IsRan : {J : Type 0} → Holder → Sliced → Work → Ran J → Sliced → Type 0
+IsRan by old work (Done claims found) new = IsDoneBy by old.holdings (shared_of old.tables) work claims found
+IsRan by old work (Died group holder) new = MustDie old.holdings by.age (wants_of work) group holder × (new ≡ old)
+IsRan by old work NoMemory new = IsAsBefore old new
 
 -- What comes of work under claims that were granted for it: it was done under these claims, whatever was left under them; or
 -- there was no memory, and the rows are as they were.

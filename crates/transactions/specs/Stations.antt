@@ -12,7 +12,7 @@ use Rattle.transactions.specs.declared.station.Acted.TheVariants.{Ran, Waits}
 use Rattle.transactions.specs.declared.station.Parked.{Parked}
 use Rattle.transactions.specs.declared.station.Turned.{Turned}
 use Rattle.transactions.specs.declared.work.Work.{Work}
-use Rattle.transactions.specs.Acting.{IsRanAs, claims_of_ran}
+use Rattle.transactions.specs.Acting.{IsRan, claims_of_ran}
 use Rattle.transactions.specs.Works.{CanDo, home_of, wants_of}
 
 module _ {T : Type 0} where
@@ -50,7 +50,7 @@ module _ {J T : Type 0} where
   -- waits, after all others.
   abbrev pub ActsAs : Holder → Work → T → Stationed T → Acted J T → Stationed T → Type 0
   ActsAs by work carried old (Ran ran told) new =
-      (told ≡ carried) × IsRanAs by.age by old.slice work ran new.slice × SliceKeeps [] old.slice (claims_of_ran ran) new.slice
+      (told ≡ carried) × IsRan by old.slice work ran new.slice × SliceKeeps [] old.slice (claims_of_ran ran) new.slice
       × (new.parked ≡ old.parked)
   ActsAs by work carried old Waits new =
       MustWait old.slice.holdings by.age (wants_of work)
@@ -67,5 +67,5 @@ module _ {J T : Type 0} where
     pub rest : new.parked ≡ remove old.parked index
     pub over : StillWaits old.slice.holdings (waiting turned.by (wants_of work)) → ⊥
     pub first : All (WaitsIfBefore old.slice.holdings turned.by) old.slice.waiters
-    pub ran : IsRanAs turned.by.age turned.by (with_waiters new.slice.waiters old.slice) work turned.ran new.slice
+    pub ran : IsRan turned.by (with_waiters new.slice.waiters old.slice) work turned.ran new.slice
     pub kept : SliceKeeps [] (with_waiters new.slice.waiters old.slice) (claims_of_ran turned.ran) new.slice

@@ -2,50 +2,28 @@
 ghost use Rattle.std.specs.Prelude.{◌≡◌, [], ◌∷◌, All};
 ghost use Rattle.partitions.specs.Parts.{shared_of};
 ghost use Rattle.slices.specs.Sliced.{IsClaimAt, SliceKeeps};
-ghost use Rattle.transactions.specs.Acting.{claims_of_ran, CanBeSettled, CanBeUndone, IsRanOf, IsRanUnder};
+ghost use Rattle.transactions.specs.Acting.{claims_of_ran, CanBeSettled, CanBeUndone, IsRanUnder};
 ghost use Rattle.transactions.specs.Granted.{AreGrantedFor};
 ghost use Rattle.transactions.specs.Works.{CanDo, home_of, wishes_of};
 
 use crate::{Found, Work, run};
 use groups::Mode;
-use local_locks::Asked;
 use requests::Group;
 use slices::Slice;
 use std::alloc::Global;
 use tickets::{Claim, Claims, GroupNames};
-use wait_die::{Age, Holder};
+use wait_die::Age;
 
 /// What came of an action.
 #[derive(Drop)]
 pub enum Ran<J: GroupNames> {
     /// It did its work under these claims, and found this.
     Done(Claims<J>, Found),
-    /// It did nothing, since others are in its way: `group` is the first, in the order of groups, on which one
-    /// is, and `holder` the age of the oldest there.
+    /// It did nothing, since others who are not younger are in its way: `group` is the first, in the order of groups,
+    /// on which one is, and `holder` the age of the oldest there.
     Died { group: Group, holder: Age },
     /// It did nothing, since there was no memory.
     NoMemory,
-}
-
-/// Claims for this one what the work needs in the slice of its warehouse, all or nothing, and does it. It dies
-/// where anybody is in its way, since it can't wait. An action that dies or finds no memory holds no claim, and
-/// has left the slice as it was.
-pub fn act<J: GroupNames>(alloc: Global, slice: &mut Slice<J>, by: Holder, work: Work) -> Ran<J>
-    requires warehouses { J.warehouses ≡ slice.old.tables.scale.warehouses }
-    requires can { CanDo (shared_of slice.old.tables) work }
-    requires home { home_of work ≡ slice.old.home }
-    ensures kept { SliceKeeps [] slice.old (claims_of_ran result) slice.new }
-    ensures done { IsRanOf by slice.old work result slice.new }
-{
-    let Ok(wants) = work.wants(alloc) else {
-        return Ran::NoMemory;
-    };
-    match slice.ask_at_once(alloc, by, &wants) {
-        Ok(Asked::Granted(claims)) => run_under(alloc, slice, claims, work),
-        Ok(Asked::Waits) => unreachable!(),
-        Ok(Asked::Dies { group, holder }) => Ran::Died { group, holder },
-        Err(_) => Ran::NoMemory,
-    }
 }
 
 // Does the work under the claims that were granted for it. Where there is no memory, they are given back.

@@ -24,7 +24,7 @@ mod station;
 pub mod stock_level;
 mod work;
 
-pub use acting::{Ran, act, settle, undo};
+pub use acting::{Ran, settle, undo};
 pub use laws::{
     MOST_ACTIONS, accepted_requests_have_their_groups, actions_can_do_their_work,
     claims_are_of_the_footprint, phases_have_actions, reached_requests_are_accepted,

@@ -4,9 +4,6 @@ ghost use Rattle.wait_die.specs.Verdicts.{IsOldest, IsVerdict};
 /// The age of a transaction: how many were admitted before it. Of two ages the lesser is the older.
 pub type Age = u64;
 
-/// No age is younger.
-pub const YOUNGEST: Age = Age::MAX;
-
 /// An action that holds a claim: its transaction's age, and its place among the transaction's actions.
 #[derive(Clone, Copy, Debug, Default, PartialEq, Eq)]
 pub struct Holder {
@@ -25,10 +22,9 @@ pub enum Decision {
     Dies(Age),
 }
 
-/// What is said to a wish of a transaction of this age, by the holders that conflict with it. The youngest never waits.
+/// What is said to a wish of a transaction of this age, by the holders that conflict with it.
 pub fn verdict(age: Age, conflicting: &[Holder]) -> Decision
-    ensures verdict { IsVerdict age conflicting.now result }
-    ensures youngest { age ≡ YOUNGEST → result ≢ Decision.Waits }
+    ensures { IsVerdict age conflicting.now result }
 {
     match oldest(conflicting) {
         None => Decision::Free,

@@ -6,4 +6,4 @@
 
 mod deciding;
 
-pub use deciding::{Age, Decision, Holder, YOUNGEST, verdict};
+pub use deciding::{Age, Decision, Holder, verdict};

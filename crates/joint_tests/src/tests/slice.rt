@@ -10,7 +10,7 @@ ghost use Rattle.tickets.specs.Places.{IsGroupOf};
 use super::*;
 use amounts::Cents;
 use groups::{Extent, Mode, Want};
-use local_locks::Asked;
+use local_locks::{Asked, Turn};
 use partitions::Partition;
 use requests::Group;
 use schema::{CarrierId, OrderKey};
@@ -21,6 +21,14 @@ use tickets::{Claim, GroupNames, GroupSeats, named_all};
 use wait_die::Holder;
 
 const HOLDER: Holder = Holder { age: 63, place: 0 };
+
+// Why a group isn't granted: all who have it are younger, or the oldest who has it is of this age and is not.
+#[derive(Clone, Copy, Debug, PartialEq, Eq)]
+enum Refused {
+    Waits,
+    Dies(u64),
+    NoMemory,
+}
 
 // The slices of these tables, from what was opened for their groups.
 fn opened<J: GroupNames>(
@@ -39,13 +47,13 @@ fn opened<J: GroupNames>(
     Ok(slices)
 }
 
-// An exclusive claim on a group of the slice; or the age of the oldest who is in the way, if there was memory.
+// An exclusive claim on a group of the slice.
 fn claimed<J: GroupNames>(
     alloc: Global,
     slice: &mut Slice<J>,
     by: Holder,
     group: Group,
-) -> Result<Claim<J>, Option<u64>>
+) -> Result<Claim<J>, Refused>
     requires known { IsGroupOf J.warehouses group }
     requires home { warehouse_of group ≡ slice.old.home }
     ensures claim { IfOk result (λ claim. claim ≡ fresh by group Exclusive (content slice.old.tables group)) }
@@ -56,11 +64,11 @@ fn claimed<J: GroupNames>(
         extent: Extent::One(group),
         mode: Mode::Exclusive,
     };
-    match slice.ask_at_once(alloc, by, &[want]) {
-        Ok(Asked::Granted(mut claims)) => claims.pop().ok_or(None),
-        Ok(Asked::Waits) => Err(None),
-        Ok(Asked::Dies { holder, .. }) => Err(Some(holder)),
-        Err(_) => Err(None),
+    match slice.ask(alloc, by, &[want]) {
+        Ok(Asked::Granted(mut claims)) => claims.pop().ok_or(Refused::NoMemory),
+        Ok(Asked::Waits) => Err(Refused::Waits),
+        Ok(Asked::Dies { holder, .. }) => Err(Refused::Dies(holder)),
+        Err(_) => Err(Refused::NoMemory),
     }
 }
 
@@ -81,7 +89,7 @@ fn put_and_undone<J: GroupNames>(
     let group = Group::Warehouse { w_id: home };
     let row = slice.partition().warehouse(home)?;
     let before = row.ytd.get();
-    let mut row = row.try_clone().ok()?;
+    let mut row = row.copy();
     row.ytd = Cents::new(7);
     let Ok(mut claim) = claimed(alloc, slice, HOLDER, group) else {
         return None;
@@ -92,7 +100,7 @@ fn put_and_undone<J: GroupNames>(
     };
     let put = slice.partition().warehouse(home)?.ytd.get();
     let younger = Holder { age: 64, place: 0 };
-    let Err(Some(holder)) = claimed(alloc, slice, younger, group) else {
+    let Err(Refused::Dies(holder)) = claimed(alloc, slice, younger, group) else {
         return None;
     };
     slice.undo(&mut claim);
@@ -107,6 +115,48 @@ fn a_row_is_put_and_undone(rt: HostRuntime) -> Result<(), Fail> {
     let openings = open_groups(rt.alloc(), &tables)?;
     let told = put_and_undone::<Brand>(rt.alloc(), tables, openings);
     assert_eq!(rt; told, Some((50_000, 7, 50_000, 63)));
+    Ok(())
+}
+
+const YOUNGER: Holder = Holder { age: 2, place: 0 };
+
+const OLDER: Holder = Holder { age: 1, place: 0 };
+
+// An older one asks for the row of the first warehouse, which a younger one has: what is said to it, and who is granted how
+// much once the younger has given the row back.
+fn waited_and_granted<J: GroupNames>(
+    alloc: Global,
+    tables: Tables,
+    openings: Vec<GroupSeats>,
+) -> Option<(Refused, Holder, usize)>
+    requires warehouses { J.warehouses ≡ tables.scale.warehouses }
+    requires opened { AreOpenedFor tables openings.items }
+    requires names { AreNamed tables.scale.warehouses J.committed J.work openings.items }
+{
+    let mut slices = opened::<J>(alloc, tables, openings).ok()?;
+    let slice = slices.get_mut(0)?;
+    let home = slice.home();
+    let group = Group::Warehouse { w_id: home };
+    slice.partition().warehouse(home)?;
+    let Ok(claim) = claimed(alloc, slice, YOUNGER, group) else {
+        return None;
+    };
+    let Err(said) = claimed(alloc, slice, OLDER, group) else {
+        return None;
+    };
+    slice.take_back(claim);
+    let Some(Turn::Granted { by, claims, .. }) = slice.next_grant() else {
+        return None;
+    };
+    Some((said, by, claims.len()))
+}
+
+#[test]
+fn an_older_one_waits_and_is_granted(rt: HostRuntime) -> Result<(), Fail> {
+    let tables = two_warehouses(rt.alloc())?;
+    let openings = open_groups(rt.alloc(), &tables)?;
+    let told = waited_and_granted::<Brand>(rt.alloc(), tables, openings);
+    assert_eq!(rt; told, Some((Refused::Waits, OLDER, 1)));
     Ok(())
 }
 

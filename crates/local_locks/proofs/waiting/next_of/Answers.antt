@@ -20,7 +20,7 @@ loop-index-preserved g c =
     let by : c.waiter.inside.by ≡ p.by = ap (λ (q : Parked). q.by) c.waiter.view_is in
     let P : List Want → Type 0 = λ ws. IsRuling c.waiter.inside.by.age locks (flat_map spots_of ws) ruling in
     let Q : Holder → Type 0 = λ h. IsRuling h.age locks (flat_map spots_of p.wants) ruling in
-    let said : Q p.by = subst Q by (subst P wants c.ruling_on-ruling.ensures.ruling) in
+    let said : Q p.by = subst Q by (subst P wants c.ruling_on-ruling.ensures) in
     let R : Option Next → Type 0 = λ found. MatchOption found (All (StaysParked locks) (take (c.loop-index.index + 1) c.args.waiters.now)) (IsNext locks (take (c.loop-index.index + 1) c.args.waiters.now)) in
     subst R (sym c.sooner-next.ensures)
     (next_walked locks c.args.waiters.now c.loop-index.index p c.loop-index.next (record { index = c.loop-index.index; by = c.waiter.inside.by; ruling = ruling })

@@ -31,14 +31,14 @@ returns-in_default-clause-paid g c =
     done.no_customer p t c.args.customers.now c.requires.claim c.requires.fresh c.look.ensures.left c.look.new.claim c.look.ensures.same.1
     (sym (none ∙ ap (λ (s : Database). chosen s.customers p.customer_home p.customer) seen))
 
-pub returns-in_default-2-clause-paid : goal.returns-in_default-2-clause-paid
-returns-in_default-2-clause-paid g c =
+pub returns-in_default-customer_paid-clause-paid : goal.returns-in_default-customer_paid-clause-paid
+returns-in_default-customer_paid-clause-paid g c =
     let p = c.args.payment.now in
     let t = c.args.slice.now.tables in
     let seen = ap (λ (p : Part). p.tables) c.partition.ensures.rows ∙ ap (λ (s : Sliced). s.tables) c.look.ensures.same.0 in
     done.customer_out p t c.args.customers.now c.requires.claim c.requires.fresh c.look.ensures.left c.look.new.claim c.in-Some.key c.in-Some.row.now c.look.ensures.same.1
     (sym (c.in-Some.ensures ∙ ap (λ (s : Database). chosen s.customers p.customer_home p.customer) seen))
-    (sym c.in_ok-row.ensures ∙ c.in_default-2.is)
+    (sym c.in_default-customer_paid.ensures)
 
 -- the customer who was chosen is one of the district
 pub put_customer-requires-clause-group : goal.put_customer-requires-clause-group
@@ -61,10 +61,10 @@ put_customer-requires-clause-names g c =
     let p = c.args.payment.now in
     let key = c.in-Some.key in
     let row = c.in-Some.row.now in
-    let new = c.in-Some-2.row in
+    let new = c.in-Some-customer_paid.row in
     let found : Keyed = (key, row) in
     let there = chosen_there c.partition.result.now.tables.customers p.customer_home p.customer found (sym c.in-Some.ensures) in
-    let paid = customer_paid-is row new (payment_note key p.home p.amount) (pos p.amount) (sym c.in_ok-row.ensures ∙ c.in-Some-2.is) in
+    let paid = customer_paid-is row new (payment_note key p.home p.amount) (pos p.amount) (sym c.in-Some-customer_paid.ensures) in
     subst (λ (q : Part). AreNamesAt q.tables key new) c.partition.ensures.rows (ap last_of there.0 ∙ sym paid.last, ap first_of there.0 ∙ sym paid.first)
 
 pub returns-clause-paid : goal.returns-clause-paid
@@ -73,11 +73,11 @@ returns-clause-paid g c =
     let t = c.args.slice.now.tables in
     let key = c.in-Some.key in
     let row = c.in-Some.row.now in
-    let new = c.in-Some-2.row in
+    let new = c.in-Some-customer_paid.row in
     let seen = ap (λ (p : Part). p.tables) c.partition.ensures.rows ∙ ap (λ (s : Sliced). s.tables) c.look.ensures.same.0 in
     done.customer_is_paid p t c.args.customers.now c.requires.claim c.requires.fresh c.look.ensures.left c.put_customer.new.claim key row new c.payment_reply-reply.result
     (sym (c.in-Some.ensures ∙ ap (λ (s : Database). chosen s.customers p.customer_home p.customer) seen))
-    (sym c.in_ok-row.ensures ∙ c.in-Some-2.is)
+    (sym c.in-Some-customer_paid.ensures)
     (c.in_ok-put_customer.ensures.claim
     ∙ (λ i. leaving (c.look.ensures.same.1 i) (with_customer key new (c.look.ensures.same.1 i).left)))
     c.payment_reply-reply.ensures

@@ -24,12 +24,12 @@ ask-requires g c = can g (goal.at.ask-requires g c).After-agree
 
 -- what the slice answers, as its lock table does
 told : (g : given.Over) (c : After-agree-2 g) → CanAsk g.J.GroupNames.warehouses c.self.inside.locks.w_id c.args.wants.now
-    → AnswersIn c.args.by.age c.args.by c.args.wants.now (sliced c.self.inside.rows c.self.inside.locks) c.in_ok-asked.asked (sliced c.self.inside.rows c.ask.new.self)
+    → AnswersIn c.args.by c.args.wants.now (sliced c.self.inside.rows c.self.inside.locks) c.in_ok-asked.asked (sliced c.self.inside.rows c.ask.new.self)
     × SliceKeeps [] (with_waiters c.ask.new.self.waiters (sliced c.self.inside.rows c.self.inside.locks)) (claims_asked c.in_ok-asked.asked) (sliced c.self.inside.rows c.ask.new.self)
     × IsSlice g.J.GroupNames.warehouses c.self.inside.rows c.ask.new.self c.self.inside.grounds.items
 told g c may =
     answered g.J.GroupNames.warehouses c.self.inside.rows c.self.inside.locks c.ask.new.self c.self.inside.grounds.items c.self.invariant c.agree.ensures.stands c.agree-2.ensures.none_conflict
-    c.args.by.age c.args.by c.args.wants.now c.in_ok-asked.asked may c.in_ok-asked.ensures.answers
+    c.args.by c.args.wants.now c.in_ok-asked.asked may c.in_ok-asked.ensures.answers
 
 pub invariant_of-self : goal.invariant_of-self
 invariant_of-self g c = subst (λ t. IsSlice g.J.GroupNames.warehouses c.self.inside.rows t c.self.inside.grounds.items) (sym c.in_err-asked.ensures.err) c.self.invariant
@@ -45,7 +45,7 @@ returns-in_err-asked-clause-death_takes_none g c =
 pub returns-clause-answers : goal.returns-clause-answers
 returns-clause-answers g c =
     let at = goal.at.returns-clause-answers g c in
-    subst (λ (s : Sliced). AnswersIn c.args.by.age c.args.by c.args.wants.now s c.in_ok-asked.asked (sliced c.self.inside.rows c.ask.new.self)) c.self.view_is (told g at.After-agree-2 (can g at.After-agree)).0
+    subst (λ (s : Sliced). AnswersIn c.args.by c.args.wants.now s c.in_ok-asked.asked (sliced c.self.inside.rows c.ask.new.self)) c.self.view_is (told g at.After-agree-2 (can g at.After-agree)).0
 
 pub returns-clause-kept : goal.returns-clause-kept
 returns-clause-kept g c =

@@ -12,7 +12,7 @@ use Rattle.transactions.specs.NewOrder.{line_sold, lines_in}
 use Rattle.transactions.specs.NewOrderStock.{line_put}
 use Rattle.transactions.proofs.NewOrderSale.{AreSoFar, line_done, line_passed, rest_from}
 use Rattle.transactions.proofs.new_order.stock.sell.Goals as goal
-use Rattle.transactions.proofs.new_order.stock.sell.Goals.{then-is_supplied+in_ok-placed+in-Some+in_ok-push+in_ok-push-2, else-is_supplied}
+use Rattle.transactions.proofs.new_order.stock.sell.Goals.{then-is_supplied+in-Some+in_ok-push+in_ok-push-2, else-is_supplied}
 
 abbrev default : OrderedLine
 default = record { i_id = 0; supply_w_id = 0; quantity = 0 }
@@ -30,9 +30,9 @@ loop-index-preserved c =
     let same : get_or c.as_slice-line-items.result.now i default ≡ line = ap (λ (l : List OrderedLine). get_or l i default) items in
     let known = c.loop-index.invariant in
     elim c.if-is_supplied.branch [
-      | then-is_supplied+in_ok-placed+in-Some+in_ok-push+in_ok-push-2 w ↦
+      | then-is_supplied+in-Some+in_ok-push+in_ok-push-2 w ↦
           let inside = ap (λ l. is_same (group_of_supply l) group) (sym same) ∙ sym c.is_supplied.ensures ∙ w.if-is_supplied.true in
-          let placed : line_placed t n (i + 1) line ≡ Some w.in-Some.placed = ap (line_placed t n (i + 1)) (sym same) ∙ sym w.in_ok-placed.ensures ∙ w.in-Some.is in
+          let placed : line_placed t n (i + 1) line ≡ Some w.in-Some.placed = ap (line_placed t n (i + 1)) (sym same) ∙ sym w.in-Some.ensures in
           let one : LineSold = record { number = i + 1; row = w.in-Some.placed.row; shown = w.in-Some.placed.shown } in
           let put : StockPut = record { key = w.stock_key.result; row = w.in-Some.placed.stock } in
           let sold : line_sold t n (i + 1, line) ≡ Some one = ap (option_map (λ (p : LinePlaced). let s : LineSold = record { number = i + 1; row = p.row; shown = p.shown } in s)) placed in

@@ -28,7 +28,7 @@ ask-requires g c =
 pub run_under-requires-clause-granted : goal.run_under-requires-clause-granted
 run_under-requires-clause-granted g c =
     let slice = c.self.inside.slice in
-    let answers = subst (λ (a : Asked g.row.J.Denot). AnswersIn c.args.by.age c.args.by c.deref.result.now slice a c.ask.new.self) c.in-Ok-Granted.field-0-is c.in-Ok-Granted.ensures.answers in
+    let answers = subst (λ (a : Asked g.row.J.Denot). AnswersIn c.args.by c.deref.result.now slice a c.ask.new.self) c.in-Ok-Granted.field-0-is c.in-Ok-Granted.ensures.answers in
     let grants = subst (λ (ws : List Want). GrantsIn c.args.by ws slice c.in-Ok-Granted.claims.items c.ask.new.self) (c.deref.ensures.value ∙ c.in-Ok.ensures) answers.0 in
     granted_for c.args.by c.args.work slice c.ask.new.self c.in-Ok-Granted.claims.items grants
 
@@ -37,7 +37,7 @@ invariant_of-self-in-Ok-Waits g c =
     let slice = c.self.inside.slice in
     let at = c.self.view_is in
     let all = c.self.inside.parked.items in
-    let answers = subst (λ (a : Asked g.row.J.Denot). AnswersIn c.args.by.age c.args.by c.deref.result.now slice a c.ask.new.self) c.in-Ok-Waits.field-0-is c.in-Ok-Waits.ensures.answers in
+    let answers = subst (λ (a : Asked g.row.J.Denot). AnswersIn c.args.by c.deref.result.now slice a c.ask.new.self) c.in-Ok-Waits.field-0-is c.in-Ok-Waits.ensures.answers in
     let waits : c.ask.new.self ≡ with_waiters (slice.waiters ++ waiting c.args.by (wants_of c.args.work) ∷ []) slice =
     answers.1 ∙ ap (λ (ws : List Want). with_waiters (slice.waiters ++ waiting c.args.by ws ∷ []) slice) (c.deref.ensures.value ∙ c.in-Ok.ensures) in
     let more : c.push_reserved.new.self.items ≡ all ++ parked c.args.by c.args.work c.args.carried ∷ [] =
@@ -53,7 +53,7 @@ returns-in-Ok-Granted g c =
     let slice = c.self.inside.slice in
     let old = stationed slice c.self.inside.parked.items in
     let claims = c.in-Ok-Granted.claims.items in
-    let answers = subst (λ (a : Asked g.row.J.Denot). AnswersIn c.args.by.age c.args.by c.deref.result.now slice a c.ask.new.self) c.in-Ok-Granted.field-0-is c.in-Ok-Granted.ensures.answers in
+    let answers = subst (λ (a : Asked g.row.J.Denot). AnswersIn c.args.by c.deref.result.now slice a c.ask.new.self) c.in-Ok-Granted.field-0-is c.in-Ok-Granted.ensures.answers in
     let first = subst (λ (a : Asked g.row.J.Denot). SliceKeeps [] (with_waiters c.ask.new.self.waiters slice) (claims_asked a) c.ask.new.self) c.in-Ok-Granted.field-0-is c.in-Ok-Granted.ensures.kept in
     let grants = subst (λ (ws : List Want). GrantsIn c.args.by ws slice claims c.ask.new.self) (c.deref.ensures.value ∙ c.in-Ok.ensures) answers.0 in
     subst (λ (s : Stationed g.row.T.Denot). ActsAs c.args.by c.args.work c.args.carried s (acted.Ran c.run_under.result c.args.carried) (stationed c.run_under.new.slice c.reserve.new.self.items)) c.self.view_is
@@ -64,7 +64,7 @@ pub returns-in-Ok-Dies : goal.returns-in-Ok-Dies
 returns-in-Ok-Dies g c =
     let slice = c.self.inside.slice in
     let old = stationed slice c.self.inside.parked.items in
-    let answers = subst (λ (a : Asked g.row.J.Denot). AnswersIn c.args.by.age c.args.by c.deref.result.now slice a c.ask.new.self) c.in-Ok-Dies.field-0-is c.in-Ok-Dies.ensures.answers in
+    let answers = subst (λ (a : Asked g.row.J.Denot). AnswersIn c.args.by c.deref.result.now slice a c.ask.new.self) c.in-Ok-Dies.field-0-is c.in-Ok-Dies.ensures.answers in
     let death = subst (λ (ws : List Want). MustDie slice.holdings c.args.by.age ws c.in-Ok-Dies.group c.in-Ok-Dies.holder) (c.deref.ensures.value ∙ c.in-Ok.ensures) answers.0 in
     subst (λ (s : Stationed g.row.T.Denot). ActsAs {J = g.row.J.Denot} c.args.by c.args.work c.args.carried s (acted.Ran (Died c.in-Ok-Dies.group c.in-Ok-Dies.holder) c.args.carried) (stationed c.ask.new.self c.reserve.new.self.items)) c.self.view_is
     (acts_and_dies c.args.by c.args.work c.args.carried old c.reserve.new.self.items c.reserve.ensures.items g.row.J.Denot c.in-Ok-Dies.group c.in-Ok-Dies.holder c.ask.new.self death answers.1)

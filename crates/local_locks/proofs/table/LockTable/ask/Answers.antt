@@ -16,7 +16,7 @@ use Rattle.local_locks.proofs.Asks as asks
 use Rattle.local_locks.proofs.Asks.{no_lock}
 use Rattle.local_locks.proofs.Grants.{same_length}
 use Rattle.local_locks.proofs.Views.{tells_free, tells_wait, tells_death}
-use Rattle.local_locks.proofs.table.LockTable.answer.Goals as goal
+use Rattle.local_locks.proofs.table.LockTable.ask.Goals as goal
 
 on_err : {T E : Type 0} (r : Result T E) (P : Type 0) → P → OnErr r P
 on_err (Ok x) P p = tt
@@ -67,26 +67,26 @@ count_of-requires-in-Waits-clause-few g c =
 pub returns-in_err-claims-in-Free-clause-death_takes_none : goal.returns-in_err-claims-in-Free-clause-death_takes_none
 returns-in_err-claims-in-Free-clause-death_takes_none g c =
     on_err c.from_residual.result _
-    (no_death_free g.J.GroupNames.warehouses c.self.inside.w_id c.args.age c.args.self.now c.self.inside.locks.items c.deref.result.now c.self.inside.waiters.items c.args.wants.now c.self.view_is c.deref.ensures.value c.self.invariant.0 c.in-Free.ensures.ruling)
+    (no_death_free g.J.GroupNames.warehouses c.self.inside.w_id c.args.by.age c.args.self.now c.self.inside.locks.items c.deref.result.now c.self.inside.waiters.items c.args.wants.now c.self.view_is c.deref.ensures.value c.self.invariant.0 c.in-Free.ensures)
 
 pub returns-in_err-waiter-in-Waits-clause-death_takes_none : goal.returns-in_err-waiter-in-Waits-clause-death_takes_none
 returns-in_err-waiter-in-Waits-clause-death_takes_none g c =
     let can = own_of g.J.GroupNames.warehouses c.self.inside.w_id c.args.self.now c.self.inside.locks.items c.self.inside.waiters.items c.args.wants.now c.self.view_is c.requires in
     on_err c.from_residual-in_err-waiter-in-Waits.result _
-    (λ group oldest death. asks.wait_is_no_death c.args.self.now.holdings c.args.age c.args.wants.now group oldest
-    (waits_of g.J.GroupNames.warehouses c.self.inside.w_id c.args.age c.args.self.now c.self.inside.locks.items c.deref.result.now c.self.inside.waiters.items c.args.wants.now c.self.view_is c.deref.ensures.value c.self.invariant.0 can.own c.in-Waits.ensures.ruling) death)
+    (λ group oldest death. asks.wait_is_no_death c.args.self.now.holdings c.args.by.age c.args.wants.now group oldest
+    (waits_of g.J.GroupNames.warehouses c.self.inside.w_id c.args.by.age c.args.self.now c.self.inside.locks.items c.deref.result.now c.self.inside.waiters.items c.args.wants.now c.self.view_is c.deref.ensures.value c.self.invariant.0 can.own c.in-Waits.ensures) death)
 
 pub returns-in_err-push-in-Waits-clause-death_takes_none : goal.returns-in_err-push-in-Waits-clause-death_takes_none
 returns-in_err-push-in-Waits-clause-death_takes_none g c =
     let can = own_of g.J.GroupNames.warehouses c.self.inside.w_id c.args.self.now c.self.inside.locks.items c.self.inside.waiters.items c.args.wants.now c.self.view_is c.requires in
     on_err c.from_residual-in_err-push-in-Waits.result _
-    (λ group oldest death. asks.wait_is_no_death c.args.self.now.holdings c.args.age c.args.wants.now group oldest
-    (waits_of g.J.GroupNames.warehouses c.self.inside.w_id c.args.age c.args.self.now c.self.inside.locks.items c.deref.result.now c.self.inside.waiters.items c.args.wants.now c.self.view_is c.deref.ensures.value c.self.invariant.0 can.own c.in-Waits.ensures.ruling) death)
+    (λ group oldest death. asks.wait_is_no_death c.args.self.now.holdings c.args.by.age c.args.wants.now group oldest
+    (waits_of g.J.GroupNames.warehouses c.self.inside.w_id c.args.by.age c.args.self.now c.self.inside.locks.items c.deref.result.now c.self.inside.waiters.items c.args.wants.now c.self.view_is c.deref.ensures.value c.self.invariant.0 can.own c.in-Waits.ensures) death)
 
 pub grant_all-requires-clause-open : goal.grant_all-requires-clause-open
 grant_all-requires-clause-open g c =
-    let P : List Locked → Type 0 = λ ls. IsRuling c.args.age ls (flat_map spots_of c.args.wants.now) Free in
-    asks.all_open c.args.age c.deref_mut.result.now (flat_map spots_of c.args.wants.now) (subst P (c.deref.ensures.value ∙ sym c.deref_mut.ensures.value) c.in-Free.ensures.ruling)
+    let P : List Locked → Type 0 = λ ls. IsRuling c.args.by.age ls (flat_map spots_of c.args.wants.now) Free in
+    asks.all_open c.args.by.age c.deref_mut.result.now (flat_map spots_of c.args.wants.now) (subst P (c.deref.ensures.value ∙ sym c.deref_mut.ensures.value) c.in-Free.ensures)
 
 pub grant_all-requires-clause-once : goal.grant_all-requires-clause-once
 grant_all-requires-clause-once g c =
@@ -117,10 +117,10 @@ returns-in_ok-claims-in-Free-clause-answers g c =
     let can = own_of g.J.GroupNames.warehouses c.self.inside.w_id c.args.self.now c.self.inside.locks.items c.self.inside.waiters.items c.args.wants.now c.self.view_is c.requires in
     let locks = c.self.inside.locks in
     let long : length c.grant_all.new.locks ≡ length locks.items = same_length g.J.GroupNames.warehouses c.args.by (flat_map spots_of c.args.wants.now) c.deref_mut.result.now c.grant_all.new.locks c.grant_all.ensures.granted ∙ ap length c.deref_mut.ensures.value in
-    let P : List Locked → Type 0 = λ ls. IsRuling c.args.age ls (flat_map spots_of c.args.wants.now) Free in (
-      asks.answered_free g.J.GroupNames.warehouses c.self.inside.w_id c.args.age c.args.by c.args.wants.now c.args.self.now locks.items c.deref_mut.result.now c.grant_all.new.locks (take locks.len (c.grant_all.new.locks ++ drop (length c.grant_all.new.locks) locks.items))
+    let P : List Locked → Type 0 = λ ls. IsRuling c.args.by.age ls (flat_map spots_of c.args.wants.now) Free in (
+      asks.answered_free g.J.GroupNames.warehouses c.self.inside.w_id c.args.by.age c.args.by c.args.wants.now c.args.self.now locks.items c.deref_mut.result.now c.grant_all.new.locks (take locks.len (c.grant_all.new.locks ++ drop (length c.grant_all.new.locks) locks.items))
           c.self.inside.waiters.items c.self.inside.waiters.items c.in_ok-claims-in-Free.claims.items c.grant_all.new.claims.items c.self.view_is c.deref_mut.ensures.value (asks.refilled locks.len locks.items c.grant_all.new.locks locks.ok.0 long)
-          c.in_ok-claims-in-Free.ensures.items c.self.invariant.0 can.own (subst P c.deref.ensures.value c.in-Free.ensures.ruling) c.grant_all.ensures.claims c.grant_all.ensures.granted,
+          c.in_ok-claims-in-Free.ensures.items c.self.invariant.0 can.own (subst P c.deref.ensures.value c.in-Free.ensures) c.grant_all.ensures.claims c.grant_all.ensures.granted,
       ap (λ (t : Locking). t.waiters) c.self.view_is,
     )
 
@@ -128,7 +128,7 @@ pub returns-in_ok-push-in-Waits-clause-answers : goal.returns-in_ok-push-in-Wait
 returns-in_ok-push-in-Waits-clause-answers g c =
     let can = own_of g.J.GroupNames.warehouses c.self.inside.w_id c.args.self.now c.self.inside.locks.items c.self.inside.waiters.items c.args.wants.now c.self.view_is c.requires in
     let last = put_last c.self.inside.waiters.items c.push.new.self.items c.in_ok-waiter-in-Waits.waiter c.args.by c.args.wants.now c.count_of-in-Waits.result c.in_ok-push-in-Waits.ensures.items c.in_ok-waiter-in-Waits.ensures in (
-      waits_of g.J.GroupNames.warehouses c.self.inside.w_id c.args.age c.args.self.now c.self.inside.locks.items c.deref.result.now c.self.inside.waiters.items c.args.wants.now c.self.view_is c.deref.ensures.value c.self.invariant.0 can.own c.in-Waits.ensures.ruling,
+      waits_of g.J.GroupNames.warehouses c.self.inside.w_id c.args.by.age c.args.self.now c.self.inside.locks.items c.deref.result.now c.self.inside.waiters.items c.args.wants.now c.self.view_is c.deref.ensures.value c.self.invariant.0 can.own c.in-Waits.ensures,
       ap (λ (ws : List Parked). locking c.self.inside.w_id c.self.inside.locks.items ws) last
           ∙ asks.waits_more c.self.inside.w_id c.self.inside.locks.items c.self.inside.waiters.items c.args.by c.args.wants.now c.count_of-in-Waits.result
           ∙ ap (λ (t : Locking). record t { waiters = t.waiters ++ waiting c.args.by c.args.wants.now ∷ [] }) c.self.view_is,
@@ -137,10 +137,7 @@ returns-in_ok-push-in-Waits-clause-answers g c =
 pub returns-in-Dies-clause-answers : goal.returns-in-Dies-clause-answers
 returns-in-Dies-clause-answers g c =
     let can = own_of g.J.GroupNames.warehouses c.self.inside.w_id c.args.self.now c.self.inside.locks.items c.self.inside.waiters.items c.args.wants.now c.self.view_is c.requires in (
-      dies_of g.J.GroupNames.warehouses c.self.inside.w_id c.args.age c.args.self.now c.self.inside.locks.items c.deref.result.now c.self.inside.waiters.items c.args.wants.now c.in-Dies.number c.in-Dies.holder c.index.result.now c.group.result
-          c.self.view_is c.deref.ensures.value c.self.invariant.0 can.own c.in-Dies.ensures.ruling c.index.ensures c.group.ensures,
+      dies_of g.J.GroupNames.warehouses c.self.inside.w_id c.args.by.age c.args.self.now c.self.inside.locks.items c.deref.result.now c.self.inside.waiters.items c.args.wants.now c.in-Dies.number c.in-Dies.holder c.index.result.now c.group.result
+          c.self.view_is c.deref.ensures.value c.self.invariant.0 can.own c.in-Dies.ensures c.index.ensures c.group.ensures,
       refl,
     )
-
-pub returns-in_ok-push-in-Waits-clause-youngest : goal.returns-in_ok-push-in-Waits-clause-youngest
-returns-in_ok-push-in-Waits-clause-youngest g c = λ youngest. absurd (c.in-Waits.ensures.youngest youngest refl)
