@@ -19,17 +19,16 @@ struct Handover {
 
 /// Delivers the oldest new order of each of the warehouse's ten districts (clause 2.7.4); a district without one is
 /// skipped. It is rolled back with `Fault::Range` where a C_BALANCE or a C_DELIVERY_CNT would leave its range, and then nothing
-/// changes. Orders and lines are looked up by their keys. Want of memory changes nothing.
-pub(crate) fn deliver(tables: &mut Tables, delivery: &Delivery) -> Result<Reply, NoMemory>
+/// changes. Orders and lines are looked up by their keys. It takes no memory.
+pub(crate) fn deliver(tables: &mut Tables, delivery: &Delivery) -> Reply
     requires { spec.HasCarrier delivery.now }
-    ensures reply { IfOk result (λ reply. reply ≡ (spec.delivery tables.old delivery.now).reply) }
-    ensures tables { OnOk result (tables.new ≡ (spec.delivery tables.old delivery.now).tables) }
-    ensures err { OnErr result (tables.new ≡ tables.old) }
+    ensures reply { result ≡ (spec.delivery tables.old delivery.now).reply }
+    ensures tables { tables.new ≡ (spec.delivery tables.old delivery.now).tables }
 {
     let carrier = CarrierId::new(delivery.carrier_id);
-    match deliver_first(tables, delivery, carrier, 10)? {
-        Ok(shown) => Ok(Reply::Done(Shown::Delivery(shown))),
-        Err(fault) => Ok(Reply::RolledBack(fault)),
+    match deliver_first(tables, delivery, carrier, 10) {
+        Ok(shown) => Reply::Done(Shown::Delivery(shown)),
+        Err(fault) => Reply::RolledBack(fault),
     }
 }
 
@@ -40,61 +39,59 @@ fn deliver_first(
     delivery: &Delivery,
     carrier: CarrierId,
     count: u32,
-) -> Result<Result<DeliveryReply, Fault>, NoMemory>
+) -> Result<DeliveryReply, Fault>
     requires most { count ≤ 10 }
     requires carrier { carrier ≡ delivery.now.carrier_id }
-    ensures reply { IfOk result (λ reply.
-        steps.first_answer count reply ≡ (steps.first_delivered tables.old delivery.now count).reply) }
-    ensures ten { IfOk result (λ reply. IfOk reply (λ shown. length shown.orders ≡ 10)) }
-    ensures tables { OnOk result (tables.new ≡ (steps.first_delivered tables.old delivery.now count).tables) }
-    ensures err { OnErr result (tables.new ≡ tables.old) }
+    ensures reply { steps.first_answer count result ≡ (steps.first_delivered tables.old delivery.now count).reply }
+    ensures ten { IfOk result (λ shown. length shown.orders ≡ 10) }
+    ensures tables { tables.new ≡ (steps.first_delivered tables.old delivery.now count).tables }
 {
     if count == 0 {
-        return Ok(Ok(DeliveryReply {
+        return Ok(DeliveryReply {
             carrier_id: delivery.carrier_id,
             orders: [None; 10],
-        }));
+        });
     }
     let home = DistrictKey {
         w_id: delivery.w_id,
         d_id: count,
     };
-    let due = match due_in(tables, home)? {
+    let due = match due_in(tables, home) {
         Ok(due) => due,
-        Err(fault) => return Ok(Err(fault)),
+        Err(fault) => return Err(fault),
     };
-    let mut reply = match deliver_first(tables, delivery, carrier, count - 1)? {
+    let mut reply = match deliver_first(tables, delivery, carrier, count - 1) {
         Ok(reply) => reply,
-        Err(fault) => return Ok(Err(fault)),
+        Err(fault) => return Err(fault),
     };
     reply.orders[count as usize - 1] = hand_over(tables, due, carrier, delivery.moment);
-    Ok(Ok(reply))
+    Ok(reply)
 }
 
 // What is due in the district, `None` where it has no new order.
-fn due_in(tables: &Tables, home: DistrictKey) -> Result<Result<Option<Handover>, Fault>, NoMemory>
-    ensures { IfOk result (λ r. r ≡ steps.due tables.now home) }
+fn due_in(tables: &Tables, home: DistrictKey) -> Result<Option<Handover>, Fault>
+    ensures { result ≡ steps.due tables.now home }
 {
     let Some(o_id) = tables.oldest_new_order(home) else {
-        return Ok(Ok(None));
+        return Ok(None);
     };
     let order = OrderKey {
         w_id: home.w_id,
         d_id: home.d_id,
         o_id,
     };
-    match handover_of(tables, order)? {
-        Some(handover) => Ok(Ok(Some(handover))),
-        None => Ok(Err(Fault::Range)),
+    match handover_of(tables, order) {
+        Some(handover) => Ok(Some(handover)),
+        None => Err(Fault::Range),
     }
 }
 
 // The order with its customer, `None` where one of them is missing or a value would leave its range.
-fn handover_of(tables: &Tables, order: OrderKey) -> Result<Option<Handover>, NoMemory>
-    ensures { IfOk result (λ r. r ≡ steps.handover_of tables.now order) }
+fn handover_of(tables: &Tables, order: OrderKey) -> Option<Handover>
+    ensures { result ≡ steps.handover_of tables.now order }
 {
     let Some(row) = tables.order(order) else {
-        return Ok(None);
+        return None;
     };
     let customer = CustomerKey {
         w_id: order.w_id,
@@ -102,16 +99,16 @@ fn handover_of(tables: &Tables, order: OrderKey) -> Result<Option<Handover>, NoM
         c_id: row.c_id,
     };
     let Some(was) = tables.customer(customer) else {
-        return Ok(None);
+        return None;
     };
-    let Some(row) = customer_delivered(tables, order, was)? else {
-        return Ok(None);
+    let Some(row) = customer_delivered(tables, order, was) else {
+        return None;
     };
-    Ok(Some(Handover {
+    Some(Handover {
         order,
         customer,
         row,
-    }))
+    })
 }
 
 // The customer's row once the order was delivered, or `None` where a value leaves its range.
@@ -119,19 +116,19 @@ fn customer_delivered(
     tables: &Tables,
     order: OrderKey,
     row: &Customer,
-) -> Result<Option<Customer>, NoMemory>
-    ensures { IfOk result (λ r. r ≡ spec.customer_delivered row.now (spec.amount_of tables.now order)) }
+) -> Option<Customer>
+    ensures { result ≡ spec.customer_delivered row.now (spec.amount_of tables.now order) }
 {
     let Some(balance) = balance_delivered(tables, order, row.balance) else {
-        return Ok(None);
+        return None;
     };
     let Some(delivery_cnt) = row.delivery_cnt.checked_add(1) else {
-        return Ok(None);
+        return None;
     };
-    let mut row = row.clone()?;
+    let mut row = row.copy();
     row.balance = balance;
     row.delivery_cnt = delivery_cnt;
-    Ok(Some(row))
+    Some(row)
 }
 
 // C_BALANCE with what the order's lines come to, or `None` where that leaves its range: no line takes it back.

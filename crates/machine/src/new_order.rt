@@ -55,7 +55,7 @@ pub(crate) fn place_order(
             o_id,
         }));
     }
-    let Some(new_district) = district_ordered(district)? else {
+    let Some(new_district) = district_ordered(district) else {
         return Ok(rolled_back(Fault::Range));
     };
     let Some(placed) = place_lines(alloc, tables, order)? else {
@@ -181,15 +181,15 @@ fn are_local(home: u32, lines: &[OrderedLine]) -> bool
 }
 
 /// The district's row after an order: its next number is one more, or `None` where it leaves its range.
-pub fn district_ordered(row: &District) -> Result<Option<District>, NoMemory>
-    ensures { IfOk result (λ r. r ≡ spec.district_ordered row.now) }
+pub fn district_ordered(row: &District) -> Option<District>
+    ensures { result ≡ spec.district_ordered row.now }
 {
     let Some(next) = row.next_o_id.checked_add(1) else {
-        return Ok(None);
+        return None;
     };
-    let mut row = row.clone()?;
+    let mut row = row.copy();
     row.next_o_id = next;
-    Ok(Some(row))
+    Some(row)
 }
 
 /// What an order shows, by the rows before it, its rows of ORDER-LINE, and what is shown of these.

@@ -68,7 +68,7 @@ pub(crate) fn place_lines(
     let mut stocks = Vec::new(alloc);
     for line in order.lines.as_slice() {
         let number = rows.len() + 1;
-        let Some(placed) = place_line(tables, order, number, *line)? else {
+        let Some(placed) = place_line(tables, order, number, *line) else {
             return Ok(None);
         };
         rows.push(placed.row)?;
@@ -89,31 +89,31 @@ pub fn place_line<T: Rows>(
     order: &NewOrder,
     number: usize,
     line: OrderedLine,
-) -> Result<Option<LinePlaced>, NoMemory>
+) -> Option<LinePlaced>
     requires within { IsOrderWithin order.now }
     requires district { IsTrue (is_between 1 10 order.now.home.d_id) }
     requires some { 1 ≤ line.quantity }
     requires few { line.quantity ≤ 10 }
     requires number { number ≤ length order.now.lines }
-    ensures { IfOk result (λ r. r ≡ line_placed (T.tables rows.now) order.now number line) }
+    ensures { result ≡ line_placed (T.tables rows.now) order.now number line }
 {
     let lines = order.lines.as_slice();
     let key = stock_key(line);
     let Some(item) = rows.item(line.i_id) else {
-        return Ok(None);
+        return None;
     };
     let Some(stock) = rows.stock(key) else {
-        return Ok(None);
+        return None;
     };
-    let Some(taken) = stock_taken(order.home.w_id, stock, key, lines)? else {
-        return Ok(None);
+    let Some(taken) = stock_taken(order.home.w_id, stock, key, lines) else {
+        return None;
     };
     let quantity = quantity_after(stock.quantity, key, &lines[..number]);
-    Ok(Some(LinePlaced {
+    Some(LinePlaced {
         row: line_row(order.home, line, item, stock),
         shown: line_shown(line, item, stock, quantity),
         stock: taken,
-    }))
+    })
 }
 
 /// The row of STOCK at the key once those of the lines were taken from it that it supplies, or `None` where a counter
@@ -123,27 +123,27 @@ pub fn stock_taken(
     row: &Stock,
     key: StockKey,
     lines: &[OrderedLine],
-) -> Result<Option<Stock>, NoMemory>
+) -> Option<Stock>
     requires few { length lines.now ≤ 15 }
     requires quantities { AreQuantities lines.now }
-    ensures { IfOk result (λ r. r ≡ spec.stock_taken home row.now (spec.taken_from key lines.now)) }
+    ensures { result ≡ spec.stock_taken home row.now (spec.taken_from key lines.now) }
 {
     let raised = raised_by(home, key, lines);
     let Some(ytd) = row.ytd.checked_add(raised.ytd) else {
-        return Ok(None);
+        return None;
     };
     let Some(order_cnt) = row.order_cnt.checked_add(raised.order_cnt) else {
-        return Ok(None);
+        return None;
     };
     let Some(remote_cnt) = row.remote_cnt.checked_add(raised.remote_cnt) else {
-        return Ok(None);
+        return None;
     };
-    let mut row = row.clone()?;
+    let mut row = row.copy();
     row.quantity = quantity_after(row.quantity, key, lines);
     row.ytd = ytd;
     row.order_cnt = order_cnt;
     row.remote_cnt = remote_cnt;
-    Ok(Some(row))
+    Some(row)
 }
 
 // By how much the lines raise the counters of the row at the key.

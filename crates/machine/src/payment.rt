@@ -14,27 +14,27 @@ use schema::{
 };
 
 /// The warehouse's row after a payment, or `None` where its sum leaves its range.
-pub fn warehouse_paid(row: &Warehouse, amount: Cents) -> Result<Option<Warehouse>, NoMemory>
-    ensures { IfOk result (λ r. r ≡ spec.warehouse_paid row.now amount) }
+pub fn warehouse_paid(row: &Warehouse, amount: Cents) -> Option<Warehouse>
+    ensures { result ≡ spec.warehouse_paid row.now amount }
 {
     let Some(ytd) = row.ytd.checked_add(amount) else {
-        return Ok(None);
+        return None;
     };
-    let mut row = row.clone()?;
+    let mut row = row.copy();
     row.ytd = ytd;
-    Ok(Some(row))
+    Some(row)
 }
 
 /// The district's row after a payment, or `None` where its sum leaves its range.
-pub fn district_paid(row: &District, amount: Cents) -> Result<Option<District>, NoMemory>
-    ensures { IfOk result (λ r. r ≡ spec.district_paid row.now amount) }
+pub fn district_paid(row: &District, amount: Cents) -> Option<District>
+    ensures { result ≡ spec.district_paid row.now amount }
 {
     let Some(ytd) = row.ytd.checked_add(amount) else {
-        return Ok(None);
+        return None;
     };
-    let mut row = row.clone()?;
+    let mut row = row.copy();
     row.ytd = ytd;
-    Ok(Some(row))
+    Some(row)
 }
 
 /// The customer's row after a payment, or `None` where a sum leaves its range.
@@ -43,27 +43,27 @@ pub fn customer_paid(
     key: CustomerKey,
     home: DistrictKey,
     amount: u32,
-) -> Result<Option<Customer>, NoMemory>
-    ensures { IfOk result (λ r. r ≡ spec.customer_paid row.now (payment_note key home amount) (pos amount)) }
+) -> Option<Customer>
+    ensures { result ≡ spec.customer_paid row.now (payment_note key home amount) (pos amount) }
 {
     let cents = Cents::new(i64::from(amount));
     let Some(balance) = row.balance.checked_sub(cents) else {
-        return Ok(None);
+        return None;
     };
     let Some(ytd_payment) = row.ytd_payment.checked_add(cents) else {
-        return Ok(None);
+        return None;
     };
     let Some(payment_cnt) = row.payment_cnt.checked_add(1) else {
-        return Ok(None);
+        return None;
     };
-    let mut row = row.clone()?;
+    let mut row = row.copy();
     row.balance = balance;
     row.ytd_payment = ytd_payment;
     row.payment_cnt = payment_cnt;
     if row.credit == Credit::Bad {
         row.data = prepend_data(&row.data, key, home, amount);
     }
-    Ok(Some(row))
+    Some(row)
 }
 
 /// The row of HISTORY that a payment adds.
@@ -142,13 +142,13 @@ pub(crate) fn pay(
         return Ok(Reply::RolledBack(Fault::NoCustomer));
     };
     let row = payment_row(payment, key, warehouse, district);
-    let Some(warehouse) = warehouse_paid(warehouse, amount)? else {
+    let Some(warehouse) = warehouse_paid(warehouse, amount) else {
         return Ok(Reply::RolledBack(Fault::Range));
     };
-    let Some(district) = district_paid(district, amount)? else {
+    let Some(district) = district_paid(district, amount) else {
         return Ok(Reply::RolledBack(Fault::Range));
     };
-    let Some(customer) = customer_paid(customer, key, payment.home, payment.amount)? else {
+    let Some(customer) = customer_paid(customer, key, payment.home, payment.amount) else {
         return Ok(Reply::RolledBack(Fault::Range));
     };
     post(tables, payment, key, row, warehouse, district, customer)

@@ -91,7 +91,7 @@ impl Plain {
                 let copy = told.try_clone()?;
                 Ok((told, copy))
             }
-            Request::Delivery(asked) => Ok(twice(delivery::deliver(tables, asked)?)),
+            Request::Delivery(asked) => Ok(twice(delivery::deliver(tables, asked))),
             Request::StockLevel(asked) => {
                 let shown = stock_level::stock_level_reply(self.alloc, tables, asked)?;
                 Ok(twice(Reply::Done(Shown::StockLevel(shown))))

@@ -32,7 +32,7 @@ impl HomeRows {
         ensures { IfOk result (AreSameHomeRows self.now) }
     {
         Ok(HomeRows {
-            warehouse: self.warehouse.try_clone()?,
+            warehouse: self.warehouse.copy(),
             districts: self.districts.clone()?,
             stocks: self.stocks.clone()?,
             customers: self.customers.clone()?,

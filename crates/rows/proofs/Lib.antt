@@ -1,3 +1,4 @@
+pub mod Arrays
 pub mod Fitting
 pub mod Decimals
 pub mod Restocks

@@ -208,10 +208,10 @@ pub fn pay_home<J: GroupNames>(
         warehouse: warehouse_row.name.copy(),
         district: district_row.name.copy(),
     };
-    let Some(new_warehouse) = warehouse_paid(warehouse_row, amount)? else {
+    let Some(new_warehouse) = warehouse_paid(warehouse_row, amount) else {
         return Ok(HomePaid::OutOfRange);
     };
-    let Some(new_district) = district_paid(district_row, amount)? else {
+    let Some(new_district) = district_paid(district_row, amount) else {
         return Ok(HomePaid::OutOfRange);
     };
     put_home(
@@ -277,7 +277,7 @@ pub fn pay_customer<J: GroupNames>(
     let Some((key, row)) = chosen(slice.partition(), slice.names(), home, &payment.customer) else {
         return Ok(CustomerPaid::Missing);
     };
-    let Some(row) = customer_paid(row, key, payment.home, payment.amount)? else {
+    let Some(row) = customer_paid(row, key, payment.home, payment.amount) else {
         return Ok(CustomerPaid::OutOfRange);
     };
     let reply = payment_reply(key, &row);

@@ -81,7 +81,7 @@ fn put_and_undone<J: GroupNames>(
     let group = Group::Warehouse { w_id: home };
     let row = slice.partition().warehouse(home)?;
     let before = row.ytd.get();
-    let mut row = row.try_clone().ok()?;
+    let mut row = row.copy();
     row.ytd = Cents::new(7);
     let Ok(mut claim) = claimed(alloc, slice, HOLDER, group) else {
         return None;

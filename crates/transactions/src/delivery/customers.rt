@@ -101,7 +101,7 @@ fn credit<J: GroupNames>(
     let Some(row) = slice.partition().customer(key) else {
         return Ok(CustomersCredited::OutOfRange);
     };
-    let Some(row) = customer_delivered(row, order.amount)? else {
+    let Some(row) = customer_delivered(row, order.amount) else {
         return Ok(CustomersCredited::OutOfRange);
     };
     slice.put_customer(customers, key, row)?;
@@ -109,17 +109,17 @@ fn credit<J: GroupNames>(
 }
 
 // The customer's row once an order of this amount was delivered, or `None` where a value leaves its range.
-fn customer_delivered(row: &Customer, amount: u32) -> Result<Option<Customer>, NoMemory>
-    ensures { IfOk result (λ r. r ≡ customer_delivered row.now amount) }
+fn customer_delivered(row: &Customer, amount: u32) -> Option<Customer>
+    ensures { result ≡ customer_delivered row.now amount }
 {
     let Some(balance) = row.balance.checked_add(Cents::new(i64::from(amount))) else {
-        return Ok(None);
+        return None;
     };
     let Some(delivery_cnt) = row.delivery_cnt.checked_add(1) else {
-        return Ok(None);
+        return None;
     };
-    let mut row = row.clone()?;
+    let mut row = row.copy();
     row.balance = balance;
     row.delivery_cnt = delivery_cnt;
-    Ok(Some(row))
+    Some(row)
 }

@@ -41,7 +41,7 @@ pub fn take_number<J: GroupNames>(
     let Some(row) = slice.partition().district(order.home) else {
         return Ok(HomeFound::Missing);
     };
-    let next = district_ordered(row)?;
+    let next = district_ordered(row);
     let shown = HomeShown {
         warehouse_tax: warehouse_row.tax,
         district_tax: row.tax,

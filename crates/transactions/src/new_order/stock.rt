@@ -104,7 +104,7 @@ fn sell(
     for (index, line) in order.lines.as_slice().iter().enumerate() {
         if is_supplied(*line, group) {
             let number = index + 1;
-            let Some(placed) = place_line(rows, order, number, *line)? else {
+            let Some(placed) = place_line(rows, order, number, *line) else {
                 return Ok(None);
             };
             sold.push(LineSold {

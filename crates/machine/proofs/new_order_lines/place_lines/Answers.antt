@@ -18,7 +18,7 @@ loop-line-preserved c =
     let number : c.len-number.result ≡ i = omega (arith, c.len-number.ensures, c.loop-line.rows.ok.0, c.loop-line.invariant.counted) in
     let below : i < length n.lines = omega (arith, c.loop-line-test.true, ap length c.as_slice-line-items.ensures) in
     one_more t n i line no_line c.in-Some.placed below (ap (λ l. get_or l i no_line) c.as_slice-line-items.ensures)
-    (ap (λ k. line_placed t n (k + 1) line) (sym number) ∙ sym c.in_ok-placed.ensures ∙ c.in-Some.is)
+    (ap (λ k. line_placed t n (k + 1) line) (sym number) ∙ sym c.in-Some.ensures)
     c.loop-line.rows.items c.push.new.self.items c.loop-line.shown.items c.push-in-loop-line.new.self.items c.loop-line.stocks.items c.push-in-loop-line-2.new.self.items
     c.loop-line.invariant c.in_ok-push.ensures.items c.in_ok-push-2.ensures.items c.in_ok-push-3.ensures.items
 
@@ -31,7 +31,7 @@ returns-in_default c =
     let line = get_or c.as_slice-line-items.result.now i no_line in
     let number : c.len-number.result ≡ i = omega (arith, c.len-number.ensures, c.loop-line.rows.ok.0, c.loop-line.invariant.counted) in
     let below : i < length n.lines = omega (arith, c.loop-line-test.true, ap length c.as_slice-line-items.ensures) in
-    let fails = ap (λ k. line_placed t n (k + 1) line) (sym number) ∙ sym c.in_ok-placed.ensures ∙ c.in_default.is in
+    let fails = ap (λ k. line_placed t n (k + 1) line) (sym number) ∙ sym c.in_default.ensures in
     sym (ap (option_map columns) (one_fails t n i line no_line below (ap (λ l. get_or l i no_line) c.as_slice-line-items.ensures) fails c.loop-line.rows.items c.loop-line.shown.items c.loop-line.stocks.items c.loop-line.invariant))
 
 pub returns : goal.returns
