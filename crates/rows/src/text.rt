@@ -83,9 +83,9 @@ impl<const WIDTH: usize> Text<WIDTH> {
     pub fn copy(&self) -> Text<WIDTH>
         ensures { result ≡ self.now }
     {
-        let mut copy = Text::new();
-        copy.push_fitting(self.as_str());
-        copy
+        Text {
+            string: self.string,
+        }
     }
 
     /// The first `LENGTH` bytes, or all where there are fewer.
