@@ -112,11 +112,7 @@ fn handover_of(tables: &Tables, order: OrderKey) -> Option<Handover>
 }
 
 // The customer's row once the order was delivered, or `None` where a value leaves its range.
-fn customer_delivered(
-    tables: &Tables,
-    order: OrderKey,
-    row: &Customer,
-) -> Option<Customer>
+fn customer_delivered(tables: &Tables, order: OrderKey, row: &Customer) -> Option<Customer>
     ensures { result ≡ spec.customer_delivered row.now (spec.amount_of tables.now order) }
 {
     let Some(balance) = balance_delivered(tables, order, row.balance) else {

@@ -118,12 +118,7 @@ pub fn place_line<T: Rows>(
 
 /// The row of STOCK at the key once those of the lines were taken from it that it supplies, or `None` where a counter
 /// leaves its range.
-pub fn stock_taken(
-    home: u32,
-    row: &Stock,
-    key: StockKey,
-    lines: &[OrderedLine],
-) -> Option<Stock>
+pub fn stock_taken(home: u32, row: &Stock, key: StockKey, lines: &[OrderedLine]) -> Option<Stock>
     requires few { length lines.now ≤ 15 }
     requires quantities { AreQuantities lines.now }
     ensures { result ≡ spec.stock_taken home row.now (spec.taken_from key lines.now) }

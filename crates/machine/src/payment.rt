@@ -39,29 +39,30 @@ pub fn district_paid(row: &District, amount: Cents) -> Option<District>
 
 /// The customer's row after a payment, or `None` where a sum leaves its range.
 pub fn customer_paid(
-    row: &Customer,
+    was: &Customer,
     key: CustomerKey,
     home: DistrictKey,
     amount: u32,
 ) -> Option<Customer>
-    ensures { result ≡ spec.customer_paid row.now (payment_note key home amount) (pos amount) }
+    ensures { result ≡ spec.customer_paid was.now (payment_note key home amount) (pos amount) }
 {
     let cents = Cents::new(i64::from(amount));
-    let Some(balance) = row.balance.checked_sub(cents) else {
+    let Some(balance) = was.balance.checked_sub(cents) else {
         return None;
     };
-    let Some(ytd_payment) = row.ytd_payment.checked_add(cents) else {
+    let Some(ytd_payment) = was.ytd_payment.checked_add(cents) else {
         return None;
     };
-    let Some(payment_cnt) = row.payment_cnt.checked_add(1) else {
+    let Some(payment_cnt) = was.payment_cnt.checked_add(1) else {
         return None;
     };
-    let mut row = row.copy();
+    let mut row = was.copy();
     row.balance = balance;
     row.ytd_payment = ytd_payment;
     row.payment_cnt = payment_cnt;
-    if row.credit == Credit::Bad {
-        row.data = prepend_data(&row.data, key, home, amount);
+    match was.credit {
+        Credit::Good => {}
+        Credit::Bad => row.data = prepend_data(&was.data, key, home, amount),
     }
     Some(row)
 }

@@ -22,6 +22,6 @@ returns-clause-reply c =
     let found : Keyed = (c.in-Some-chosen.key, c.in-Some-chosen.customer.now) in
     let amount : c.new-amount.result ≡ pos p.amount = omega (arith, ints) in
     let is = payment-posted t p c.new-amount.result c.payment_row-row.result c.in-Some.warehouse.now c.in-Some-district.district.now found
-    c.in-Some-2.warehouse c.in-Some-3.district c.in-Some-4.customer amount (sym c.in-Some.ensures) (sym c.in-Some-district.ensures) (sym c.in-Some-chosen.ensures) c.payment_row-row.ensures
-    (sym c.in_ok-warehouse.ensures ∙ c.in-Some-2.is) (sym c.in_ok-district.ensures ∙ c.in-Some-3.is) (sym c.in_ok-customer.ensures ∙ c.in-Some-4.is) in
+    c.in-Some-warehouse_paid.warehouse c.in-Some-district_paid.district c.in-Some-customer_paid.customer amount (sym c.in-Some.ensures) (sym c.in-Some-district.ensures) (sym c.in-Some-chosen.ensures) c.payment_row-row.ensures
+    (sym c.in-Some-warehouse_paid.ensures) (sym c.in-Some-district_paid.ensures) (sym c.in-Some-customer_paid.ensures) in
     IfOk-weaker c.post.result _ _ (λ reply h. h ∙ ap (λ o. o.reply) (sym is)) c.post.ensures.reply

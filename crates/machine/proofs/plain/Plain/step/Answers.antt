@@ -1,4 +1,4 @@
-use Rattle.std.proofs.Common.{sym, ap, ◌∙◌}
+use Rattle.std.proofs.Common.{subst, sym, ap, ◌∙◌}
 use Rattle.schema.specs.Database.{Database}
 use Rattle.requests.specs.declared.reply.Reply.TheVariants.{Done}
 use Rattle.requests.specs.declared.reply.Shown.TheVariants.{StockLevel as LevelShown}
@@ -6,7 +6,6 @@ use Rattle.indexes.specs.LatestIndex.{FitsLatest}
 use Rattle.indexes.specs.NameOrder.{FitsNames}
 use Rattle.machine.specs.NewOrder.{new_order}
 use Rattle.machine.specs.Payment.{payment}
-use Rattle.machine.specs.Delivery.{delivery}
 use Rattle.machine.specs.Machine.{transaction}
 use Rattle.machine.proofs.KeptIndexes.{new_order_keeps_names, payment_keeps_indexes, still_so}
 use Rattle.machine.proofs.DeliveryIndexes.{delivery_keeps_indexes}
@@ -35,8 +34,8 @@ invariant_of-self-in-Delivery c =
     let t = c.self.inside.tables in
     let asked = c.in-Delivery.asked in
     let fits = c.self.invariant in
-    still_so (λ (s : Database). FitsNames c.self.inside.names s × FitsLatest c.self.inside.latest s) c.deliver.result t (delivery t asked).tables c.deliver.new.tables c.deliver.ensures.tables c.deliver.ensures.err
-    fits (delivery_keeps_indexes c.self.inside.names c.self.inside.latest t asked fits.0 fits.1)
+    subst (λ (s : Database). FitsNames c.self.inside.names s × FitsLatest c.self.inside.latest s) (sym c.deliver.ensures.tables)
+    (delivery_keeps_indexes c.self.inside.names c.self.inside.latest t asked fits.0 fits.1)
 
 pub returns-in_ok-shown-in-StockLevel-clause-reply : goal.returns-in_ok-shown-in-StockLevel-clause-reply
 returns-in_ok-shown-in-StockLevel-clause-reply c =
