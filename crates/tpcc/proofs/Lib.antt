@@ -8,5 +8,8 @@ pub mod GatheredTables
 pub mod ReplayTellings
 pub mod BuiltCommands
 pub mod ParsedWords
+pub mod MixTexts
+pub mod PathLists
+pub mod ScriptFaults
 pub mod AskedWords
 pub mod ScriptFiles

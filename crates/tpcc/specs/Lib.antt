@@ -1,6 +1,7 @@
 pub mod Status
 pub mod Settings
 pub mod OtherName
+pub mod MixText
 pub mod Shelf
 pub mod Tally
 pub mod Words
