@@ -5,6 +5,7 @@ pub mod FileNames
 pub mod ServeFaults
 pub mod SourceLists
 pub mod GatheredTables
+pub mod SimulationEnds
 pub mod ReplayTellings
 pub mod BuiltCommands
 pub mod ParsedWords
