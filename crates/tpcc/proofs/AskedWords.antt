@@ -1,5 +1,5 @@
 -- From what clap tells to what the words ask for.
-use Rattle.std.proofs.Common.{◌≡◌, ◌⊎◌, ℕ, List, [], Option, None, Some, inl, inr, sym, subst}
+use Rattle.std.proofs.Common.{◌≡◌, ◌⊎◌, ℕ, List, Option, None, Some, inl, inr, sym, subst}
 use Rattle.std.specs.Prelude.{MatchOption}
 use Rattle.clap.specs.Words.{HasKind, IsAmong, fault_of, first_value, kind_of}
 use Rattle.std.specs.Prelude.{codes}
@@ -11,7 +11,8 @@ use Rattle.tpcc.specs.declared.settings.Settings.TheVariants.{Text}
 use Rattle.tpcc.specs.declared.usage.UsageFault.{UsageFault}
 use Rattle.tpcc.specs.declared.usage.UsageFault.TheVariants as usage
 use Rattle.tpcc.specs.CommandLine.{program}
-use Rattle.tpcc.specs.Mistakes.{IsMomentFault, IsNoMemory, IsNumberFault, IsPopulateFault}
+use Rattle.tpcc.specs.Mistakes.{IsFilesFault, IsMomentFault, IsNoMemory, IsNumberFault, IsOptionFault, IsPopulateFault, IsScriptFault}
+use Rattle.tpcc.specs.Words.{all_words}
 use Rattle.tpcc.specs.Asked.{AsksFor, IsAsked, IsFaultOf, IsMistake, IsVersion, MeansCommand, MeansHelp, MistakesCommand, MistakesHelp, NamesCommand, help_asked}
 
 module _ (words : List (List ℕ)) where
@@ -74,6 +75,68 @@ no_populate found error h = elim h [
   ]
 ]
 
+-- a fault that is none of any option
+module _ (found : Found) (fault : UsageFault)
+    (no_number_of : (option : List ℕ) (low high : ℕ) (word : Option (List ℕ)) → IsNumberFault option low high word fault → ⊥)
+    (no_moment_of : (word : Option (List ℕ)) → IsMomentFault word fault → ⊥) (no_mix : fault ≡ usage.Mix → ⊥) (no_remote : fault ≡ usage.Remote → ⊥) where
+  no_option : IsOptionFault found fault → ⊥
+  no_option h = elim h [
+    | inl a ↦ no_number_of (codes "--requests") 0 16777216 (first_value found (codes "requests")) a
+    | inr b ↦ elim b.1 [
+      | inl d ↦ no_number_of (codes "--seed") 0 4294967295 (first_value found (codes "seed")) d
+      | inr e ↦ elim e.1 [
+        | inl f ↦ no_mix f.0
+        | inr g ↦ elim g.1 [
+          | inl i ↦ no_number_of (codes "--home") 1 64 (first_value found (codes "home")) i
+          | inr j ↦ elim j.1 [
+            | inl k ↦ no_remote k.0
+            | inr l ↦ no_moment_of (first_value found (codes "now")) l.1
+          ]
+        ]
+      ]
+    ]
+  ]
+
+no_files : (files : List (List ℕ)) (error : Error) → IsFilesFault files (usage.Words error) → ⊥
+no_files files error h = elim h [
+  | inl count ↦ let no : usage.Words error ≡ usage.FileCount = count.0 in absurd cc
+  | inr twice ↦ let no : usage.Words error ≡ usage.SameFile = twice.1 in absurd cc
+]
+
+no_script : (found : Found) (error : Error) → IsScriptFault found (usage.Words error) → kind_of error ≡ OutOfMemory
+no_script found error h = elim h [
+  | inl files ↦ absurd (no_files (all_words found (codes "FILE")) error files)
+  | inr others ↦ elim others.1 [
+    | inl none ↦ none
+    | inr option ↦ absurd (no_option found (usage.Words error) (λ name low high word. no_number name low high word error) (λ word. no_moment word error) (λ e. absurd cc) (λ e. absurd cc) option)
+  ]
+]
+
+-- nor is it that no command is named
+no_command_number : (option : List ℕ) (low high : ℕ) (word : Option (List ℕ)) → IsNumberFault option low high word usage.NoCommand → ⊥
+no_command_number option low high None h = h
+no_command_number option low high (Some word) h = h
+
+no_command_moment : (word : Option (List ℕ)) → IsMomentFault word usage.NoCommand → ⊥
+no_command_moment None h = h
+no_command_moment (Some word) h = h
+
+no_command : (found : Found) → IsScriptFault found usage.NoCommand → ⊥
+no_command found h = elim h [
+  | inl files ↦ elim files [
+    | inl count ↦ let no : usage.NoCommand ≡ usage.FileCount = count.0 in absurd cc
+    | inr twice ↦ let no : usage.NoCommand ≡ usage.SameFile = twice.1 in absurd cc
+  ]
+  | inr others ↦ elim others.1 [
+    | inl none ↦ none
+    | inr option ↦ no_option found usage.NoCommand no_command_number no_command_moment (λ e. absurd cc) (λ e. absurd cc) option
+  ]
+]
+
+pub of_script : (name : List ℕ) (found : Found) (fault : UsageFault) → name ≡ codes "script" → IsScriptFault found fault → IsFaultOf name found fault
+of_script name found usage.NoCommand is h = absurd (no_command found h)
+of_script name found fault is h = inr (inr (inr (is, h)))
+
 -- where clap tells it of a command, it is want of memory
 no_words : (name : List ℕ) (found : Found) (error : Error) → IsFaultOf name found (usage.Words error) → kind_of error ≡ OutOfMemory
 no_words name found error h = elim h [
@@ -82,7 +145,7 @@ no_words name found error h = elim h [
     | inl sim ↦ absurd (no_number _ _ _ (first_value found (codes "executors")) error sim.1)
     | inr more ↦ elim more [
       | inl populate ↦ absurd (no_populate found error populate.1)
-      | inr script ↦ script.1
+      | inr script ↦ no_script found error script.1
     ]
   ]
 ]

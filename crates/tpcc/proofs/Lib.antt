@@ -5,8 +5,12 @@ pub mod FileNames
 pub mod ServeFaults
 pub mod SourceLists
 pub mod GatheredTables
+pub mod SimulationEnds
 pub mod ReplayTellings
 pub mod BuiltCommands
 pub mod ParsedWords
+pub mod MixTexts
+pub mod PathLists
+pub mod ScriptFaults
 pub mod AskedWords
 pub mod ScriptFiles

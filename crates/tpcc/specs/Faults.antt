@@ -1,5 +1,5 @@
 -- Why commands end early, and with which status.
-use Rattle.std.specs.Prelude.{◌≡◌, ℕ, List, [], ◌∷◌, ◌++◌, Option, None, Some}
+use Rattle.std.specs.Prelude.{◌≡◌, ℕ, Bool, true, List, [], ◌∷◌, ◌++◌, Option, None, Some, Result, Err}
 use Rattle.std.specs.Borrow.{Bor}
 use Rattle.clap.specs.Words.{kind_of}
 use Rattle.clap.specs.declared.error.ErrorKind.{ErrorKind}
@@ -12,6 +12,10 @@ use Rattle.engine.specs.declared.outcome.ServeFault.{ServeFault}
 use Rattle.engine.specs.declared.outcome.ServeFault.TheVariants as serve
 use Rattle.files.specs.declared.fault.FileError.{FileError}
 use Rattle.files.specs.declared.fault.FileError.TheVariants as read
+use Rattle.history.specs.declared.schedule.Scheduled.{Scheduled}
+use Rattle.world.specs.declared.simulating.Simulation.{Simulation}
+use Rattle.world.specs.declared.world.GatherFault.{GatherFault}
+use Rattle.world.specs.declared.world.GatherFault.TheVariants as gather
 use Rattle.tpcc.specs.declared.command_fault.CommandFault.{CommandFault}
 use Rattle.tpcc.specs.declared.command_fault.CommandFault.TheVariants as fault
 use Rattle.tpcc.specs.declared.usage.UsageFault.{UsageFault}
@@ -19,6 +23,7 @@ use Rattle.tpcc.specs.declared.usage.UsageFault.TheVariants as usage
 use Rattle.tpcc.specs.declared.status.Status.{Status}
 use Rattle.tpcc.specs.declared.status.Status.TheVariants as status
 use Rattle.tpcc.specs.Edges.{Gives}
+use Rattle.tpcc.specs.Sim.{IsSimulation}
 
 -- the status after each fault of a command
 abbrev pub status_of : CommandFault → Status
@@ -75,12 +80,23 @@ IsOfServing source fault.NoThread = (tables : Database) × Gives source (AreReco
 IsOfServing source (fault.NoWarehouse warehouse) = ⊥
 IsOfServing source fault.NotIdle = ⊥
 
--- no memory or a fault of a file, or a transaction is active
-abbrev pub IsOfGathering : CommandFault → Type 0
-IsOfGathering fault.NoMemory = Unit {0}
-IsOfGathering (fault.File path of) = Unit {0}
-IsOfGathering fault.NotIdle = Unit {0}
-IsOfGathering _ = ⊥
+-- No memory or a fault of a file; or, as tables were asked for, that none were gathered, since a transaction is active.
+abbrev pub IsOfGathering : Bool → Result Database GatherFault → CommandFault → Type 0
+IsOfGathering asked gathered fault.NoMemory = Unit {0}
+IsOfGathering asked gathered (fault.File path of) = Unit {0}
+IsOfGathering asked gathered fault.NotIdle = (asked ≡ true) × (gathered ≡ Err gather.NotIdle)
+IsOfGathering asked gathered _ = ⊥
+
+-- No memory or a fault of a file; or, of the tables that `data` gives, that they break this condition first; or, as tables were asked for,
+-- that a transaction is active at the end of the simulation.
+abbrev pub IsOfSimulating : Option (List ℕ) → Option (List ℕ) → ℕ → Bool → CommandFault → Type 0
+IsOfSimulating «data» source executors asked fault.NoMemory = Unit {0}
+IsOfSimulating «data» source executors asked (fault.File path of) = Unit {0}
+IsOfSimulating «data» source executors asked (fault.NotConsistent condition) = (tables : Database) × Gives «data» (AreRecords tables) × BreaksFirst tables condition
+IsOfSimulating «data» source executors asked fault.NotIdle =
+    (asked ≡ true)
+    × ((schedule : List Scheduled) × (simulation : Simulation) × IsSimulation «data» source executors schedule simulation × (simulation.tables ≡ Err gather.NotIdle))
+IsOfSimulating «data» source executors asked _ = ⊥
 
 -- where it is known which faults were told, this one was told after them
 abbrev pub Tells : Option (List CommandFault) → Option (List CommandFault) → CommandFault → Type 0

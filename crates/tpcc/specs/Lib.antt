@@ -1,6 +1,7 @@
 pub mod Status
 pub mod Settings
 pub mod OtherName
+pub mod MixText
 pub mod Shelf
 pub mod Tally
 pub mod Words
@@ -8,11 +9,11 @@ pub mod CommandLine
 pub mod Mistakes
 pub mod Asked
 pub mod Edges
+pub mod Sim
 pub mod Faults
 pub mod Verdicts
 pub mod Check
 pub mod Populate
 pub mod Replay
 pub mod Run
-pub mod Sim
 pub mod Script

@@ -1,5 +1,5 @@
 -- The mistakes in words that clap has understood.
-use Rattle.std.specs.Prelude.{◌≡◌, ◌⊎◌, ◌<◌, ◌≤◌, ℕ, List, length, Option, None, Some, IsSome, codes, true}
+use Rattle.std.specs.Prelude.{◌≡◌, ◌⊎◌, ◌<◌, ◌≤◌, ℕ, List, length, Option, None, Some, codes, true}
 use Rattle.std.specs.Fmt.{decimal}
 use Rattle.std.specs.List.{slice_get}
 use Rattle.std.specs.Ordering.{is_eq}
@@ -8,8 +8,10 @@ use Rattle.clap.specs.Words.{first_value, kind_of}
 use Rattle.clap.specs.declared.error.ErrorKind.TheVariants.{OutOfMemory}
 use Rattle.clap.specs.declared.parser.matches.Found.{Found}
 use Rattle.files.specs.MomentText.{IsMomentText}
+use Rattle.workload.specs.declared.mix.Mix.{Mix}
 use Rattle.tpcc.specs.declared.usage.UsageFault.{UsageFault}
 use Rattle.tpcc.specs.declared.usage.UsageFault.TheVariants as usage
+use Rattle.tpcc.specs.MixText.{IsMixText}
 use Rattle.tpcc.specs.Words.{all_words}
 
 -- ---- of one option
@@ -49,6 +51,33 @@ abbrev pub IsRemoteFault : Option (List ℕ) → Type 0
 IsRemoteFault None = ⊥
 IsRemoteFault (Some word) = (word ≡ codes "on" → ⊥) × (word ≡ codes "off" → ⊥)
 
+-- there is no word, or it is one of the two
+abbrev pub IsRemoteWord : Option (List ℕ) → Type 0
+IsRemoteWord None = Unit {0}
+IsRemoteWord (Some word) = (word ≡ codes "on") ⊎ (word ≡ codes "off")
+
+-- there is a word, and it is the text of no mix
+abbrev pub IsMixFault : Option (List ℕ) → Type 0
+IsMixFault None = ⊥
+IsMixFault (Some word) = (mix : Mix) → IsMixText word mix → ⊥
+
+-- there is no word, or it is the text of a mix
+abbrev pub IsMixWord : Option (List ℕ) → Type 0
+IsMixWord None = Unit {0}
+IsMixWord (Some word) = (mix : Mix) × IsMixText word mix
+
+-- there are 1 to 64 files
+abbrev pub IsFileCount : List (List ℕ) → Type 0
+IsFileCount files = (1 ≤ length files) × (length files ≤ 64)
+
+-- there are 1 to 64 files, of different paths
+abbrev pub AreFiles : List (List ℕ) → Type 0
+AreFiles files = IsFileCount files × (HasPathTwice files → ⊥)
+
+-- there are not 1 to 64 files; or there are, and two of them have one path
+abbrev pub IsFilesFault : List (List ℕ) → UsageFault → Type 0
+IsFilesFault files fault = ((fault ≡ usage.FileCount) × (IsFileCount files → ⊥)) ⊎ (IsFileCount files × (fault ≡ usage.SameFile) × HasPathTwice files)
+
 -- ---- of each command
 
 module _ (found : Found) where
@@ -78,15 +107,20 @@ module _ (found : Found) where
       IsNumberFault (codes "--seed") 0 4294967295 (first_value found (codes "seed")) fault
       ⊎ (IsNumberWord 0 4294967295 (first_value found (codes "seed")) × IsMomentFault (first_value found (codes "now")) fault)))))))
 
-  -- there are not 1 to 64 files, two of them have one path, or an option is out of its limits
-  abbrev pub IsScriptFault : UsageFault → Type 0
-  IsScriptFault (usage.Words error) = kind_of error ≡ OutOfMemory
-  IsScriptFault usage.FileCount = (1 ≤ length (all_words found (codes "FILE"))) × (length (all_words found (codes "FILE")) ≤ 64) → ⊥
-  IsScriptFault usage.SameFile = HasPathTwice (all_words found (codes "FILE"))
-  IsScriptFault usage.Mix = IsSome (first_value found (codes "mix"))
-  IsScriptFault usage.Remote = IsRemoteFault (first_value found (codes "remote"))
-  IsScriptFault fault =
+  -- the first of the options that is out of its limits
+  abbrev pub IsOptionFault : UsageFault → Type 0
+  IsOptionFault fault =
       IsNumberFault (codes "--requests") 0 16777216 (first_value found (codes "requests")) fault
-      ⊎ (IsNumberFault (codes "--seed") 0 4294967295 (first_value found (codes "seed")) fault
-      ⊎ (IsNumberFault (codes "--home") 1 64 (first_value found (codes "home")) fault
-      ⊎ IsMomentFault (first_value found (codes "now")) fault))
+      ⊎ (IsNumberWord 0 16777216 (first_value found (codes "requests")) × (
+      IsNumberFault (codes "--seed") 0 4294967295 (first_value found (codes "seed")) fault
+      ⊎ (IsNumberWord 0 4294967295 (first_value found (codes "seed")) × (
+      ((fault ≡ usage.Mix) × IsMixFault (first_value found (codes "mix")))
+      ⊎ (IsMixWord (first_value found (codes "mix")) × (
+      IsNumberFault (codes "--home") 1 64 (first_value found (codes "home")) fault
+      ⊎ (IsNumberWord 1 64 (first_value found (codes "home")) × (
+      ((fault ≡ usage.Remote) × IsRemoteFault (first_value found (codes "remote")))
+      ⊎ (IsRemoteWord (first_value found (codes "remote")) × IsMomentFault (first_value found (codes "now")) fault)))))))))
+
+  -- The files are wrong; or else there is no memory, or an option is out of its limits.
+  abbrev pub IsScriptFault : UsageFault → Type 0
+  IsScriptFault fault = IsFilesFault (all_words found (codes "FILE")) fault ⊎ (AreFiles (all_words found (codes "FILE")) × (IsNoMemory fault ⊎ IsOptionFault fault))

@@ -1,17 +1,31 @@
--- What `tpcc sim` writes.
-use Rattle.std.specs.Prelude.{◌≡◌, ℕ, List, [], Option, None, Some, Result, Ok}
+-- What `tpcc sim` prints and writes.
+use Rattle.std.specs.Prelude.{◌≡◌, ◌⊎◌, ℕ, List, [], Option, None, Some, Result, Ok}
 use Rattle.std.specs.Io.KnownBytes.{Appends}
+use Rattle.std.specs.declared.marker.Brand.{Brand}
 use Rattle.schema.specs.Database.{Database}
 use Rattle.history.specs.declared.schedule.Scheduled.{Scheduled}
 use Rattle.history.specs.declared.schedule.Output.{Output}
+use Rattle.world.specs.declared.simulating.Simulation.{Simulation}
 use Rattle.world.specs.declared.world.GatherFault.{GatherFault}
+use Rattle.world.specs.Openings.{Simulates}
 use Rattle.picture.specs.declared.asides.Aside.{Aside}
 use Rattle.picture.specs.Drawing.{picture_text}
 use Rattle.picture.specs.Lanes.{sessions_from}
 use Rattle.picture.specs.Rows as row
 use Rattle.dataset.specs.Records.{AreRecords}
+use Rattle.terminals.specs.LogRecord.{IsLog}
+use Rattle.terminals.specs.Outputs.{AreOutputs}
+use Rattle.terminals.specs.Schedule.{IsSchedule}
+use Rattle.tpcc.specs.declared.command_fault.CommandFault.{CommandFault}
 use Rattle.tpcc.specs.Shelf.{Shelves}
-use Rattle.tpcc.specs.Edges.{NamesFile}
+use Rattle.tpcc.specs.Edges.{Gives, Writes, NamesFile}
+
+-- this schedule, which its source gives, was simulated on the tables that `data` gives, with so many executors, and this came of it
+pub record IsSimulation («data» source : Option (List ℕ)) (executors : ℕ) (schedule : List Scheduled) (simulation : Simulation) : Type 0 where
+  pub opening : Database
+  pub is_dataset : Gives «data» (AreRecords opening)
+  pub is_schedule : Gives source (IsSchedule schedule)
+  pub simulates : Simulates Brand opening executors schedule simulation
 
 module _ {F : Type 0} (contents : F → Option (List ℕ)) where
   -- the file, if there is one, has got its name with the picture of the schedule and of what was told of it
@@ -24,3 +38,28 @@ module _ {F : Type 0} (contents : F → Option (List ℕ)) where
   abbrev pub NamesTables : Option F → Option (List (Option (List ℕ))) → Option (List (Option (List ℕ))) → Result Database GatherFault → Type 0
   NamesTables None named named' gathered = named' ≡ named
   NamesTables (Some file) named named' gathered = (last : Database) × (gathered ≡ Ok last) × NamesFile contents (Some file) named named' (AreRecords last)
+
+  -- no file has got its name; or the log has, and then the picture may have, with what is in them where all went well
+  abbrev pub SimulatesSome : Option (List ℕ) → Option (List ℕ) → ℕ → Option F → Option F → Option (List (Option (List ℕ))) → Option (List (Option (List ℕ))) → Type 0
+  SimulatesSome «data» source executors log picture named named' =
+      (named' ≡ named)
+      ⊎ ((schedule : List Scheduled) × (simulation : Simulation) × IsSimulation «data» source executors schedule simulation
+      × (with_log : Option (List (Option (List ℕ)))) × NamesFile contents log named with_log (IsLog simulation.log.items)
+      × ((named' ≡ with_log) ⊎ NamesPicture picture with_log named' executors schedule simulation.outputs.items))
+
+  module _ («data» source : Option (List ℕ)) (executors : ℕ) (log picture tables : Option F) (before after : Option (List ℕ))
+      (named named' : Option (List (Option (List ℕ)))) (told told' : Option (List CommandFault)) where
+    -- The schedule that its source gives was simulated on the tables that `data` gives; the records of all its outputs were printed; and
+    -- the files, of these three those that there are, have got their names, in turn: the log with the records of the simulation's log, the
+    -- picture with the drawing of its outputs, and the tables with the records of its tables.
+    pub record SimulatesAll : Type 0 where
+      pub schedule : List Scheduled
+      pub simulation : Simulation
+      pub is_simulation : IsSimulation «data» source executors schedule simulation
+      pub printed : Writes before after (AreOutputs simulation.outputs.items)
+      pub with_log : Option (List (Option (List ℕ)))
+      pub with_picture : Option (List (Option (List ℕ)))
+      pub logged : NamesFile contents log named with_log (IsLog simulation.log.items)
+      pub drawn : NamesPicture picture with_log with_picture executors schedule simulation.outputs.items
+      pub gathered : NamesTables tables with_picture named' simulation.tables
+      pub no_fault : told' ≡ told

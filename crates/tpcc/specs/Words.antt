@@ -5,6 +5,7 @@ use Rattle.clap.specs.Words.{first_value, matched_of, one_text, raw_values}
 use Rattle.clap.specs.declared.parser.matches.Found.{Found}
 use Rattle.files.specs.MomentText.{IsMomentText}
 use Rattle.workload.specs.declared.mix.Mix.{Mix}
+use Rattle.tpcc.specs.MixText.{IsMixText}
 use Rattle.tpcc.specs.declared.settings.check.CheckSettings.{CheckSettings}
 use Rattle.tpcc.specs.declared.settings.populate.PopulateSettings.{PopulateSettings}
 use Rattle.tpcc.specs.declared.settings.replay.ReplaySettings.{ReplaySettings}
@@ -29,10 +30,10 @@ abbrev pub IsHome : Option (List ℕ) → Option ℕ → Type 0
 IsHome None home = home ≡ None
 IsHome (Some word) home = (warehouse : ℕ) × (home ≡ Some warehouse) × (decimal warehouse ≡ word)
 
--- the benchmark's mix, where there is no word
-abbrev pub IsStandardMix : Option (List ℕ) → Mix → Type 0
-IsStandardMix None mix = (mix.new_orders ≡ 45) × (mix.payments ≡ 43) × (mix.order_statuses ≡ 4) × (mix.deliveries ≡ 4) × (mix.stock_levels ≡ 4)
-IsStandardMix (Some word) mix = Unit {0}
+-- the mix of which the option's word is a text, and the benchmark's where there is no word
+abbrev pub IsMixOf : Option (List ℕ) → Mix → Type 0
+IsMixOf None mix = (mix.new_orders ≡ 45) × (mix.payments ≡ 43) × (mix.order_statuses ≡ 4) × (mix.deliveries ≡ 4) × (mix.stock_levels ≡ 4)
+IsMixOf (Some word) mix = IsMixText word mix
 
 -- whether other warehouses take part, as the option's word says; they do where there is no word
 abbrev pub IsRemote : Option (List ℕ) → Bool → Type 0
@@ -86,7 +87,7 @@ module _ (found : Found) where
     pub files : map (λ path. path.now) s.files.items ≡ all_words (codes "FILE")
     pub requests : IsNumber (first_value found (codes "requests")) 1000 s.requests
     pub seed : IsNumber (first_value found (codes "seed")) 1 s.seed
-    pub mix : IsStandardMix (first_value found (codes "mix")) s.mix
+    pub mix : IsMixOf (first_value found (codes "mix")) s.mix
     pub home : IsHome (first_value found (codes "home")) s.home
     pub remote : IsRemote (first_value found (codes "remote")) s.remote
     pub start : IsMoment (first_value found (codes "now")) s.start

@@ -2,9 +2,9 @@ ghost use Rattle.std.specs.Prelude.{◌≡◌, is_some, IfOk, IfErr, OnOk, OnErr
 ghost use Rattle.terminals.specs.Outputs.{AreOutputs};
 ghost use Rattle.terminals.specs.Schedule.{IsSchedule};
 ghost use Rattle.tpcc.specs.Edges.{Gives, Writes};
-ghost use Rattle.tpcc.specs.Faults.{IsOfFile, IsOfGathering, EndsEarly};
+ghost use Rattle.tpcc.specs.Faults.{IsOfFile, IsOfGathering, IsOfSimulating, EndsEarly};
 ghost use Rattle.tpcc.specs.Settings.{HasExecutors};
-ghost use Rattle.tpcc.specs.Sim.{NamesPicture, NamesTables};
+ghost use Rattle.tpcc.specs.Sim.{NamesPicture, NamesTables, SimulatesAll, SimulatesSome};
 
 use crate::command_fault::CommandFault;
 use crate::report::Report;
@@ -54,7 +54,9 @@ pub fn sim_over<
     requires log { is_some log ≡ is_some settings.now.log }
     requires picture { is_some picture ≡ is_some settings.now.picture }
     requires tables { is_some tables ≡ is_some settings.now.tables }
-    ensures { IfErr result (EndsEarly (λ _. Unit {0}) (E.told errors.old) (E.told errors.new)) }
+    ensures simulates { IfOk result (λ full. SimulatesAll F.contents (D.remaining «data») (S.remaining schedule) settings.entry.now.executors log picture tables (A.contents told) (A.contents full) (N.named shelf.old) (N.named shelf.new) (E.told errors.old) (E.told errors.new)) }
+    ensures some { OnErr result (SimulatesSome F.contents (D.remaining «data») (S.remaining schedule) settings.entry.now.executors log picture (N.named shelf.old) (N.named shelf.new)) }
+    ensures early { IfErr result (EndsEarly (IsOfSimulating (D.remaining «data») (S.remaining schedule) settings.entry.now.executors (is_some tables)) (E.told errors.old) (E.told errors.new)) }
 {
     match sim(
         alloc, settings, data, schedule, told, log, picture, tables, shelf, errors,
@@ -88,7 +90,10 @@ fn sim<
     requires log { is_some log ≡ is_some settings.now.log }
     requires picture { is_some picture ≡ is_some settings.now.picture }
     requires tables { is_some tables ≡ is_some settings.now.tables }
-    ensures { OnErr result (E.told errors.new ≡ E.told errors.old) }
+    ensures simulates { IfOk result (λ full. SimulatesAll F.contents (D.remaining «data») (S.remaining schedule) settings.entry.now.executors log picture tables (A.contents told) (A.contents full) (N.named shelf.old) (N.named shelf.new) (E.told errors.old) (E.told errors.new)) }
+    ensures some { OnErr result (SimulatesSome F.contents (D.remaining «data») (S.remaining schedule) settings.entry.now.executors log picture (N.named shelf.old) (N.named shelf.new)) }
+    ensures told { OnErr result (E.told errors.new ≡ E.told errors.old) }
+    ensures fault { IfErr result (IsOfSimulating (D.remaining «data») (S.remaining schedule) settings.entry.now.executors (is_some tables)) }
 {
     let opening = read_tables(alloc, settings.data, data)?;
     let scale = opening.scale();
@@ -156,7 +161,8 @@ fn name_gathered<'a, F: Write + Drop, N: Shelf<F>>(
 ) -> Result<(), CommandFault<'a>>
     requires { is_some tables ≡ is_some path }
     ensures named { OnOk result (NamesTables F.contents tables (N.named shelf.old) (N.named shelf.new) gathered.now) }
-    ensures fault { IfErr result IsOfGathering }
+    ensures err { OnErr result (N.named shelf.new ≡ N.named shelf.old) }
+    ensures fault { IfErr result (IsOfGathering (is_some tables) gathered.now) }
 {
     match gathered {
         Ok(last) => Ok(write_tables(alloc, path, tables, last, shelf)?),
@@ -179,6 +185,7 @@ fn draw<'a, F: Write + Drop, N: Shelf<F>>(
     requires executors { HasExecutors settings.now }
     requires asked { is_some picture ≡ is_some settings.now.picture }
     ensures named { OnOk result (NamesPicture F.contents picture (N.named shelf.old) (N.named shelf.new) settings.entry.now.executors schedule.now outputs.now) }
+    ensures err { OnErr result (N.named shelf.new ≡ N.named shelf.old) }
     ensures fault { IfErr result IsOfFile }
 {
     let Some(sink) = picture else {

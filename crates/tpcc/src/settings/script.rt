@@ -1,9 +1,9 @@
-ghost use Rattle.std.specs.Prelude.{◌≡◌, codes, map, option_map, IfOk, IfErr, IsTrue};
+ghost use Rattle.std.specs.Prelude.{◌≡◌, codes, false, map, option_map, IfOk, IfErr, IsTrue, OnOk};
 ghost use Rattle.clap.specs.Words.{found_of};
 ghost use Rattle.tpcc.specs.CommandLine.{alone, script_command, IsCommand};
-ghost use Rattle.tpcc.specs.Mistakes.{HasPathTwice, IsNumberFault, IsRemoteFault, IsScriptFault};
+ghost use Rattle.tpcc.specs.Mistakes.{AreFiles, HasPathTwice, IsFilesFault, IsNumberFault, IsNumberWord, IsOptionFault, IsRemoteFault, IsRemoteWord, IsScriptFault};
 ghost use Rattle.tpcc.specs.Settings.{HasFiles};
-ghost use Rattle.tpcc.specs.Words.{AsksForScripts, IsHome, IsRemote};
+ghost use Rattle.tpcc.specs.Words.{all_words, AsksForScripts, IsHome, IsRemote};
 
 use crate::other_name::are_one;
 use crate::settings::arguments::{
@@ -44,15 +44,39 @@ pub fn read<'a>(alloc: Global, matches: &ArgMatches<'a>) -> Result<ScriptSetting
     ensures mistake { IfErr result (IsScriptFault (found_of matches.now)) }
 {
     let files = matches.get_strs("FILE").unwrap_or(&[]);
+    check_files(files)?;
+    let settings = with_files(matches, files.to_vec(alloc)?)?;
+    Ok(settings)
+}
+
+// Whether there are 1 to 64 files, of different paths.
+fn check_files(files: &[&str]) -> Result<(), UsageFault>
+    ensures fit { OnOk result (AreFiles (map (λ file. file.now) files.now)) }
+    ensures mistake { IfErr result (IsFilesFault (map (λ file. file.now) files.now)) }
+{
     if !(1..=MOST_SESSIONS).contains(&files.len()) {
         return Err(UsageFault::FileCount);
     }
     if has_twice(files) {
         return Err(UsageFault::SameFile);
     }
+    Ok(())
+}
+
+// The settings of these files, with what the options ask for.
+#[tactic(auto, using(crate::proofs::ScriptFaults::of_mix, crate::proofs::ScriptFaults::of_home, crate::proofs::ScriptFaults::of_remote, crate::proofs::ScriptFaults::of_moment))]
+fn with_files<'a>(
+    matches: &ArgMatches<'a>,
+    files: Vec<&'a str>,
+) -> Result<ScriptSettings<'a>, UsageFault>
+    requires { map (λ path. path.now) files.items ≡ all_words (found_of matches.now) (codes "FILE") }
+    ensures same { IfOk result (λ settings. settings.files.items ≡ files.entry.items) }
+    ensures asked { IfOk result (AsksForScripts (found_of matches.now)) }
+    ensures mistake { IfErr result (IsOptionFault (found_of matches.now)) }
+{
     Ok(ScriptSettings {
         data: word(matches, "DATA"),
-        files: files.to_vec(alloc)?,
+        files,
         requests: number(
             matches.get_str("requests"),
             1_000,
@@ -71,7 +95,8 @@ pub fn read<'a>(alloc: Global, matches: &ArgMatches<'a>) -> Result<ScriptSetting
 
 // Whether a path is there twice.
 fn has_twice(files: &[&str]) -> bool
-    ensures { IsTrue result → HasPathTwice (map (λ file. file.now) files.now) }
+    ensures twice { IsTrue result → HasPathTwice (map (λ file. file.now) files.now) }
+    ensures once { result ≡ false → HasPathTwice (map (λ file. file.now) files.now) → ⊥ }
 {
     for (place, file) in files.iter().enumerate() {
         for earlier in &files[..place] {
@@ -86,6 +111,7 @@ fn has_twice(files: &[&str]) -> bool
 // The home warehouse that an option asks for.
 fn home(words: Option<&str>) -> Result<Option<u32>, UsageFault>
     ensures value { IfOk result (IsHome (option_map (λ word. word.now) words.entry)) }
+    ensures fits { OnOk result (IsNumberWord 1 64 (option_map (λ word. word.now) words.entry)) }
     ensures mistake { IfErr result (IsNumberFault (codes "--home") 1 64 (option_map (λ word. word.now) words.entry)) }
 {
     match words {
@@ -97,6 +123,7 @@ fn home(words: Option<&str>) -> Result<Option<u32>, UsageFault>
 // Whether other warehouses take part, which they do where no option tells.
 fn remote(words: Option<&str>) -> Result<bool, UsageFault>
     ensures value { IfOk result (IsRemote (option_map (λ word. word.now) words.entry)) }
+    ensures fits { OnOk result (IsRemoteWord (option_map (λ word. word.now) words.entry)) }
     ensures mistake { IfErr result (λ fault. (fault ≡ UsageFault.Remote) × IsRemoteFault (option_map (λ word. word.now) words.entry)) }
 {
     match words {
