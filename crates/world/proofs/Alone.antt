@@ -23,7 +23,7 @@ use Rattle.history.specs.History.{Step}
 use Rattle.transactions.specs.declared.work.Work.{Work}
 use Rattle.transactions.specs.declared.acting.Ran.{Ran}
 use Rattle.transactions.specs.declared.acting.Ran.TheVariants as ran
-use Rattle.transactions.specs.Acting.{IsRanAs, claims_of_ran}
+use Rattle.transactions.specs.Acting.{IsRan, claims_of_ran}
 use Rattle.transactions.specs.declared.station.Acted.{Acted}
 use Rattle.transactions.specs.declared.station.Acted.TheVariants as acted
 use Rattle.transactions.specs.declared.station.Parked.{Parked}
@@ -457,10 +457,10 @@ module _ {J : Type 0} where
   one_tells : (i : Item J) → TellsNoDeath i → All TellsNoDeath (i ∷ [])
   one_tells i none = All-cons TellsNoDeath i [] none (All-nil TellsNoDeath)
 
-  not_died : (age : ℕ) (by : Holder) (was now : Sliced) (work : Work) (one : Ran J) → (HoldsWished was.holdings (wishes_of work) → ⊥) → IsRanAs age by was work one now → HasNotDied one
-  not_died age by was now work (ran.Done claims found) none of = tt
-  not_died age by was now work (ran.Died group holder) none of = absurd (none (dies_of_holder was.holdings age (wishes_of work) group holder of.0))
-  not_died age by was now work ran.NoMemory none of = tt
+  not_died : (by : Holder) (was now : Sliced) (work : Work) (one : Ran J) → (HoldsWished was.holdings (wishes_of work) → ⊥) → IsRan by was work one now → HasNotDied one
+  not_died by was now work (ran.Done claims found) none of = tt
+  not_died by was now work (ran.Died group holder) none of = absurd (none (dies_of_holder was.holdings by.age (wishes_of work) group holder of.0))
+  not_died by was now work ran.NoMemory none of = tt
 
   -- what is put as the message is worked on
   module _ (once : TransactionsClaimEachGroupOnce) (shared : Shared) (old : Core J) (h : IsSound shared old) (alone : count_active old.parts.desk.active ≡ 1)
@@ -517,7 +517,7 @@ module _ {J : Type 0} where
         by (acted.Ran one told) at =
             let Of : Stationed (Carried J) → Stationed (Carried J) → Type 0 = λ was now. ActsAs (holder_of act) act.work (carried_by act) was (acted.Ran one told) now in
             let holds_here = holds left takes.0 h.all.slices (home_of act.work) (put_for act.place (acted.Ran one told)) Of at in
-            let lives : HasNotDied one = not_died act.age (holder_of act) at.was.slice at.now.slice act.work one (none at.was.slice.holdings holds_here) at.happened.1 in
+            let lives : HasNotDied one = not_died (holder_of act) at.was.slice at.now.slice act.work one (none at.was.slice.holdings holds_here) at.happened.1 in
             and_no_turns (home_of act.work) (put_for act.place (acted.Ran one told)) Of left takes.0 new refl refl at at.happened.3 (one_tells (report_of act.place told one) lives) takes.1.1
         by acted.Waits at =
             let Of : Stationed (Carried J) → Stationed (Carried J) → Type 0 = λ was now. ActsAs {J = J} (holder_of act) act.work (carried_by act) was acted.Waits now in

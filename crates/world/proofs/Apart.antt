@@ -2,7 +2,6 @@
 use Rattle.std.proofs.Common.{◌≡◌, ℕ, ◌<◌, zero, suc, List, [], ◌∷◌, ◌++◌, length, refl, subst, append_assoc, arith}
 use Rattle.std.specs.Prelude.{slice_set, slice_index_or}
 use Rattle.std.specs.List.Sorted.{IsPermutation}
-use Rattle.std.proofs.lemmas.List.{set-get_or}
 use Rattle.std.proofs.lemmas.List.Sorted.{IsPermutation-refl, IsPermutation-trans, IsPermutation-append, IsPermutation-append_comm}
 use Rattle.world.specs.Together.{all_of}
 
@@ -28,12 +27,6 @@ module _ {X : Type 0} where
       IsPermutation-trans (queue ++ all_of (slice_set queues place own)) (queue ++ (own ++ others place queues)) (own ++ (queue ++ others place queues))
       (IsPermutation-append queue queue (all_of (slice_set queues place own)) (own ++ others place queues) (IsPermutation-refl queue) rest)
       (to_front queue own (others place queues))
-
-  -- and so it stands as it is
-  pub own_now : (queues : List (List X)) (place : ℕ) → place < length queues → IsPermutation (all_of queues) (slice_index_or queues place [] ++ others place queues)
-  own_now queues place below =
-      subst (λ qs. IsPermutation (all_of qs) (slice_index_or queues place [] ++ others place queues)) (set-get_or queues place [])
-      (own_first queues place (slice_index_or queues place []) below)
 
 -- where nothing waits anywhere, nothing waits in any queue
 pub nothing_at : {X : Type 0} (queues : List (List X)) (place : ℕ) (d : List X) → place < length queues → all_of queues ≡ [] → slice_index_or queues place d ≡ []

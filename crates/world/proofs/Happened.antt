@@ -1,15 +1,13 @@
 -- What an event brings, by the event.
-use Rattle.std.proofs.Common.{◌≡◌, ℕ, Bool, true, false, [], ◌∷◌, ◌++◌, Option, Some, None, Ok, refl, sym, subst, ⊎_elim}
+use Rattle.std.proofs.Common.{◌≡◌, ℕ, Bool, true, false, [], ◌∷◌, ◌++◌, Some, None, Ok, sym, subst, ⊎_elim}
 use Rattle.std.specs.List.{slice_get}
 use Rattle.partitions.specs.Parts.{Shared}
 use Rattle.requests.specs.declared.request.Request.{Request}
-use Rattle.requests.specs.declared.refusal.Refusal.{Refusal}
-use Rattle.requests.specs.declared.answer.Answer.TheVariants.{Refused}
 use Rattle.requests.specs.Check.{check_of}
 use Rattle.history.specs.declared.event.Event.{Event}
 use Rattle.history.specs.declared.event.Event.TheVariants.{Submit}
 use Rattle.history.specs.declared.event.EventAnswer.{EventAnswer}
-use Rattle.history.specs.declared.event.EventAnswer.TheVariants.{Answered, Nothing}
+use Rattle.history.specs.declared.event.EventAnswer.TheVariants.{Nothing}
 use Rattle.history.specs.History.{step}
 use Rattle.history.specs.Laws.{IsQuiet}
 use Rattle.world.specs.declared.desk.SessionDesk.{SessionDesk}
@@ -17,7 +15,7 @@ use Rattle.world.specs.Parted.{joined_in}
 use Rattle.world.specs.declared.world.Parts.{Parts}
 use Rattle.world.specs.Flights.{nothing}
 use Rattle.world.specs.Sound.{IsSoundWith, flight}
-use Rattle.world.specs.Worlds.{Fits, Advances, SubmitsAt, SubmitsUnless, SubmitsInto, StaysAt, refusal_at, can_admit, is_full}
+use Rattle.world.specs.Worlds.{Fits, Advances, SubmitsInto, StaysAt, refusal_at, is_full}
 use Rattle.world.proofs.Fitting.{fits_quiet}
 use Rattle.world.proofs.Asking.{not_refused, admits_sound, admits_fits}
 
@@ -46,18 +44,3 @@ module _ {J : Type 0} where
             (admits_fits shared old h session number asked desk there accepted new admitted.1 opening history f),
       ))
       said
-
-  submits_unless : (shared : Shared) (old new : Parts J) (h : IsSoundWith shared nothing old) (session number : ℕ) (asked : Request) (desk : SessionDesk J) (answer : EventAnswer)
-      → slice_get old.desk.sessions.items session ≡ Some desk → (why : Option Refusal) → refusal_at desk asked old ≡ why → SubmitsUnless why session number asked desk old answer new
-      → IsSoundWith shared nothing new × Advances old (step (Submit session number asked) answer ∷ []) new
-  submits_unless shared old new h session number asked desk answer there (Some why) is said =
-      (subst (λ w. IsSoundWith shared nothing w) (sym said.1) h, stays old new (Submit session number asked) (Answered session number (Refused why)) answer tt said)
-  submits_unless shared old new h session number asked desk answer there None is said = submits_into shared old new h session number asked desk answer there is (can_admit old) said
-
-  pub submits_on : (shared : Shared) (old new : Parts J) (h : IsSoundWith shared nothing old) (session number : ℕ) (asked : Request) (answer : EventAnswer)
-      → (found : Option (SessionDesk J)) → slice_get old.desk.sessions.items session ≡ found → SubmitsAt found session number asked old answer new
-      → IsSoundWith shared nothing new × Advances old (step (Submit session number asked) answer ∷ []) new
-  submits_on shared old new h session number asked answer None there said =
-      (subst (λ w. IsSoundWith shared nothing w) (sym said.1) h, stays old new (Submit session number asked) Nothing answer tt said)
-  submits_on shared old new h session number asked answer (Some desk) there said =
-      submits_unless shared old new h session number asked desk answer there (refusal_at desk asked old) refl said

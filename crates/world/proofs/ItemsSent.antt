@@ -18,11 +18,11 @@ use Rattle.world.specs.declared.flight.Report.{Report}
 use Rattle.world.specs.Flights.{Acting, InFlight, nothing, join, part_message, part_item}
 use Rattle.world.specs.Sound.{IsSoundWith, IsSoundMessage, IsSoundCommit, IsSoundItem, IsSoundPhase, awaited_by_all, flight}
 use Rattle.world.specs.Events.{Pushes, Commits, SendsItem, logging}
-use Rattle.world.specs.Worlds.{FitsPart, Fits, Advances}
+use Rattle.world.specs.Worlds.{FitsPart, Fits}
 use Rattle.world.proofs.Fitting.{fits_quiet}
 use Rattle.world.proofs.Tokens.{is_awaited, acting_weighs, weigh_acting, acting_under_way}
 use Rattle.world.proofs.OneSlot.{sound_in}
-use Rattle.world.proofs.Puts.{GoesOn, item_in_hand, fits_in_hand}
+use Rattle.world.proofs.Puts.{GoesOn}
 use Rattle.world.proofs.Reporting.{pushes_sound, pushes_fits, put_back_sound, put_back_fits}
 use Rattle.world.proofs.Meetings.{reports_go_on}
 use Rattle.world.proofs.Endings.{ended_goes_on}
@@ -113,12 +113,3 @@ module _ {J : Type 0} where
         subst (λ a. Fits opening (history ++ step (Send executor) a ∷ []) new) (sym said.0)
         (replies_fits shared w told h s said.1.0 said.1.1.0 new said.1.1.1 opening history executor f);
   }
-
-  -- ---- the first item of the outbox
-
-  pub first_sent : (shared : Shared) (old new : Parts J) (i : Item J) (rest : List (Item J)) (answer : EventAnswer) → old.outbox ≡ i ∷ rest → IsSoundWith shared nothing old
-      → SendsItem i (record old { outbox = rest }) answer new → (executor : ℕ) → IsSoundWith shared nothing new × Advances old (step (Send executor) answer ∷ []) new
-  first_sent shared old new i rest answer is h said executor =
-      let hand = item_in_hand shared old i rest is h in
-      let sends = sends_on shared (record old { outbox = rest }) new i answer hand.0 hand.1 said in
-      (sends.sound, λ opening history f. sends.fits opening history executor (fits_in_hand opening history old i rest is f))

@@ -1,6 +1,6 @@
 -- The slice of a warehouse, and all slices.
-use Rattle.std.proofs.Common.{◌≡◌, ℕ, ◌+◌, ◌-◌, ◌<◌, ◌≤◌, zero, suc, true, false, not, List, [], ◌∷◌, Some, length, refl, sym, ap, subst, ◌∙◌, cond, leb, map, arith}
-use Rattle.std.specs.Prelude.{All, Bool, IsTrue, ◌==◌, slice_index_or, slice_set}
+use Rattle.std.proofs.Common.{◌≡◌, ℕ, ◌+◌, ◌-◌, ◌<◌, ◌≤◌, List, [], ◌∷◌, length, sym, ap, subst, ◌∙◌, leb, arith}
+use Rattle.std.specs.Prelude.{All, IsTrue, slice_index_or, slice_set}
 use Rattle.std.proofs.lemmas.Bool.{and_parts, leb-true}
 use Rattle.std.proofs.lemmas.List.Elements.{All-nil}
 use Rattle.schema.specs.declared.scale.Scale.{Scale}
@@ -14,7 +14,7 @@ use Rattle.slices.proofs.Joined.{held_here, homed_from_one, one_slice_keeps_all}
 use Rattle.transactions.specs.declared.acting.Ran.{Ran}
 use Rattle.transactions.specs.declared.acting.Ran.TheVariants as ran
 use Rattle.transactions.specs.declared.work.Work.{Work}
-use Rattle.transactions.specs.Acting.{IsRanAs, claims_of_ran}
+use Rattle.transactions.specs.Acting.{IsRan, claims_of_ran}
 use Rattle.transactions.specs.Works.{CanDo, home_of}
 use Rattle.transactions.proofs.Wished.{works_are_at_warehouses, works_are_done_at_home}
 
@@ -63,10 +63,10 @@ work_within shared work home is can = warehouse_within shared.scale home (subst 
 -- ---- the claims of one action
 
 -- those of an action that ran are on groups of its warehouse
-pub ran_at_home : {J : Type 0} (age : ℕ) (by : Holder) (slice new : Sliced) (work : Work) (one : Ran J) → IsRanAs age by slice work one new → All (IsClaimAt (home_of work)) (claims_of_ran one)
-ran_at_home age by slice new work (ran.Done claims found) of = (works_are_done_at_home (shared_of slice.tables) work found claims of.done).0
-ran_at_home age by slice new work (ran.Died group holder) of = All-nil (IsClaimAt (home_of work))
-ran_at_home age by slice new work ran.NoMemory of = All-nil (IsClaimAt (home_of work))
+pub ran_at_home : {J : Type 0} (by : Holder) (slice new : Sliced) (work : Work) (one : Ran J) → IsRan by slice work one new → All (IsClaimAt (home_of work)) (claims_of_ran one)
+ran_at_home by slice new work (ran.Done claims found) of = (works_are_done_at_home (shared_of slice.tables) work found claims of.done).0
+ran_at_home by slice new work (ran.Died group holder) of = All-nil (IsClaimAt (home_of work))
+ran_at_home by slice new work ran.NoMemory of = All-nil (IsClaimAt (home_of work))
 
 -- where they are on groups of one warehouse, all are on groups of that of the first
 pub claims_at_home : (claims : List Claiming) (home : ℕ) → ((d : Claiming) → home ≡ warehouse_of (slice_index_or claims 0 d).group) → AreOfOneHome claims

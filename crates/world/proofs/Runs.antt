@@ -1,6 +1,5 @@
 -- Events with their answers, one after another.
-use Rattle.std.specs.Prelude.{is_some}
-use Rattle.std.proofs.Common.{◌≡◌, false, Option, Some, None, List, [], ◌∷◌, ◌++◌, length, refl, sym, ap, subst, arith, append_assoc, append-nil}
+use Rattle.std.proofs.Common.{◌≡◌, List, [], ◌∷◌, ◌++◌, length, refl, sym, ap, subst, arith, append_assoc, append-nil}
 use Rattle.history.specs.declared.event.Event.{Event}
 use Rattle.history.specs.declared.event.EventAnswer.{EventAnswer}
 use Rattle.history.specs.History.{Step, step}
@@ -26,16 +25,6 @@ module _ {J : Type 0} where
   -- no events
   pub no_events : (w : Parts J) → Advances w [] w
   no_events w opening history f = subst (λ (steps : List Step). Fits opening steps w) (sym (append-nil history)) f
-
--- a list of no length
-pub of_no_length : {X : Type 0} (xs : List X) → length xs ≡ 0 → xs ≡ []
-of_no_length [] is = refl
-of_no_length (x ∷ xs) is = absurd (omega (arith, is))
-
--- an option that is none
-pub of_none : {X : Type 0} (o : Option X) → is_some o ≡ false → o ≡ None
-of_none None is = refl
-of_none (Some x) is = absurd (cc)
 
 module _ {J : Type 0} where
   -- more happens

@@ -2,25 +2,24 @@
 use Rattle.world.proofs.OneSlot.{got_set}
 use Rattle.transactions.specs.declared.work.Work.{Work}
 use Rattle.std.proofs.Common.{◌≡◌, ℕ, ◌-◌, List, [], ◌∷◌, ◌++◌, Some, length, map, refl, sym, ap, subst, ◌∙◌, append_assoc, arith, ◌≤◌, ◌<◌, Option, append-nil}
-use Rattle.std.specs.Prelude.{All, Vec, slice_index_or, slice_set, option_map}
+use Rattle.std.specs.Prelude.{All, Vec, slice_set, option_map}
 use Rattle.std.specs.List.{remove, slice_get, flat_map}
 use Rattle.std.specs.declared.alloc.Global.{Global}
 use Rattle.std.proofs.lemmas.List.{map-append, map-set, set-get_or, set-set}
 use Rattle.std.proofs.lemmas.List.Elements.{All-head, All-tail, All-append, All-nil, All-set}
 use Rattle.std.proofs.lemmas.Option.{get_or_from_slice_get, slice_get-get_or, slice_get-map, slice_get_within}
-use Rattle.partitions.specs.Parts.{Shared, shared_of}
+use Rattle.partitions.specs.Parts.{Shared}
 use Rattle.schema.specs.Database.{Database}
 use Rattle.history.specs.History.{Step}
 use Rattle.tickets.specs.Claims.{Claiming}
-use Rattle.local_locks.specs.Locking.{Waiting}
 use Rattle.local_locks.proofs.Taken.{map_removed}
-use Rattle.slices.specs.Sliced.{AreOfOneHome, AreSlicesOf, IsClaimAt, SliceKeeps, Sliced, joined, with_waiters, AreAllHeld, Joined, SlicesKeep}
+use Rattle.slices.specs.Sliced.{AreOfOneHome, AreSlicesOf, IsClaimAt, SliceKeeps, joined, with_waiters, AreAllHeld, Joined, SlicesKeep}
 use Rattle.transactions.specs.declared.acting.Ran.{Ran}
 use Rattle.transactions.specs.declared.station.Acted.{Acted}
 use Rattle.transactions.specs.declared.station.Acted.TheVariants as acted
 use Rattle.transactions.specs.declared.station.Parked.{Parked}
 use Rattle.transactions.specs.declared.station.Turned.{Turned}
-use Rattle.transactions.specs.Acting.{IsRanAs, claims_of_ran}
+use Rattle.transactions.specs.Acting.{claims_of_ran}
 use Rattle.transactions.specs.Stations.{ActsAs, OneTurn, Stationed, parked}
 use Rattle.transactions.specs.Works.{home_of}
 use Rattle.transactions.proofs.Reached.{some_actions}
@@ -36,7 +35,7 @@ use Rattle.world.specs.Flights.{nothing, join, parts, part_message, part_item, I
 use Rattle.world.specs.Following.{acts_of}
 use Rattle.world.specs.Sound.{IsSoundWith, IsSoundMessage, IsSoundItem, IsBalanced, flight}
 use Rattle.world.specs.Stations.{HaveToWait, act_of, message_of, slice_of, slices_in, waiting_at, waiting_in}
-use Rattle.world.specs.Events.{AllTurns, Asks, AtStation, GivesBack, TakesMessage, TakesTurn, TurnsFollow, carried_by, holder_of, put_for, report_of}
+use Rattle.world.specs.Events.{AllTurns, AtStation, GivesBack, TakesMessage, TakesTurn, TurnsFollow, carried_by, holder_of, put_for, report_of}
 use Rattle.world.specs.Together.{home_of_claims}
 use Rattle.world.specs.Worlds.{FitsPart, Fits}
 use Rattle.world.proofs.Apart.{others}
@@ -45,9 +44,9 @@ use Rattle.world.proofs.Balances.{message_taken, items_put, balanced_same, balan
 use Rattle.world.proofs.Fitting.{fits_same, fits_work}
 use Rattle.world.proofs.Parted.{ran_at_home}
 use Rattle.world.proofs.Puts.{GoesOn}
-use Rattle.world.proofs.Reordered.{Reordered, fits_in_order, queued, reordered-append, reordered-behind, reordered-cons, reordered-front, reordered-refl, reordered-swap, reordered-sym, reordered-trans, reordered_now, reordered_own, sound_in_order}
+use Rattle.world.proofs.Reordered.{Reordered, fits_in_order, queued, reordered-behind, reordered-cons, reordered-front, reordered-refl, reordered-swap, reordered-sym, reordered-trans, reordered_now, reordered_own, sound_in_order}
 use Rattle.world.proofs.Reporting.{pushes_fits, pushes_sound}
-use Rattle.world.proofs.Stationed.{holds, keeps_on, shares, stays_on}
+use Rattle.world.proofs.Stationed.{keeps_on, shares, stays_on}
 use Rattle.world.proofs.Works.{Works, acts, settles, starts, undoes}
 
 -- what stands at a place, put there again
@@ -213,7 +212,7 @@ module _ {J : Type 0} where
         let of = at.happened.1 in
         let kept = at.happened.2 in
         let same = at.happened.3 in
-        let both = keeps_on old new h.slices home items Of at at.was.slice.waiters [] (claims_of_ran one) (All-nil (IsClaimAt home)) (ran_at_home act.age (holder_of act) at.was.slice at.now.slice act.work one of) kept in
+        let both = keeps_on old new h.slices home items Of at at.was.slice.waiters [] (claims_of_ran one) (All-nil (IsClaimAt home)) (ran_at_home (holder_of act) at.was.slice at.now.slice act.work one of) kept in
         let works = acts shared act one at.was.slice at.now.slice (joined_in old) (joined old.catalog (slices_in new)) (shares old new h.slices home items Of at ∙ h.shared_is) of both.1 in
         let told_works : Works shared (Act act) (joined_in old) items (joined old.catalog (slices_in new)) =
         subst (λ (c : Carried J). Works shared (Act act) (joined_in old) (report_of act.place c one ∷ []) (joined old.catalog (slices_in new))) (sym is_told) works in
@@ -310,7 +309,7 @@ module _ {J : Type 0} where
         let hand = message_in_hand shared first message (waiting_in new ++ ms) refl sound in
         let at_home : All (IsClaimAt home) (claims_of_ran turned.ran) =
         subst (λ n. All (IsClaimAt n) (claims_of_ran turned.ran)) (one.here ∙ at.home_is)
-        (ran_at_home turned.by.age turned.by (with_waiters at.now.slice.waiters at.was.slice) at.now.slice one.work turned.ran one.ran) in
+        (ran_at_home turned.by (with_waiters at.now.slice.waiters at.was.slice) at.now.slice one.work turned.ran one.ran) in
         let both = keeps_on old new h.slices home items Of at at.now.slice.waiters [] (claims_of_ran turned.ran) (All-nil (IsClaimAt home)) at_home one.kept in
         let works = acts shared (act_of p) turned.ran (with_waiters at.now.slice.waiters at.was.slice) at.now.slice (joined_in old) (joined old.catalog (slices_in new))
         (shares old new h.slices home items Of at ∙ h.shared_is) one.ran both.1 in

@@ -1,5 +1,5 @@
 -- What the tokens that are under way tell of the active transactions.
-use Rattle.std.proofs.Common.{◌≡◌, ℕ, ◌+◌, ◌-◌, ◌≤◌, ◌==◌, zero, suc, Bool, true, false, List, [], ◌∷◌, ◌++◌, Option, Some, None, replicate, refl, sym, ◌∙◌, ap, subst, cond, arith}
+use Rattle.std.proofs.Common.{◌≡◌, ℕ, ◌+◌, ◌-◌, ◌≤◌, ◌==◌, zero, suc, Bool, true, false, List, [], ◌∷◌, Option, Some, None, replicate, refl, sym, ◌∙◌, ap, subst, cond, arith}
 use Rattle.std.specs.Prelude.{map}
 use Rattle.std.specs.List.{sum_by, slice_get}
 use Rattle.std.proofs.lemmas.List.Sums.{sum_by-append, sum_by-cons}
@@ -30,10 +30,6 @@ pub is_other : (slot n : ℕ) → (n ≡ slot → ⊥) → (slot == n) ≡ false
 is_other slot n other = by_bool (slot == n) (λ same. absurd (other (sym (exact_unsigned_eq slot n same)))) (λ differs. differs)
 
 -- ---- weights
-
--- what is left once a token is gone on both sides
-pub one_less : (t : Token) (xs ys : List Token) → WeighAlike (t ∷ xs) (t ∷ ys) → WeighAlike xs ys
-one_less t xs ys h weight = omega (arith, h weight, sum_by-cons weight t xs, sum_by-cons weight t ys)
 
 abbrev pub weigh_acting : ℕ → ℕ → Token → ℕ
 weigh_acting slot place (Acting s p) = cond (slot == s) (cond (place == p) 1 0) 0

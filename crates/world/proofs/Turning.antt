@@ -24,10 +24,10 @@ use Rattle.world.specs.declared.flight.Item.TheVariants as item
 use Rattle.transactions.specs.declared.station.Acted.TheVariants as acted
 use Rattle.world.specs.declared.world.Parts.{Parts}
 use Rattle.world.specs.Events.{AllTurns, AtStation, Stays, TakesTurn, TurnsFollow, report_of, Asks, GivesBack, carried_by, holder_of, put_for}
-use Rattle.world.specs.Stations.{HasRoomFor, HaveToWait, IsStationOf, slice_of, slices_in, waiting_in}
+use Rattle.world.specs.Stations.{HasRoomFor, HaveToWait, slices_in, waiting_in}
 use Rattle.world.proofs.OneSlot.{got_set}
 use Rattle.world.proofs.Parted.{ran_at_home}
-use Rattle.world.proofs.Placed.{found_there, place_within, placed, waits_among}
+use Rattle.world.proofs.Placed.{waits_among}
 use Rattle.world.proofs.Sessions.{sum_set}
 use Rattle.world.proofs.Stationed.{keeps_on, stays_on}
 use Rattle.world.proofs.Taking.{put_again}
@@ -81,7 +81,7 @@ module _ {J : Type 0} where
         let one = turn.happened in
         let at_home : All (IsClaimAt home) (claims_of_ran turned.ran) =
         subst (λ n. All (IsClaimAt n) (claims_of_ran turned.ran)) (one.here ∙ turn.home_is)
-        (ran_at_home turned.by.age turned.by (with_waiters turn.now.slice.waiters turn.was.slice) turn.now.slice one.work turned.ran one.ran) in
+        (ran_at_home turned.by (with_waiters turn.now.slice.waiters turn.was.slice) turn.now.slice one.work turned.ran one.ran) in
         let both = keeps_on old new are home items Of turn turn.now.slice.waiters [] (claims_of_ran turned.ran) (All-nil (IsClaimAt home)) at_home one.kept in
         subst (λ c. AreSlicesOf c (slices_in new)) (sym turn_catalog) both.0
 
@@ -169,7 +169,7 @@ module _ {J : Type 0} where
     asks_slices_at (acted.Ran one told) at =
         let home = home_of act.work in
         (keeps_on old new are home (put_for act.place (acted.Ran one told)) (λ was now. ActsAs (holder_of act) act.work (carried_by act) was (acted.Ran one told) now) at at.was.slice.waiters [] (claims_of_ran one)
-        (All-nil (IsClaimAt home)) (ran_at_home act.age (holder_of act) at.was.slice at.now.slice act.work one at.happened.1) at.happened.2).0
+        (All-nil (IsClaimAt home)) (ran_at_home (holder_of act) at.was.slice at.now.slice act.work one at.happened.1) at.happened.2).0
     asks_slices_at acted.Waits at =
         (stays_on old new are (home_of act.work) [] (λ was now. ActsAs {J = J} (holder_of act) act.work (carried_by act) was acted.Waits now) at _ (ap (λ (s : Stationed (Carried J)). s.slice) at.happened.1)).0
 

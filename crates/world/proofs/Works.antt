@@ -11,7 +11,7 @@ use Rattle.slices.specs.Sliced.{Joined, Sliced, SlicesKeep}
 use Rattle.transactions.specs.declared.work.Work.{Work}
 use Rattle.transactions.specs.declared.acting.Ran.{Ran}
 use Rattle.transactions.specs.declared.acting.Ran.TheVariants as ran
-use Rattle.transactions.specs.Acting.{IsBy, IsRanAs, claims_of_ran}
+use Rattle.transactions.specs.Acting.{IsBy, IsRan, claims_of_ran}
 use Rattle.transactions.specs.Works.{CanDo, HasDone}
 use Rattle.world.specs.declared.flight.Act.{Act as AnyAct}
 use Rattle.world.specs.declared.flight.Flow.{Flow}
@@ -106,7 +106,7 @@ module _ {J : Type 0} where
       }
 
   ran_soundly : (shared : Shared) (u : UnderWay) (number : ℕ) (work : Work) (one : Ran J) (by : Holder) (old new : Sliced) → shared_of old.tables ≡ shared → IsWorkAt u number work → by.age ≡ u.age
-      → IsRanAs by.age by old work one new → IsSoundRan shared u number one
+      → IsRan by old work one new → IsSoundRan shared u number one
   ran_soundly shared u number work (ran.Done claims found) by old new same here aged of =
       let done : HasDone shared work found claims = subst (λ (s : Shared). HasDone s work found claims) same of.done in
       (work, (here, (done, ((of.undone, (works_are_done_at_home shared work found claims done).1), All-weaker (IsBy by) (IsAged u.age) (λ claim is. ap (λ (h : Holder). h.age) is ∙ aged) claims of.own))))
@@ -114,7 +114,7 @@ module _ {J : Type 0} where
   ran_soundly shared u number work ran.NoMemory by old new same here aged of = tt
 
   -- an action that runs puts its report
-  pub acts : (shared : Shared) (act : AnyAct J) (one : Ran J) (was now : Sliced) (old new : Joined) → shared_of was.tables ≡ shared → IsRanAs act.age (holder_of act) was act.work one now → SlicesKeep [] old (claims_of_ran one) new
+  pub acts : (shared : Shared) (act : AnyAct J) (one : Ran J) (was now : Sliced) (old new : Joined) → shared_of was.tables ≡ shared → IsRan (holder_of act) was act.work one now → SlicesKeep [] old (claims_of_ran one) new
       → Works shared (Act act) old (report_of act.place (carried_by act) one ∷ []) new
   acts shared act one was now old new same of kept =
       let carried = part_carried act.flow in

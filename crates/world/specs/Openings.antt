@@ -43,12 +43,6 @@ IsFaultOf t NoMemory = Unit {0}
 IsFaultOf t BadExecutors = Unit {0}
 IsFaultOf t (NotConsistent n) = BreaksFirst t n
 
--- the number by which a fault is told
-abbrev pub number_of : OpenFault → ℕ
-number_of NoMemory = 1
-number_of BadExecutors = 2
-number_of (NotConsistent n) = 3
-
 -- What is gathered of a world in which so many transactions are active: these tables where none is, unless there is no memory
 -- for them, and else nothing.
 abbrev pub IsGathered : ℕ → Database → Result Database GatherFault → Type 0

@@ -2,7 +2,7 @@
 ghost use Rattle.std.specs.Prelude.{◌≡◌, ◌↔◌, ◌≤◌, [], map, IfOk, IfErr, OnOk, IsErrAnd};
 ghost use Rattle.schema.specs.Consistency.{Consistent};
 ghost use Rattle.slices.specs.Openings.{AreOpenedFor};
-ghost use Rattle.world.specs.Openings.{CanHave, IsFaultOf, IsNamedFor, IsNew, number_of, session_with};
+ghost use Rattle.world.specs.Openings.{CanHave, IsFaultOf, IsNamedFor, IsNew, session_with};
 ghost use Rattle.world.specs.Together.{together};
 ghost use Rattle.world.specs.Worlds.{Fits};
 
@@ -49,19 +49,6 @@ pub enum OpenFault {
     /// The tables break the consistency condition of this number, and none of a lower one: 1 to 10, or 12
     /// (TPC-C 5.11, clause 3.3.2).
     NotConsistent(u8),
-}
-
-impl OpenFault {
-    /// The number of the fault, 1 to 3.
-    pub fn number(&self) -> u8
-        ensures { result ≡ number_of self.now }
-    {
-        match self {
-            OpenFault::NoMemory => 1,
-            OpenFault::BadExecutors => 2,
-            OpenFault::NotConsistent(_) => 3,
-        }
-    }
 }
 
 impl From<AllocError> for OpenFault {
