@@ -1,0 +1,123 @@
+-- What comes of the actions that ask and wait at a post.
+use Rattle.std.proofs.Common.{◌≡◌, ℕ, ◌<◌, List, [], ◌∷◌, ◌++◌, length, Option, Some, None, refl, sym, ap, subst, ◌∙◌}
+use Rattle.std.specs.Prelude.{All, IfNone, IfSome, slice_index_or}
+use Rattle.std.specs.List.{remove}
+use Rattle.std.proofs.lemmas.List.Elements.{All-push, All-tail, All-weaker}
+use Rattle.std.proofs.lemmas.List.Sorted.{All-permutation, IsPermutation-remove}
+use Rattle.partitions.specs.Parts.{Shared, shared_of}
+use Rattle.tickets.specs.Claims.{Claiming}
+use Rattle.wait_die.specs.declared.deciding.Holder.{Holder}
+use Rattle.slices.specs.Sliced.{AreOfOneHome, IsClaimAt, SliceKeeps, Sliced, with_waiters}
+use Rattle.transactions.specs.declared.acting.Ran.{Ran}
+use Rattle.transactions.specs.declared.acting.Ran.TheVariants as ran
+use Rattle.transactions.specs.declared.station.Acted.{Acted}
+use Rattle.transactions.specs.declared.station.Acted.TheVariants as acted
+use Rattle.transactions.specs.declared.station.Parked.{Parked}
+use Rattle.transactions.specs.declared.station.Turned.{Turned}
+use Rattle.transactions.specs.declared.work.Found.{Found}
+use Rattle.transactions.specs.declared.work.Work.{Work}
+use Rattle.transactions.specs.Acting.{IsBy, IsDoneBy}
+use Rattle.transactions.specs.Laws.{WorksAreDoneAtHome}
+use Rattle.transactions.specs.Stations.{ActsAs, OneTurn, Stationed, parked}
+use Rattle.transactions.specs.Works.{HasDone}
+use Rattle.executor.specs.declared.course.Course.{Course}
+use Rattle.executor.specs.declared.errand.Carried.{Carried}
+use Rattle.executor.specs.Journeys.{AreUndoneBy, IsAged}
+use Rattle.executor.specs.Carrying.{CarriesErrand, CarriesReport, Erranding, IsRanBy, action_at, erranding, reporting}
+use Rattle.executor.specs.Posts.{CarriesPost, CarriesWaiting, carried_by, report_by, report_turned, waiting_errand}
+
+-- where the scale and the items stay, all that is shared stays
+pub shared_kept : (before after : List Claiming) (old new : Sliced) → SliceKeeps before old after new → shared_of new.tables ≡ shared_of old.tables
+shared_kept before after old new keeps = λ i. record { scale = keeps.scale i; items = keeps.items i }
+
+module _ (at_home : WorksAreDoneAtHome) (shared : Shared) where
+  -- the work was done under claims of the action's transaction, all of which can be taken back
+  done_by : (by : Holder) (age : ℕ) (old : Sliced) (work : Work) (claims : List Claiming) (found : Found) → by.age ≡ age → shared_of old.tables ≡ shared
+      → IsDoneBy by old.holdings (shared_of old.tables) work claims found → HasDone shared work found claims × AreUndoneBy age claims
+  done_by by age old work claims found aged is done =
+      let here = subst (λ (s : Shared). HasDone s work found claims) is done.done in
+      (here, ((done.undone, (at_home shared work found claims here).1), All-weaker (IsBy by) (IsAged age) (λ claim own. ap (λ (h : Holder). h.age) own ∙ aged) claims done.own))
+
+  module _ {J : Type 0} where
+    -- ---- an action asks
+
+    acted_by : (by : Holder) (age : ℕ) (work : Work) (carried told : Carried J) (old new : Stationed (Carried J)) (one : Ran J) → by.age ≡ age → shared_of old.slice.tables ≡ shared
+        → ActsAs by work carried old (acted.Ran one told) new → IsRanBy shared age work one
+    acted_by by age work carried told old new (ran.Done claims found) aged is acts = done_by by age old.slice work claims found aged is acts.1
+    acted_by by age work carried told old new (ran.Died group holder) aged is acts = tt
+    acted_by by age work carried told old new ran.NoMemory aged is acts = tt
+
+    -- its report
+    reports : (e : Erranding) (told : Carried J) (old new : Stationed (Carried J)) (one : Ran J) → CarriesErrand shared e → shared_of old.slice.tables ≡ shared
+        → ActsAs e.by e.work (carried_by e) old (acted.Ran one told) new → CarriesReport shared (report_by e one)
+    reports e told old new one h is acts = record {
+      ran_is = (e.work, (h.work_is, acted_by e.by e.course.age e.work (carried_by e) told old new one (ap (λ (b : Holder). b.age) h.by_is) is acts));
+      journey_is = h.journey_is;
+    }
+
+    after_act : (e : Erranding) (told : Carried J) (old new : Stationed (Carried J)) (one : Ran J) → CarriesPost shared old → ActsAs e.by e.work (carried_by e) old (acted.Ran one told) new → CarriesPost shared new
+    after_act e told old new one h acts = record {
+      shared_is = shared_kept _ _ old.slice new.slice acts.2 ∙ h.shared_is;
+      waiting = subst (λ (ps : List (Parked (Carried J))). All (CarriesWaiting shared) ps) (sym acts.3) h.waiting;
+    }
+
+    -- it waits
+    after_wait : (e : Erranding) (old new : Stationed (Carried J)) → CarriesErrand shared e → CarriesPost shared old → ActsAs {J = J} e.by e.work (carried_by e) old acted.Waits new → CarriesPost shared new
+    after_wait e old new carries h acts =
+        subst (λ (s : Stationed (Carried J)). CarriesPost shared s) (sym acts.1) (record {
+          shared_is = h.shared_is;
+          waiting = All-push (CarriesWaiting shared) old.parked (parked e.by e.work (carried_by e)) h.waiting carries;
+        })
+
+    -- its report, by what it has again
+    pub reports_told : (e : Erranding) (told : Carried J) (old new : Stationed (Carried J)) (one : Ran J) → CarriesErrand shared e → CarriesPost shared old
+        → ActsAs e.by e.work (carried_by e) old (acted.Ran one told) new → CarriesReport shared (reporting told.number one told.share told.journey)
+    reports_told e told old new one h post acts =
+        subst (λ (k : Carried J). CarriesReport shared (reporting k.number one k.share k.journey)) (sym acts.0) (reports e told old new one h post.shared_is acts)
+
+    -- the post, whatever comes of it
+    pub after_acts : (e : Erranding) (old new : Stationed (Carried J)) (came : Acted J (Carried J)) → CarriesErrand shared e → CarriesPost shared old → ActsAs e.by e.work (carried_by e) old came new → CarriesPost shared new
+    after_acts e old new (acted.Ran one told) carries h acts = after_act e told old new one h acts
+    after_acts e old new acted.Waits carries h acts = after_wait e old new carries h acts
+
+    -- ---- a turn
+
+    -- one who has waited
+    waited : (old : Stationed (Carried J)) (index : ℕ) (p : Parked (Carried J)) → CarriesPost shared old → index < length old.parked → ((d : Parked (Carried J)) → slice_index_or old.parked index d ≡ p) → CarriesWaiting shared p
+    waited old index p h inside there = subst (CarriesWaiting shared) (there p) (h.waiting index p inside)
+
+    -- the others go on waiting
+    rest_waits : (old : Stationed (Carried J)) (index : ℕ) (p : Parked (Carried J)) → CarriesPost shared old → index < length old.parked → ((d : Parked (Carried J)) → slice_index_or old.parked index d ≡ p)
+        → All (CarriesWaiting shared) (remove old.parked index)
+    rest_waits old index p h inside there =
+        All-tail (CarriesWaiting shared) p (remove old.parked index)
+        (All-permutation (CarriesWaiting shared) old.parked (p ∷ remove old.parked index) (IsPermutation-remove old.parked index p inside (sym (there p))) h.waiting)
+
+    turned_by : (age : ℕ) (old new : Stationed (Carried J)) (by : Holder) (one : Ran J) (carried : Carried J) → by.age ≡ age → shared_of old.slice.tables ≡ shared
+        → (turn : OneTurn old (record { by = by; ran = one; carried = carried }) new) → IsRanBy shared age turn.work one
+    turned_by age old new by (ran.Done claims found) carried aged is turn = done_by by age (with_waiters new.slice.waiters old.slice) turn.work claims found aged is turn.ran
+    turned_by age old new by (ran.Died group holder) carried aged is turn = tt
+    turned_by age old new by ran.NoMemory carried aged is turn = tt
+
+    -- its report
+    pub turn_reports : (old new : Stationed (Carried J)) (turned : Turned J (Carried J)) → CarriesPost shared old → OneTurn old turned new → CarriesReport shared (report_turned turned)
+    turn_reports old new turned h turn =
+        let own = waited old turn.index (parked turned.by turn.work turned.carried) h turn.inside turn.there in
+        record {
+          ran_is = (
+            turn.work,
+            (own.work_is, turned_by turned.carried.share.course.age old new turned.by turned.ran turned.carried (ap (λ (b : Holder). b.age) own.by_is) h.shared_is turn),
+          );
+          journey_is = own.journey_is;
+        }
+
+    after_turn : (old new : Stationed (Carried J)) (turned : Turned J (Carried J)) → CarriesPost shared old → OneTurn old turned new → CarriesPost shared new
+    after_turn old new turned h turn = record {
+      shared_is = shared_kept _ _ _ new.slice turn.kept ∙ h.shared_is;
+      waiting = subst (λ (ps : List (Parked (Carried J))). All (CarriesWaiting shared) ps) (sym turn.rest) (rest_waits old turn.index (parked turned.by turn.work turned.carried) h turn.inside turn.there);
+    }
+
+    -- or nobody has a turn
+    pub after_turns : (old new : Stationed (Carried J)) (turned : Option (Turned J (Carried J))) → CarriesPost shared old → IfSome turned (λ t. OneTurn old t new) → IfNone turned (new ≡ old) → CarriesPost shared new
+    after_turns old new None h turn same = subst (λ (s : Stationed (Carried J)). CarriesPost shared s) (sym same) h
+    after_turns old new (Some turned) h turn same = after_turn old new turned h turn

@@ -1,0 +1,120 @@
+-- What follows when a phase has met.
+use Rattle.std.proofs.Common.{◌≡◌, ◌≤◌, ◌⊎◌, inl, inr, ℕ, ◌+◌, List, [], ◌∷◌, ◌++◌, length, length-append, Option, Some, None, refl, sym, ap, ◌∙◌, subst, arith}
+use Rattle.std.specs.Prelude.{All, IfSome}
+use Rattle.std.proofs.lemmas.List.Elements.{All-append}
+use Rattle.partitions.specs.Parts.{Shared, shared_of}
+use Rattle.schema.specs.Database.{Database}
+use Rattle.requests.specs.declared.request.Request.{Request}
+use Rattle.requests.specs.declared.reply.Fault.{Fault}
+use Rattle.requests.specs.declared.reply.Reply.{Reply}
+use Rattle.requests.specs.declared.reply.Reply.TheVariants as reply
+use Rattle.requests.specs.declared.refusal.Refusal.{Refusal}
+use Rattle.requests.specs.declared.refusal.Refusal.TheVariants as refusal
+use Rattle.tickets.specs.Claims.{Claiming, all_claims}
+use Rattle.commit_log.specs.Claimed.{IsCarriedOut}
+use Rattle.transactions.specs.declared.acting.Ran.{Ran}
+use Rattle.transactions.specs.declared.acting.Ran.TheVariants as ran
+use Rattle.transactions.specs.declared.work.Found.{Found}
+use Rattle.transactions.specs.declared.progress.Progress.{Progress}
+use Rattle.transactions.specs.declared.progress.Gathered.TheVariants.{Next, Finish, RollBack}
+use Rattle.transactions.specs.Progresses.{FollowsFrom, HasFound, IsReached, works_of}
+use Rattle.executor.specs.declared.following.Following.{Following}
+use Rattle.executor.specs.declared.following.Following.TheVariants.{Over}
+use Rattle.executor.specs.declared.release.Release.{Release}
+use Rattle.executor.specs.Courses.{Keeping}
+use Rattle.executor.specs.Journeys.{AreUndoneBy, CarriesJourney, Journeying}
+use Rattle.executor.specs.Phases.{AreAllRans, Meeting}
+use Rattle.executor.specs.Sorted.{found_in, held_in, refusal_of, refused_by}
+use Rattle.executor.specs.Released.{refused}
+use Rattle.executor.specs.Followed.{Follows, FollowsUnless, Gathers, HasMetUnder, KeepsWhole, transaction_of}
+use Rattle.executor.proofs.SortedOut.{all_done, all_undone, as_many, few_held}
+
+-- ---- what was found is gathered
+
+module _ (opening : Database) (request : Request) (progress : Progress) (held : List (List Claiming)) (found : List Found) (met : HasMetUnder (shared_of opening) request progress held found) where
+  pub has_found : HasFound progress found
+  has_found = (shared_of opening, met.own, met.done)
+
+  -- the next phase is given what is known to it
+  pub next_reached : (next : Progress) → FollowsFrom progress found (Next next) → IsReached (shared_of opening) request next held
+  next_reached next follows = subst (λ h. IsReached (shared_of opening) request next h) (sym met.held_is) (follows (shared_of opening) request met.earlier met.own met.reached met.done)
+
+  -- or it was carried out
+  pub finished : (shown : Reply) → FollowsFrom progress found (Finish shown) → IsCarriedOut opening request (all_claims held) shown
+  finished shown follows = subst (λ h. IsCarriedOut opening request (all_claims h) shown) (sym met.held_is) (follows (shared_of opening) request met.earlier met.own met.reached met.done opening refl)
+
+  pub rolled_back : (fault : Fault) → FollowsFrom progress found (RollBack fault) → IsCarriedOut opening request (all_claims held) (reply.RolledBack fault)
+  rolled_back fault follows =
+      subst (λ h. IsCarriedOut opening request (all_claims h) (reply.RolledBack fault)) (sym met.held_is) (follows (shared_of opening) request met.earlier met.own met.reached met.done opening refl)
+
+-- ---- all have reported
+
+module _ {J : Type 0} where
+  module _ (shared : Shared) (j : Journeying) (rans : List (Ran J)) (carries : CarriesJourney shared j) (are : AreAllRans shared j.age (works_of j.progress) rans) where
+    -- what they hold can be taken back
+    pub undone_then : All (AreUndoneBy j.age) (j.held ++ held_in rans)
+    undone_then = All-append (AreUndoneBy j.age) j.held (held_in rans) carries.undone (all_undone shared j.age (works_of j.progress) rans are)
+
+    -- where none died or found no memory, they have met
+    pub met_under : refusal_of None rans ≡ None → HasMetUnder shared j.request j.progress (j.held ++ held_in rans) (found_in rans)
+    met_under none = record { earlier = j.held; own = held_in rans; held_is = refl; reached = carries.reached; done = all_done shared j.age (works_of j.progress) rans are none }
+
+    -- and there is room for what they hold
+    pub room_then : length j.held + length (works_of j.progress) ≤ 18 → length j.held + length rans ≤ 18
+    room_then few = omega (arith, few, as_many shared j.age (works_of j.progress) rans are)
+
+  -- want of memory is answered only where no one died
+  memory_last : (rans : List (Ran J))
+      → ((refusal_of None rans ≡ None) × (refusal_of (Some refusal.NoMemory) rans ≡ Some refusal.NoMemory)) ⊎ (refusal_of (Some refusal.NoMemory) rans ≡ refusal_of None rans)
+  memory_last [] = inl (refl, refl)
+  memory_last (ran.Done claims found ∷ rans) = memory_last rans
+  memory_last (ran.Died group holder ∷ rans) = inr refl
+  memory_last (ran.NoMemory ∷ rans) = inr refl
+
+  not_refused : (why : Refusal) (rans : List (Ran J)) → refusal_of (Some why) rans ≡ None → ⊥
+  not_refused why [] is = cc
+  not_refused why (ran.Done claims found ∷ rans) is = not_refused why rans is
+  not_refused why (ran.Died group holder ∷ rans) is = not_refused _ rans is
+  not_refused why (ran.NoMemory ∷ rans) is = not_refused why rans is
+
+  -- a transaction that isn't refused had no reason to be
+  pub none_before : (start : Option Refusal) (rans : List (Ran J)) → refusal_of start rans ≡ None → refusal_of None rans ≡ None
+  none_before None rans is = is
+  none_before (Some why) rans is = absurd (not_refused why rans is)
+
+  -- ---- what follows
+
+  module _ (m : Meeting J) (keeper : Keeping) (whole : KeepsWhole m.journey.slot keeper) where
+    abbrev held_then : List (List Claiming)
+    held_then = m.journey.held ++ held_in m.rans
+
+    pub follows_gathered : (start : Option Refusal) (following : Following J) → refusal_of start m.rans ≡ None
+        → Gathers keeper (transaction_of m.journey) held_then m.journey.progress (found_in m.rans) following → Follows m following
+    follows_gathered start following none gathers =
+        (keeper, (whole, subst (λ (o : Option Refusal). FollowsUnless o keeper m following) (sym (none_before start m.rans none)) gathers))
+
+    over : (why : Refusal) → Following J
+    over why = Over (refused keeper (transaction_of m.journey) held_then why)
+
+    pub follows_refused : (start : Option Refusal) (why : Refusal) → IfSome start (λ w. w ≡ refusal.NoMemory) → refusal_of start m.rans ≡ Some why
+        → Follows m (Over (refused keeper (transaction_of m.journey) held_then why))
+    follows_refused None why begun told = (keeper, (whole, subst (λ (o : Option Refusal). FollowsUnless o keeper m (Over (refused keeper (transaction_of m.journey) held_then why))) (sym told) refl))
+    follows_refused (Some w) why begun told = by (memory_last m.rans)
+      where
+        told_so : refusal_of (Some refusal.NoMemory) m.rans ≡ Some why
+        told_so = ap (λ (r : Refusal). refusal_of (Some r) m.rans) (sym begun) ∙ told
+
+        by : ((refusal_of None m.rans ≡ None) × (refusal_of (Some refusal.NoMemory) m.rans ≡ Some refusal.NoMemory)) ⊎ (refusal_of (Some refusal.NoMemory) m.rans ≡ refusal_of None m.rans)
+            → Follows m (Over (refused keeper (transaction_of m.journey) held_then why))
+        by (inl none) =
+            let memory = none.1 in
+            let is_told = told_so in
+            let same : why ≡ refusal.NoMemory = cc in (
+              keeper,
+              (
+                whole,
+                subst (λ (o : Option Refusal). FollowsUnless o keeper m (Over (refused keeper (transaction_of m.journey) held_then why))) (sym none.0)
+                    (ap (λ (r : Refusal). refused {J = J} keeper (transaction_of m.journey) held_then r) same),
+              ),
+            )
+        by (inr alike) = (keeper, (whole, subst (λ (o : Option Refusal). FollowsUnless o keeper m (Over (refused keeper (transaction_of m.journey) held_then why))) (sym (sym alike ∙ told_so)) refl))

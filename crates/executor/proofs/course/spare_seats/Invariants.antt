@@ -1,0 +1,12 @@
+use Rattle.std.proofs.Common.{◌≡◌, ◌≤◌, vec_len, vec_capacity}
+use Rattle.executor.specs.Courses.{AreSpent}
+use Rattle.executor.proofs.course.spare_seats.Given as goal
+
+-- so many spent seats are made, and the seat is as it was
+abbrev pub invariant-loop : goal.invariant-loop
+invariant-loop l = record {
+  same : l.seat ≡ l.fn.seat;
+  count : vec_len l.spare ≡ l.counter;
+  room : 18 ≤ vec_capacity l.spare;
+  spent : AreSpent l.fn.seat.agreement.table l.spare.items;
+}

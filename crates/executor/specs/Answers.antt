@@ -1,0 +1,53 @@
+-- What an answer tells, and what goes back with it.
+use Rattle.std.specs.Prelude.{◌≡◌, ◌≤◌, ◌+◌, ℕ, Bool, true, false, List, [], ◌∷◌, ◌++◌, All}
+use Rattle.requests.specs.declared.answer.Answer.{Answer}
+use Rattle.requests.specs.declared.answer.Answer.TheVariants.{Done, Refused}
+use Rattle.tickets.specs.Claims.{Claiming}
+use Rattle.commit_log.specs.declared.asking.Asking.{Asking}
+use Rattle.commit_log.specs.Items.{item}
+use Rattle.commit_log.specs.Passing.{Passing}
+use Rattle.executor.specs.Journeys.{CanAllBeSettled, CanAllBeUndone}
+
+-- ---- the answer
+
+-- an answer on its way: the transaction's age, the number of the request in its session, the session's pass, and the answer
+pub record Telling : Type 0 where
+  pub age : ℕ
+  pub number : ℕ
+  pub pass : Passing
+  pub answer : Answer
+
+abbrev pub telling : ℕ → ℕ → Passing → Answer → Telling
+telling age number pass answer = record { age = age; number = number; pass = pass; answer = answer }
+
+-- What the pass has seen and logged is what it had when the session asked this, and the answer: an entry behind all that it had
+-- seen; or nothing more, where it was refused.
+abbrev pub IsToldBy : Asking → Passing → Answer → Type 0
+IsToldBy asks pass (Done place shown) =
+    (asks.seen ≤ place) × (pass.seen ≡ place + 1) × (pass.mine ≡ asks.mine ++ item place asks.number asks.request shown ∷ [])
+IsToldBy asks pass (Refused why) = (pass.seen ≡ asks.seen) × (pass.mine ≡ asks.mine)
+
+-- an answer is to the request that its session asked with the pass, and the pass tells it
+pub record CarriesAnswer (t : Telling) : Type 0 where
+  pub number_is : t.pass.asks.number ≡ t.number
+  pub told : IsToldBy t.pass.asks t.pass t.answer
+
+-- ---- what goes back
+
+-- what the actions of a transaction that is over give back: its slot, whether their claims are settled, and the claims of each
+pub record Returning : Type 0 where
+  pub slot : ℕ
+  pub settle : Bool
+  pub held : List (List Claiming)
+
+abbrev pub returning : ℕ → Bool → List (List Claiming) → Returning
+returning slot settle held = record { slot = slot; settle = settle; held = held }
+
+-- what the claims of one action left is committed, or all that was done under them can be taken back
+abbrev pub IsGiven : Bool → List Claiming → Type 0
+IsGiven true claims = CanAllBeSettled claims
+IsGiven false claims = CanAllBeUndone claims
+
+-- so are those of all
+abbrev pub AreGiven : Bool → List (List Claiming) → Type 0
+AreGiven settle held = All (IsGiven settle) held

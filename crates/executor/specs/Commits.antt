@@ -1,0 +1,79 @@
+-- A transaction is logged.
+use Rattle.std.specs.Prelude.{◌≡◌, ◌⊎◌, ℕ, Bool, true, false, List, [], ◌∷◌, ◌++◌, All, length, map}
+use Rattle.schema.specs.Database.{Database}
+use Rattle.requests.specs.declared.request.Request.{Request}
+use Rattle.requests.specs.declared.reply.Reply.{Reply}
+use Rattle.requests.specs.declared.reply.Reply.TheVariants as reply
+use Rattle.requests.specs.declared.answer.Answer.TheVariants.{Done, Refused}
+use Rattle.requests.specs.declared.refusal.Refusal.{Refusal}
+use Rattle.requests.specs.declared.refusal.Refusal.TheVariants as refusal
+use Rattle.requests.specs.Check.{IsAccepted}
+use Rattle.tickets.specs.Claims.{Claiming, all_claims}
+use Rattle.commit_log.specs.declared.entry.Entry.{Entry}
+use Rattle.commit_log.specs.declared.log_book.AppendFault.{AppendFault}
+use Rattle.commit_log.specs.declared.log_book.AppendFault.TheVariants as fault
+use Rattle.commit_log.specs.Claimed.{IsCarriedOut, claims_logged}
+use Rattle.commit_log.specs.Items.{entry_of, item}
+use Rattle.commit_log.specs.Passing.{Passing, after_item, after_refusal}
+use Rattle.executor.specs.declared.journey.Transaction.{Transaction}
+use Rattle.executor.specs.declared.release.Release.{Release}
+use Rattle.executor.specs.Courses.{Keeping}
+use Rattle.executor.specs.Journeys.{AreUndoneBy, IsAskedBy}
+use Rattle.executor.specs.Answers.{returning, telling}
+
+-- the refusal by which a fault of the log is answered
+abbrev pub why_refused : AppendFault → Refusal
+why_refused fault.NoMemory = refusal.NoMemory
+why_refused fault.LogFull = refusal.LogFull
+
+-- the claims are settled, unless it was rolled back
+abbrev pub is_settled : Reply → Bool
+is_settled (reply.Done shown) = true
+is_settled (reply.RolledBack fault) = false
+
+-- a transaction that was carried out: who keeps its course, its age, its slot, the number of its request in its session, the request, the
+-- session's pass, the claims of its actions, by place, and the reply
+pub record Committing : Type 0 where
+  pub keeper : Keeping
+  pub age : ℕ
+  pub slot : ℕ
+  pub number : ℕ
+  pub request : Request
+  pub pass : Passing
+  pub held : List (List Claiming)
+  pub shown : Reply
+
+abbrev pub committing : {J : Type 0} → Keeping → Transaction J → List (List Claiming) → Reply → Committing
+committing keeper t held shown =
+    record { keeper = keeper; age = t.age; slot = t.slot; number = t.number; request = t.request; pass = t.pass; held = held; shown = shown }
+
+-- Its session asks it; its check accepts the request, which was carried out under these claims with this reply; and all that was done
+-- under them can be taken back.
+pub record CarriesCommit (opening : Database) (c : Committing) : Type 0 where
+  pub asked : IsAskedBy c.number c.request c.pass
+  pub accepted : IsAccepted opening.scale c.request
+  pub carried_out : IsCarriedOut opening c.request (all_claims c.held) c.shown
+  pub undone : All (AreUndoneBy c.age) c.held
+
+-- its entry
+abbrev pub entry_committed : Committing → Entry
+entry_committed c = entry_of c.pass.session c.number c.request c.shown
+
+module _ {J : Type 0} where
+  -- It is logged at this place: its session is told so, and its claims go back, as they are then.
+  abbrev pub logging : Committing → ℕ → Release J
+  logging c place = record {
+    told = telling c.age c.number (after_item c.pass (item place c.number c.request c.shown)) (Done place c.shown);
+    returns = returning c.slot (is_settled c.shown) (map (claims_logged c.shown) c.held);
+    keeper = c.keeper;
+  }
+
+  -- it is refused: its session is told so, with this pass, and what its actions did is taken back
+  abbrev pub refusing : Committing → Passing → Refusal → Release J
+  refusing c pass why = record { told = telling c.age c.number pass (Refused why); returns = returning c.slot false c.held; keeper = c.keeper }
+
+  -- The log has the entry more, at its end; or it refused it, and is as it was.
+  abbrev pub Commits : Committing → List Entry → Release J → List Entry → Type 0
+  Commits c old release new =
+      ((release ≡ logging c (length old)) × (new ≡ old ++ entry_committed c ∷ []))
+      ⊎ ((why : AppendFault) × ((release ≡ refusing c (after_refusal why (length old) c.pass) (why_refused why)) × (new ≡ old)))

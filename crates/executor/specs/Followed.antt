@@ -1,0 +1,71 @@
+-- What follows when a phase has met.
+use Rattle.std.specs.Prelude.{◌≡◌, ℕ, List, [], ◌++◌, Option, Some, None}
+use Rattle.partitions.specs.Parts.{Shared}
+use Rattle.requests.specs.declared.request.Request.{Request}
+use Rattle.requests.specs.declared.reply.Reply.{Reply}
+use Rattle.requests.specs.declared.reply.Reply.TheVariants.{RolledBack}
+use Rattle.requests.specs.declared.refusal.Refusal.{Refusal}
+use Rattle.requests.specs.declared.refusal.Refusal.TheVariants as refusal
+use Rattle.tickets.specs.Claims.{Claiming}
+use Rattle.transactions.specs.declared.work.Found.{Found}
+use Rattle.transactions.specs.declared.progress.Progress.{Progress}
+use Rattle.transactions.specs.declared.progress.Gathered.{Gathered}
+use Rattle.transactions.specs.declared.progress.Gathered.TheVariants.{Next, Finish, RollBack}
+use Rattle.transactions.specs.Works.{HaveAllDone}
+use Rattle.transactions.specs.Progresses.{FollowsFrom, IsReached, works_of}
+use Rattle.executor.specs.declared.journey.Transaction.{Transaction}
+use Rattle.executor.specs.declared.following.Following.{Following}
+use Rattle.executor.specs.declared.following.Following.TheVariants.{Phase, Commit, Over}
+use Rattle.executor.specs.Courses.{Keeping}
+use Rattle.executor.specs.Journeys.{Journeying, journeying}
+use Rattle.executor.specs.Begins.{awaiting_all, errands_of}
+use Rattle.executor.specs.Phases.{Meeting}
+use Rattle.executor.specs.Sorted.{found_in, held_in, refusal_of}
+use Rattle.executor.specs.Released.{refused}
+use Rattle.executor.specs.Commits.{committing}
+
+-- The request has come to this phase under some of these claims, the others are those of the phase's actions, and these have done their
+-- work and found this.
+pub record HasMetUnder (shared : Shared) (request : Request) (progress : Progress) (held : List (List Claiming)) (found : List Found) : Type 0 where
+  pub earlier : List (List Claiming)
+  pub own : List (List Claiming)
+  pub held_is : held ≡ earlier ++ own
+  pub reached : IsReached shared request progress earlier
+  pub done : HaveAllDone shared (works_of progress) found own
+
+-- the reply of a request that was carried out, or rolled back
+abbrev pub IsReplyOf : Gathered → Reply → Type 0
+IsReplyOf (Next progress) shown = ⊥
+IsReplyOf (Finish reply) shown = shown ≡ reply
+IsReplyOf (RollBack fault) shown = shown ≡ RolledBack fault
+
+-- this one keeps the course in the slot, and has all shares
+abbrev pub KeepsWhole : ℕ → Keeping → Type 0
+KeepsWhole slot keeper = (keeper.slot ≡ slot) × (keeper.out ≡ 0)
+
+module _ {J : Type 0} where
+  -- who the transaction is
+  abbrev pub transaction_of : Journeying → Transaction J
+  transaction_of j = record { age = j.age; slot = j.slot; number = j.number; request = j.request; pass = j.pass }
+
+  -- the transaction, come to another phase under these claims
+  abbrev pub moved : Transaction J → List (List Claiming) → Progress → Journeying
+  moved t held progress = journeying t.age t.slot t.number t.request t.pass held progress
+
+  -- What follows of what was found is done: the next phase is under way, or the transaction is to be logged, with the reply; unless there is
+  -- no memory for it: then the transaction is refused.
+  abbrev pub Gathers : Keeping → Transaction J → List (List Claiming) → Progress → List Found → Following J → Type 0
+  Gathers keeper t held progress found (Phase phase errands) =
+      (next : Progress) × (FollowsFrom progress found (Next next) × ((phase ≡ awaiting_all (moved t held next)) × (errands.items ≡ errands_of (moved t held next))))
+  Gathers keeper t held progress found (Commit commit) =
+      (g : Gathered) × (FollowsFrom progress found g × (IsReplyOf g commit.shown × (commit ≡ committing keeper t held commit.shown)))
+  Gathers keeper t held progress found (Over release) = release ≡ refused keeper t held refusal.NoMemory
+
+  -- One action has died or found no memory, and the transaction is refused; or all have done their work.
+  abbrev pub FollowsUnless : Option Refusal → Keeping → Meeting J → Following J → Type 0
+  FollowsUnless (Some why) keeper m following = following ≡ Over (refused keeper (transaction_of m.journey) (m.journey.held ++ held_in m.rans) why)
+  FollowsUnless None keeper m following = Gathers keeper (transaction_of m.journey) (m.journey.held ++ held_in m.rans) m.journey.progress (found_in m.rans) following
+
+  -- What follows when these have met, while this one keeps the course.
+  abbrev pub Follows : Meeting J → Following J → Type 0
+  Follows m following = (keeper : Keeping) × (KeepsWhole m.journey.slot keeper × FollowsUnless (refusal_of None m.rans) keeper m following)

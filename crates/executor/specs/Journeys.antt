@@ -1,0 +1,68 @@
+-- A transaction on its way.
+use Rattle.std.specs.Prelude.{◌≡◌, ℕ, List, [], All, length}
+use Rattle.partitions.specs.Parts.{Shared}
+use Rattle.requests.specs.declared.request.Request.{Request}
+use Rattle.tickets.specs.Claims.{Claiming}
+use Rattle.slices.specs.Sliced.{AreOfOneHome}
+use Rattle.commit_log.specs.Passing.{Passing}
+use Rattle.transactions.specs.declared.progress.Progress.{Progress}
+use Rattle.transactions.specs.Acting.{CanBeSettled, CanBeUndone}
+use Rattle.transactions.specs.Progresses.{IsReached}
+
+-- ---- the claims of one action
+
+-- the claim was granted to an action of a transaction of this age
+abbrev pub IsAged : ℕ → Claiming → Type 0
+IsAged age claim = claim.by.age ≡ age
+
+-- they are on groups of one warehouse, and all that was done under them can be taken back
+abbrev pub CanAllBeUndone : List Claiming → Type 0
+CanAllBeUndone claims = All CanBeUndone claims × AreOfOneHome claims
+
+-- they are on groups of one warehouse, and what they left is committed
+abbrev pub CanAllBeSettled : List Claiming → Type 0
+CanAllBeSettled claims = All CanBeSettled claims × AreOfOneHome claims
+
+-- all that was done under them can be taken back, and they are a transaction's of this age
+abbrev pub AreUndoneBy : ℕ → List Claiming → Type 0
+AreUndoneBy age claims = CanAllBeUndone claims × All (IsAged age) claims
+
+-- ---- the transaction
+
+-- Its session asks this request with this pass, and the pass is as it was when it asked: it has seen and logged nothing since.
+pub record IsAskedBy (number : ℕ) (request : Request) (pass : Passing) : Type 0 where
+  pub number_is : pass.asks.number ≡ number
+  pub request_is : pass.asks.request ≡ request
+  pub seen : pass.seen ≡ pass.asks.seen
+  pub mine : pass.mine ≡ pass.asks.mine
+
+-- a transaction on its way: its age, its slot, the number of its request in its session, the request, the session's pass, the claims
+-- of its actions of earlier phases, by place, and how far it has come
+pub record Journeying : Type 0 where
+  pub age : ℕ
+  pub slot : ℕ
+  pub number : ℕ
+  pub request : Request
+  pub pass : Passing
+  pub held : List (List Claiming)
+  pub progress : Progress
+
+abbrev pub journeying : ℕ → ℕ → ℕ → Request → Passing → List (List Claiming) → Progress → Journeying
+journeying age slot number request pass held progress =
+    record { age = age; slot = slot; number = number; request = request; pass = pass; held = held; progress = progress }
+
+-- A transaction on its way: its session asks it; its request has come so far under what its earlier actions hold; and all that these
+-- did can be taken back.
+pub record CarriesJourney (shared : Shared) (j : Journeying) : Type 0 where
+  pub asked : IsAskedBy j.number j.request j.pass
+  pub reached : IsReached shared j.request j.progress j.held
+  pub undone : All (AreUndoneBy j.age) j.held
+
+-- it has begun: no action has claimed anything
+pub record HasBegun (age slot number : ℕ) (request : Request) (pass : Passing) (j : Journeying) : Type 0 where
+  pub age_is : j.age ≡ age
+  pub slot_is : j.slot ≡ slot
+  pub number_is : j.number ≡ number
+  pub request_is : j.request ≡ request
+  pub pass_is : j.pass ≡ pass
+  pub none : j.held ≡ []

@@ -1,0 +1,13 @@
+pub mod Courses
+pub mod Journeys
+pub mod Carrying
+pub mod Phases
+pub mod Reports
+pub mod Begins
+pub mod Posts
+pub mod Sorted
+pub mod Givings
+pub mod Answers
+pub mod Released
+pub mod Commits
+pub mod Followed

@@ -1,0 +1,49 @@
+-- The post of a warehouse, and what comes of the actions that ask and wait there.
+use Rattle.std.specs.Prelude.{◌≡◌, List, All, Option, Some, None}
+use Rattle.partitions.specs.Parts.{Shared, shared_of}
+use Rattle.local_locks.specs.Asking.{StillWaits}
+use Rattle.transactions.specs.declared.acting.Ran.{Ran}
+use Rattle.transactions.specs.declared.station.Acted.TheVariants as acted
+use Rattle.transactions.specs.declared.station.Parked.{Parked}
+use Rattle.transactions.specs.declared.station.Turned.{Turned}
+use Rattle.transactions.specs.Stations.{ActsAs, OneTurn, Stationed}
+use Rattle.executor.specs.declared.errand.Carried.{Carried}
+use Rattle.executor.specs.Courses.{sharing}
+use Rattle.executor.specs.Carrying.{CarriesErrand, Erranding, Reporting, erranding, reporting}
+
+module _ {J : Type 0} where
+  -- an action that waits, as it was when it asked
+  abbrev pub waiting_errand : Parked (Carried J) → Erranding
+  waiting_errand p = erranding p.by p.carried.number p.work p.carried.share p.carried.journey
+
+  -- who waits carries what an action on its way carries
+  abbrev pub CarriesWaiting : Shared → Parked (Carried J) → Type 0
+  CarriesWaiting shared p = CarriesErrand shared (waiting_errand p)
+
+  -- The slice shares this, and each who waits there carries what an action on its way carries.
+  pub record CarriesPost (shared : Shared) (p : Stationed (Carried J)) : Type 0 where
+    pub shared_is : shared_of p.slice.tables ≡ shared
+    pub waiting : All (CarriesWaiting shared) p.parked
+
+  -- what an action keeps with it beside its work
+  abbrev pub carried_by : Erranding → Carried J
+  carried_by e = record { number = e.number; share = sharing e.slot e.course; journey = e.journey }
+
+  -- the report of an action to which this has come
+  abbrev pub report_by : Erranding → Ran J → Reporting J
+  report_by e ran = reporting e.number ran (sharing e.slot e.course) e.journey
+
+  -- the report of one who has had its turn
+  abbrev pub report_turned : Turned J (Carried J) → Reporting J
+  report_turned t = reporting t.carried.number t.ran t.carried.share t.carried.journey
+
+  -- An action asks at its post. It reports that it has done its work, or that it died of somebody who is not younger, or that there
+  -- was no memory; or it waits there, since all who are in its way are younger (`ActsAs` of transactions).
+  abbrev pub WorksAt : Erranding → Stationed (Carried J) → Option (Reporting J) → Stationed (Carried J) → Type 0
+  WorksAt e old (Some report) new = (ran : Ran J) × ((report ≡ report_by e ran) × ActsAs e.by e.work (carried_by e) old (acted.Ran ran (carried_by e)) new)
+  WorksAt e old None new = ActsAs {J = J} e.by e.work (carried_by e) old acted.Waits new
+
+  -- One who waits has its turn, and reports (`OneTurn` of transactions); or all who wait have to, and nothing changes.
+  abbrev pub TurnsAt : Stationed (Carried J) → Option (Reporting J) → Stationed (Carried J) → Type 0
+  TurnsAt old (Some report) new = (turned : Turned J (Carried J)) × ((report ≡ report_turned turned) × OneTurn old turned new)
+  TurnsAt old None new = All (StillWaits old.slice.holdings) old.slice.waiters × (new ≡ old)

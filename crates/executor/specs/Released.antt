@@ -1,0 +1,31 @@
+-- A transaction that is over: its answer, and what its actions give back.
+use Rattle.std.specs.Prelude.{◌≡◌, ◌≤◌, ◌+◌, ℕ, Bool, true, false, List, [], ◌∷◌, ◌++◌, All}
+use Rattle.requests.specs.declared.answer.Answer.{Answer}
+use Rattle.requests.specs.declared.answer.Answer.TheVariants.{Done, Refused}
+use Rattle.requests.specs.declared.refusal.Refusal.{Refusal}
+use Rattle.groups.specs.Groups.{warehouse_of}
+use Rattle.tickets.specs.Claims.{Claiming}
+use Rattle.commit_log.specs.declared.asking.Asking.{Asking}
+use Rattle.commit_log.specs.Items.{item}
+use Rattle.commit_log.specs.Passing.{Passing}
+use Rattle.executor.specs.declared.journey.Transaction.{Transaction}
+use Rattle.executor.specs.declared.release.GivenBack.{GivenBack}
+use Rattle.executor.specs.declared.release.GivenBack.TheVariants.{Settle, Undo}
+use Rattle.executor.specs.declared.release.Release.{Release}
+use Rattle.executor.specs.Courses.{Keeping}
+use Rattle.executor.specs.Journeys.{CanAllBeSettled, CanAllBeUndone}
+use Rattle.executor.specs.Givings.{giving}
+use Rattle.executor.specs.Answers.{Returning, Telling, returning, telling}
+
+-- the claims go back as they are to: settled, or to be taken back
+abbrev pub IsGivenFor : {J : Type 0} → ℕ → Bool → List Claiming → GivenBack J → Type 0
+IsGivenFor slot settle claims (Settle s) = (settle ≡ true) × (s ≡ giving slot claims)
+IsGivenFor slot settle claims (Undo u) = (settle ≡ false) × (u ≡ giving slot claims)
+
+-- what was given back is what the last action held
+abbrev pub IsGivenBack : {J : Type 0} → Returning → Returning → GivenBack J → Type 0
+IsGivenBack old new given = (claims : List Claiming) × ((old ≡ returning new.slot new.settle (new.held ++ claims ∷ [])) × IsGivenFor old.slot old.settle claims given)
+
+-- the transaction is refused for this, and what its actions did is taken back
+abbrev pub refused : {J : Type 0} → Keeping → Transaction J → List (List Claiming) → Refusal → Release J
+refused keeper t held why = record { told = telling t.age t.number t.pass (Refused why); returns = returning t.slot false held; keeper = keeper }

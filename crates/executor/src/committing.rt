@@ -1,0 +1,165 @@
+//! A transaction is logged.
+ghost use Rattle.std.specs.Prelude.{◌≡◌, ◌↔◌, ◌≤◌, ◌∷◌, ◌++◌, [], All, IfErr, IfOk, length, map};
+ghost use Rattle.requests.specs.Check.{IsAccepted};
+ghost use Rattle.tickets.specs.Claims.{all_claims};
+ghost use Rattle.commit_log.specs.Claimed.{IsCarriedOut, claims_logged};
+ghost use Rattle.commit_log.specs.Items.{item};
+ghost use Rattle.commit_log.specs.Passing.{after_item, after_refusal};
+ghost use Rattle.executor.specs.Answers.{IsToldBy};
+ghost use Rattle.executor.specs.Commits as spec;
+ghost use Rattle.executor.specs.Commits.{Commits, committing};
+ghost use Rattle.executor.specs.Journeys.{AreUndoneBy, IsAskedBy};
+
+use crate::journey::Transaction;
+use crate::release::Returns;
+use crate::{CourseNames, HeldClaims, Keeper, Release, Told};
+use commit_log::{AppendFault, Entry, Log, Pass};
+use requests::{Answer, Refusal, Reply};
+use std::marker::Model;
+
+/// A transaction that was carried out, on its way to the log.
+///
+/// Contracts see the transaction's age, its slot, the number of its request in its session, the request, the pass, the claims of
+/// its actions, by place, and the reply. It keeps that its session asks it with this pass, which is as it was then; that the check
+/// accepts the request; that it was carried out under these claims with this reply; and that all that was done can be taken back.
+#[derive(Drop)]
+pub struct Commit<J: CourseNames> {
+    transaction: Transaction<J>,
+    held: HeldClaims<J>,
+    reply: Reply,
+    keeper: Keeper<J>,
+}
+
+impl<J: CourseNames> Model for Commit<J> {
+    ghost use Rattle.std.specs.Coded.{codes};
+    ghost use Rattle.groups.specs.contracts.content.Content as content;
+    ghost use Rattle.executor.specs.Commits.{Committing};
+
+    ghost Value = { Committing };
+
+    ghost coded = { Prim.hlevel (codes, content.the_row.coded) };
+
+    ghost use Rattle.executor.specs.Commits.{CarriesCommit, committing};
+
+    ghost view = { λ c. committing c.keeper c.transaction c.held c.reply };
+
+    ghost invariant = { λ c. CarriesCommit J.opening (committing c.keeper c.transaction c.held c.reply) };
+}
+
+impl<J: CourseNames> Commit<J> {
+    // A transaction that was carried out under these claims.
+    pub(crate) fn new(
+        keeper: Keeper<J>,
+        transaction: Transaction<J>,
+        held: HeldClaims<J>,
+        reply: Reply,
+    ) -> Commit<J>
+        requires asked { IsAskedBy transaction.number transaction.request transaction.pass }
+        requires accepted { IsAccepted J.opening.scale transaction.request }
+        requires carried_out { IsCarriedOut J.opening transaction.request (all_claims held) reply }
+        requires undone { All (AreUndoneBy transaction.age) held }
+        ensures { result ≡ committing keeper transaction held reply }
+    {
+        Commit {
+            transaction,
+            held,
+            reply,
+            keeper,
+        }
+    }
+
+    /// The transaction is logged, or refused where there is no memory, or the log is full. Then it is over: what its actions
+    /// left is committed, unless it was rolled back or refused.
+    pub fn commit(self, log: &mut Log<J>) -> Release<J>
+        ensures { Commits self log.old result log.new }
+    {
+        let Commit {
+            transaction,
+            held,
+            reply,
+            keeper,
+        } = self;
+        let Ok(shown) = reply.try_clone() else {
+            return Release::refused(keeper, transaction, held, Refusal::NoMemory);
+        };
+        let is_settled = is_settled(&reply);
+        let Transaction {
+            age,
+            slot,
+            number,
+            request,
+            pass,
+        } = transaction;
+        let entry = Entry {
+            session: pass.session(),
+            number,
+            request,
+            reply,
+        };
+        let mut held = held;
+        match append(log, &mut held, pass, entry) {
+            Ok((place, pass)) => Release {
+                told: Told {
+                    age,
+                    number,
+                    pass,
+                    answer: Answer::Done {
+                        place,
+                        reply: shown,
+                    },
+                },
+                returns: Returns::new(slot, is_settled, held),
+                keeper,
+            },
+            Err((fault, pass)) => Release {
+                told: Told {
+                    age,
+                    number,
+                    pass,
+                    answer: Answer::Refused(why_refused(fault)),
+                },
+                returns: Returns::new(slot, false, held),
+                keeper,
+            },
+        }
+    }
+}
+
+// Whether the claims are settled: what a transaction that was rolled back did is taken back.
+fn is_settled(reply: &Reply) -> bool
+    ensures { result ≡ spec.is_settled reply.now }
+{
+    !matches!(reply, Reply::RolledBack(_))
+}
+
+// The log has the entry more, or refuses it.
+fn append<J: CourseNames>(
+    log: &mut Log<J>,
+    held: &mut HeldClaims<J>,
+    pass: Pass<J>,
+    entry: Entry,
+) -> Result<(u32, Pass<J>), (AppendFault, Pass<J>)>
+    requires session { entry.session ≡ pass.session }
+    requires number { pass.asks.number ≡ entry.number }
+    requires request { pass.asks.request ≡ entry.request }
+    requires accepted { IsAccepted J.opening.scale entry.request }
+    requires carried_out { IsCarriedOut J.opening entry.request (all_claims held.old) entry.reply }
+    ensures entry { IfOk result (λ done. log.new ≡ log.old ++ entry ∷ []) }
+    ensures place { IfOk result (λ done. done.0 ≡ length log.old) }
+    ensures later { IfOk result (λ done. pass.seen ≤ done.0) }
+    ensures pass { IfOk result (λ done. done.1 ≡ after_item pass (item done.0 entry.number entry.request entry.reply)) }
+    ensures held { IfOk result (λ done. held.new ≡ map (claims_logged entry.reply) held.old) }
+    ensures err { IfErr result (λ refused. (log.new ≡ log.old) × (held.new ≡ held.old)) }
+    ensures refused { IfErr result (λ refused. refused.1 ≡ after_refusal refused.0 (length log.old) pass) }
+{
+    log.append(&mut held.places, pass, entry)
+}
+
+fn why_refused(fault: AppendFault) -> Refusal
+    ensures { result ≡ spec.why_refused fault }
+{
+    match fault {
+        AppendFault::NoMemory => Refusal::NoMemory,
+        AppendFault::LogFull => Refusal::LogFull,
+    }
+}

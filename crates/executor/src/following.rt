@@ -1,0 +1,104 @@
+//! What follows when a phase has met.
+ghost use Rattle.std.specs.Prelude.{◌≡◌, All};
+ghost use Rattle.partitions.specs.Parts.{shared_of};
+ghost use Rattle.executor.specs.Journeys.{AreUndoneBy, IsAskedBy};
+ghost use Rattle.executor.specs.Followed.{Follows, Gathers, HasMetUnder};
+
+use crate::journey::Transaction;
+use crate::sorting::Sorted;
+use crate::{Commit, CourseNames, Errand, HeldClaims, Journey, Keeper, Met, Phase, Release, begin};
+use requests::{Refusal, Reply};
+use std::alloc::Global;
+use transactions::{
+    Found, Gathered, Progress, reached_requests_are_accepted, transactions_have_few_actions,
+};
+
+/// What follows when all actions of a phase have reported.
+#[derive(Drop)]
+pub enum Following<J: CourseNames> {
+    /// The next phase is under way, and these are its actions, by place.
+    Phase(Phase<J>, Vec<Errand<J>>),
+    /// It was carried out, and is to be logged.
+    Commit(Commit<J>),
+    /// It is refused.
+    Over(Release<J>),
+}
+
+impl<J: CourseNames> Met<J> {
+    /// What follows of what came of the actions of the phase. The first death by place is answered, and else want of
+    /// memory; where there is none, what they found is gathered: the next phase begins, or the transaction is to be logged.
+    pub fn follow(self, alloc: Global) -> Following<J>
+        ensures { Follows self result }
+    {
+        transactions_have_few_actions();
+        let Met {
+            keeper,
+            journey,
+            rans,
+        } = self;
+        let Journey {
+            transaction,
+            held,
+            progress,
+        } = journey;
+        let sorted = Sorted::start(alloc, held, rans.len());
+        let Sorted {
+            held,
+            found,
+            refusal,
+        } = sorted.sort_out(rans);
+        match refusal {
+            Some(why) => Following::Over(Release::refused(keeper, transaction, held, why)),
+            None => gather(alloc, keeper, transaction, held, progress, found),
+        }
+    }
+}
+
+// What follows of what the actions of a phase found, which all have done their work.
+fn gather<J: CourseNames>(
+    alloc: Global,
+    keeper: Keeper<J>,
+    transaction: Transaction<J>,
+    held: HeldClaims<J>,
+    progress: Progress,
+    found: Vec<Found>,
+) -> Following<J>
+    requires slot { transaction.slot ≡ keeper.slot }
+    requires all { keeper.out ≡ 0 }
+    requires asked { IsAskedBy transaction.number transaction.request transaction.pass }
+    requires undone { All (AreUndoneBy transaction.age) held }
+    requires met { HasMetUnder (shared_of J.opening) transaction.request progress held found.items }
+    ensures { Gathers keeper transaction held progress found.items result }
+{
+    reached_requests_are_accepted();
+    let Ok(gathered) = progress.gather(alloc, found) else {
+        return Following::Over(Release::refused(keeper, transaction, held, Refusal::NoMemory));
+    };
+    match gathered {
+        Gathered::Next(progress) => {
+            let journey = Journey {
+                transaction,
+                held,
+                progress,
+            };
+            match begin(alloc, journey, keeper) {
+                Ok((phase, errands)) => Following::Phase(phase, errands),
+                Err((journey, keeper)) => {
+                    let Journey {
+                        transaction,
+                        held,
+                        progress: _,
+                    } = journey;
+                    Following::Over(Release::refused(keeper, transaction, held, Refusal::NoMemory))
+                }
+            }
+        }
+        Gathered::Finish(reply) => {
+            Following::Commit(Commit::new(keeper, transaction, held, reply))
+        }
+        Gathered::RollBack(fault) => {
+            let reply = Reply::RolledBack(fault);
+            Following::Commit(Commit::new(keeper, transaction, held, reply))
+        }
+    }
+}

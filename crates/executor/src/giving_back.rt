@@ -1,0 +1,94 @@
+//! The claims of an action on their way back to the slice of their warehouse.
+ghost use Rattle.std.specs.Prelude.{◌≡◌, ◌≤◌, ◌∷◌, length};
+ghost use Rattle.tickets.specs.Claims.{Claiming};
+ghost use Rattle.executor.specs.Givings.{home_of_claims};
+
+use crate::CourseNames;
+use std::marker::Model;
+use tickets::Claims;
+
+/// The claims of an action of a transaction that is logged: what they left is committed.
+///
+/// Contracts see the claims.
+#[derive(Drop)]
+pub struct Settle<J: CourseNames> {
+    /// The slot of its transaction.
+    pub(crate) slot: usize,
+    pub(crate) claims: Claims<J>,
+}
+
+impl<J: CourseNames> Model for Settle<J> {
+    ghost use Rattle.std.specs.Coded.{codes};
+    ghost use Rattle.groups.specs.contracts.content.Content as content;
+    ghost use Rattle.executor.specs.Givings.{Giving};
+
+    ghost Value = { Giving };
+
+    ghost coded = { Prim.hlevel (codes, content.the_row.coded) };
+
+    ghost use Rattle.executor.specs.Givings.{giving};
+    ghost use Rattle.executor.specs.Journeys.{CanAllBeSettled};
+
+    ghost view = { λ s. giving s.slot s.claims };
+
+    ghost invariant = { λ s. CanAllBeSettled s.claims };
+}
+
+impl<J: CourseNames> Settle<J> {
+    /// The slot of its transaction.
+    pub fn slot(&self) -> usize
+        ensures { result ≡ self.now.slot }
+    {
+        self.slot
+    }
+
+    /// The W_ID of the warehouse to whose slice they go back.
+    pub fn home(&self) -> u32
+        ensures { result ≡ home_of_claims self.now.claims }
+    {
+        self.claims.home()
+    }
+}
+
+/// The claims of an action of a transaction that is refused or rolled back: what it did is to be taken back.
+///
+/// Contracts see the claims.
+#[derive(Drop)]
+pub struct Undo<J: CourseNames> {
+    /// The slot of its transaction.
+    pub(crate) slot: usize,
+    pub(crate) claims: Claims<J>,
+}
+
+impl<J: CourseNames> Model for Undo<J> {
+    ghost use Rattle.std.specs.Coded.{codes};
+    ghost use Rattle.groups.specs.contracts.content.Content as content;
+    ghost use Rattle.executor.specs.Givings.{Giving};
+
+    ghost Value = { Giving };
+
+    ghost coded = { Prim.hlevel (codes, content.the_row.coded) };
+
+    ghost use Rattle.executor.specs.Givings.{giving};
+    ghost use Rattle.executor.specs.Journeys.{CanAllBeUndone};
+
+    ghost view = { λ u. giving u.slot u.claims };
+
+    ghost invariant = { λ u. CanAllBeUndone u.claims };
+}
+
+impl<J: CourseNames> Undo<J> {
+    /// The slot of its transaction.
+    pub fn slot(&self) -> usize
+        ensures { result ≡ self.now.slot }
+    {
+        self.slot
+    }
+
+    /// The W_ID of the warehouse to whose slice they go back.
+    pub fn home(&self) -> u32
+        ensures { result ≡ home_of_claims self.now.claims }
+    {
+        self.claims.home()
+    }
+}

@@ -1,0 +1,64 @@
+//! What the actions of a transaction hold.
+ghost use Rattle.std.specs.Prelude.{◌≡◌, ◌<◌, [], ◌∷◌, ◌++◌, length, IfNone, IfOk, option_to_list};
+
+use schema::NoMemory;
+use std::alloc::Global;
+use std::marker::Model;
+use tickets::{Claims, GroupNames};
+use transactions::MOST_ACTIONS;
+
+/// The claims of actions that have done their work, by place, with room for those of all that a transaction
+/// has. Only its opening takes memory.
+#[derive(Drop)]
+pub struct HeldClaims<J: GroupNames> {
+    pub(crate) places: Vec<Claims<J>>,
+}
+
+impl<J: GroupNames> Model for HeldClaims<J> {
+    ghost use Rattle.std.specs.Coded.{codes};
+    ghost use Rattle.std.specs.Prelude.{List, ◌≤◌, vec_capacity};
+    ghost use Rattle.groups.specs.contracts.content.Content as content;
+    ghost use Rattle.tickets.specs.Claims.{Claiming};
+    ghost use Rattle.transactions.specs.declared.laws.TheConstants.{MOST_ACTIONS};
+
+    ghost Value = { List (List Claiming) };
+
+    ghost coded = { Prim.hlevel (codes, content.the_row.coded) };
+
+    ghost view = { λ h. h.places.items };
+
+    ghost invariant = { λ h. MOST_ACTIONS ≤ vec_capacity h.places };
+}
+
+impl<J: GroupNames> HeldClaims<J> {
+    /// Nothing is held yet.
+    pub fn open(alloc: Global) -> Result<HeldClaims<J>, NoMemory>
+        ensures { IfOk result (λ held. held ≡ []) }
+    {
+        let places = Vec::with_capacity(alloc, MOST_ACTIONS)?;
+        Ok(HeldClaims { places })
+    }
+
+    /// How many actions hold claims.
+    pub fn len(&self) -> usize
+        ensures { result ≡ length self.now }
+    {
+        self.places.len()
+    }
+
+    /// The action of the next place holds these.
+    pub fn put(&mut self, claims: Claims<J>)
+        requires { length self.old < MOST_ACTIONS }
+        ensures { self.new ≡ self.old ++ claims ∷ [] }
+    {
+        self.places.push_reserved(claims);
+    }
+
+    /// The claims of the action of the last place, which are held no more.
+    pub fn take_last(&mut self) -> Option<Claims<J>>
+        ensures front { self.old ≡ self.new ++ option_to_list result }
+        ensures none { IfNone result ((self.old ≡ []) × (self.new ≡ [])) }
+    {
+        self.places.pop()
+    }
+}

@@ -1,0 +1,166 @@
+//! A transaction that is over: its answer, and what its actions give back.
+ghost use Rattle.std.specs.Prelude.{◌≡◌, [], All, IfNone, IfSome, length};
+ghost use Rattle.executor.specs.Journeys.{AreUndoneBy, IsAskedBy};
+ghost use Rattle.executor.specs.Answers.{AreGiven, IsGiven, IsToldBy, returning};
+ghost use Rattle.executor.specs.Released.{IsGivenBack, IsGivenFor, refused};
+
+use crate::journey::Transaction;
+use crate::{CourseNames, HeldClaims, Keeper, Settle, Undo};
+use commit_log::Pass;
+use requests::{Answer, Refusal};
+use std::marker::Model;
+use tickets::Claims;
+
+/// An answer on its way to its session, with the session's pass.
+///
+/// Contracts see the transaction's age, the number of the request in its session, the pass, and the answer. It keeps that the
+/// pass has seen and logged what it had when the session asked, and this answer: so the session may learn all that from it.
+#[derive(Drop)]
+pub struct Told<J: CourseNames> {
+    pub(crate) age: u64,
+    pub(crate) number: u32,
+    pub(crate) pass: Pass<J>,
+    pub(crate) answer: Answer,
+}
+
+impl<J: CourseNames> Model for Told<J> {
+    ghost use Rattle.executor.specs.Answers.{Telling};
+
+    ghost Value = { Telling };
+
+    ghost use Rattle.executor.specs.Answers.{CarriesAnswer, telling};
+
+    ghost view = { λ t. telling t.age t.number t.pass t.answer };
+
+    ghost invariant = { λ t. CarriesAnswer (telling t.age t.number t.pass t.answer) };
+}
+
+impl<J: CourseNames> Told<J> {
+    /// Its parts: the pass, and the answer to the request that the session asked with it.
+    pub fn into_parts(self) -> (Pass<J>, Answer)
+        ensures pass { result.0 ≡ self.pass }
+        ensures answer { result.1 ≡ self.answer }
+        ensures told { IsToldBy self.pass.asks self.pass self.answer }
+    {
+        (self.pass, self.answer)
+    }
+}
+
+/// What the actions of a transaction that is over give back, one after another.
+///
+/// Contracts see the slot of the transaction, whether the claims are settled, and the claims of each action, by place. It keeps
+/// that what they left is committed, where they are settled, and else that all that was done under them can be taken back.
+#[derive(Drop)]
+pub struct Returns<J: CourseNames> {
+    slot: usize,
+    is_settled: bool,
+    held: HeldClaims<J>,
+}
+
+impl<J: CourseNames> Model for Returns<J> {
+    ghost use Rattle.std.specs.Coded.{codes};
+    ghost use Rattle.groups.specs.contracts.content.Content as content;
+    ghost use Rattle.executor.specs.Answers.{Returning};
+
+    ghost Value = { Returning };
+
+    ghost coded = { Prim.hlevel (codes, content.the_row.coded) };
+
+    ghost use Rattle.executor.specs.Answers.{AreGiven, returning};
+
+    ghost view = { λ r. returning r.slot r.is_settled r.held };
+
+    ghost invariant = { λ r. AreGiven r.is_settled r.held };
+}
+
+/// The claims of an action on their way back.
+#[derive(Drop)]
+pub enum GivenBack<J: CourseNames> {
+    Settle(Settle<J>),
+    Undo(Undo<J>),
+}
+
+impl<J: CourseNames> Returns<J> {
+    pub(crate) fn new(slot: usize, is_settled: bool, held: HeldClaims<J>) -> Returns<J>
+        requires { AreGiven is_settled held }
+        ensures { result ≡ returning slot is_settled held }
+    {
+        Returns {
+            slot,
+            is_settled,
+            held,
+        }
+    }
+
+    /// How many actions have claims to give back.
+    pub fn len(&self) -> usize
+        ensures { result ≡ length self.now.held }
+    {
+        self.held.len()
+    }
+
+    /// The claims of the last action that has some. It takes no memory.
+    pub fn next_back(&mut self) -> Option<GivenBack<J>>
+        ensures some { IfSome result (IsGivenBack self.old self.new) }
+        ensures none { IfNone result ((self.old.held ≡ []) × (self.new ≡ self.old)) }
+    {
+        match self.held.take_last() {
+            Some(claims) => Some(given_back(self.slot, self.is_settled, claims)),
+            None => None,
+        }
+    }
+}
+
+// The claims of an action, as they go back.
+fn given_back<J: CourseNames>(slot: usize, is_settled: bool, claims: Claims<J>) -> GivenBack<J>
+    requires { IsGiven is_settled claims }
+    ensures { IsGivenFor slot is_settled claims result }
+{
+    if is_settled {
+        GivenBack::Settle(Settle { slot, claims })
+    } else {
+        GivenBack::Undo(Undo { slot, claims })
+    }
+}
+
+/// A transaction that is over.
+#[derive(Drop)]
+pub struct Release<J: CourseNames> {
+    pub told: Told<J>,
+    pub returns: Returns<J>,
+    /// The keeper of its course, with all shares: another transaction may have its slot once all claims are given back.
+    pub keeper: Keeper<J>,
+}
+
+impl<J: CourseNames> Release<J> {
+    // A transaction that is refused, whose actions hold this.
+    pub(crate) fn refused(
+        keeper: Keeper<J>,
+        transaction: Transaction<J>,
+        held: HeldClaims<J>,
+        why: Refusal,
+    ) -> Release<J>
+        requires asked { IsAskedBy transaction.number transaction.request transaction.pass }
+        requires undone { All (AreUndoneBy transaction.age) held }
+        ensures { result ≡ refused keeper transaction held why }
+    {
+        let Transaction {
+            age,
+            slot,
+            number,
+            request: _,
+            pass,
+        } = transaction;
+        let told = Told {
+            age,
+            number,
+            pass,
+            answer: Answer::Refused(why),
+        };
+        Release {
+            told,
+            returns: Returns::new(slot, false, held),
+            keeper,
+        }
+    }
+}
