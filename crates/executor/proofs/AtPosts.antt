@@ -1,5 +1,5 @@
 -- What comes of the actions that ask and wait at a post.
-use Rattle.std.proofs.Common.{◌≡◌, ℕ, ◌<◌, List, [], ◌∷◌, ◌++◌, length, Option, Some, None, refl, sym, ap, subst, ◌∙◌}
+use Rattle.std.proofs.Common.{◌≡◌, ℕ, ◌<◌, List, ◌∷◌, length, Option, Some, None, sym, ap, subst, ◌∙◌}
 use Rattle.std.specs.Prelude.{All, IfNone, IfSome, slice_index_or}
 use Rattle.std.specs.List.{remove}
 use Rattle.std.proofs.lemmas.List.Elements.{All-push, All-tail, All-weaker}
@@ -7,7 +7,7 @@ use Rattle.std.proofs.lemmas.List.Sorted.{All-permutation, IsPermutation-remove}
 use Rattle.partitions.specs.Parts.{Shared, shared_of}
 use Rattle.tickets.specs.Claims.{Claiming}
 use Rattle.wait_die.specs.declared.deciding.Holder.{Holder}
-use Rattle.slices.specs.Sliced.{AreOfOneHome, IsClaimAt, SliceKeeps, Sliced, with_waiters}
+use Rattle.slices.specs.Sliced.{SliceKeeps, Sliced, with_waiters}
 use Rattle.transactions.specs.declared.acting.Ran.{Ran}
 use Rattle.transactions.specs.declared.acting.Ran.TheVariants as ran
 use Rattle.transactions.specs.declared.station.Acted.{Acted}
@@ -20,11 +20,10 @@ use Rattle.transactions.specs.Acting.{IsBy, IsDoneBy}
 use Rattle.transactions.specs.Laws.{WorksAreDoneAtHome}
 use Rattle.transactions.specs.Stations.{ActsAs, OneTurn, Stationed, parked}
 use Rattle.transactions.specs.Works.{HasDone}
-use Rattle.executor.specs.declared.course.Course.{Course}
 use Rattle.executor.specs.declared.errand.Carried.{Carried}
 use Rattle.executor.specs.Journeys.{AreUndoneBy, IsAged}
-use Rattle.executor.specs.Carrying.{CarriesErrand, CarriesReport, Erranding, IsRanBy, action_at, erranding, reporting}
-use Rattle.executor.specs.Posts.{CarriesPost, CarriesWaiting, carried_by, report_by, report_turned, waiting_errand}
+use Rattle.executor.specs.Carrying.{CarriesErrand, CarriesReport, Erranding, IsRanBy, reporting}
+use Rattle.executor.specs.Posts.{CarriesPost, CarriesWaiting, carried_by, report_by, report_turned}
 
 -- where the scale and the items stay, all that is shared stays
 pub shared_kept : (before after : List Claiming) (old new : Sliced) → SliceKeeps before old after new → shared_of new.tables ≡ shared_of old.tables

@@ -1,5 +1,5 @@
 -- The warehouse of claims that go back.
-use Rattle.std.proofs.Common.{◌≡◌, ◌≤◌, ℕ, List, [], ◌∷◌, length, subst, sym, arith}
+use Rattle.std.proofs.Common.{◌≡◌, ℕ, List, [], ◌∷◌, subst}
 use Rattle.std.specs.Prelude.{All, slice_index_or}
 use Rattle.groups.specs.Groups.{warehouse_of}
 use Rattle.tickets.specs.Claims.{Claiming}

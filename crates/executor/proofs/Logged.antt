@@ -1,10 +1,9 @@
 -- What goes back of a transaction that is logged.
-use Rattle.std.proofs.Common.{◌≡◌, ℕ, List, [], ◌∷◌, map, ap}
+use Rattle.std.proofs.Common.{ℕ, List, [], ◌∷◌, map, ap}
 use Rattle.std.specs.Prelude.{All}
 use Rattle.std.proofs.lemmas.List.Elements.{All-cons, All-head, All-nil, All-tail}
 use Rattle.requests.specs.declared.reply.Reply.{Reply}
 use Rattle.requests.specs.declared.reply.Reply.TheVariants as reply
-use Rattle.groups.specs.declared.wishes.Mode.TheVariants.{Exclusive}
 use Rattle.groups.specs.Groups.{warehouse_of}
 use Rattle.tickets.specs.Claims.{Claiming, committed_by, settled}
 use Rattle.tickets.specs.Committed.{all_settled}

@@ -1,5 +1,5 @@
 -- What follows when a phase has met.
-use Rattle.std.proofs.Common.{◌≡◌, ◌≤◌, ◌⊎◌, inl, inr, ℕ, ◌+◌, List, [], ◌∷◌, ◌++◌, length, length-append, Option, Some, None, refl, sym, ap, ◌∙◌, subst, arith}
+use Rattle.std.proofs.Common.{◌≡◌, ◌≤◌, ◌⊎◌, inl, inr, ◌+◌, List, [], ◌∷◌, ◌++◌, length, Option, Some, None, refl, sym, ap, ◌∙◌, subst, arith}
 use Rattle.std.specs.Prelude.{All, IfSome}
 use Rattle.std.proofs.lemmas.List.Elements.{All-append}
 use Rattle.partitions.specs.Parts.{Shared, shared_of}
@@ -20,14 +20,13 @@ use Rattle.transactions.specs.declared.progress.Gathered.TheVariants.{Next, Fini
 use Rattle.transactions.specs.Progresses.{FollowsFrom, HasFound, IsReached, works_of}
 use Rattle.executor.specs.declared.following.Following.{Following}
 use Rattle.executor.specs.declared.following.Following.TheVariants.{Over}
-use Rattle.executor.specs.declared.release.Release.{Release}
 use Rattle.executor.specs.Courses.{Keeping}
 use Rattle.executor.specs.Journeys.{AreUndoneBy, CarriesJourney, Journeying}
 use Rattle.executor.specs.Phases.{AreAllRans, Meeting}
-use Rattle.executor.specs.Sorted.{found_in, held_in, refusal_of, refused_by}
+use Rattle.executor.specs.Sorted.{found_in, held_in, refusal_of}
 use Rattle.executor.specs.Released.{refused}
 use Rattle.executor.specs.Followed.{Follows, FollowsUnless, Gathers, HasMetUnder, KeepsWhole, transaction_of}
-use Rattle.executor.proofs.SortedOut.{all_done, all_undone, as_many, few_held}
+use Rattle.executor.proofs.SortedOut.{all_done, all_undone, as_many}
 
 -- ---- what was found is gathered
 

@@ -1,5 +1,5 @@
 -- Reports come to a phase, until all have.
-use Rattle.std.proofs.Common.{◌≡◌, ◌≤◌, ℕ, zero, suc, ◌+◌, ◌-◌, List, [], ◌∷◌, length, map, Option, Some, None, refl, sym, ap, ◌∙◌, subst, arith}
+use Rattle.std.proofs.Common.{◌≡◌, ◌≤◌, ℕ, zero, suc, ◌+◌, ◌-◌, List, [], ◌∷◌, length, map, Option, Some, None, sym, ap, ◌∙◌, subst, arith}
 use Rattle.std.specs.Prelude.{slice_get, slice_set}
 use Rattle.rendezvous.specs.Awaited.{awaited_from}
 use Rattle.transactions.specs.declared.work.Work.{Work}
@@ -7,9 +7,9 @@ use Rattle.transactions.specs.declared.acting.Ran.{Ran}
 use Rattle.partitions.specs.Parts.{Shared}
 use Rattle.transactions.specs.Progresses.{works_of}
 use Rattle.executor.specs.declared.course.Course.{Course}
-use Rattle.executor.specs.Carrying.{CarriesReport, Reporting, IsOn, IsCarriedAt, IsRanAt, IsRanBy, IsWorkAt, course_of}
+use Rattle.executor.specs.Carrying.{CarriesReport, Reporting, IsOn, IsCarriedAt, IsRanAt, IsRanBy}
 use Rattle.executor.specs.Journeys.{Journeying}
-use Rattle.executor.specs.Phases.{AreAllRans, AreRans, CarriesMeeting, CarriesPhase, HasCome, Meeting, Phasing, come_with, with_report}
+use Rattle.executor.specs.Phases.{AreAllRans, AreRans, CarriesMeeting, CarriesPhase, HasCome, Phasing, come_with, with_report}
 
 module _ {J : Type 0} where
   -- one action more has reported

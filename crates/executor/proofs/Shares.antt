@@ -1,7 +1,7 @@
 -- Shares of a course that go out and come back.
-use Rattle.std.proofs.Common.{◌≡◌, ◌≤◌, ℕ, ◌+◌, ◌-◌, List, [], ◌∷◌, ◌++◌, length, length-append, sym, ap, ◌∙◌, subst, arith}
+use Rattle.std.proofs.Common.{◌≡◌, ◌≤◌, ℕ, ◌+◌, List, [], ◌∷◌, ◌++◌, length, sym, ap, ◌∙◌, subst, arith}
 use Rattle.atomic_table.specs.Seated.{TableId}
-use Rattle.agreement.specs.Telling.{Agreement, Telling, telling, with_share, IsSpent}
+use Rattle.agreement.specs.Telling.{Telling, with_share, IsSpent}
 use Rattle.executor.specs.declared.course.Course.{Course}
 use Rattle.executor.specs.Courses.{AreSpent, IsKeeper, course_agreement, course_seat}
 

@@ -1,5 +1,5 @@
 -- What an action carries with it on its way, and what its report does, whatever becomes of the others.
-use Rattle.std.specs.Prelude.{◌≡◌, ◌+◌, ℕ, zero, suc, List, Option, Some, None, length}
+use Rattle.std.specs.Prelude.{◌≡◌, ◌+◌, ℕ, zero, suc, Option, Some, None, length}
 use Rattle.std.specs.List.{slice_get}
 use Rattle.partitions.specs.Parts.{Shared}
 use Rattle.wait_die.specs.declared.deciding.Holder.{Holder}

@@ -1,5 +1,5 @@
 -- A transaction on its way.
-use Rattle.std.specs.Prelude.{◌≡◌, ℕ, List, [], All, length}
+use Rattle.std.specs.Prelude.{◌≡◌, ℕ, List, [], All}
 use Rattle.partitions.specs.Parts.{Shared}
 use Rattle.requests.specs.declared.request.Request.{Request}
 use Rattle.tickets.specs.Claims.{Claiming}

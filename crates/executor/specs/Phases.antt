@@ -1,5 +1,5 @@
 -- The phase of a transaction: what its actions have reported, and what has met.
-use Rattle.std.specs.Prelude.{◌≡◌, ◌+◌, ◌≤◌, ℕ, List, [], ◌∷◌, Option, Some, None, length}
+use Rattle.std.specs.Prelude.{◌≡◌, ◌≤◌, ℕ, List, [], ◌∷◌, Option, Some, None, length}
 use Rattle.std.specs.List.{slice_get, slice_set}
 use Rattle.rendezvous.specs.Awaited.{awaited_from}
 use Rattle.transactions.specs.declared.work.Work.{Work}

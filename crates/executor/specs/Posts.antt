@@ -1,5 +1,5 @@
 -- The post of a warehouse, and what comes of the actions that ask and wait there.
-use Rattle.std.specs.Prelude.{◌≡◌, List, All, Option, Some, None}
+use Rattle.std.specs.Prelude.{◌≡◌, All, Option, Some, None}
 use Rattle.partitions.specs.Parts.{Shared, shared_of}
 use Rattle.local_locks.specs.Asking.{StillWaits}
 use Rattle.transactions.specs.declared.acting.Ran.{Ran}

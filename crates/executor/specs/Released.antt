@@ -1,21 +1,15 @@
 -- A transaction that is over: its answer, and what its actions give back.
-use Rattle.std.specs.Prelude.{◌≡◌, ◌≤◌, ◌+◌, ℕ, Bool, true, false, List, [], ◌∷◌, ◌++◌, All}
-use Rattle.requests.specs.declared.answer.Answer.{Answer}
-use Rattle.requests.specs.declared.answer.Answer.TheVariants.{Done, Refused}
+use Rattle.std.specs.Prelude.{◌≡◌, ℕ, Bool, true, false, List, [], ◌∷◌, ◌++◌}
+use Rattle.requests.specs.declared.answer.Answer.TheVariants.{Refused}
 use Rattle.requests.specs.declared.refusal.Refusal.{Refusal}
-use Rattle.groups.specs.Groups.{warehouse_of}
 use Rattle.tickets.specs.Claims.{Claiming}
-use Rattle.commit_log.specs.declared.asking.Asking.{Asking}
-use Rattle.commit_log.specs.Items.{item}
-use Rattle.commit_log.specs.Passing.{Passing}
 use Rattle.executor.specs.declared.journey.Transaction.{Transaction}
 use Rattle.executor.specs.declared.release.GivenBack.{GivenBack}
 use Rattle.executor.specs.declared.release.GivenBack.TheVariants.{Settle, Undo}
 use Rattle.executor.specs.declared.release.Release.{Release}
 use Rattle.executor.specs.Courses.{Keeping}
-use Rattle.executor.specs.Journeys.{CanAllBeSettled, CanAllBeUndone}
 use Rattle.executor.specs.Givings.{giving}
-use Rattle.executor.specs.Answers.{Returning, Telling, returning, telling}
+use Rattle.executor.specs.Answers.{Returning, returning, telling}
 
 -- the claims go back as they are to: settled, or to be taken back
 abbrev pub IsGivenFor : {J : Type 0} → ℕ → Bool → List Claiming → GivenBack J → Type 0

@@ -1,6 +1,5 @@
 -- What a report does to its phase.
-use Rattle.std.specs.Prelude.{◌≡◌, ℕ, ◌≤◌, List, [], ◌∷◌, Option, Some, None, length, map}
-use Rattle.std.specs.List.{slice_get, slice_set}
+use Rattle.std.specs.Prelude.{◌≡◌, ◌≤◌, Some, length, map}
 use Rattle.rendezvous.specs.Awaited.{awaited_from}
 use Rattle.executor.specs.Carrying.{Reporting}
 use Rattle.executor.specs.Phases.{Phasing, AwaitsNumber, with_report}

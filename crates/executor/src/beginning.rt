@@ -1,5 +1,5 @@
 //! A phase begins.
-ghost use Rattle.std.specs.Prelude.{◌≡◌, ◌<◌, ◌≤◌, ◌+◌, [], All, length, vec_capacity, IfOk, IfErr, Some};
+ghost use Rattle.std.specs.Prelude.{◌≡◌, ◌<◌, ◌≤◌, ◌+◌, [], length, vec_capacity, IfOk, IfErr};
 ghost use Rattle.executor.specs.Begins.{awaiting_all, errand_at, errands_of};
 ghost use Rattle.executor.specs.Carrying.{IsCarriedAt, IsWorkAt, action_at, course_of};
 ghost use Rattle.executor.specs.Courses.{keeping};

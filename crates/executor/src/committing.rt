@@ -1,11 +1,10 @@
 //! A transaction is logged.
-ghost use Rattle.std.specs.Prelude.{◌≡◌, ◌↔◌, ◌≤◌, ◌∷◌, ◌++◌, [], All, IfErr, IfOk, length, map};
+ghost use Rattle.std.specs.Prelude.{◌≡◌, ◌≤◌, ◌∷◌, ◌++◌, [], All, IfErr, IfOk, length, map};
 ghost use Rattle.requests.specs.Check.{IsAccepted};
 ghost use Rattle.tickets.specs.Claims.{all_claims};
 ghost use Rattle.commit_log.specs.Claimed.{IsCarriedOut, claims_logged};
 ghost use Rattle.commit_log.specs.Items.{item};
 ghost use Rattle.commit_log.specs.Passing.{after_item, after_refusal};
-ghost use Rattle.executor.specs.Answers.{IsToldBy};
 ghost use Rattle.executor.specs.Commits as spec;
 ghost use Rattle.executor.specs.Commits.{Commits, committing};
 ghost use Rattle.executor.specs.Journeys.{AreUndoneBy, IsAskedBy};

@@ -1,6 +1,5 @@
 //! The course of a transaction: how far it has come, as its actions and whoever keeps it agree.
 ghost use Rattle.std.specs.Prelude.{◌≡◌, ◌+◌, ◌-◌, ◌<◌, ◌≤◌, IfOk, vec_len, vec_capacity};
-ghost use Rattle.atomic_table.specs.Seated.{TableId};
 ghost use Rattle.executor.specs.Courses.{AreSpent, course, course_agreement, keeping, no_course, sharing};
 
 use crate::CourseNames;

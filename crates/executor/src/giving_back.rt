@@ -1,6 +1,5 @@
 //! The claims of an action on their way back to the slice of their warehouse.
-ghost use Rattle.std.specs.Prelude.{◌≡◌, ◌≤◌, ◌∷◌, length};
-ghost use Rattle.tickets.specs.Claims.{Claiming};
+ghost use Rattle.std.specs.Prelude.{◌≡◌};
 ghost use Rattle.executor.specs.Givings.{home_of_claims};
 
 use crate::CourseNames;

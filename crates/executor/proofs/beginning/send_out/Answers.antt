@@ -1,4 +1,4 @@
-use Rattle.std.proofs.Common.{◌≡◌, ◌+◌, ◌≤◌, ◌∷◌, ◌∙◌, List, Option, sym, ap, subst, length, arith}
+use Rattle.std.proofs.Common.{◌≡◌, ◌+◌, ◌∙◌, List, Option, sym, ap, subst, length, arith}
 use Rattle.transactions.specs.declared.work.Work.{Work}
 use Rattle.executor.specs.declared.course.Course.{Course}
 use Rattle.executor.specs.Begins.{errand_at, errands_of}

@@ -1,5 +1,5 @@
-use Rattle.std.proofs.Common.{◌≡◌, sym, ap, ◌∙◌, subst, arith}
-use Rattle.executor.specs.Courses.{AreSpent, course_agreement}
+use Rattle.std.proofs.Common.{sym, ap, ◌∙◌, subst, arith}
+use Rattle.executor.specs.Courses.{AreSpent}
 use Rattle.executor.proofs.Shares.{spent_push}
 use Rattle.executor.proofs.course.spare_seats.Goals as goal
 

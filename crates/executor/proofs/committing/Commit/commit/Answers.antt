@@ -1,4 +1,4 @@
-use Rattle.std.proofs.Common.{List, ◌∙◌, sym, subst}
+use Rattle.std.proofs.Common.{List, sym, subst}
 use Rattle.tickets.specs.Claims.{Claiming}
 use Rattle.executor.specs.Answers.{AreGiven}
 use Rattle.executor.specs.Commits.{is_settled}

@@ -1,4 +1,4 @@
-use Rattle.std.proofs.Common.{◌≡◌, ◌+◌, ◌-◌, ◌++◌, ◌∷◌, [], length, length-append, sym, ap, ◌∙◌, arith}
+use Rattle.std.proofs.Common.{◌≡◌, ◌+◌, ◌-◌, ◌∷◌, [], length, length-append, sym, ap, ◌∙◌, arith}
 use Rattle.executor.proofs.Shares.{given, keeps, spent_pop}
 use Rattle.executor.proofs.course.Keeper.give.Goals as goal
 

@@ -1,4 +1,4 @@
-use Rattle.std.proofs.Common.{◌≡◌, ◌≤◌, ◌+◌, ◌-◌, ◌++◌, ◌∷◌, [], length, length-append, sym, ap, ◌∙◌, subst, arith}
+use Rattle.std.proofs.Common.{◌≡◌, ◌≤◌, ◌+◌, ◌∷◌, [], length, length-append, sym, ap, ◌∙◌, subst, arith}
 use Rattle.executor.specs.Courses.{AreSpent}
 use Rattle.executor.proofs.Shares.{keeps, spent_push}
 use Rattle.executor.proofs.course.Keeper.take.Goals as goal

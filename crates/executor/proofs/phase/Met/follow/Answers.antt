@@ -1,4 +1,4 @@
-use Rattle.std.proofs.Common.{◌≡◌, ◌≤◌, ◌+◌, ◌∙◌, ◌++◌, length, List, None, Option, refl, sym, ap, subst}
+use Rattle.std.proofs.Common.{◌≡◌, ◌≤◌, ◌+◌, ◌∙◌, ◌++◌, length, List, sym, ap, subst}
 use Rattle.std.specs.Prelude.{All}
 use Rattle.partitions.specs.Parts.{shared_of}
 use Rattle.tickets.specs.Claims.{Claiming}
@@ -8,7 +8,7 @@ use Rattle.executor.specs.declared.following.Following.{Following}
 use Rattle.executor.specs.declared.following.Following.TheVariants.{Over}
 use Rattle.executor.specs.Journeys.{AreUndoneBy, Journeying, journeying}
 use Rattle.executor.specs.Phases.{AreAllRans, Meeting}
-use Rattle.executor.specs.Sorted.{found_in, held_in, refusal_of}
+use Rattle.executor.specs.Sorted.{found_in, held_in}
 use Rattle.executor.specs.Released.{refused}
 use Rattle.executor.specs.Followed.{Follows, Gathers, HasMetUnder, KeepsWhole, transaction_of}
 use Rattle.executor.proofs.Onward.{follows_gathered, follows_refused, met_under, none_before, room_then, undone_then}

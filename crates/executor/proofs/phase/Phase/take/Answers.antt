@@ -1,11 +1,11 @@
-use Rattle.std.proofs.Common.{◌≡◌, ◌-◌, List, Option, None, Some, sym, ap, ◌∙◌, subst}
-use Rattle.std.specs.Prelude.{slice_get, slice_set}
+use Rattle.std.proofs.Common.{◌-◌, List, Option, sym, ap, ◌∙◌, subst}
+use Rattle.std.specs.Prelude.{slice_get}
 use Rattle.transactions.specs.declared.acting.Ran.{Ran}
 use Rattle.partitions.specs.Parts.{shared_of}
 use Rattle.executor.specs.Courses.{Keeping}
 use Rattle.executor.specs.Carrying.{Reporting}
 use Rattle.executor.specs.Journeys.{Journeying}
-use Rattle.executor.specs.Phases.{CarriesMeeting, CarriesPhase, Phasing, come_with, with_report}
+use Rattle.executor.specs.Phases.{CarriesMeeting, CarriesPhase, Phasing, with_report}
 use Rattle.executor.proofs.Phases.{meets, takes_report}
 use Rattle.executor.proofs.phase.Phase.take.Given as given
 use Rattle.executor.proofs.phase.Phase.take.Goals as goal

@@ -1,4 +1,4 @@
-use Rattle.std.proofs.Common.{◌≡◌, ◌∙◌, List, sym, ap}
+use Rattle.std.proofs.Common.{◌∙◌, List, sym, ap}
 use Rattle.transactions.specs.declared.acting.Ran.{Ran}
 use Rattle.executor.specs.Sorted.{refusal_of}
 use Rattle.executor.proofs.SortedOut.{none_left}
