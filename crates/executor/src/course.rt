@@ -1,5 +1,5 @@
 //! The course of a transaction: how far it has come, as its actions and whoever keeps it agree.
-ghost use Rattle.std.specs.Prelude.{◌≡◌, ◌+◌, ◌-◌, ◌<◌, ◌≤◌, IfOk, vec_len, vec_capacity};
+ghost use Rattle.std.specs.Prelude.{◌≡◌, ◌↔◌, ◌+◌, ◌-◌, ◌<◌, ◌≤◌, IfOk, IsTrue, vec_len, vec_capacity};
 ghost use Rattle.executor.specs.Courses.{AreSpent, course, course_agreement, keeping, no_course, sharing};
 
 use crate::CourseNames;
@@ -159,6 +159,13 @@ impl<J: CourseNames> Keeper<J> {
         ensures { result ≡ self.now.slot }
     {
         self.slot
+    }
+
+    /// Whether it has all shares: no action of a transaction is under way there.
+    pub fn is_whole(&self) -> bool
+        ensures { IsTrue result ↔ (self.now.out ≡ 0) }
+    {
+        self.spare.len() == MOST_ACTIONS
     }
 
     /// A share goes out, with an action.
