@@ -1,5 +1,5 @@
 -- A transaction is logged.
-use Rattle.std.specs.Prelude.{◌≡◌, ◌⊎◌, ℕ, Bool, true, false, List, [], ◌∷◌, ◌++◌, All, length, map}
+use Rattle.std.specs.Prelude.{◌≡◌, ◌⊎◌, ◌<◌, ◌≤◌, ℕ, Bool, true, false, List, [], ◌∷◌, ◌++◌, All, length, map}
 use Rattle.schema.specs.Database.{Database}
 use Rattle.requests.specs.declared.request.Request.{Request}
 use Rattle.requests.specs.declared.reply.Reply.{Reply}
@@ -8,6 +8,7 @@ use Rattle.requests.specs.declared.answer.Answer.TheVariants.{Done, Refused}
 use Rattle.requests.specs.declared.refusal.Refusal.{Refusal}
 use Rattle.requests.specs.declared.refusal.Refusal.TheVariants as refusal
 use Rattle.requests.specs.Check.{IsAccepted}
+use Rattle.requests.specs.Replies.{ShowsLines}
 use Rattle.tickets.specs.Claims.{Claiming, all_claims}
 use Rattle.commit_log.specs.declared.entry.Entry.{Entry}
 use Rattle.commit_log.specs.declared.log_book.AppendFault.{AppendFault}
@@ -72,8 +73,11 @@ module _ {J : Type 0} where
   abbrev pub refusing : Committing → Passing → Refusal → Release J
   refusing c pass why = record { told = telling c.age c.number pass (Refused why); returns = returning c.slot false c.held; keeper = c.keeper }
 
-  -- The log has the entry more, at its end; or it refused it, and is as it was.
+  -- The log has the entry more, at its end; or it refused it, and is as it was. A full log refuses every entry; but there may be no
+  -- memory for an answer that shows the lines of an order.
   abbrev pub Commits : Committing → List Entry → Release J → List Entry → Type 0
   Commits c old release new =
-      ((release ≡ logging c (length old)) × (new ≡ old ++ entry_committed c ∷ []))
-      ⊎ ((why : AppendFault) × ((release ≡ refusing c (after_refusal why (length old) c.pass) (why_refused why)) × (new ≡ old)))
+      ((length old < 16777216) × ((release ≡ logging c (length old)) × (new ≡ old ++ entry_committed c ∷ [])))
+      ⊎ ((why : AppendFault) × ((why ≡ fault.LogFull → 16777216 ≤ length old)
+      × ((16777216 ≤ length old → (why ≡ fault.LogFull) ⊎ ShowsLines c.shown)
+      × ((release ≡ refusing c (after_refusal why (length old) c.pass) (why_refused why)) × (new ≡ old)))))

@@ -1,5 +1,5 @@
 //! A transaction is logged.
-ghost use Rattle.std.specs.Prelude.{◌≡◌, ◌≤◌, ◌∷◌, ◌++◌, [], All, IfErr, IfOk, length, map};
+ghost use Rattle.std.specs.Prelude.{◌≡◌, ◌<◌, ◌≤◌, ◌↔◌, ◌∷◌, ◌++◌, [], All, IfErr, IfOk, length, map};
 ghost use Rattle.requests.specs.Check.{IsAccepted};
 ghost use Rattle.tickets.specs.Claims.{all_claims};
 ghost use Rattle.commit_log.specs.Claimed.{IsCarriedOut, claims_logged};
@@ -143,12 +143,13 @@ fn append<J: CourseNames>(
     requires request { pass.asks.request ≡ entry.request }
     requires accepted { IsAccepted J.opening.scale entry.request }
     requires carried_out { IsCarriedOut J.opening entry.request (all_claims held.old) entry.reply }
-    ensures entry { IfOk result (λ done. log.new ≡ log.old ++ entry ∷ []) }
+    ensures entry { IfOk result (λ done. (length log.old < 16777216) × (log.new ≡ log.old ++ entry ∷ [])) }
     ensures place { IfOk result (λ done. done.0 ≡ length log.old) }
     ensures later { IfOk result (λ done. pass.seen ≤ done.0) }
     ensures pass { IfOk result (λ done. done.1 ≡ after_item pass (item done.0 entry.number entry.request entry.reply)) }
     ensures held { IfOk result (λ done. held.new ≡ map (claims_logged entry.reply) held.old) }
     ensures err { IfErr result (λ refused. (log.new ≡ log.old) × (held.new ≡ held.old)) }
+    ensures full { IfErr result (λ refused. (refused.0 ≡ AppendFault.LogFull) ↔ (16777216 ≤ length log.old)) }
     ensures refused { IfErr result (λ refused. refused.1 ≡ after_refusal refused.0 (length log.old) pass) }
 {
     log.append(&mut held.places, pass, entry)
