@@ -1,16 +1,18 @@
 ghost use Rattle.std.specs.Prelude.{◌≡◌, ◌≤◌, ◌<◌, ◌↔◌, [], ◌∷◌, ◌++◌, length, map, All, IfOk, IfErr, IsErrAnd};
 ghost use Rattle.requests.specs.Check.{IsAccepted};
 ghost use Rattle.groups.specs.Content.{content};
-ghost use Rattle.machine.specs.Machine.{replies};
+ghost use Rattle.machine.specs.Machine.{replies, tables_after};
 ghost use Rattle.tickets.specs.Claims.{all_claims};
+ghost use Rattle.tickets.specs.Committed.{Tells};
 ghost use Rattle.tickets.specs.LogSeats.{IsToldIn, SeatsTell};
 ghost use Rattle.commit_log.specs.Claimed.{claims_logged, seats_logged, IsCarriedOut};
-ghost use Rattle.commit_log.specs.Items.{item};
+ghost use Rattle.commit_log.specs.Items.{item, items_of};
 ghost use Rattle.commit_log.specs.Log.{replies_of, requests_of};
 ghost use Rattle.commit_log.specs.Passing.{after_item, after_refusal};
 
 use crate::{AppendFault, Entry, LogBook, MOST_ENTRIES, Names, Pass};
 use requests::Reply;
+use schema::NoMemory;
 use std::marker::Model;
 use tickets::{Claims, LogSeats};
 
@@ -104,6 +106,34 @@ impl<J: Names> Log<J> {
         } = entry;
         self.book.log(&mut pass, number, request, reply);
         Ok((place, pass))
+    }
+
+    /// Makes room for so many entries more, as far as a log has them: they take no memory then. An error
+    /// changes nothing.
+    pub fn reserve(&mut self, entries: usize) -> Result<(), NoMemory>
+        ensures { self.new ≡ self.old }
+    {
+        self.book.reserve(entries)
+    }
+
+    /// Learns that the log has reached what the pass knows, and that the pass tells exactly what its
+    /// session has logged. Both stay as they were.
+    pub fn audit(&mut self, pass: &mut Pass<J>)
+        ensures seen { pass.old.seen ≤ pass.old.reached }
+        ensures reached { pass.old.reached ≤ length self.old }
+        ensures mine { pass.old.mine ≡ items_of pass.old.session self.old }
+        ensures same { (self.new ≡ self.old) × (pass.new ≡ pass.old) }
+    {
+        self.book.audit(pass);
+    }
+
+    /// Learns that claims, those of each action together, tell what the tables have that the log's
+    /// transactions have left. Both stay as they were.
+    pub fn look(&mut self, claims: &mut [Claims<J>])
+        ensures told { Tells (content (tables_after J.opening (requests_of self.old))) (all_claims claims.old) }
+        ensures same { (self.new ≡ self.old) × (claims.new ≡ claims.old) }
+    {
+        self.seats.look_each(claims);
     }
 }
 

@@ -140,6 +140,14 @@ impl<J: LogNames> LogBook<J> {
         }
     }
 
+    /// Makes room for so many entries more, as far as a log has them. An error changes nothing.
+    pub fn reserve(&mut self, entries: usize) -> Result<(), NoMemory>
+        ensures { self.new.entries ≡ self.old.entries }
+    {
+        let left = MOST_ENTRIES.saturating_sub(self.entries.len());
+        Ok(self.entries.reserve(entries.min(left))?)
+    }
+
     /// Logs what the pass asks with its reply, in the room that was made: the log has this entry more,
     /// and the pass has seen it.
     pub fn log(&mut self, pass: &mut Pass<J>, number: u32, request: Request, reply: Reply)
