@@ -11,8 +11,6 @@ use Rattle.std.proofs.lemmas.Map.Views.{exact_unsigned_eq}
 use Rattle.partitions.specs.Parts.{Shared}
 use Rattle.schema.specs.Database.{Database}
 use Rattle.requests.specs.declared.group.Group.{Group}
-use Rattle.groups.specs.declared.wishes.Wish.{Wish}
-use Rattle.groups.specs.Groups.{is_same}
 use Rattle.tickets.specs.Claims.{Claiming, all_claims}
 use Rattle.wait_die.specs.declared.deciding.Holder.{Holder}
 use Rattle.commit_log.specs.declared.entry.Entry.{Entry}
@@ -33,12 +31,11 @@ use Rattle.local_locks.specs.Asking.{StillWaits}
 use Rattle.local_locks.specs.Conflicts.{MustWait}
 use Rattle.local_locks.specs.Locking.{Holding, Waiting}
 use Rattle.local_locks.proofs.Members.{contains_here, contains_joined}
-use Rattle.transactions.specs.Granted.{wish_of}
 use Rattle.transactions.specs.Laws.{TransactionsClaimEachGroupOnce}
-use Rattle.transactions.specs.Progresses.{IsReached, works_of}
+use Rattle.transactions.specs.Progresses.{works_of}
 use Rattle.transactions.specs.Works.{all_wishes, home_of, wants_of, wishes_of}
 use Rattle.transactions.proofs.Held.{HoldsWished, dies_of_holder}
-use Rattle.transactions.proofs.Reached.{counted, some_actions}
+use Rattle.transactions.proofs.Reached.{some_actions}
 use Rattle.rendezvous.specs.Awaited.{awaited_from, reported}
 use Rattle.slices.specs.Sliced.{Sliced, held_at}
 use Rattle.world.specs.declared.desk.Active.{Active}
@@ -67,7 +64,7 @@ use Rattle.world.proofs.Stationed.{holds, stands_among}
 use Rattle.world.proofs.Balances.{in_inbox, in_outbox, in_meeting, message_taken}
 use Rattle.world.proofs.Executing.{fits_first, first_sound, has_queue, taken_from}
 use Rattle.world.proofs.Apart.{others}
-use Rattle.world.proofs.OnGroups.{wishes_on, claims_on, one_wish_on, one_claim_on, done_on, claimed, wished}
+use Rattle.world.proofs.OnGroups.{claimed_once, wishes_on, claims_on, one_wish_on, one_claim_on, done_on, claimed, wished}
 use Rattle.world.proofs.Reported.{met_tokens}
 use Rattle.world.proofs.Taking.{message_in_hand}
 use Rattle.world.proofs.Courses.{messages_stay, items_stay}
@@ -250,21 +247,6 @@ module _ (u : UnderWay) (group : Group) where
             )
 
 -- ---- all that is under way
-
--- of what the transaction holds, and what its actions wish for, one at most is for a group
-claimed_once : (once : TransactionsClaimEachGroupOnce) (shared : Shared) (u : UnderWay) (group : Group)
-    → IsReached shared u.request u.progress u.held
-    → claims_on group (all_claims u.held) + wishes_on group (all_wishes (works_of u.progress)) ≤ 1
-claimed_once once shared u group reached =
-    let held = all_claims u.held in
-    let wishes = all_wishes (works_of u.progress) in
-    omega (
-      arith,
-      once shared u.request u.progress u.held reached group,
-      counted (is_same group) (λ (wish : Wish). wish.group) (map wish_of held ++ wishes),
-      sum_by-append (one_wish_on group) (map wish_of held) wishes,
-      counted (λ (wish : Wish). is_same group wish.group) wish_of held,
-    )
 
 module _ {J : Type 0} where
   tokens_weigh : (f : Token → ℕ) (w : Parts J)
@@ -450,7 +432,7 @@ module _ {J : Type 0} where
       let at = follow.1.0 in
       absurd (omega (arith, at.happened.inside, ap (λ (ps : List (Parked (Carried J))). length ps) (none at.was at.there)))
 
-  pushes_tell_none : (place age slot : ℕ) (carried : Option (Flow J)) (works : List Work) → All TellsNoDeath (acts_from {J = J} place age slot carried works)
+  pub pushes_tell_none : (place age slot : ℕ) (carried : Option (Flow J)) (works : List Work) → All TellsNoDeath (acts_from {J = J} place age slot carried works)
   pushes_tell_none place age slot carried [] = All-nil TellsNoDeath
   pushes_tell_none place age slot carried (work ∷ works) = All-cons TellsNoDeath _ (acts_from (place + 1) age slot None works) tt (pushes_tell_none (place + 1) age slot None works)
 

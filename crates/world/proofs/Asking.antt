@@ -35,11 +35,12 @@ use Rattle.world.specs.declared.flight.Report.{Report}
 use Rattle.world.specs.declared.world.Parts.{Parts}
 use Rattle.world.specs.Parted.{AreUndoneBy, joined_in}
 use Rattle.world.specs.Flights.{Token, Acting, nothing, join, parts, part_message, part_met, acting_from, unanswered_transaction}
-use Rattle.world.specs.Sound.{Courses, UnderWay, IsSoundWith, IsSoundStart, IsSoundPhase, IsSoundMessage, AreSoundActive, IsBalanced, IsPassOf, flight, is_here}
-use Rattle.world.specs.Worlds.{FitsPart, Fits, Admits, refuses, tables_now}
+use Rattle.world.specs.Sound.{Courses, HaveTheirAges, UnderWay, IsSoundWith, IsSoundStart, IsSoundPhase, IsSoundMessage, AreSoundActive, IsBalanced, IsPassOf, flight, is_here}
+use Rattle.world.specs.Worlds.{FitsPart, Fits, Admits, refuses, tables_now, IsAcceptedIn, IsClaimOf}
 use Rattle.world.proofs.Joins.{IsSame, same-refl, same-sym, same-trans, same-join}
 use Rattle.world.proofs.Balances.{message_put, balanced_same, held_same}
 use Rattle.world.proofs.Fitting.{fits_same, fits_admission}
+use Rattle.world.proofs.Ages.{ages_admitted}
 use Rattle.world.proofs.Courses.{course_on, course_here}
 use Rattle.world.proofs.OneSlot.{lots, without, awaited_then, flight_apart, flight_with, sound_then}
 use Rattle.world.proofs.Puts.{Rests, rests_of, rests_with}
@@ -146,7 +147,7 @@ module _ {J : Type 0} where
     same = flight_apart w slot None a.free
 
     rests : Rests shared at slot w
-    rests = rests_with shared h.under_way slot w u (rests_of shared nothing w h slot None a.free (λ weight. refl))
+    rests = rests_with shared h.under_way slot w u (λ x there. let free = a.free in absurd (cc)) (rests_of shared nothing w h slot None a.free (λ weight. refl))
 
     below : slot < length w.desk.active
     below = subst (λ n. slot < n) (sym rests.slots) rests.below
@@ -271,6 +272,8 @@ module _ {J : Type 0} where
           slots = length-set w.desk.active slot begun ∙ h.slots;
           active = subst (λ (l : List (Option (Active J))). AreSoundActive shared at 0 l) (set-set w.desk.active slot None begun)
               (sound_then shared at at slot (without slot w.desk.active) begun (λ m other. refl) rests.others (subst (λ x. IsSoundPhase shared slot x 0 slots) (sym now) sound_phase));
+          ages = subst (λ n. HaveTheirAges at n (slice_set w.desk.active slot begun)) (sym a.admitted)
+              (ages_admitted at w.desk.admitted slot w.desk.active (active.Acting 0 slots) (ap (λ (x : UnderWay). x.age) now ∙ a.age) rests.ages);
           seats = ap (λ (l : List (SessionDesk J)). length l) a.sessions ∙ length-set w.desk.sessions.items place session ∙ h.seats;
           sessions = subst (λ l. AreInPlace l) (sym a.sessions) placed;
           balance = balanced_same with_desk.desk (join (part_message message) rest) (flight next) one_more balance;
@@ -300,6 +303,8 @@ module _ {J : Type 0} where
           told = subst (λ (x : Unanswered). HistoryFits opening steps w.log (tables_now opening w.log) (w.desk.admitted + 1) (x ∷ rest.pending)) (sym is_t) after.told;
           committed = subst (λ (cs : List Claiming). AreCommitted everywhere (content (tables_now opening w.log)) (all_standing (joined_in w)) (cs ++ rest.claims)) (sym none_held) after.committed;
           held = subst (λ (cs : List Claiming). AreAllHeld (joined_in w).holdings (cs ++ rest.claims)) (sym none_held) after.held;
+          accepted = subst (λ (x : Unanswered). All (IsAcceptedIn steps) (x ∷ rest.pending)) (sym is_t) after.accepted;
+          claimed = subst (λ (cs : List Claiming). All (IsClaimOf steps) (cs ++ rest.claims)) (sym none_held) after.claimed;
           scale = after.scale;
           items = after.items;
         } in

@@ -1,5 +1,5 @@
 -- An action has given back what it held.
-use Rattle.std.proofs.Common.{◌≡◌, ℕ, ◌+◌, ◌-◌, ◌≤◌, zero, suc, [], ◌∷◌, Some, refl, sym, ◌∙◌, ap, subst, arith}
+use Rattle.std.proofs.Common.{◌≡◌, ℕ, ◌-◌, ◌≤◌, zero, suc, [], ◌∷◌, Some, refl, sym, ◌∙◌, ap, subst, arith}
 use Rattle.std.specs.Prelude.{replicate}
 use Rattle.std.specs.List.{slice_get, sum_by}
 use Rattle.std.proofs.lemmas.List.Sorted.{IsPermutation-refl}
@@ -32,7 +32,7 @@ module _ {J : Type 0} (shared : Shared) (slot : ℕ) (w : Parts J) (h : IsSoundW
       let sound : IsSoundActive {J = J} shared slot u (Some (active.Ending (suc n))) = sound_in shared h.under_way slot w.desk.active (Some (active.Ending (suc n))) h.active is in
       let none = parts part_met (reported_to {J = J} (ending n)) in
       let met_none : part [] [] [] ≡ none = ap (λ rs. parts part_met rs) (sym (nothing_met J n)) in
-      joins_on shared (part_ended slot) w h slot (Some (active.Ending (suc n))) (ending n) is
+      joins_on shared (part_ended slot) w h slot (Some (active.Ending (suc n))) (ending n) is (active.Ending (suc n), refl)
       (ending_sound J shared slot u n (omega (arith, sound.1)))
       (λ weight. omega (arith, ap (λ ts. sum_by weight ts) (ending_awaits J slot n), sum_by-cons weight (Ending slot) [], sum_by-cons weight (Ending slot) (replicate n (Ending slot))))
       (subst (λ (p : InFlight). IsPermutation [] p.claims) met_none (IsPermutation-refl []))

@@ -15,6 +15,7 @@ use Rattle.tickets.specs.Claims.{Claiming}
 use Rattle.groups.specs.Groups.{warehouse_of}
 use Rattle.slices.specs.Sliced.{AreOfOneHome, AreSlicesOf}
 use Rattle.transactions.specs.declared.laws.TheConstants.{MOST_ACTIONS}
+use Rattle.transactions.specs.Laws.{TransactionsClaimEachGroupOnce}
 use Rattle.history.specs.declared.event.Event.{Event}
 use Rattle.history.specs.declared.event.Event.TheVariants.{Submit, Take, Send}
 use Rattle.history.specs.declared.event.EventAnswer.{EventAnswer}
@@ -225,11 +226,11 @@ module _ {J : Type 0} where
             omega (arith, has_room shared (part_message m) (seen left (rest ++ messages) items) hand.0, length-append items outbox, length-append waiting (rest ++ messages)),
           )
 
-      pub takes_at : (parts : Parts J) → TakesMessage m left parts → All (IsStationOf shared.scale.warehouses) parts.stations.items → (executor : ℕ)
+      pub takes_at : TransactionsClaimEachGroupOnce → (parts : Parts J) → TakesMessage m left parts → All (IsStationOf shared.scale.warehouses) parts.stations.items → (executor : ℕ)
           → IsSound shared (put_back from to parts w) × Advances (together w) (step (Take executor) Took ∷ []) (together (put_back from to parts w))
-      takes_at parts said stations executor =
+      takes_at once parts said stations executor =
           let hand = in_the_hand in
-          let goes = takes_on shared (rest ++ messages) items m left parts hand.0 hand.1 said in
+          let goes = takes_on once shared (rest ++ messages) items m left parts hand.0 hand.1 said in
           let next : Parts J = seen parts (rest ++ messages) items in
           let ms = waiting_in parts ++ (rest ++ messages) in
           let left_is : parts.inbox ≡ rest = takes_inbox m left parts said in
@@ -346,13 +347,13 @@ module _ {J : Type 0} (shared : Shared) (w : Core J) (h : IsSound shared w) wher
     pub stations_are : All (IsStationOf shared.scale.warehouses) mid.parts.stations.items
     stations_are = subst (λ (c : Core J). All (IsStationOf shared.scale.warehouses) c.parts.stations.items) (sym mid_is) h.stations
 
-    pub taken : (parts : Parts J) (new : Core J) → TakesMessage m (record mid.parts { inbox = rest }) parts → All (IsStationOf shared.scale.warehouses) parts.stations.items → new ≡ exchanging executor executor (record mid { parts = parts })
+    pub taken : TransactionsClaimEachGroupOnce → (parts : Parts J) (new : Core J) → TakesMessage m (record mid.parts { inbox = rest }) parts → All (IsStationOf shared.scale.warehouses) parts.stations.items → new ≡ exchanging executor executor (record mid { parts = parts })
         → IsSound shared new × (Advances (together w) (step (Take executor) Took ∷ []) (together new) × Happens (Take executor) w Took new)
-    taken parts new said stations new_is =
+    taken once parts new said stations new_is =
         let given = subst (λ (c : Core J). TakesMessage m (record c.parts { inbox = rest }) parts) mid_is said in
         let is : new ≡ put_back executor executor parts w =
         new_is ∙ ap (λ (c : Core J). exchanging executor executor (record c { parts = parts })) mid_is ∙ exchanged_back executor executor w parts there.0 there.1 h.no_inbox h.no_outbox in
-        let both = takes_at shared w h executor executor there.0 there.1 m rest waits_first parts given stations executor in (
+        let both = takes_at shared w h executor executor there.0 there.1 m rest waits_first once parts given stations executor in (
           subst (λ (v : Core J). IsSound shared v) (sym is) both.0,
           (
             subst (λ (v : Core J). Advances (together w) (step (Take executor) Took ∷ []) (together v)) (sym is) both.1,

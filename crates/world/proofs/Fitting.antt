@@ -2,7 +2,8 @@
 use Rattle.std.proofs.Common.{◌≡◌, ℕ, ◌+◌, List, [], ◌∷◌, ◌++◌, length, None, refl, sym, ◌∙◌, ap, subst}
 use Rattle.std.specs.Prelude.{All, count_by}
 use Rattle.std.specs.List.Sorted.{IsPermutation}
-use Rattle.std.proofs.lemmas.List.Elements.{All-weaker}
+use Rattle.std.proofs.lemmas.List.Elements.{All-append, All-cons, All-tail, All-weaker, Contains-append_left, Contains-push}
+use Rattle.std.proofs.lemmas.List.Sorted.{All-permutation}
 use Rattle.schema.specs.Database.{Database}
 use Rattle.requests.specs.declared.group.Group.{Group}
 use Rattle.requests.specs.declared.request.Request.{Request}
@@ -31,13 +32,31 @@ use Rattle.local_locks.specs.Locking.{Holding}
 use Rattle.slices.specs.Sliced.{AreAllHeld, Joined, SlicesKeep, all_standing, everywhere}
 use Rattle.slices.proofs.Held.{held_in_any_order, settled_held}
 use Rattle.world.specs.Flights.{InFlight, part, join}
-use Rattle.world.specs.Worlds.{FitsPart, tables_now}
+use Rattle.world.specs.Worlds.{FitsPart, IsAcceptedIn, IsClaimOf, WasAccepted, tables_now}
 use Rattle.world.proofs.Joins.{IsSame}
 
 -- and its claims are out as before
 pub logged_held : (shown : Reply) (holdings : ℕ → List Holding) (own others : List Claiming) → AreAllHeld holdings (own ++ others) → AreAllHeld holdings (claims_logged shown own ++ others)
 logged_held (reply.Done shown) holdings own others held = λ w_id. subst (IsPermutation (holdings w_id)) (sym (settled_held w_id own others)) (held w_id)
 logged_held (reply.RolledBack fault) holdings own others held = held
+
+-- ---- a history goes on
+
+-- what it told it tells
+pub accepted_still : (history : List Step) (s : Step) (age : ℕ) (asked : Request) → WasAccepted history age asked → WasAccepted (history ++ s ∷ []) age asked
+accepted_still history s age asked h = (h.0, (h.1.0, Contains-append_left history (s ∷ []) (step (Submit h.0 h.1.0 asked) (Accepted age)) h.1.1))
+
+pub all_accepted : (history : List Step) (s : Step) (us : List Unanswered) → All (IsAcceptedIn history) us → All (IsAcceptedIn (history ++ s ∷ [])) us
+all_accepted history s us h = All-weaker (IsAcceptedIn history) (IsAcceptedIn (history ++ s ∷ [])) (λ u is. accepted_still history s u.age u.request is) us h
+
+pub all_claimed : (history : List Step) (s : Step) (claims : List Claiming) → All (IsClaimOf history) claims → All (IsClaimOf (history ++ s ∷ [])) claims
+all_claimed history s claims h =
+    All-weaker (IsClaimOf history) (IsClaimOf (history ++ s ∷ [])) (λ claim is. (is.0, (accepted_still history s claim.by.age is.0 is.1.0, is.1.1))) claims h
+
+-- what stands behind
+pub All-behind : {X : Type 0} (P : X → Type 0) (xs ys : List X) → All P (xs ++ ys) → All P ys
+All-behind P [] ys h = h
+All-behind P (x ∷ xs) ys h = All-behind P xs ys (All-tail P x (xs ++ ys) h)
 
 module _ (opening : Database) (history : List Step) (log : List Entry) where
   -- whatever the order
@@ -46,6 +65,8 @@ module _ (opening : Database) (history : List Step) (log : List Entry) where
     told = unanswered_in_any_order opening history log (tables_now opening log) admitted a.pending b.pending same.pending h.told;
     committed = kept.AreCommitted-permutation everywhere (content (tables_now opening log)) (all_standing slices) a.claims b.claims same.claims h.committed;
     held = held_in_any_order slices.holdings a.claims b.claims same.claims h.held;
+    accepted = All-permutation (IsAcceptedIn history) a.pending b.pending same.pending h.accepted;
+    claimed = All-permutation (IsClaimOf history) a.claims b.claims same.claims h.claimed;
     scale = h.scale;
     items = h.items;
   }
@@ -57,17 +78,21 @@ module _ (opening : Database) (history : List Step) (log : List Entry) where
     told = unanswered_in_any_order opening history log (tables_now opening log) admitted a.pending b.pending pending h.told;
     committed = kept.AreCommitted-permutation everywhere (content (tables_now opening log)) (all_standing slices) a.claims b.claims claims h.committed;
     held = held_in_any_order slices.holdings a.claims b.claims claims h.held;
+    accepted = All-permutation (IsAcceptedIn history) a.pending b.pending pending h.accepted;
+    claimed = All-permutation (IsClaimOf history) a.claims b.claims claims h.claimed;
     scale = h.scale;
     items = h.items;
   }
 
   -- work on the rows
-  pub fits_work : (old new : Joined) (admitted : ℕ) (a b rest : InFlight) → SlicesKeep a.claims old b.claims new → b.pending ≡ a.pending
+  pub fits_work : (old new : Joined) (admitted : ℕ) (a b rest : InFlight) → SlicesKeep a.claims old b.claims new → b.pending ≡ a.pending → All (IsClaimOf history) b.claims
       → FitsPart opening history log old admitted (join a rest) → FitsPart opening history log new admitted (join b rest)
-  fits_work old new admitted a b rest keeps pending h = record {
+  fits_work old new admitted a b rest keeps pending claimed h = record {
     told = subst (λ us. HistoryFits opening history log (tables_now opening log) admitted (us ++ rest.pending)) (sym pending) h.told;
     committed = keeps.committed (content (tables_now opening log)) rest.claims h.committed;
     held = keeps.holdings rest.claims h.held;
+    accepted = subst (λ us. All (IsAcceptedIn history) (us ++ rest.pending)) (sym pending) h.accepted;
+    claimed = All-append (IsClaimOf history) b.claims rest.claims claimed (All-behind (IsClaimOf history) a.claims rest.claims h.claimed);
     scale = keeps.scale ∙ h.scale;
     items = keeps.items ∙ h.items;
   }
@@ -79,6 +104,8 @@ module _ (opening : Database) (history : List Step) (log : List Entry) where
     told = quiet_event_fits opening history log (tables_now opening log) admitted a.pending event answer quiet h.told;
     committed = h.committed;
     held = h.held;
+    accepted = all_accepted history (step event answer) a.pending h.accepted;
+    claimed = all_claimed history (step event answer) a.claims h.claimed;
     scale = h.scale;
     items = h.items;
   }
@@ -91,6 +118,9 @@ module _ (opening : Database) (history : List Step) (log : List Entry) where
     told = admission_fits opening history log (tables_now opening log) admitted a.pending session number request none h.told;
     committed = h.committed;
     held = h.held;
+    accepted = let s = step (Submit session number request) (Accepted admitted) in
+        All-cons (IsAcceptedIn (history ++ s ∷ [])) (new_one admitted session number request) a.pending (session, (number, Contains-push history s)) (all_accepted history s a.pending h.accepted);
+    claimed = all_claimed history (step (Submit session number request) (Accepted admitted)) a.claims h.claimed;
     scale = h.scale;
     items = h.items;
   }
@@ -103,6 +133,8 @@ module _ (opening : Database) (history : List Step) (log : List Entry) where
     told = answer_fits opening history log (tables_now opening log) admitted rest.pending executor u answer is h.told;
     committed = h.committed;
     held = h.held;
+    accepted = all_accepted history (step (Send executor) (Answered u.session u.number answer)) rest.pending (All-tail (IsAcceptedIn history) u rest.pending h.accepted);
+    claimed = all_claimed history (step (Send executor) (Answered u.session u.number answer)) claims h.claimed;
     scale = h.scale;
     items = h.items;
   }

@@ -1,10 +1,10 @@
 -- Whose each claim is that is out: a transaction's that is active.
 use Rattle.std.proofs.lemmas.List.Sorted.{length_permutation}
 use Rattle.std.specs.List.Sorted.{IsPermutation}
-use Rattle.std.proofs.Common.{◌≡◌, ℕ, ◌+◌, ◌≤◌, zero, suc, List, [], ◌∷◌, ◌++◌, length, map, Option, Some, None, refl, sym, ap, subst, ◌∙◌, ⊎_elim, arith, Bool, true, false, cond}
+use Rattle.std.proofs.Common.{◌≡◌, ℕ, ◌+◌, ◌≤◌, zero, suc, List, [], ◌∷◌, ◌++◌, length, map, Option, Some, None, refl, sym, ap, subst, ⊎_elim, arith, Bool, true, false, cond}
 use Rattle.std.specs.Prelude.{All, Contains, replicate}
 use Rattle.std.specs.List.{slice_get, sum_by, filter}
-use Rattle.std.proofs.lemmas.List.Elements.{All-append, All-contains, All-head, All-nil, All-tail, Contains-append_cases}
+use Rattle.std.proofs.lemmas.List.Elements.{All-append, All-contains, All-head, All-nil, All-tail, Contains-append_cases, Contains-append_left, Contains-append_right}
 use Rattle.std.proofs.lemmas.List.Sums.{sum_by-append, sum_by-cons}
 use Rattle.partitions.specs.Parts.{Shared}
 use Rattle.tickets.specs.Claims.{Claiming, all_claims}
@@ -30,22 +30,32 @@ use Rattle.world.specs.declared.flight.Report.{Report}
 use Rattle.world.specs.declared.world.Parts.{Parts}
 use Rattle.world.specs.Flights.{InFlight, Token, Acting, Committing, Ending, acting_from, nothing, parts, part_carried, part_item, part_message, part_met}
 use Rattle.world.specs.Parted.{AreUndoneBy, IsAged}
-use Rattle.world.specs.Sound.{Courses, IsCarriedAt, IsSoundActive, IsSoundItem, IsSoundMessage, IsSoundPhase, IsSoundRan, IsSoundReport, IsSoundWith, UnderWay, awaited, awaited_by_all, flight, reported_to, reported_to_all}
+use Rattle.world.specs.Sound.{Courses, IsActiveAt, IsCarriedAt, IsSoundActive, IsSoundItem, IsSoundMessage, IsSoundPhase, IsSoundRan, IsSoundWith, UnderWay, awaited, awaited_by_all, flight, reported_to, reported_to_all}
 use Rattle.world.proofs.Asking.{as_many_from}
 use Rattle.world.proofs.OneSlot.{of_slot, sound_in, weigh_slots}
 use Rattle.world.proofs.Reported.{met_tokens}
 use Rattle.world.proofs.Tokens.{acting_under_way, acting_weighs, commit_under_way, ending_under_way, one_weighs, weigh_acting, weigh_committing, weigh_ending}
+use Rattle.history.specs.History.{Unanswered}
 
 -- ---- parts
 
 -- of what all have, one has it
-whose_claim : {X : Type 0} (f : X → InFlight) (xs : List X) (c : Claiming) → Contains (parts f xs).claims c → (x : X) × (Contains xs x × Contains (f x).claims c)
+pub whose_claim : {X : Type 0} (f : X → InFlight) (xs : List X) (c : Claiming) → Contains (parts f xs).claims c → (x : X) × (Contains xs x × Contains (f x).claims c)
 whose_claim f [] c is = contains_none c is
 whose_claim f (x ∷ xs) c is =
     ⊎_elim
     (λ (first : Contains (f x).claims c). (x, (contains_here x xs, first)))
     (λ (rest : Contains (parts f xs).claims c). let r = whose_claim f xs c rest in (r.0, (contains_there x xs r.0 r.1.0, r.1.1)))
     (Contains-append_cases (f x).claims (parts f xs).claims c is)
+
+-- what one of them has without an answer, all have
+pub in_parts : {X : Type 0} (f : X → InFlight) (xs : List X) (x : X) (u : Unanswered) → Contains xs x → Contains (f x).pending u → Contains (parts f xs).pending u
+in_parts f [] x u is has = contains_none x is
+in_parts f (y ∷ xs) x u is has =
+    ⊎_elim
+    (λ (same : y ≡ x). Contains-append_left (f y).pending (parts f xs).pending u (subst (λ z. Contains (f z).pending u) (sym same) has))
+    (λ (rest : Contains xs x). Contains-append_right (f y).pending (parts f xs).pending u (in_parts f xs x u rest has))
+    (contains_cases y xs x is)
 
 pub whose_token : {X : Type 0} (f : X → InFlight) (weight : Token → ℕ) (xs : List X) → 1 ≤ sum_by weight (parts f xs).tokens → (x : X) × (Contains xs x × (1 ≤ sum_by weight (f x).tokens))
 whose_token {X = X} f weight [] some = absurd (omega (arith, some))
@@ -119,7 +129,7 @@ claim_of w_id (c ∷ claims) holding is =
 
 -- ---- claims of one transaction
 
-all_aged : (age : ℕ) (held : List (List Claiming)) → All (AreUndoneBy age) held → All (IsAged age) (all_claims held)
+pub all_aged : (age : ℕ) (held : List (List Claiming)) → All (AreUndoneBy age) held → All (IsAged age) (all_claims held)
 all_aged age [] h = All-nil (IsAged age)
 all_aged age (claims ∷ held) h =
     All-append (IsAged age) claims (all_claims held) (All-head (AreUndoneBy age) claims held h).1 (all_aged age held (All-tail (AreUndoneBy age) claims held h))
@@ -147,7 +157,7 @@ module _ {J : Type 0} where
 
   -- ---- reports that have met
 
-  reported_at : (slots : List (Option (Report J))) (r : Report J) → Contains (reported slots) r → (number : ℕ) × (slice_get slots number ≡ Some (Some r))
+  pub reported_at : (slots : List (Option (Report J))) (r : Report J) → Contains (reported slots) r → (number : ℕ) × (slice_get slots number ≡ Some (Some r))
   reported_at [] r is = contains_none r is
   reported_at (None ∷ slots) r is = let rest = reported_at slots r is in (suc rest.0, rest.1)
   reported_at (Some q ∷ slots) r is =
@@ -162,7 +172,7 @@ module _ {J : Type 0} where
   met_of (Some active.Committing) r is = contains_none r is
   met_of (Some (active.Ending left)) r is = contains_none r is
 
-  met_at : (slots : List (Option (Active J))) (r : Report J) → Contains (reported_to_all slots) r
+  pub met_at : (slots : List (Option (Active J))) (r : Report J) → Contains (reported_to_all slots) r
       → (slot : ℕ) × ((first : ℕ) × ((places : List (Option (Report J))) × ((slice_get slots slot ≡ Some (Some (active.Acting first places))) × Contains (reported places) r)))
   met_at [] r is = contains_none r is
   met_at (a ∷ slots) r is =
@@ -179,10 +189,6 @@ module _ {J : Type 0} where
   active_awaits shared slot u (active.Ending left) h = omega (arith, ending_all slot left, h.0)
 
   -- ---- whose a claim is
-
-  -- the transaction in some slot, which is active, is of this age
-  abbrev pub IsActiveAt : Courses → List (Option (Active J)) → ℕ → Type 0
-  IsActiveAt at slots age = (slot : ℕ) × ((a : Active J) × ((slice_get slots slot ≡ Some (Some a)) × (age ≡ (at slot).age)))
 
   module _ (shared : Shared) (at : Courses) (slots : List (Option (Active J))) (c : Claiming) where
     -- of tokens that are under way each is awaited
@@ -212,10 +218,10 @@ module _ {J : Type 0} where
           let there = ending_under_way slot slots (omega (arith, awaits (weigh_ending slot), sum_by-cons (weigh_ending slot) (Ending slot) [], one_weighs slot)) in
           (slot, (active.Ending there.0, (there.1.0, aged)))
 
-      one_acting : (slot place : ℕ) → AreAwaited (Acting slot place ∷ []) → 1 ≤ sum_by (weigh_acting slot place) (awaited_by_all 0 slots)
+      pub one_acting : (slot place : ℕ) → AreAwaited (Acting slot place ∷ []) → 1 ≤ sum_by (weigh_acting slot place) (awaited_by_all 0 slots)
       one_acting slot place awaits = omega (arith, awaits (weigh_acting slot place), sum_by-cons (weigh_acting slot place) (Acting slot place) [], acting_weighs slot place)
 
-      first_acting : (slot place : ℕ) (works : List Work) → 1 ≤ length works → AreAwaited (acting_from slot place works) → 1 ≤ sum_by (weigh_acting slot place) (awaited_by_all 0 slots)
+      pub first_acting : (slot place : ℕ) (works : List Work) → 1 ≤ length works → AreAwaited (acting_from slot place works) → 1 ≤ sum_by (weigh_acting slot place) (awaited_by_all 0 slots)
       first_acting slot place [] some awaits = absurd (omega (arith, some))
       first_acting slot place (work ∷ works) some awaits =
           omega (arith, awaits (weigh_acting slot place), sum_by-cons (weigh_acting slot place) (Acting slot place) (acting_from slot (place + 1) works), acting_weighs slot place)

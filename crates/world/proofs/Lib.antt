@@ -6,6 +6,7 @@ pub mod Tokens
 pub mod FreeSlots
 pub mod OneSlot
 pub mod Courses
+pub mod Ages
 pub mod Puts
 pub mod Releases
 pub mod Reporting
@@ -34,10 +35,13 @@ pub mod Standing
 pub mod Executing
 pub mod Quiet
 pub mod Holders
+pub mod Older
 pub mod NeverStuck
 pub mod Answered
 pub mod Runs
 pub mod Busy
+pub mod Deaths
+pub mod Dying
 pub mod Keeping
 pub mod Submitting
 pub mod Admissions

@@ -3,13 +3,15 @@ use Rattle.std.proofs.Common.{◌≡◌, ℕ, ◌<◌, ◌≤◌, Bool, false, L
 use Rattle.std.specs.Prelude.{All, map}
 use Rattle.std.specs.List.{slice_get}
 use Rattle.std.proofs.lemmas.List.{length-map, map-append}
-use Rattle.std.proofs.lemmas.List.Elements.{All-weaker, All-cons, All-nil, All-head, All-tail}
+use Rattle.std.proofs.lemmas.List.Elements.{All-weaker, All-cons, All-nil, All-head, All-tail, All-append}
 use Rattle.partitions.specs.Parts.{Shared}
 use Rattle.schema.specs.Database.{Database}
 use Rattle.requests.specs.declared.reply.Reply.{Reply}
 use Rattle.requests.specs.declared.reply.Reply.TheVariants as reply
 use Rattle.requests.specs.declared.answer.Answer.{Answer}
 use Rattle.requests.specs.declared.answer.Answer.TheVariants.{Done, Refused}
+use Rattle.requests.specs.declared.group.Group.{Group}
+use Rattle.groups.specs.Footprint.{footprint, groups_of}
 use Rattle.groups.specs.Groups.{warehouse_of}
 use Rattle.tickets.specs.Claims.{Claiming, all_claims, settled, committed_by}
 use Rattle.tickets.specs.Committed.{all_settled}
@@ -35,11 +37,11 @@ use Rattle.world.specs.declared.sending.Release.{Release}
 use Rattle.world.specs.declared.world.Parts.{Parts}
 use Rattle.world.specs.Parted.{AreUndoneBy, IsAged, joined_in}
 use Rattle.world.specs.Flights.{Committing, InFlight, part, nothing, join, part_item, unanswered_transaction}
-use Rattle.world.specs.Sound.{Courses, IsSoundWith, IsSoundItem, IsSoundCommit, IsAnswerIn, awaited_by_all, flight}
+use Rattle.world.specs.Sound.{Courses, NamesOlder, IsSoundWith, IsSoundItem, IsSoundCommit, IsAnswerIn, awaited_by_all, flight}
 use Rattle.world.specs.Following.{entry_of, is_settled, release, releasing}
 use Rattle.world.specs.Events.{logging, refusing, why_refused}
-use Rattle.world.specs.Worlds.{FitsPart, Fits}
-use Rattle.world.proofs.Fitting.{fits_entry, fits_same, logged_held}
+use Rattle.world.specs.Worlds.{FitsPart, Fits, IsAcceptedIn, IsClaimOf}
+use Rattle.world.proofs.Fitting.{fits_entry, fits_same, logged_held, All-behind, all_accepted, all_claimed}
 use Rattle.world.proofs.Joins.{IsSame, same-refl, same-join}
 use Rattle.world.proofs.Tokens.{is_awaited, weigh_committing, commit_under_way, one_weighs}
 use Rattle.world.proofs.Balances.{held_same}
@@ -47,6 +49,7 @@ use Rattle.world.proofs.OneSlot.{lots, flight_apart}
 use Rattle.world.proofs.Puts.{AreServed, GoesOn, Rests, rests_of}
 use Rattle.world.proofs.Releases.{AreGiven, unanswered_release, releases_fits, releases_sound}
 use Rattle.world.proofs.Reporting.{served_same}
+use Rattle.tickets.proofs.Committed.{All-front}
 
 -- ---- the log grows
 
@@ -79,6 +82,16 @@ all_settled_aged age [] h = All-nil (IsAged age)
 all_settled_aged age (c ∷ cs) h =
     All-cons (IsAged age) (settled c) (all_settled cs) (All-head (IsAged age) c cs h) (all_settled_aged age cs (All-tail (IsAged age) c cs h))
 
+-- and on a group of the same request
+all_settled_claimed : (history : List Step) (cs : List Claiming) → All (IsClaimOf history) cs → All (IsClaimOf history) (all_settled cs)
+all_settled_claimed history [] h = All-nil (IsClaimOf history)
+all_settled_claimed history (c ∷ cs) h =
+    All-cons (IsClaimOf history) (settled c) (all_settled cs) (All-head (IsClaimOf history) c cs h) (all_settled_claimed history cs (All-tail (IsClaimOf history) c cs h))
+
+logged_claimed : (history : List Step) (shown : Reply) (cs : List Claiming) → All (IsClaimOf history) cs → All (IsClaimOf history) (claims_logged shown cs)
+logged_claimed history (reply.Done shown) cs h = all_settled_claimed history cs h
+logged_claimed history (reply.RolledBack fault) cs h = h
+
 -- those of one action
 logged_given : (shown : Reply) (age : ℕ) (cs : List Claiming) → AreUndoneBy age cs → AreGiven (is_settled shown) age (claims_logged shown cs)
 logged_given (reply.Done shown) age cs h = ((all_settled_given cs, all_settled_together cs h.0.1), all_settled_aged age cs h.1)
@@ -104,6 +117,11 @@ logged_claims : (shown : Reply) (held : List (List Claiming)) → all_claims (ma
 logged_claims shown [] = sym (logged_none shown)
 logged_claims shown (cs ∷ held) = ap (λ ds. claims_logged shown cs ++ ds) (logged_claims shown held) ∙ sym (logged_both shown cs (all_claims held))
 
+-- the log refuses nobody for a death
+tells_no_death : (groups : List Group) (age : ℕ) (why : AppendFault) → NamesOlder groups age (why_refused why)
+tells_no_death groups age fault.NoMemory = tt
+tells_no_death groups age fault.LogFull = tt
+
 -- a refusal leaves a pass of the same session, which asks the same
 refused_pass : (why : AppendFault) (entries : ℕ) (pass : Passing) → ((after_refusal why entries pass).session ≡ pass.session) × ((after_refusal why entries pass).asks ≡ pass.asks)
 refused_pass fault.NoMemory entries pass = (refl, refl)
@@ -115,7 +133,7 @@ module _ {J : Type 0} where
   item_in_more shared log u entry (item.Report r) h = h
   item_in_more shared log u entry (item.Ended slot) h = h
   item_in_more shared log u entry (item.Commit commit) h = h
-  item_in_more shared log u entry (item.Reply told) h = (h.0, (h.1.0, answer_in_more log entry told.answer h.1.1))
+  item_in_more shared log u entry (item.Reply told) h = (h.0, (h.1.0, (answer_in_more log entry told.answer h.1.1.0, h.1.1.1)))
 
   -- ---- the commit
 
@@ -179,8 +197,8 @@ module _ {J : Type 0} where
         let hand = part_item (item.Commit commit) in
         let pending : hand.pending ≡ unanswered_release r ∷ [] = ap (λ u. u ∷ []) (sym is) in
         record {
-          sound = releases_sound shared h.under_way w hand false r rests
-              (subst (λ n. n < 64) (sym same.0) s.asked.session) (ap (λ asks. asks.number) same.1 ∙ s.asked.number) tt
+          sound = releases_sound shared h.under_way w hand false r rests (active.Committing, committing)
+              (subst (λ n. n < 64) (sym same.0) s.asked.session) (ap (λ asks. asks.number) same.1 ∙ s.asked.number) tt (tells_no_death (groups_of (footprint r.pass.asks.request)) r.age why)
               s.undo s.few refl held_by_lots pending served;
           fits = λ opening history f. releases_fits opening history w hand false r below refl pending (fits_by_lots opening history f);
         }
@@ -212,17 +230,23 @@ module _ {J : Type 0} where
           slots = rests.slots;
           below = rests.below;
           others = rests.others;
+          ages = rests.ages;
           seats = rests.seats;
           sessions = rests.sessions;
           tokens = rests.tokens;
         } in (
-          releases_sound shared h.under_way logged_w hand settle r rests_logged s.asked.session s.asked.number (entry, (slice_get-last w.log entry, refl)) (all_logged_given shown (h.under_way slot).age t.held s.undo) few
+          releases_sound shared h.under_way logged_w hand settle r rests_logged (active.Committing, committing) s.asked.session s.asked.number (entry, (slice_get-last w.log entry, refl)) tt (all_logged_given shown (h.under_way slot).age t.held s.undo) few
               (sym (logged_claims shown t.held)) (logged_held shown (joined_in w).holdings (all_claims t.held) others.claims held_by_lots) refl
               (record { alone = served.alone; many = served.many }),
           λ opening history executor f.
               let first = fits_by_lots opening history f in
+              let logged = step (Send executor) (Logged place) in
+              let steps = history ++ logged ∷ [] in
+              let own = all_claims t.held in
+              let accepted = all_accepted history logged (unanswered_transaction t ∷ others.pending) first.accepted in
+              let claimed = all_claimed history logged (own ++ others.claims) first.claimed in
               let after = fits_entry opening history w.log (joined_in w) w.desk.admitted (all_claims t.held) others.claims (unanswered_transaction t) others.pending executor entry
               refl (sym s.asked.number) (sym s.asked.request) refl (s.carried_out opening ((λ i. record { scale = sym f.scale i; items = sym f.items i }) ∙ h.shared_is)) first.told first.committed in
               releases_fits opening (history ++ step (Send executor) (Logged place) ∷ []) logged_w hand settle r below (sym (logged_claims shown t.held)) refl
-              (record { told = after.0; committed = after.1; held = logged_held shown (joined_in w).holdings (all_claims t.held) others.claims first.held; scale = first.scale; items = first.items }),
+              (record { told = after.0; committed = after.1; held = logged_held shown (joined_in w).holdings (all_claims t.held) others.claims first.held; accepted = All-cons (IsAcceptedIn steps) u others.pending (All-head (IsAcceptedIn steps) (unanswered_transaction t) others.pending accepted) (All-tail (IsAcceptedIn steps) (unanswered_transaction t) others.pending accepted); claimed = All-append (IsClaimOf steps) claims others.claims (logged_claimed steps shown own (All-front (IsClaimOf steps) own others.claims claimed)) (All-behind (IsClaimOf steps) own others.claims claimed); scale = first.scale; items = first.items }),
         )

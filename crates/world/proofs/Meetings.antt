@@ -7,7 +7,7 @@ use Rattle.std.proofs.lemmas.List.{length-append, length-replicate, length-set}
 use Rattle.std.proofs.lemmas.List.FromFn.{length-range_with_len}
 use Rattle.std.proofs.lemmas.List.Elements.{All-nil, All-cons, All-append}
 use Rattle.std.proofs.lemmas.List.Sorted.{IsPermutation-refl, IsPermutation-sym, IsPermutation-map, sum_by-IsPermutation}
-use Rattle.std.proofs.lemmas.List.Sums.{sum_by-append, sum_by-cons}
+use Rattle.std.proofs.lemmas.List.Sums.{sum_by-cons}
 use Rattle.partitions.specs.Parts.{Shared, shared_of}
 use Rattle.schema.specs.Database.{Database}
 use Rattle.requests.specs.Check.{IsAccepted}
@@ -15,6 +15,7 @@ use Rattle.requests.specs.declared.reply.Reply.{Reply}
 use Rattle.requests.specs.declared.reply.Reply.TheVariants as reply
 use Rattle.requests.specs.declared.refusal.Refusal.{Refusal}
 use Rattle.requests.specs.declared.refusal.Refusal.TheVariants as refusal
+use Rattle.groups.specs.Footprint.{footprint, groups_of}
 use Rattle.tickets.specs.Claims.{Claiming, all_claims}
 use Rattle.commit_log.specs.Claimed.{IsCarriedOut}
 use Rattle.history.specs.History.{Step}
@@ -30,7 +31,6 @@ use Rattle.rendezvous.specs.Awaited.{awaited_from, reported}
 use Rattle.rendezvous.proofs.Awaiting.{all_awaited, report_takes_one_number, none_awaited}
 use Rattle.world.specs.declared.desk.Active.{Active}
 use Rattle.world.specs.declared.desk.Active.TheVariants as active
-use Rattle.world.specs.declared.desk.Desk.{Desk}
 use Rattle.world.specs.declared.flight.Transaction.{Transaction}
 use Rattle.world.specs.declared.flight.Flow.{Flow}
 use Rattle.world.specs.declared.flight.Report.{Report}
@@ -40,9 +40,9 @@ use Rattle.world.specs.declared.world.Parts.{Parts}
 use Rattle.world.specs.Parted.{AreUndoneBy, joined_in}
 use Rattle.slices.specs.Sliced.{AreAllHeld}
 use Rattle.world.proofs.Balances.{held_same}
-use Rattle.world.specs.Flights.{Acting, Committing, InFlight, part, nothing, join, parts, acting_from, part_item, part_met, part_report, part_transaction, unanswered_transaction}
+use Rattle.world.specs.Flights.{Acting, InFlight, part, join, parts, acting_from, part_met, part_report, part_transaction, unanswered_transaction}
 use Rattle.world.specs.Following.{acts_of, committing, found_in, held_in, holding, refusal_of, refused, releasing, with_active, IfCarried}
-use Rattle.world.specs.Sound.{Courses, UnderWay, IsSoundWith, IsSoundItem, IsSoundReport, IsSoundPhase, IsSoundFlow, IsSoundStart, IsSoundCommit, IsAskedBy, WeighAlike, flight}
+use Rattle.world.specs.Sound.{Courses, NamesOlder, UnderWay, IsSoundWith, IsSoundItem, IsSoundReport, IsSoundPhase, IsSoundFlow, IsSoundStart, IsSoundCommit, IsAskedBy, WeighAlike, flight}
 use Rattle.world.specs.Events.{MeetsAs, MeetsUnless, ReportsInto, goes_on}
 use Rattle.world.specs.Worlds.{FitsPart}
 use Rattle.world.proofs.Joins.{IsSame, same-refl, same-trans, same-join, join-assoc}
@@ -53,7 +53,8 @@ use Rattle.world.proofs.OneSlot.{lots, flight_apart}
 use Rattle.world.proofs.Puts.{AreServed, GoesOn, Rests, joins_on, puts_fits, puts_sound, rests_of, rests_with}
 use Rattle.world.proofs.Releases.{releases_fits, releases_sound}
 use Rattle.world.proofs.Reporting.{served_same}
-use Rattle.world.proofs.Reported.{HaveReported, all_done, all_undo, few_hold, is_carried, met_one_more, met_tokens, parts_all, phase_reported, put_at, reported-map}
+use Rattle.world.proofs.OnGroups.{of_footprint}
+use Rattle.world.proofs.Reported.{HaveReported, NamesOlderIf, all_done, all_fair, all_undo, few_hold, is_carried, met_one_more, met_tokens, parts_all, phase_reported, put_at, reported-map}
 use Rattle.world.proofs.Works.{acts_fine, part_acts}
 
 -- nothing has been reported of a phase that begins
@@ -127,7 +128,7 @@ module _ {J : Type 0} where
         let more = met_one_more slots k r waits in
         let met = parts part_met (reported slots) in
         let now = parts part_met (reported filled) in
-        joins_on shared (part_report r) w h r.slot (Some (active.Acting first slots)) (Some (active.Acting first filled)) is
+        joins_on shared (part_report r) w h r.slot (Some (active.Acting first slots)) (Some (active.Acting first filled)) is (active.Acting first slots, refl)
         (record {
           first_is = at.first_is;
           reached = at.reached;
@@ -178,6 +179,10 @@ module _ {J : Type 0} where
         rests : Rests shared h.under_way t.slot w
         rests = subst (λ n. Rests shared h.under_way n w) (sym sound_flow.slot_is) rests_there
 
+        -- it was active
+        was : (x : Active J) × (slice_get w.desk.active t.slot ≡ Some (Some x))
+        was = (active.Acting first slots, subst (λ n. slice_get w.desk.active n ≡ Some (Some (active.Acting first slots))) (sym sound_flow.slot_is) is)
+
         below : t.slot < length w.desk.active
         below = subst (λ n. t.slot < n) (sym rests.slots) rests.below
 
@@ -220,9 +225,11 @@ module _ {J : Type 0} where
 
         -- ---- it is refused
 
-        pub refuses : (why : Refusal) → GoesOn shared (part_report r) w (releasing false (refused t why) w)
-        refuses why = record {
-          sound = releases_sound shared h.under_way w hand false (refused t why) rests asked.session asked.number tt (undo_of t.slot sound_flow.slot_is) few refl held_out refl served;
+        pub refuses : (why : Refusal) → NamesOlder (groups_of (footprint u.request)) u.age why → GoesOn shared (part_report r) w (releasing false (refused t why) w)
+        refuses why fair = record {
+          sound = releases_sound shared h.under_way w hand false (refused t why) rests was asked.session asked.number tt
+              (subst (λ q. NamesOlder (groups_of (footprint q)) t.age why) (sym (asked.request ∙ sound_flow.request))
+              (subst (λ n. NamesOlder (groups_of (footprint u.request)) n why) (sym sound_flow.age) fair)) (undo_of t.slot sound_flow.slot_is) few refl held_out refl served;
           fits = λ opening history f. releases_fits opening history w hand false (refused t why) below refl refl (fits_in_hand opening history f);
         }
 
@@ -241,7 +248,7 @@ module _ {J : Type 0} where
             let sound_there : IsSoundCommit shared (h.under_way t.slot) (record { transaction = t; reply = shown }) =
             subst (λ n. IsSoundCommit shared (h.under_way n) (record { transaction = t; reply = shown })) (sym sound_flow.slot_is) sound in
             record {
-              sound = puts_sound shared h.under_way t.slot w hand (one ∷ []) (Some active.Committing) rests refl
+              sound = puts_sound shared h.under_way t.slot w hand (one ∷ []) (Some active.Committing) rests was refl
                   (All-cons (IsSoundItem shared w.log h.under_way) one [] sound_there (All-nil (IsSoundItem shared w.log h.under_way))) tt
                   (IsPermutation-refl (unanswered_transaction t ∷ [])) served
                   (subst (λ cs. IsPermutation (all_claims t.held) cs) (sym (append-nil (all_claims t.held))) (IsPermutation-refl (all_claims t.held))) held_out (λ weight. refl);
@@ -277,7 +284,7 @@ module _ {J : Type 0} where
               awaits = omega (arith, some, ap (λ (ns : List ℕ). length ns) (all_awaited (Report J) 0 (length works)), length-range_with_len 0 (length works));
             } in
             record {
-              sound = puts_sound shared bt t.slot w hand (acts_of flow_now works) begun (rests_with shared h.under_way t.slot w v rests) (none_reported (length works))
+              sound = puts_sound shared bt t.slot w hand (acts_of flow_now works) begun (rests_with shared h.under_way t.slot w v (λ x there. ap (λ n. (h.under_way n).age) (sym sound_flow.slot_is)) rests) was (none_reported (length works))
                   (acts_fine shared w.log bt flow_now works (subst (λ x. IsSoundStart shared x flow_now works) (sym now) start))
                   (subst (λ x. IsSoundPhase {J = J} shared t.slot x (length t.held) (replicate (length works) None)) (sym now) phase)
                   (subst (λ (q : InFlight). IsPermutation (unanswered_transaction t ∷ []) q.pending) (sym acts) (IsPermutation-refl (unanswered_transaction t ∷ []))) served
@@ -308,9 +315,11 @@ module _ {J : Type 0} where
         goes_by is goes = subst (λ v. GoesOn shared (part_report r) w v) (sym is) goes
 
         pub meets_unless : (why : Option Refusal) (new : Parts J) → refusal_of None reports ≡ why → MeetsUnless why reports flow w new → GoesOn shared (part_report r) w new
-        meets_unless (Some why) new refused_by_one said = goes_by said (refuses why)
+        meets_unless (Some why) new refused_by_one said =
+            let fair = all_fair shared r.slot u (footprint u.request) 0 (works_of u.progress) reports have (of_footprint shared u at.reached) None tt in
+            goes_by said (refuses why (subst (λ (o : Option Refusal). NamesOlderIf (groups_of (footprint u.request)) u.age o) refused_by_one fair))
         meets_unless None new none said =
-            ⊎_elim (λ no_memory. goes_by no_memory (refuses refusal.NoMemory)) (λ gathered. goes_by gathered.1.1 (follows gathered.0 none gathered.1.0)) said
+            ⊎_elim (λ no_memory. goes_by no_memory (refuses refusal.NoMemory tt)) (λ gathered. goes_by gathered.1.1 (follows gathered.0 none gathered.1.0)) said
 
     -- ---- what a report brings
 

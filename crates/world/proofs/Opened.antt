@@ -24,7 +24,7 @@ use Rattle.commit_log.specs.Passing.{Passing, Seating, new_pass, new_seat}
 use Rattle.history.proofs.Fitting.{empty_history_fits}
 use Rattle.transactions.proofs.Unasked.{unasked, unasked_progress}
 use Rattle.slices.specs.Openings.{AreOpenedFor, IsBoxOf}
-use Rattle.slices.specs.Sliced.{Sliced, AreSlicesOf, all_at_rest, all_standing, at_rest, everywhere, joined, holdings_in, held_at}
+use Rattle.slices.specs.Sliced.{Sliced, AreSlicesOf, all_at_rest, all_standing, at_rest, everywhere, joined, held_at}
 use Rattle.slices.proofs.Joined.{cut_slices_are_at_rest}
 use Rattle.slices.proofs.Opened.{opened_groups_have_boxes}
 use Rattle.world.specs.declared.desk.Active.{Active}
@@ -38,8 +38,9 @@ use Rattle.world.specs.Together.{IsOf, IsSound, all_of, together}
 use Rattle.world.specs.Parted.{joined_in}
 use Rattle.world.specs.Flights.{nothing, join, parts, part_message, part_item, part_met, InFlight}
 use Rattle.world.specs.Openings.{AreNewLanes, IsNew, session_with}
-use Rattle.world.specs.Sound.{IsSoundWith, IsSoundMessage, IsSoundItem, AreSoundActive, IsPassOf, IsBalanced, Courses, awaited_by_all, is_here, reported_to_all, flight}
-use Rattle.world.specs.Worlds.{Fits, FitsPart}
+use Rattle.world.specs.Sound.{HaveTheirAges, IsSoundWith, IsSoundMessage, IsSoundItem, AreSoundActive, IsPassOf, IsBalanced, Courses, awaited_by_all, is_here, reported_to_all, flight}
+use Rattle.world.specs.Worlds.{Fits, FitsPart, IsAcceptedIn, IsClaimOf}
+use Rattle.world.proofs.Ages.{no_ages}
 
 -- ---- the log's seats
 
@@ -155,6 +156,7 @@ module _ {J : Type 0} where
         outbox = subst (All (IsSoundItem shared w.log none_under_way)) (sym outbox) (All-nil (IsSoundItem shared w.log none_under_way));
         slots = ap (λ (l : List (Option (Active J))). length l) active ∙ length-replicate {A = Option (Active J)} 64 None;
         active = subst (AreSoundActive shared none_under_way 0) (sym active) (none_active J shared none_under_way 0 64);
+        ages = subst (HaveTheirAges none_under_way w.desk.admitted) (sym active) (no_ages none_under_way w.desk.admitted 64);
         seats = ap length sessions ∙ length-map lanes session_with ∙ new.many;
         sessions = λ number session found.
             let is = found_at number session found in
@@ -226,6 +228,8 @@ module _ (t : Database) (consistent : Consistent t) where
       rows = λ group near. refl;
     });
     held = λ w_id. IsPermutation-refl [];
+    accepted = All-nil (IsAcceptedIn []);
+    claimed = All-nil (IsClaimOf []);
     scale = refl;
     items = refl;
   }

@@ -5,7 +5,7 @@ use Rattle.std.specs.List.{slice_get, sum_by}
 use Rattle.std.specs.List.Sorted.{IsPermutation}
 use Rattle.std.proofs.lemmas.List.{length-set, set-set}
 use Rattle.std.proofs.lemmas.List.Elements.{All-head, All-tail, All-append}
-use Rattle.std.proofs.lemmas.List.Sorted.{IsPermutation-refl, IsPermutation-trans, IsPermutation-append, sum_by-IsPermutation}
+use Rattle.std.proofs.lemmas.List.Sorted.{IsPermutation-refl, IsPermutation-append, sum_by-IsPermutation}
 use Rattle.std.proofs.lemmas.List.Sums.{sum_by-append}
 use Rattle.std.proofs.lemmas.Option.{slice_get_within}
 use Rattle.partitions.specs.Parts.{Shared}
@@ -20,16 +20,17 @@ use Rattle.world.specs.declared.flight.Item.{Item}
 use Rattle.world.specs.declared.world.Parts.{Parts}
 use Rattle.world.specs.Parted.{joined_in}
 use Rattle.world.specs.Stations.{slices_in}
-use Rattle.world.specs.Flights.{Token, InFlight, part, nothing, join, parts, part_message, part_item, part_met}
-use Rattle.world.specs.Sound.{Courses, UnderWay, IsSoundWith, IsSoundMessage, IsSoundItem, IsSoundActive, AreSoundActive, IsSessionOf, IsBalanced, WeighAlike, flight, reported_to, reported_to_all, awaited, awaited_by_all, is_here}
+use Rattle.world.specs.Flights.{Token, InFlight, part, nothing, join, parts, part_item, part_met}
+use Rattle.world.specs.Sound.{Courses, HaveTheirAges, UnderWay, IsSoundWith, IsSoundMessage, IsSoundItem, IsSoundActive, AreSoundActive, IsSessionOf, IsBalanced, WeighAlike, flight, reported_to, reported_to_all, awaited, awaited_by_all, is_here}
 use Rattle.world.specs.Following.{putting, with_active}
 use Rattle.world.specs.Worlds.{FitsPart, Fits}
 use Rattle.world.proofs.Joins.{IsSame, same-refl, same-sym, same-trans, same-join, join-assoc}
 use Rattle.world.proofs.Balances.{in_inbox, in_outbox, item_taken, balanced_same, held_same}
 use Rattle.world.proofs.Fitting.{fits_same, fits_like}
 use Rattle.world.proofs.Reported.{met_tokens}
-use Rattle.world.proofs.OneSlot.{lots, without, of_slot, weigh_slots, awaited_of, awaited_then, flight_apart, flight_then, flight_with, none_of_slot, sound_in, sound_then}
-use Rattle.world.proofs.Courses.{course_on, course_here, course_elsewhere, messages_stay, items_stay}
+use Rattle.world.proofs.OneSlot.{lots, without, of_slot, weigh_slots, awaited_of, awaited_then, flight_apart, flight_then, flight_with, none_of_slot, sound_then}
+use Rattle.world.proofs.Ages.{ages_on, ages_then}
+use Rattle.world.proofs.Courses.{course_on, course_elsewhere, messages_stay, items_stay}
 use Rattle.world.proofs.Tokens.{one_weighs}
 
 module _ {J : Type 0} where
@@ -47,6 +48,7 @@ module _ {J : Type 0} where
           outbox = All-tail (IsSoundItem shared old.log h.under_way) item rest all;
           slots = h.slots;
           active = h.active;
+          ages = h.ages;
           seats = h.seats;
           sessions = h.sessions;
           balance = balanced_same old.desk (flight old) (join (part_item item) (flight (record old { outbox = rest }))) (item_taken old item rest is) h.balance;
@@ -78,6 +80,7 @@ module _ {J : Type 0} where
     pub slots : length w.desk.active ≡ 64
     pub below : slot < 64
     pub others : AreSoundActive shared at 0 (without slot w.desk.active)
+    pub ages : HaveTheirAges at w.desk.admitted w.desk.active
     pub seats : length w.desk.sessions.items ≡ 64
     pub sessions : (number : ℕ) (session : SessionDesk J) → slice_get w.desk.sessions.items number ≡ Some session → IsSessionOf number session
     pub tokens : WeighAlike (lots slot w).tokens (awaited_by_all 0 (without slot w.desk.active))
@@ -93,6 +96,7 @@ module _ {J : Type 0} where
     slots = h.slots;
     below = subst (λ n. slot < n) h.slots (slice_get_within w.desk.active slot a is);
     others = sound_then shared h.under_way h.under_way slot w.desk.active None (λ m other. refl) h.active tt;
+    ages = h.ages;
     seats = h.seats;
     sessions = h.sessions;
     tokens = λ weight.
@@ -108,9 +112,10 @@ module _ {J : Type 0} where
         );
   }
 
-  -- and then it may have come as far as it likes
-  pub rests_with : (shared : Shared) (at : Courses) (slot : ℕ) (w : Parts J) (u : UnderWay) → Rests shared at slot w → Rests shared (course_on at slot u) slot w
-  rests_with shared at slot w u r =
+  -- and then it may have come as far as it likes, if it is as old as it was
+  pub rests_with : (shared : Shared) (at : Courses) (slot : ℕ) (w : Parts J) (u : UnderWay) → ((x : Active J) → slice_get w.desk.active slot ≡ Some (Some x) → u.age ≡ (at slot).age)
+      → Rests shared at slot w → Rests shared (course_on at slot u) slot w
+  rests_with shared at slot w u aged r =
       let g = of_slot slot in
       let bt = course_on at slot u in
       let stays : (m : ℕ) → g m ≡ 0 → at m ≡ bt m = λ m none. course_elsewhere at slot u m (λ is. one_at m is none) in
@@ -128,6 +133,7 @@ module _ {J : Type 0} where
         below = r.below;
         others = subst (λ (l : List (Option (Active J))). AreSoundActive shared bt 0 l) (set-set w.desk.active slot None None)
             (sound_then shared at bt slot (without slot w.desk.active) None (λ m other. course_elsewhere at slot u m other) r.others tt);
+        ages = ages_on at w.desk.admitted slot w.desk.active u aged r.ages;
         seats = r.seats;
         sessions = r.sessions;
         tokens = r.tokens;
@@ -155,7 +161,7 @@ module _ {J : Type 0} where
       (IsPermutation-append hand.claims put.claims rest.claims rest.claims claims (IsPermutation-refl rest.claims))
       (IsPermutation-append hand.pending put.pending rest.pending rest.pending pending (IsPermutation-refl rest.pending)) f)
 
-  pub puts_sound : (shared : Shared) (at : Courses) (slot : ℕ) (w : Parts J) (hand : InFlight) (items : List (Item J)) (a : Option (Active J)) → Rests shared at slot w → reported_to a ≡ []
+  pub puts_sound : (shared : Shared) (at : Courses) (slot : ℕ) (w : Parts J) (hand : InFlight) (items : List (Item J)) (a : Option (Active J)) → Rests shared at slot w → (x : Active J) × (slice_get w.desk.active slot ≡ Some (Some x)) → reported_to a ≡ []
       → All (IsSoundItem shared w.log at) items → IsSoundActive shared slot (at slot) a
       → IsPermutation hand.pending (parts part_item items).pending
       → AreServed w.desk (hand.pending ++ (lots slot w).pending)
@@ -163,7 +169,7 @@ module _ {J : Type 0} where
       → AreAllHeld (joined_in w).holdings (hand.claims ++ (lots slot w).claims)
       → WeighAlike (parts part_item items).tokens (awaited slot a)
       → IsSoundWith shared nothing (putting items slot a w)
-  puts_sound shared at slot w hand items a r none fine sound pending served claims held tokens =
+  puts_sound shared at slot w hand items a r was none fine sound pending served claims held tokens =
       let put = parts part_item items in
       let rest = lots slot w in
       let desk : Desk J = record w.desk { active = slice_set w.desk.active slot a } in
@@ -184,6 +190,7 @@ module _ {J : Type 0} where
         slots = length-set w.desk.active slot a ∙ r.slots;
         active = subst (λ (l : List (Option (Active J))). AreSoundActive shared at 0 l) (set-set w.desk.active slot None a)
             (sound_then shared at at slot (without slot w.desk.active) a (λ m other. refl) r.others sound);
+        ages = ages_then at w.desk.admitted slot w.desk.active a was.0 was.1 r.ages;
         seats = r.seats;
         sessions = r.sessions;
         balance = balanced_same desk (join put rest) (flight (putting items slot a w)) (same-sym _ _ (lots_put w items slot a none below))
@@ -200,13 +207,13 @@ module _ {J : Type 0} where
   -- ---- what is in hand joins what the slot has
 
   -- What is in hand, with what has met in the slot, is what has met there then; and it awaits so much less.
-  pub joins_on : (shared : Shared) (hand : InFlight) (w : Parts J) (h : IsSoundWith shared hand w) (slot : ℕ) (a b : Option (Active J)) → slice_get w.desk.active slot ≡ Some a
+  pub joins_on : (shared : Shared) (hand : InFlight) (w : Parts J) (h : IsSoundWith shared hand w) (slot : ℕ) (a b : Option (Active J)) → slice_get w.desk.active slot ≡ Some a → (x : Active J) × (a ≡ Some x)
       → IsSoundActive shared slot (h.under_way slot) b
       → ((weight : Token → ℕ) → sum_by weight hand.tokens + sum_by weight (awaited slot b) ≡ sum_by weight (awaited slot a))
       → IsPermutation (hand.claims ++ (parts part_met (reported_to a)).claims) (parts part_met (reported_to b)).claims
       → IsPermutation (hand.pending ++ (parts part_met (reported_to a)).pending) (parts part_met (reported_to b)).pending
       → GoesOn shared hand w (with_active slot b w)
-  joins_on shared hand w h slot a b is sound awaits claims pending =
+  joins_on shared hand w h slot a b is some sound awaits claims pending =
       let next : Parts J = with_active slot b w in
       let was = parts part_met (reported_to a) in
       let now = parts part_met (reported_to b) in
@@ -246,6 +253,7 @@ module _ {J : Type 0} where
           outbox = h.outbox;
           slots = length-set w.desk.active slot b ∙ h.slots;
           active = sound_then shared h.under_way h.under_way slot w.desk.active b (λ m other. refl) h.active sound;
+          ages = ages_then h.under_way w.desk.admitted slot w.desk.active b some.0 (is ∙ ap (λ (o : Option (Active J)). Some o) some.1) h.ages;
           seats = h.seats;
           sessions = h.sessions;
           balance = balanced_same desk (join now rest) (flight next) then balance;
@@ -254,5 +262,5 @@ module _ {J : Type 0} where
         fits = λ opening history f.
             let together = fits_same opening history w.log (joined_in w) w.desk.admitted (join hand (flight w)) (join met rest) with_token f in
             fits_same opening history w.log (joined_in w) w.desk.admitted (join now rest) (flight next) then
-            (record { told = together.told; committed = together.committed; held = together.held; scale = together.scale; items = together.items });
+            (record { told = together.told; committed = together.committed; held = together.held; accepted = together.accepted; claimed = together.claimed; scale = together.scale; items = together.items });
       }

@@ -5,20 +5,20 @@ use Rattle.std.specs.List.{slice_get, sum_by}
 use Rattle.std.specs.List.Sorted.{IsPermutation}
 use Rattle.std.proofs.lemmas.List.Elements.{All-cons, All-nil, All-head, All-tail}
 use Rattle.std.proofs.lemmas.List.Sorted.{IsPermutation-refl}
-use Rattle.std.proofs.lemmas.List.Sums.{sum_by-append}
 use Rattle.partitions.specs.Parts.{Shared}
 use Rattle.schema.specs.Database.{Database}
+use Rattle.groups.specs.Footprint.{footprint, groups_of}
 use Rattle.tickets.specs.Claims.{Claiming, all_claims}
 use Rattle.commit_log.specs.declared.entry.Entry.{Entry}
 use Rattle.history.specs.History.{Step, Unanswered}
-use Rattle.slices.specs.Sliced.{AreSlicesOf, AreAllHeld}
+use Rattle.slices.specs.Sliced.{AreAllHeld}
 use Rattle.transactions.specs.declared.laws.TheConstants.{MOST_ACTIONS}
-use Rattle.world.specs.declared.desk.SessionDesk.{SessionDesk}
+use Rattle.world.specs.declared.desk.Active.{Active}
 use Rattle.world.specs.declared.sending.Release.{Release}
 use Rattle.world.specs.declared.world.Parts.{Parts}
 use Rattle.world.specs.Parted.{AreSettledBy, AreUndoneBy, joined_in}
 use Rattle.world.specs.Flights.{Ending, InFlight, nothing, join, parts, part_item, part_held, place_answered}
-use Rattle.world.specs.Sound.{Courses, UnderWay, IsSoundWith, IsSoundItem, IsSoundActive, IsAnswerIn, awaited, reported_to}
+use Rattle.world.specs.Sound.{Courses, UnderWay, IsSoundWith, IsSoundItem, IsSoundActive, AnswersOlder, IsAnswerIn, awaited, reported_to}
 use Rattle.world.specs.Following.{ending, items_released, push_of, releasing}
 use Rattle.world.specs.Worlds.{FitsPart, Fits}
 use Rattle.world.proofs.OneSlot.{lots}
@@ -113,16 +113,16 @@ module _ {J : Type 0} where
       (subst (λ us. IsPermutation hand.pending us) (pending ∙ sym (released_pending settle r)) (IsPermutation-refl hand.pending))
       f
 
-  pub releases_sound : (shared : Shared) (at : Courses) (w : Parts J) (hand : InFlight) (settle : Bool) (r : Release J) → Rests shared at r.slot w
-      → r.pass.session < 64 → r.pass.asks.number ≡ r.number → IsAnswerIn w.log r.answer
+  pub releases_sound : (shared : Shared) (at : Courses) (w : Parts J) (hand : InFlight) (settle : Bool) (r : Release J) → Rests shared at r.slot w → (x : Active J) × (slice_get w.desk.active r.slot ≡ Some (Some x))
+      → r.pass.session < 64 → r.pass.asks.number ≡ r.number → IsAnswerIn w.log r.answer → AnswersOlder (groups_of (footprint r.pass.asks.request)) r.age r.answer
       → All (AreGiven settle (at r.slot).age) r.held → length r.held ≤ MOST_ACTIONS
       → hand.claims ≡ all_claims r.held → AreAllHeld (joined_in w).holdings (hand.claims ++ (lots r.slot w).claims)
       → hand.pending ≡ unanswered_release r ∷ [] → AreServed w.desk (hand.pending ++ (lots r.slot w).pending)
       → IsSoundWith shared nothing (releasing settle r w)
-  releases_sound shared at w hand settle r rests session number answer given few claims held pending served =
+  releases_sound shared at w hand settle r rests was session number answer older given few claims held pending served =
       let items = items_released settle r in
-      puts_sound shared at r.slot w hand items (ending (length r.held)) rests (nothing_met J (length r.held))
-      (All-cons (IsSoundItem shared w.log at) _ (map (push_of settle r.slot) r.held) (session, (number, answer)) (pushes_sound J shared w.log at settle r.slot r.held given))
+      puts_sound shared at r.slot w hand items (ending (length r.held)) rests was (nothing_met J (length r.held))
+      (All-cons (IsSoundItem shared w.log at) _ (map (push_of settle r.slot) r.held) (session, (number, (answer, older))) (pushes_sound J shared w.log at settle r.slot r.held given))
       (ending_sound J shared r.slot (at r.slot) (length r.held) few)
       (subst (λ us. IsPermutation hand.pending us) (pending ∙ sym (released_pending settle r)) (IsPermutation-refl hand.pending))
       served

@@ -134,6 +134,7 @@ module _ {J : Type 0} where
       outbox = All-permutation (IsSoundItem shared w.log h.under_way) is js items.order h.outbox;
       slots = h.slots;
       active = h.active;
+      ages = h.ages;
       seats = h.seats;
       sessions = h.sessions;
       balance = balanced_same w.desk (join hand (flight (queued w ms is))) (join hand (flight (queued w ns js)))

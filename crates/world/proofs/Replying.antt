@@ -66,6 +66,7 @@ module _ {J : Type 0} where
           outbox = h.outbox;
           slots = h.slots;
           active = h.active;
+          ages = h.ages;
           seats = ap (λ (l : List (SessionDesk J)). length l) sessions_are ∙ length-set w.desk.sessions.items place session ∙ h.seats;
           sessions = subst (λ l. AreInPlace l) (sym sessions_are) placed;
           balance = record {
@@ -85,6 +86,6 @@ module _ {J : Type 0} where
         let rest = flight w in
         let next : Parts J = record w { desk = record w.desk { sessions = new.desk.sessions } } in
         let after = fits_answer opening history w.log (joined_in w) w.desk.admitted rest.claims u rest executor told.answer
-        (is_answer_to w.log told.age told.pass.session told.pass.asks.number told.pass.asks.request told.answer s.1.1) f in
+        (is_answer_to w.log told.age told.pass.session told.pass.asks.number told.pass.asks.request told.answer s.1.1.0) f in
         subst (λ v. Fits opening (history ++ step (Send executor) (Answered told.pass.session told.number told.answer) ∷ []) v) (sym (of_sessions w new _ same))
         (subst (λ n. Fits opening (history ++ step (Send executor) (Answered told.pass.session n told.answer) ∷ []) next) s.1.0 after)

@@ -1,15 +1,18 @@
 -- What the actions of a phase have reported, once all have.
-use Rattle.std.proofs.Common.{◌≡◌, ◌⊎◌, inl, inr, ℕ, ◌+◌, ◌≤◌, zero, suc, List, [], ◌∷◌, ◌++◌, length, Option, Some, None, refl, sym, ◌∙◌, ap, subst, arith, append-nil, append_assoc}
-use Rattle.std.specs.Prelude.{All, map, slice_set}
+use Rattle.std.proofs.Common.{◌≡◌, ◌⊎◌, inl, inr, ℕ, ◌+◌, ◌<◌, ◌≤◌, zero, suc, List, [], ◌∷◌, ◌++◌, length, Option, Some, None, refl, sym, ◌∙◌, ap, subst, arith, append-nil, append_assoc}
+use Rattle.std.specs.Prelude.{All, Contains, map, slice_set}
 use Rattle.std.specs.List.{slice_get}
 use Rattle.std.proofs.lemmas.List.{length-append, length-map, length-set}
 use Rattle.std.proofs.lemmas.List.Elements.{All-nil, All-cons, All-append}
 use Rattle.std.proofs.lemmas.Option.{slice_get-map}
 use Rattle.partitions.specs.Parts.{Shared}
+use Rattle.requests.specs.declared.group.Group.{Group}
 use Rattle.requests.specs.declared.refusal.Refusal.{Refusal}
 use Rattle.requests.specs.declared.refusal.Refusal.TheVariants as refusal
+use Rattle.groups.specs.declared.wishes.Wish.{Wish}
+use Rattle.groups.specs.Footprint.{groups_of}
 use Rattle.tickets.specs.Claims.{Claiming, all_claims}
-use Rattle.transactions.specs.Works.{HaveAllDone, HasDone}
+use Rattle.transactions.specs.Works.{HaveAllDone, HasDone, all_wishes, wishes_of}
 use Rattle.transactions.specs.declared.work.Work.{Work}
 use Rattle.transactions.specs.declared.acting.Ran.{Ran}
 use Rattle.transactions.specs.declared.acting.Ran.TheVariants as ran
@@ -20,9 +23,10 @@ use Rattle.world.specs.declared.flight.Flow.{Flow}
 use Rattle.world.specs.declared.flight.Report.{Report}
 use Rattle.world.specs.Flights.{part, join, parts, part_carried, part_met, unanswered_transaction}
 use Rattle.world.specs.Parted.{AreUndoneBy}
-use Rattle.world.specs.Following.{found_by, found_in, held_by, held_in, refusal_of, refused_by, refused_still}
-use Rattle.world.specs.Sound.{UnderWay, IsPlaceOf, IsWorkAt, IsSoundFlow, IsCarriedAt, IsSoundRan, IsSoundReport, IsSoundPhase}
+use Rattle.world.specs.Following.{earlier_death, found_by, found_in, held_by, held_in, refusal_of, refused_by, refused_still}
+use Rattle.world.specs.Sound.{NamesOlder, UnderWay, IsPlaceOf, IsWorkAt, IsSoundFlow, IsCarriedAt, IsSoundRan, IsSoundReport, IsSoundPhase}
 use Rattle.world.proofs.Joins.{IsSame, same-refl, same-trans, same-join, same-middle}
+use Rattle.world.proofs.OnGroups.{first_wish, later_wish}
 
 -- ---- lists
 
@@ -47,6 +51,29 @@ put_at (z ∷ xs) (suc k) (suc i) x y is = by (put_at xs k i x y is)
 pub reported-map : {R : Type 0} (rs : List R) → reported (map Some rs) ≡ rs
 reported-map [] = refl
 reported-map (r ∷ rs) = ap (λ ts. r ∷ ts) (reported-map rs)
+
+-- ---- refusals
+
+-- the refusal, if there is one and it tells of a death, names one of these groups and an age that is less
+abbrev pub NamesOlderIf : List Group → ℕ → Option Refusal → Type 0
+NamesOlderIf groups age None = Unit {0}
+NamesOlderIf groups age (Some why) = NamesOlder groups age why
+
+earlier_fair : (groups : List Group) (age : ℕ) (why : Refusal) (group : Group) (holder : ℕ) → NamesOlder groups age why → NamesOlder groups age (refusal.Died group holder) → NamesOlder groups age (earlier_death why group holder)
+earlier_fair groups age refusal.BadWarehouse group holder first next = next
+earlier_fair groups age refusal.BadDistrict group holder first next = next
+earlier_fair groups age refusal.BadLines group holder first next = next
+earlier_fair groups age refusal.BadQuantity group holder first next = next
+earlier_fair groups age refusal.BadSupply group holder first next = next
+earlier_fair groups age refusal.BadAmount group holder first next = next
+earlier_fair groups age refusal.BadThreshold group holder first next = next
+earlier_fair groups age refusal.BadCarrier group holder first next = next
+earlier_fair groups age refusal.Busy group holder first next = next
+earlier_fair groups age refusal.SessionBusy group holder first next = next
+earlier_fair groups age (refusal.Died other older) group holder first next = first
+earlier_fair groups age refusal.NoMemory group holder first next = next
+earlier_fair groups age refusal.Closed group holder first next = next
+earlier_fair groups age refusal.LogFull group holder first next = next
 
 module _ {J : Type 0} where
   -- ---- parts
@@ -90,10 +117,10 @@ module _ {J : Type 0} where
   -- ---- the reports of a phase
 
   module _ (shared : Shared) (slot : ℕ) (u : UnderWay) where
-    -- an action that ran has done this work, and all of it can be taken back
+    -- an action that ran has done this work, and all of it can be taken back; or it died of somebody older, who is on a group that it claims for it
     abbrev pub HasRan : Work → Ran J → Type 0
     HasRan work (ran.Done claims found) = HasDone shared work found claims × AreUndoneBy u.age claims
-    HasRan work (ran.Died group holder) = Unit {0}
+    HasRan work (ran.Died group holder) = Contains (groups_of (wishes_of work)) group × (holder < u.age)
     HasRan work ran.NoMemory = Unit {0}
 
     -- From this place on each action has reported of its own work.
@@ -107,7 +134,10 @@ module _ {J : Type 0} where
         let other = h.1.0 in
         let same : h.0 ≡ work = cc in
         subst (λ (w : Work). HasDone shared w found claims × AreUndoneBy u.age claims) same h.1.1
-    ran_at place work (ran.Died group holder) at h = tt
+    ran_at place work (ran.Died group holder) at h =
+        let other = h.1.0 in
+        let same : h.0 ≡ work = cc in
+        subst (λ (w : Work). Contains (groups_of (wishes_of w)) group × (holder < u.age)) same h.1.1
     ran_at place work ran.NoMemory at h = tt
 
     have_reported : (place : ℕ) (works : List Work) (reports : List (Report J)) → length reports ≡ length works
@@ -218,6 +248,29 @@ module _ {J : Type 0} where
         one_undo (ran.Done claims found) has = All-cons (AreUndoneBy u.age) claims [] has.1 (All-nil (AreUndoneBy u.age))
         one_undo (ran.Died group holder) has = All-nil (AreUndoneBy u.age)
         one_undo ran.NoMemory has = All-nil (AreUndoneBy u.age)
+
+    -- ---- why it is refused
+
+    -- after one more report of work of which these are the wishes, among others
+    one_fair : (wishes : List Wish) (work : Work) → ((group : Group) → Contains (groups_of (wishes_of work)) group → Contains (groups_of wishes) group)
+        → (why : Option Refusal) (own : Ran J) → HasRan work own → NamesOlderIf (groups_of wishes) u.age why → NamesOlderIf (groups_of wishes) u.age (refused_by why own)
+    one_fair wishes work among None (ran.Done claims found) has fair = tt
+    one_fair wishes work among None (ran.Died group holder) has fair = (among group has.0, has.1)
+    one_fair wishes work among None ran.NoMemory has fair = tt
+    one_fair wishes work among (Some why) (ran.Done claims found) has fair = fair
+    one_fair wishes work among (Some why) (ran.Died group holder) has fair = earlier_fair (groups_of wishes) u.age why group holder fair (among group has.0, has.1)
+    one_fair wishes work among (Some why) ran.NoMemory has fair = fair
+
+    -- the first who died by place, died of one who is older, on a group that one of them wishes for
+    pub all_fair : (wishes : List Wish) (place : ℕ) (works : List Work) (reports : List (Report J)) → HaveReported place works reports
+        → ((group : Group) → Contains (groups_of (all_wishes works)) group → Contains (groups_of wishes) group)
+        → (why : Option Refusal) → NamesOlderIf (groups_of wishes) u.age why → NamesOlderIf (groups_of wishes) u.age (refusal_of why reports)
+    all_fair wishes place [] [] h among why fair = fair
+    all_fair wishes place [] (r ∷ reports) h among why fair = absurd h
+    all_fair wishes place (work ∷ works) [] h among why fair = absurd h
+    all_fair wishes place (work ∷ works) (r ∷ reports) h among why fair =
+        all_fair wishes (suc place) works reports h.1 (λ group is. among group (later_wish work works group is)) (refused_by why r.ran)
+        (one_fair wishes work (λ group is. among group (first_wish work works group is)) why r.ran h.0.1 fair)
 
     -- those that hold claims are no more than they are
     pub few_hold : (place : ℕ) (works : List Work) (reports : List (Report J)) → HaveReported place works reports → length (held_in reports) ≤ length works

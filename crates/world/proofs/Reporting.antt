@@ -1,5 +1,5 @@
 -- A message is pushed, or a report comes to where its phase meets.
-use Rattle.std.proofs.Common.{◌≡◌, ℕ, ◌+◌, List, [], ◌∷◌, ◌++◌, Option, Some, ◌∙◌, ap, subst}
+use Rattle.std.proofs.Common.{ℕ, ◌+◌, List, [], ◌∷◌, ◌++◌, ◌∙◌, ap, subst}
 use Rattle.std.specs.Prelude.{count_by, cond}
 use Rattle.std.specs.List.Sorted.{IsPermutation}
 use Rattle.std.proofs.lemmas.List.Elements.{All-push}
@@ -7,19 +7,16 @@ use Rattle.std.proofs.lemmas.List.Sorted.{sum_by-IsPermutation, length_permutati
 use Rattle.partitions.specs.Parts.{Shared}
 use Rattle.schema.specs.Database.{Database}
 use Rattle.history.specs.History.{Step, Unanswered, is_of}
-use Rattle.rendezvous.specs.Awaited.{reported}
-use Rattle.world.specs.declared.desk.Active.TheVariants as active
 use Rattle.world.specs.declared.desk.Desk.{Desk}
 use Rattle.world.specs.declared.flight.Message.{Message}
-use Rattle.world.specs.declared.flight.Report.{Report}
 use Rattle.world.specs.declared.flight.Item.{Item}
 use Rattle.world.specs.declared.world.Parts.{Parts}
 use Rattle.world.specs.Parted.{joined_in}
-use Rattle.world.specs.Flights.{Token, InFlight, nothing, join, parts, part_message, part_item, part_met}
-use Rattle.world.specs.Sound.{IsSoundWith, IsSoundMessage, IsSoundItem, IsBalanced, WeighAlike, awaited, flight, is_here, reported_to}
+use Rattle.world.specs.Flights.{nothing, join, part_message, part_item}
+use Rattle.world.specs.Sound.{IsSoundWith, IsSoundMessage, IsSoundItem, flight, is_here}
 use Rattle.world.specs.Worlds.{FitsPart, Fits}
 use Rattle.world.proofs.Joins.{IsSame, same-sym, join-nothing}
-use Rattle.world.proofs.Balances.{fly, in_inbox, in_outbox, message_put, items_put, balanced_same, held_same}
+use Rattle.world.proofs.Balances.{message_put, items_put, balanced_same, held_same}
 use Rattle.world.proofs.Fitting.{fits_same}
 use Rattle.world.proofs.Puts.{AreServed}
 
@@ -47,6 +44,7 @@ module _ {J : Type 0} where
         outbox = h.outbox;
         slots = h.slots;
         active = h.active;
+        ages = h.ages;
         seats = h.seats;
         sessions = h.sessions;
         balance = balanced_same mid.desk (join (part_message message) (flight mid)) (flight next) (same-sym _ _ (message_put mid message)) h.balance;
@@ -75,6 +73,7 @@ module _ {J : Type 0} where
     outbox = All-push (IsSoundItem shared mid.log h.under_way) mid.outbox item h.outbox fine;
     slots = h.slots;
     active = h.active;
+    ages = h.ages;
     seats = h.seats;
     sessions = h.sessions;
     balance = balanced_same mid.desk (join (part_item item) (flight mid)) (flight (record mid { outbox = mid.outbox ++ item ∷ [] })) (item_back mid item) h.balance;

@@ -6,7 +6,7 @@ use Rattle.history.specs.History.{Step, step}
 use Rattle.world.specs.declared.world.Parts.{Parts}
 use Rattle.world.specs.declared.world.Core.{Core}
 use Rattle.world.specs.Together.{together}
-use Rattle.world.specs.Worlds.{Advances, ComeAbout, Fits, HappenInTurn, Happens, steps_of}
+use Rattle.world.specs.Worlds.{AllDieOfOlder, TellsOfOlder, Advances, ComeAbout, Fits, HappenInTurn, Happens, steps_of}
 
 -- one event and one answer more
 pub steps_of-push : (events : List Event) (answers : List EventAnswer) (event : Event) (answer : EventAnswer) → length events ≡ length answers
@@ -33,8 +33,8 @@ module _ {J : Type 0} where
   happen_after (s ∷ some) more old mid new before after = (before.0, (before.1.0, happen_after some more before.0 mid new before.1.1 after))
 
   -- one event happens
-  pub happens_once : (event : Event) (answer : EventAnswer) (old new : Core J) → Happens event old answer new → HappenInTurn (step event answer ∷ []) old new
-  happens_once event answer old new happens = (new, (happens, refl))
+  pub happens_once : (event : Event) (answer : EventAnswer) (old new : Core J) → Happens event old answer new → TellsOfOlder old answer → AllDieOfOlder event old new → HappenInTurn (step event answer ∷ []) old new
+  happens_once event answer old new happens died dies = (new, ((happens, (died, dies)), refl))
 
   -- more comes about
   pub comes_after : (some more : List Step) (old mid new : Core J) → ComeAbout some old mid → ComeAbout more mid new → ComeAbout (some ++ more) old new

@@ -21,7 +21,7 @@ use Rattle.world.specs.declared.flight.Message.{Message}
 use Rattle.partitions.specs.Parts.{Shared}
 use Rattle.world.specs.declared.world.Core.{Core}
 use Rattle.world.specs.Together.{IsSound, all_of, together}
-use Rattle.world.specs.Worlds.{Advances, ComeAbout, Happens, IsAtRest, SendsFirst, TakesFirst}
+use Rattle.world.specs.Worlds.{AllDieOfOlder, TellsOfOlder, Advances, ComeAbout, Happens, IsAtRest, SendsFirst, TakesFirst}
 use Rattle.world.proofs.Quiet.{sends_something}
 use Rattle.world.proofs.Runs.{comes_after, happens_once}
 
@@ -234,9 +234,9 @@ all_empty {X = X} (queue ∷ queues) each =
 
 module _ {J : Type 0} where
   -- an event came about
-  pub event_comes : (event : Event) (answer : EventAnswer) (old new : Core J) → Happens event old answer new → Advances (together old) (step event answer ∷ []) (together new)
+  pub event_comes : (event : Event) (answer : EventAnswer) (old new : Core J) → Happens event old answer new → TellsOfOlder old answer → AllDieOfOlder event old new → Advances (together old) (step event answer ∷ []) (together new)
       → ComeAbout (step event answer ∷ []) old new
-  event_comes event answer old new happens advances = (happens_once event answer old new happens, advances)
+  event_comes event answer old new happens died dies advances = (happens_once event answer old new happens died dies, advances)
 
   -- after some turns a turn more
   pub turn_comes : (turns : List Turn) (count : ℕ) (t : Turn) (first old mid new : Core J) → length turns ≡ count → ComeAbout (steps_of_round turns) first old

@@ -2,16 +2,17 @@
 use Rattle.world.proofs.OneSlot.{got_set}
 use Rattle.transactions.specs.declared.work.Work.{Work}
 use Rattle.std.proofs.Common.{◌≡◌, ℕ, ◌-◌, List, [], ◌∷◌, ◌++◌, Some, length, map, refl, sym, ap, subst, ◌∙◌, append_assoc, arith, ◌≤◌, ◌<◌, Option, append-nil}
-use Rattle.std.specs.Prelude.{All, Vec, slice_set, option_map}
+use Rattle.std.specs.Prelude.{All, Contains, Vec, slice_set, option_map}
 use Rattle.std.specs.List.{remove, slice_get, flat_map}
 use Rattle.std.specs.declared.alloc.Global.{Global}
 use Rattle.std.proofs.lemmas.List.{map-append, map-set, set-get_or, set-set}
-use Rattle.std.proofs.lemmas.List.Elements.{All-head, All-tail, All-append, All-nil, All-set}
+use Rattle.std.proofs.lemmas.List.Elements.{All-head, All-tail, All-append, All-nil, All-set, Contains-append_right}
 use Rattle.std.proofs.lemmas.Option.{get_or_from_slice_get, slice_get-get_or, slice_get-map, slice_get_within}
 use Rattle.partitions.specs.Parts.{Shared}
 use Rattle.schema.specs.Database.{Database}
 use Rattle.history.specs.History.{Step}
-use Rattle.tickets.specs.Claims.{Claiming}
+use Rattle.tickets.specs.Claims.{Claiming, all_claims}
+use Rattle.local_locks.proofs.Members.{contains_here, contains_itself}
 use Rattle.local_locks.proofs.Taken.{map_removed}
 use Rattle.slices.specs.Sliced.{AreOfOneHome, AreSlicesOf, IsClaimAt, SliceKeeps, joined, with_waiters, AreAllHeld, Joined, SlicesKeep}
 use Rattle.transactions.specs.declared.acting.Ran.{Ran}
@@ -20,6 +21,7 @@ use Rattle.transactions.specs.declared.station.Acted.TheVariants as acted
 use Rattle.transactions.specs.declared.station.Parked.{Parked}
 use Rattle.transactions.specs.declared.station.Turned.{Turned}
 use Rattle.transactions.specs.Acting.{claims_of_ran}
+use Rattle.transactions.specs.Laws.{TransactionsClaimEachGroupOnce}
 use Rattle.transactions.specs.Stations.{ActsAs, OneTurn, Stationed, parked}
 use Rattle.transactions.specs.Works.{home_of}
 use Rattle.transactions.proofs.Reached.{some_actions}
@@ -37,7 +39,7 @@ use Rattle.world.specs.Sound.{IsSoundWith, IsSoundMessage, IsSoundItem, IsBalanc
 use Rattle.world.specs.Stations.{HaveToWait, act_of, message_of, slice_of, slices_in, waiting_at, waiting_in}
 use Rattle.world.specs.Events.{AllTurns, AtStation, GivesBack, TakesMessage, TakesTurn, TurnsFollow, carried_by, holder_of, put_for, report_of}
 use Rattle.world.specs.Together.{home_of_claims}
-use Rattle.world.specs.Worlds.{FitsPart, Fits}
+use Rattle.world.specs.Worlds.{FitsPart, Fits, IsClaimOf}
 use Rattle.world.proofs.Apart.{others}
 use Rattle.world.proofs.Joins.{IsSame, same-sym}
 use Rattle.world.proofs.Balances.{message_taken, items_put, balanced_same, balanced_like, held_same}
@@ -46,8 +48,10 @@ use Rattle.world.proofs.Parted.{ran_at_home}
 use Rattle.world.proofs.Puts.{GoesOn}
 use Rattle.world.proofs.Reordered.{Reordered, fits_in_order, queued, reordered-behind, reordered-cons, reordered-front, reordered-refl, reordered-swap, reordered-sym, reordered-trans, reordered_now, reordered_own, sound_in_order}
 use Rattle.world.proofs.Reporting.{pushes_fits, pushes_sound}
-use Rattle.world.proofs.Stationed.{keeps_on, shares, stays_on}
-use Rattle.world.proofs.Works.{Works, acts, settles, starts, undoes}
+use Rattle.world.proofs.Older.{dies_of_older, ran_claimed}
+use Rattle.world.proofs.Stationed.{holds, keeps_on, shares, stays_on}
+use Rattle.world.proofs.Works.{Works, acts, settles, starts, undoes, part_acts}
+use Rattle.tickets.proofs.Committed.{All-front}
 
 -- what stands at a place, put there again
 pub put_again : {X : Type 0} (xs : List X) (place : ℕ) (x : X) → slice_get xs place ≡ Some x → slice_set xs place x ≡ xs
@@ -73,6 +77,7 @@ module _ {J : Type 0} where
           outbox = h.outbox;
           slots = h.slots;
           active = h.active;
+          ages = h.ages;
           seats = h.seats;
           sessions = h.sessions;
           balance = subst (λ p. IsBalanced old.desk p) (message_taken old message rest is) h.balance;
@@ -102,6 +107,7 @@ module _ {J : Type 0} where
       outbox = h.outbox;
       slots = h.slots;
       active = h.active;
+      ages = h.ages;
       seats = h.seats;
       sessions = h.sessions;
       balance = h.balance;
@@ -113,13 +119,19 @@ module _ {J : Type 0} where
 
   -- ---- one thing happens
 
-  module _ (shared : Shared) (ms : List (Message J)) (is : List (Item J)) where
+  module _ (once : TransactionsClaimEachGroupOnce) (shared : Shared) (ms : List (Message J)) (is : List (Item J)) where
+    -- the claims that items have are on groups of what was accepted, where those in hand are and all others
+    abbrev AreClaimed : Parts J → List (Message J) → Message J → List (Item J) → Type 0
+    AreClaimed old ms message items =
+        (opening : Database) (history : List Step) → FitsPart opening history old.log (joined_in old) old.desk.admitted (join (part_message message) (flight (queued old ms (is ++ old.outbox))))
+        → All (IsClaimOf history) (parts part_item items).claims
+
     -- the message in hand is worked on
     worked_on : (old new : Parts J) (ms : List (Message J)) (message : Message J) (items : List (Item J))
         → (h : IsSoundWith shared (part_message message) (queued old ms (is ++ old.outbox))) → IsSoundMessage shared h.under_way message
-        → new ≡ record old { stations = new.stations; outbox = old.outbox ++ items } → AreSlicesOf old.catalog (slices_in new) → Works shared message (joined_in old) items (joined old.catalog (slices_in new))
+        → new ≡ record old { stations = new.stations; outbox = old.outbox ++ items } → AreSlicesOf old.catalog (slices_in new) → Works shared message (joined_in old) items (joined old.catalog (slices_in new)) → AreClaimed old ms message items
         → GoesOn shared (part_message message) (queued old ms (is ++ old.outbox)) (queued new ms (is ++ new.outbox))
-    worked_on old new ms message items h fine rest are works =
+    worked_on old new ms message items h fine rest are works claimed =
         let u = h.under_way in
         let hand = part_message message in
         let put = parts part_item items in
@@ -138,6 +150,7 @@ module _ {J : Type 0} where
           outbox = All-append (IsSoundItem shared old.log u) (is ++ old.outbox) items h.outbox (works.fine u old.log fine);
           slots = h.slots;
           active = h.active;
+          ages = h.ages;
           seats = h.seats;
           sessions = h.sessions;
           balance = balanced_same old.desk (join put flying) (flight next) after
@@ -149,7 +162,7 @@ module _ {J : Type 0} where
           fits = λ opening history f.
               subst (λ w. Fits opening history w) (sym next_is)
               (fits_same opening history old.log (joined_in next) old.desk.admitted (join put flying) (flight next) after
-              (fits_work opening history old.log (joined_in old) (joined_in next) old.desk.admitted hand put flying works.kept works.pending f));
+              (fits_work opening history old.log (joined_in old) (joined_in next) old.desk.admitted hand put flying works.kept works.pending (claimed opening history f) f));
         }
 
     -- ---- at a station
@@ -191,11 +204,11 @@ module _ {J : Type 0} where
       -- where the same wait, and the message in hand was worked on there
       at_once : (message : Message J) → at.now.parked ≡ at.was.parked
           → (h : IsSoundWith shared (part_message message) (seen old ms is)) → IsSoundMessage shared h.under_way message
-          → AreSlicesOf old.catalog (slices_in new) → Works shared message (joined_in old) items (joined old.catalog (slices_in new))
+          → AreSlicesOf old.catalog (slices_in new) → Works shared message (joined_in old) items (joined old.catalog (slices_in new)) → AreClaimed old (waiting_in old ++ ms) message items
           → GoesOn shared (part_message message) (seen old ms is) (seen new ms is)
-      at_once message same h fine are works =
+      at_once message same h fine are works claimed =
           subst (λ (q : List (Message J)). GoesOn shared (part_message message) (seen old ms is) (queued new (q ++ ms) (is ++ new.outbox))) (sym (same_wait same))
-          (worked_on old new (waiting_in old ++ ms) message items h fine at.rest are works)
+          (worked_on old new (waiting_in old ++ ms) message items h fine at.rest are works claimed)
 
     -- ---- an action asks
 
@@ -213,10 +226,20 @@ module _ {J : Type 0} where
         let kept = at.happened.2 in
         let same = at.happened.3 in
         let both = keeps_on old new h.slices home items Of at at.was.slice.waiters [] (claims_of_ran one) (All-nil (IsClaimAt home)) (ran_at_home (holder_of act) at.was.slice at.now.slice act.work one of) kept in
-        let works = acts shared act one at.was.slice at.now.slice (joined_in old) (joined old.catalog (slices_in new)) (shares old new h.slices home items Of at ∙ h.shared_is) of both.1 in
+        let asks : Parts J = record (seen old ms is) { inbox = (seen old ms is).inbox ++ Act act ∷ [] } in
+        let asks_there : Contains asks.inbox (Act act) = Contains-append_right (seen old ms is).inbox (Act act ∷ []) (Act act) (contains_itself (Act act)) in
+        let older = dies_of_older shared asks (pushes_sound shared (seen old ms is) (Act act) h fine) once act asks_there home at.was.slice.holdings (holds old new h.slices home items Of at) in
+        let works = acts shared act one at.was.slice at.now.slice (joined_in old) (joined old.catalog (slices_in new)) (shares old new h.slices home items Of at ∙ h.shared_is) older of both.1 in
         let told_works : Works shared (Act act) (joined_in old) items (joined old.catalog (slices_in new)) =
         subst (λ (c : Carried J). Works shared (Act act) (joined_in old) (report_of act.place c one ∷ []) (joined old.catalog (slices_in new))) (sym is_told) works in
-        at_once old new home items Of at (Act act) same h fine both.0 told_works
+        let claimed : AreClaimed old (waiting_in old ++ ms) (Act act) items = λ opening history f.
+        let P : Claiming → Type 0 = IsClaimOf history in
+        let carried = (part_message (Act act)).claims in
+        let put = claims_of_ran one in
+        let of_ran = ran_claimed shared asks (pushes_sound shared (seen old ms is) (Act act) h fine) once act asks_there opening history (pushes_fits opening history (seen old ms is) (Act act) f) at.was.slice at.now.slice one of in
+        let all = All-append P (carried ++ put) [] (All-append P carried put (All-front P carried (flight (seen old ms is)).claims f.claimed) of_ran) (All-nil P) in
+        subst (λ (c : Carried J). All P (parts part_item (report_of act.place c one ∷ [])).claims) (sym is_told) all in
+        at_once old new home items Of at (Act act) same h fine both.0 told_works claimed
 
     -- it waits
     waits_on : (old new : Parts J) (act : AnyAct J)
@@ -261,7 +284,7 @@ module _ {J : Type 0} where
               (fits_in_order old (before.inbox ++ message ∷ []) (waiting_in new ++ ms) before.outbox before.outbox all items opening history (pushes_fits opening history before message f)));
         }
 
-    asks_on : (old new : Parts J) (act : AnyAct J) (a : Acted J (Carried J))
+    pub asks_on : (old new : Parts J) (act : AnyAct J) (a : Acted J (Carried J))
         → (h : IsSoundWith shared (part_message (Act act)) (seen old ms is)) → IsSoundMessage shared h.under_way (Act act)
         → AtStation (home_of act.work) (put_for act.place a) (λ was now. ActsAs (holder_of act) act.work (carried_by act) was a now) old new
         → GoesOn shared (part_message (Act act)) (seen old ms is) (seen new ms is)
@@ -270,7 +293,7 @@ module _ {J : Type 0} where
 
     -- ---- claims are given back
 
-    gives_on : (old new : Parts J) (message : Message J) (slot : ℕ) (claims : List Claiming) → AreOfOneHome claims
+    pub gives_on : (old new : Parts J) (message : Message J) (slot : ℕ) (claims : List Claiming) → AreOfOneHome claims
         → ((was now : Joined) → SlicesKeep claims was [] now → Works shared message was (item.Ended slot ∷ []) now)
         → (h : IsSoundWith shared (part_message message) (seen old ms is)) → IsSoundMessage shared h.under_way message
         → GivesBack slot claims old new → GoesOn shared (part_message message) (seen old ms is) (seen new ms is)
@@ -279,11 +302,11 @@ module _ {J : Type 0} where
         let items : List (Item J) = item.Ended slot ∷ [] in
         let Of : Stationed (Carried J) → Stationed (Carried J) → Type 0 = λ was now. SliceKeeps claims was.slice [] now.slice × (now.parked ≡ was.parked) in
         let both = keeps_on old new h.slices home items Of at at.was.slice.waiters claims [] (at_home_of claims together) (All-nil (IsClaimAt home)) at.happened.0 in
-        at_once old new home items Of at message at.happened.1 h fine both.0 (works (joined_in old) (joined old.catalog (slices_in new)) both.1)
+        at_once old new home items Of at message at.happened.1 h fine both.0 (works (joined_in old) (joined old.catalog (slices_in new)) both.1) (λ opening history f. All-nil (IsClaimOf history))
 
     -- ---- one who waited has its turn
 
-    turn_on : (old new : Parts J) (home : ℕ) (turned : Turned J (Carried J)) → IsSoundWith shared nothing (seen old ms is) → TakesTurn home turned old new → GoesOn shared nothing (seen old ms is) (seen new ms is)
+    pub turn_on : (old new : Parts J) (home : ℕ) (turned : Turned J (Carried J)) → IsSoundWith shared nothing (seen old ms is) → TakesTurn home turned old new → GoesOn shared nothing (seen old ms is) (seen new ms is)
     turn_on old new home turned h at =
         let items : List (Item J) = report_of turned.by.place turned.carried turned.ran ∷ [] in
         let Of : Stationed (Carried J) → Stationed (Carried J) → Type 0 = λ was now. OneTurn was turned now in
@@ -311,9 +334,17 @@ module _ {J : Type 0} where
         subst (λ n. All (IsClaimAt n) (claims_of_ran turned.ran)) (one.here ∙ at.home_is)
         (ran_at_home turned.by (with_waiters at.now.slice.waiters at.was.slice) at.now.slice one.work turned.ran one.ran) in
         let both = keeps_on old new h.slices home items Of at at.now.slice.waiters [] (claims_of_ran turned.ran) (All-nil (IsClaimAt home)) at_home one.kept in
+        let older = dies_of_older shared first sound once (act_of p) (contains_here message (waiting_in new ++ ms)) home at.was.slice.holdings (holds old new h.slices home items Of at) in
         let works = acts shared (act_of p) turned.ran (with_waiters at.now.slice.waiters at.was.slice) at.now.slice (joined_in old) (joined old.catalog (slices_in new))
-        (shares old new h.slices home items Of at ∙ h.shared_is) one.ran both.1 in
-        let goes = worked_on old new (waiting_in new ++ ms) message items hand.0 hand.1 at.rest both.0 works in
+        (shares old new h.slices home items Of at ∙ h.shared_is) older one.ran both.1 in
+        let claimed : AreClaimed old (waiting_in new ++ ms) message items = λ opening history f.
+        let P : Claiming → Type 0 = IsClaimOf history in
+        let carried = (part_message message).claims in
+        let put = claims_of_ran turned.ran in
+        let whole = subst (λ (q : InFlight). FitsPart opening history old.log (joined_in old) old.desk.admitted q) (sym (message_taken first message (waiting_in new ++ ms) refl)) f in
+        let of_ran = ran_claimed shared first sound once (act_of p) (contains_here message (waiting_in new ++ ms)) opening history whole (with_waiters at.now.slice.waiters at.was.slice) at.now.slice turned.ran one.ran in
+        All-append P (carried ++ put) [] (All-append P carried put (All-front P carried (flight (queued old (waiting_in new ++ ms) (is ++ old.outbox))).claims f.claimed) of_ran) (All-nil P) in
+        let goes = worked_on old new (waiting_in new ++ ms) message items hand.0 hand.1 at.rest both.0 works claimed in
         record {
           sound = goes.sound;
           fits = λ opening history f.
@@ -352,7 +383,10 @@ module _ {J : Type 0} where
         let next : Parts J = record old { outbox = old.outbox ++ items } in
         let some : 1 ≤ length works.items = omega (arith, ap (λ (ws : List Work). length ws) fine.works_are, some_actions (h.under_way flow.transaction.slot).progress) in
         subst (λ w. GoesOn shared (part_message (Start flow works)) (seen old ms is) (seen w ms is)) (sym takes)
-        (worked_on old next (waiting_in old ++ ms) (Start flow works) items h fine refl h.slices (starts shared flow works (joined_in old) some))
+        (worked_on old next (waiting_in old ++ ms) (Start flow works) items h fine refl h.slices (starts shared flow works (joined_in old) some)
+        (λ opening history f.
+        let held = all_claims flow.transaction.held in
+        subst (λ (p : InFlight). All (IsClaimOf history) p.claims) (sym (part_acts flow works.items some)) (All-front (IsClaimOf history) held (flight (seen old ms is)).claims f.claimed)))
     takes_on (Act act) old new h fine takes =
         and_turns (home_of act.work) (Act act) old takes.0 new (asks_on old takes.0 act takes.1.0.0 h fine takes.1.0.1) takes.1.1
     takes_on (Settle slot claims) old new h fine takes =

@@ -73,7 +73,7 @@ pub is_awaited : (weight : Token → ℕ) (t : Token) (ts awaited : List Token) 
 is_awaited weight t ts awaited one h = omega (arith, h weight, sum_by-cons weight t ts, one)
 
 -- a place whose action is awaited is one that has not reported
-waiting_slot : {R : Type 0} (slot place n : ℕ) (xs : List (Option R)) → 1 ≤ sum_by (weigh_acting slot place) (map (Acting slot) (awaited_from n xs))
+pub waiting_slot : {R : Type 0} (slot place n : ℕ) (xs : List (Option R)) → 1 ≤ sum_by (weigh_acting slot place) (map (Acting slot) (awaited_from n xs))
     → (k : ℕ) × ((place ≡ n + k) × (slice_get xs k ≡ Some None))
 waiting_slot slot place n [] some = absurd (omega (arith, some))
 waiting_slot slot place n (None ∷ xs) some =

@@ -1,10 +1,12 @@
 -- What the work on each message does.
-use Rattle.std.proofs.Common.{◌≡◌, ℕ, ◌+◌, ◌≤◌, zero, suc, List, [], ◌∷◌, ◌++◌, length, Option, Some, None, refl, sym, ap, ◌∙◌, subst, append-nil, arith}
+use Rattle.std.proofs.Common.{◌≡◌, ℕ, ◌+◌, ◌<◌, ◌≤◌, zero, suc, List, [], ◌∷◌, ◌++◌, length, Option, Some, None, refl, sym, ap, ◌∙◌, subst, append-nil, arith}
 use Rattle.std.specs.Prelude.{All, Vec}
 use Rattle.std.specs.declared.alloc.Global.{Global}
 use Rattle.std.specs.List.{slice_get}
 use Rattle.std.proofs.lemmas.List.Elements.{All-nil, All-cons, All-head, All-tail, All-weaker}
 use Rattle.partitions.specs.Parts.{Shared, shared_of}
+use Rattle.requests.specs.declared.group.Group.{Group}
+use Rattle.local_locks.specs.Conflicts.{MustDie}
 use Rattle.commit_log.specs.declared.entry.Entry.{Entry}
 use Rattle.tickets.specs.Claims.{Claiming, all_claims}
 use Rattle.slices.specs.Sliced.{Joined, Sliced, SlicesKeep}
@@ -12,7 +14,7 @@ use Rattle.transactions.specs.declared.work.Work.{Work}
 use Rattle.transactions.specs.declared.acting.Ran.{Ran}
 use Rattle.transactions.specs.declared.acting.Ran.TheVariants as ran
 use Rattle.transactions.specs.Acting.{IsBy, IsRan, claims_of_ran}
-use Rattle.transactions.specs.Works.{CanDo, HasDone}
+use Rattle.transactions.specs.Works.{CanDo, HasDone, wants_of, wishes_of}
 use Rattle.world.specs.declared.flight.Act.{Act as AnyAct}
 use Rattle.world.specs.declared.flight.Flow.{Flow}
 use Rattle.world.specs.declared.flight.Item.{Item}
@@ -27,6 +29,7 @@ use Rattle.transactions.proofs.Wished.{works_are_done_at_home}
 use Rattle.wait_die.specs.declared.deciding.Holder.{Holder}
 use Rattle.world.specs.Events.{carried_by, holder_of, report_of}
 use Rattle.world.proofs.Keeping.{more, stays}
+use Rattle.world.proofs.OnGroups.{dies_on}
 
 -- actions that carry nothing have their tokens alone
 part_acts_from : (J : Type 0) (place age slot : ℕ) (works : List Work) → parts part_item (acts_from {J = J} place age slot None works) ≡ part [] [] (acting_from slot place works)
@@ -37,6 +40,10 @@ part_acts_from J place age slot (work ∷ works) = ap (λ (p : InFlight). join (
 carried_later : (J : Type 0) (slot : ℕ) (u : UnderWay) (number : ℕ) → 1 ≤ number → IsCarriedAt {J = J} slot u number None
 carried_later J slot u zero some = absurd (omega (arith, some))
 carried_later J slot u (suc number) some = tt
+
+-- who dies for this work in the slice, and is of this age, dies of somebody older
+abbrev pub DiesOfOlder : Sliced → ℕ → Work → Type 0
+DiesOfOlder s age work = (group : Group) (holder : ℕ) → MustDie s.holdings age (wants_of work) group holder → holder < age
 
 module _ {J : Type 0} where
   one_fine : (shared : Shared) (log : List Entry) (u : Courses) (one : Item J) → IsSoundItem shared log u one → All (IsSoundItem {J = J} shared log u) (one ∷ [])
@@ -105,18 +112,19 @@ module _ {J : Type 0} where
         fine = λ at log sound. acts_fine shared log at flow works.items sound;
       }
 
-  ran_soundly : (shared : Shared) (u : UnderWay) (number : ℕ) (work : Work) (one : Ran J) (by : Holder) (old new : Sliced) → shared_of old.tables ≡ shared → IsWorkAt u number work → by.age ≡ u.age
+  ran_soundly : (shared : Shared) (u : UnderWay) (number : ℕ) (work : Work) (one : Ran J) (by : Holder) (old new : Sliced) → shared_of old.tables ≡ shared → IsWorkAt u number work → by.age ≡ u.age → DiesOfOlder old by.age work
       → IsRan by old work one new → IsSoundRan shared u number one
-  ran_soundly shared u number work (ran.Done claims found) by old new same here aged of =
+  ran_soundly shared u number work (ran.Done claims found) by old new same here aged older of =
       let done : HasDone shared work found claims = subst (λ (s : Shared). HasDone s work found claims) same of.done in
       (work, (here, (done, ((of.undone, (works_are_done_at_home shared work found claims done).1), All-weaker (IsBy by) (IsAged u.age) (λ claim is. ap (λ (h : Holder). h.age) is ∙ aged) claims of.own))))
-  ran_soundly shared u number work (ran.Died group holder) by old new same here aged of = tt
-  ran_soundly shared u number work ran.NoMemory by old new same here aged of = tt
+  ran_soundly shared u number work (ran.Died group holder) by old new same here aged older of =
+      (work, (here, ((dies_on old.holdings by.age (wishes_of work) group holder of.0).wished, omega (arith, older group holder of.0, aged))))
+  ran_soundly shared u number work ran.NoMemory by old new same here aged older of = tt
 
   -- an action that runs puts its report
-  pub acts : (shared : Shared) (act : AnyAct J) (one : Ran J) (was now : Sliced) (old new : Joined) → shared_of was.tables ≡ shared → IsRan (holder_of act) was act.work one now → SlicesKeep [] old (claims_of_ran one) new
+  pub acts : (shared : Shared) (act : AnyAct J) (one : Ran J) (was now : Sliced) (old new : Joined) → shared_of was.tables ≡ shared → DiesOfOlder was act.age act.work → IsRan (holder_of act) was act.work one now → SlicesKeep [] old (claims_of_ran one) new
       → Works shared (Act act) old (report_of act.place (carried_by act) one ∷ []) new
-  acts shared act one was now old new same of kept =
+  acts shared act one was now old new same older of kept =
       let carried = part_carried act.flow in
       record {
         kept = subst (λ (claims : List Claiming). SlicesKeep carried.claims old claims new) (sym (append-nil (carried.claims ++ claims_of_ran one)))
@@ -125,7 +133,7 @@ module _ {J : Type 0} where
         tokens = refl;
         fine = λ at log fine.
             one_fine shared log at (report_of act.place (carried_by act) one)
-            (record { number = fine.number; place = fine.place; flow = fine.flow; ran = ran_soundly shared (at act.slot) fine.number act.work one (holder_of act) was now same fine.work fine.age of });
+            (record { number = fine.number; place = fine.place; flow = fine.flow; ran = ran_soundly shared (at act.slot) fine.number act.work one (holder_of act) was now same fine.work fine.age older of });
       }
 
   -- claims whose work is committed are given back

@@ -1,12 +1,16 @@
 -- What is known of each thing that is under way, and what a world keeps.
-use Rattle.std.specs.Prelude.{◌≡◌, ℕ, ◌+◌, ◌<◌, ◌≤◌, Bool, zero, suc, List, [], ◌∷◌, ◌++◌, Option, Some, None, All, map, length, replicate, count_by, is_some, if◌then◌else◌}
+use Rattle.std.specs.Prelude.{◌≡◌, ℕ, ◌+◌, ◌<◌, ◌≤◌, Bool, zero, suc, List, [], ◌∷◌, ◌++◌, Option, Some, None, All, Contains, map, length, replicate, count_by, is_some, if◌then◌else◌}
 use Rattle.std.specs.List.{slice_get, sum_by}
 use Rattle.partitions.specs.Parts.{Shared, shared_of}
 use Rattle.schema.specs.Database.{Database}
+use Rattle.requests.specs.declared.group.Group.{Group}
 use Rattle.requests.specs.declared.request.Request.{Request}
 use Rattle.requests.specs.declared.answer.Answer.{Answer}
 use Rattle.requests.specs.declared.answer.Answer.TheVariants.{Done, Refused}
+use Rattle.requests.specs.declared.refusal.Refusal.{Refusal}
+use Rattle.requests.specs.declared.refusal.Refusal.TheVariants as refusal
 use Rattle.requests.specs.Check.{IsAccepted}
+use Rattle.groups.specs.Footprint.{footprint, groups_of}
 use Rattle.tickets.specs.Claims.{Claiming, all_claims}
 use Rattle.slices.specs.Sliced.{AreAllHeld, AreSlicesOf}
 use Rattle.commit_log.specs.declared.entry.Entry.{Entry}
@@ -16,7 +20,7 @@ use Rattle.history.specs.History.{HasReply, is_of}
 use Rattle.transactions.specs.declared.work.Work.{Work}
 use Rattle.transactions.specs.declared.acting.Ran.{Ran}
 use Rattle.transactions.specs.declared.acting.Ran.TheVariants as ran
-use Rattle.transactions.specs.Works.{CanDo, HasDone}
+use Rattle.transactions.specs.Works.{CanDo, HasDone, wishes_of}
 use Rattle.transactions.specs.declared.progress.Progress.{Progress}
 use Rattle.transactions.specs.Progresses.{IsReached, works_of}
 use Rattle.transactions.specs.declared.laws.TheConstants.{MOST_ACTIONS}
@@ -44,6 +48,16 @@ use Rattle.world.specs.Stations.{slices_in}
 abbrev pub IsAnswerIn : List Entry → Answer → Type 0
 IsAnswerIn log (Done place shown) = HasReply log place shown
 IsAnswerIn log (Refused refusal) = Unit {0}
+
+-- A refusal that tells of a death names one of these groups, and an age that is less than this one.
+abbrev pub NamesOlder : List Group → ℕ → Refusal → Type 0
+NamesOlder groups age (refusal.Died group holder) = Contains groups group × (holder < age)
+NamesOlder groups age _ = Unit {0}
+
+-- so does an answer that is such a refusal
+abbrev pub AnswersOlder : List Group → ℕ → Answer → Type 0
+AnswersOlder groups age (Done place shown) = Unit {0}
+AnswersOlder groups age (Refused why) = NamesOlder groups age why
 
 -- a pass that is there is of this session
 abbrev pub IsPassOf : ℕ → Option Passing → Type 0
@@ -124,10 +138,11 @@ module _ {J : Type 0} where
   IsSoundMessage shared at (message.Settle slot claims) = AreSettledBy (at slot).age claims
   IsSoundMessage shared at (message.Undo slot claims) = AreUndoneBy (at slot).age claims
 
-  -- an action that ran did the work of its number under claims of its transaction, and all of it can be taken back
+  -- An action that ran did the work of its number under claims of its transaction, and all of it can be taken back; one that died
+  -- names a group that it claims for its work, and an age that is less than its transaction's.
   abbrev pub IsSoundRan : Shared → UnderWay → ℕ → Ran J → Type 0
   IsSoundRan shared u number (ran.Done claims found) = (work : Work) × (IsWorkAt u number work × (HasDone shared work found claims × AreUndoneBy u.age claims))
-  IsSoundRan shared u number (ran.Died group holder) = Unit {0}
+  IsSoundRan shared u number (ran.Died group holder) = (work : Work) × (IsWorkAt u number work × (Contains (groups_of (wishes_of work)) group × (holder < u.age)))
   IsSoundRan shared u number ran.NoMemory = Unit {0}
 
   -- a report is of its place, and what it tells of was done as the phase has it
@@ -146,9 +161,10 @@ module _ {J : Type 0} where
     pub undo : All (AreUndoneBy u.age) commit.transaction.held
     pub few : length commit.transaction.held ≤ MOST_ACTIONS
 
-  -- an answer is for one of 64 sessions, which asks its number, and the log has what it tells
+  -- An answer is for one of 64 sessions, which asks its number, and the log has what it tells; and a death is of somebody older, on a
+  -- group of what was asked.
   abbrev pub IsSoundReply : List Entry → ReplyItem J → Type 0
-  IsSoundReply log told = (told.pass.session < 64) × ((told.pass.asks.number ≡ told.number) × IsAnswerIn log told.answer)
+  IsSoundReply log told = (told.pass.session < 64) × ((told.pass.asks.number ≡ told.number) × (IsAnswerIn log told.answer × AnswersOlder (groups_of (footprint told.pass.asks.request)) told.age told.answer))
 
   -- an item is sound, by its kind
   abbrev pub IsSoundItem : Shared → List Entry → Courses → Item J → Type 0
@@ -207,6 +223,15 @@ module _ {J : Type 0} where
   AreSoundActive shared at slot [] = Unit {0}
   AreSoundActive shared at slot (a ∷ active) = IsSoundActive shared slot (at slot) a × AreSoundActive shared at (suc slot) active
 
+  -- the transaction in some slot is active, and of this age
+  abbrev pub IsActiveAt : Courses → List (Option (Active J)) → ℕ → Type 0
+  IsActiveAt at slots age = (slot : ℕ) × ((a : Active J) × ((slice_get slots slot ≡ Some (Some a)) × (age ≡ (at slot).age)))
+
+  -- each active transaction has an age that was admitted, and no two have the same
+  pub record HaveTheirAges (at : Courses) (admitted : ℕ) (slots : List (Option (Active J))) : Type 0 where
+    pub before : (slot : ℕ) (a : Active J) → slice_get slots slot ≡ Some (Some a) → (at slot).age < admitted
+    pub apart : (slot other : ℕ) (a b : Active J) → slice_get slots slot ≡ Some (Some a) → slice_get slots other ≡ Some (Some b) → (at slot).age ≡ (at other).age → slot ≡ other
+
   -- ---- the sessions
 
   -- the session's pass is at the desk
@@ -232,7 +257,8 @@ module _ {J : Type 0} where
     pub many : length under_way.pending + count_by is_here desk.sessions.items ≡ 64
 
   -- What the world keeps, with this in hand: there is a slice for each warehouse of this scale, in order, which share these items; and each thing under
-  -- way is sound, by how far its transaction has come; there are 64 slots; and the claims that the lock tables have out are those under way.
+  -- way is sound, by how far its transaction has come; there are 64 slots, and those who are active have their ages; and the claims
+  -- that the lock tables have out are those under way.
   pub record IsSoundWith (shared : Shared) (hand : InFlight) (w : Parts J) : Type 0 where
     pub shared_is : w.catalog ≡ shared
     pub slices : AreSlicesOf w.catalog (slices_in w)
@@ -241,6 +267,7 @@ module _ {J : Type 0} where
     pub outbox : All (IsSoundItem shared w.log under_way) w.outbox
     pub slots : length w.desk.active ≡ 64
     pub active : AreSoundActive shared under_way 0 w.desk.active
+    pub ages : HaveTheirAges under_way w.desk.admitted w.desk.active
     pub seats : length w.desk.sessions.items ≡ 64
     pub sessions : (number : ℕ) (session : SessionDesk J) → slice_get w.desk.sessions.items number ≡ Some session → IsSessionOf number session
     pub balance : IsBalanced w.desk (join hand (flight w))

@@ -4,12 +4,15 @@ use Rattle.std.specs.List.{slice_get}
 use Rattle.std.specs.declared.alloc.Global.{Global}
 use Rattle.partitions.specs.Parts.{Shared}
 use Rattle.schema.specs.Database.{Database}
+use Rattle.requests.specs.declared.group.Group.{Group}
 use Rattle.requests.specs.declared.request.Request.{Request}
 use Rattle.requests.specs.declared.answer.Answer.TheVariants.{Refused}
 use Rattle.requests.specs.declared.refusal.Refusal.{Refusal}
 use Rattle.requests.specs.declared.refusal.Refusal.TheVariants as refusal
 use Rattle.requests.specs.Check.{IsAccepted, check_of}
 use Rattle.groups.specs.Content.{content}
+use Rattle.groups.specs.Footprint.{footprint, groups_of}
+use Rattle.tickets.specs.Claims.{Claiming}
 use Rattle.tickets.specs.Committed.{AreCommitted}
 use Rattle.machine.specs.Machine.{tables_after}
 use Rattle.commit_log.specs.declared.entry.Entry.{Entry}
@@ -20,7 +23,7 @@ use Rattle.history.specs.declared.event.Event.{Event}
 use Rattle.history.specs.declared.event.Event.TheVariants.{Submit, Take, Send}
 use Rattle.history.specs.declared.event.EventAnswer.{EventAnswer}
 use Rattle.history.specs.declared.event.EventAnswer.TheVariants.{Accepted, Took, Answered, Nothing}
-use Rattle.history.specs.History.{Step, step, is_of}
+use Rattle.history.specs.History.{Step, Unanswered, step, is_of}
 use Rattle.history.specs.Fits.{Fits as HistoryFits}
 use Rattle.history.specs.Schedules.{IsIdle, Round}
 use Rattle.local_locks.specs.Conflicts.{Blocks}
@@ -43,10 +46,10 @@ use Rattle.world.specs.declared.flight.Item.TheVariants as item
 use Rattle.world.specs.declared.world.Parts.{Parts}
 use Rattle.world.specs.declared.world.Core.{Core}
 use Rattle.world.specs.Slots.{count_active}
-use Rattle.world.specs.Flights.{InFlight}
+use Rattle.world.specs.Flights.{InFlight, nothing}
 use Rattle.world.specs.Parted.{joined_in}
 use Rattle.world.specs.Stations.{waiting_in}
-use Rattle.world.specs.Sound.{IsSessionOf, flight}
+use Rattle.world.specs.Sound.{Courses, IsActiveAt, IsSessionOf, IsSoundWith, flight}
 use Rattle.world.specs.Events.{TakesMessage, SendsItem}
 use Rattle.world.specs.Together.{IsOf, all_of, goes_to, home_of_request, in_hand, put_back, together}
 use Rattle.routing.specs.Routes.{executor_of}
@@ -57,12 +60,27 @@ use Rattle.routing.specs.Routes.{executor_of}
 abbrev pub tables_now : Database → List Entry → Database
 tables_now opening log = tables_after opening (requests_of log)
 
+-- the history tells that this request was accepted with this age
+abbrev pub WasAccepted : List Step → ℕ → Request → Type 0
+WasAccepted history age request = (session : ℕ) × ((number : ℕ) × Contains history (step (Submit session number request) (Accepted age)))
+
+-- so it tells of a transaction without an answer
+abbrev pub IsAcceptedIn : List Step → Unanswered → Type 0
+IsAcceptedIn history u = WasAccepted history u.age u.request
+
+-- the claim is on a group of the footprint of the request that was accepted with its age
+abbrev pub IsClaimOf : List Step → Claiming → Type 0
+IsClaimOf history claim = (asked : Request) × (WasAccepted history claim.by.age asked × Contains (groups_of (footprint asked)) claim.group)
+
 -- A history fits an opening, a log and what is under way: so it does by the log alone; the tables that the machine leaves are
--- the committed ones while these claims are out; and these are all that are out, as the lock tables have it.
+-- the committed ones while these claims are out; these are all that are out, as the lock tables have it; each transaction without an
+-- answer was accepted; and each claim is on a group of the footprint of the request that was accepted with its age.
 pub record FitsPart (opening : Database) (history : List Step) (log : List Entry) (slices : Joined) (admitted : ℕ) (under_way : InFlight) : Type 0 where
   pub told : HistoryFits opening history log (tables_now opening log) admitted under_way.pending
   pub committed : AreCommitted everywhere (content (tables_now opening log)) (all_standing slices) under_way.claims
   pub held : AreAllHeld slices.holdings under_way.claims
+  pub accepted : All (IsAcceptedIn history) under_way.pending
+  pub claimed : All (IsClaimOf history) under_way.claims
   pub scale : slices.tables.scale ≡ opening.scale
   pub items : slices.tables.items ≡ opening.items
 
@@ -85,6 +103,13 @@ refuses None checked full = Some refusal.SessionBusy
 refuses (Some pass) (Err why) full = Some why
 refuses (Some pass) (Ok accepted) true = Some refusal.Busy
 refuses (Some pass) (Ok accepted) false = None
+
+-- of a transaction without an answer: it is the session's, with this number; the group is one of its footprint, and the holder is older
+pub record IsRefusedFor (session number : ℕ) (group : Group) (holder : ℕ) (u : Unanswered) : Type 0 where
+  pub session_is : u.session ≡ session
+  pub number_is : u.number ≡ number
+  pub of_footprint : Contains (groups_of (footprint u.request)) group
+  pub older : holder < u.age
 
 -- 64 transactions are active
 abbrev pub is_full : {X : Type 0} → List (Option X) → Bool
@@ -202,10 +227,63 @@ module _ {J : Type 0} where
   Happens (Take executor) old answer new = TakesFirst executor (slice_index_or old.inboxes executor []) old answer new
   Happens (Send executor) old answer new = SendsFirst executor (slice_index_or old.outboxes executor []) old answer new
 
-  -- Events happen one after another, each with its answer.
+  -- ---- deaths
+
+  -- A session that is told of a death had a transaction without an answer, with the number that it is told: a group of that one's
+  -- footprint is named, and the age of an older one.
+  abbrev pub TellsOfOlder : Core J → EventAnswer → Type 0
+  TellsOfOlder w answer =
+      (session number : ℕ) (group : Group) (holder : ℕ) → answer ≡ Answered session number (Refused (refusal.Died group holder))
+      → (u : Unanswered) × (Contains (flight (together w)).pending u × IsRefusedFor session number group holder u)
+
+  -- The transaction in this slot dies on this group of one of this age, who is older, is active, and has a claim on the group, as a
+  -- lock table has it. The group is of the footprints of both, by the requests that the history tells were accepted with their ages.
+  pub record DiesOf (history : List Step) (w : Parts J) (at : Courses) (slot : ℕ) (group : Group) (holder : ℕ) : Type 0 where
+    pub accepted : WasAccepted history (at slot).age (at slot).request
+    pub of_footprint : Contains (groups_of (footprint (at slot).request)) group
+    pub older : holder < (at slot).age
+    pub active : IsActiveAt at w.desk.active holder
+    pub asked : Request
+    pub holder_accepted : WasAccepted history holder asked
+    pub of_holder : Contains (groups_of (footprint asked)) group
+    pub w_id : ℕ
+    pub holding : Holding
+    pub out : Contains ((joined_in w).holdings w_id) holding
+    pub on : holding.group ≡ group
+    pub by : holding.by.age ≡ holder
+
+  -- an action of the transaction in this slot, if it has died, died of such a one
+  abbrev pub DiedOfOlder : List Step → Parts J → Courses → ℕ → Ran J → Type 0
+  DiedOfOlder history w at slot (ran.Done claims found) = Unit {0}
+  DiedOfOlder history w at slot (ran.Died group holder) = DiesOf history w at slot group holder
+  DiedOfOlder history w at slot ran.NoMemory = Unit {0}
+
+  -- the item, if it is a report of a death, tells of such a one
+  abbrev pub TellsWhom : List Step → Parts J → Courses → Item J → Type 0
+  TellsWhom history w at (item.Report report) = DiedOfOlder history w at report.slot report.ran
+  TellsWhom history w at item = Unit {0}
+
+  -- Who dies as an executor works on a message, dies of somebody older who is active: each report that is put tells so. What slot has
+  -- which transaction is known by the courses by which all that is under way is sound: there are such, and it is so by whichever
+  -- they are.
+  abbrev pub DieOfOlder : List Step → Event → Core J → Core J → Type 0
+  DieOfOlder history (Take executor) old new =
+      IsSoundWith new.parts.catalog nothing (together new)
+      × ((known : IsSoundWith new.parts.catalog nothing (together new)) (items : List (Item J)) → slice_index_or new.outboxes executor [] ≡ slice_index_or old.outboxes executor [] ++ items
+      → All (TellsWhom history (together new) known.under_way) items)
+  DieOfOlder history event old new = Unit {0}
+
+  -- so it is by every history that fits the world after the event
+  abbrev pub AllDieOfOlder : Event → Core J → Core J → Type 0
+  AllDieOfOlder event old new = (opening : Database) (history : List Step) → Fits opening history (together new) → DieOfOlder history event old new
+
+  -- ---- several events
+
+  -- Events happen one after another, each with its answer. Who dies, dies of somebody older.
   abbrev pub HappenInTurn : List Step → Core J → Core J → Type 0
   HappenInTurn [] old new = new ≡ old
-  HappenInTurn (s ∷ steps) old new = (mid : Core J) × (Happens s.event old s.answer mid × HappenInTurn steps mid new)
+  HappenInTurn (s ∷ steps) old new =
+      (mid : Core J) × ((Happens s.event old s.answer mid × (TellsOfOlder old s.answer × AllDieOfOlder s.event old mid)) × HappenInTurn steps mid new)
 
   -- these events came about: they happened in turn, and a history that fits goes on with them
   abbrev pub ComeAbout : List Step → Core J → Core J → Type 0

@@ -13,6 +13,7 @@ use commit_log::Names;
 use history::{Event, EventAnswer};
 use requests::Request;
 use std::alloc::Global;
+use transactions::claims_are_of_the_footprint;
 
 impl<J: Names> Core<J> {
     /// What an event brings.
@@ -64,6 +65,8 @@ impl<J: Names> Core<J> {
         let Some(message) = self.parts.inbox.take() else {
             unreachable!()
         };
+        // Actions of one transaction never meet, and so none dies of its own.
+        claims_are_of_the_footprint();
         self.parts.work(alloc, message);
         self.hand_over(at, at);
         EventAnswer::Took

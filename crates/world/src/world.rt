@@ -5,7 +5,7 @@ ghost use Rattle.history.specs.History.{Step, step as one_step};
 ghost use Rattle.world.specs.Openings.{IsGathered};
 ghost use Rattle.world.specs.Slots.{count_active};
 ghost use Rattle.world.specs.Together.{together};
-ghost use Rattle.world.specs.Worlds.{Advances, CannotHappen, Fits, HappenInTurn, Happens, IsAtRest, IsBusyExactly, IsNeverStuck, NoneDies, TakesItsOwn, steps_of, tables_now};
+ghost use Rattle.world.specs.Worlds.{Advances, AllDieOfOlder, CannotHappen, Fits, HappenInTurn, Happens, IsAtRest, IsBusyExactly, IsNeverStuck, NoneDies, TakesItsOwn, TellsOfOlder, steps_of, tables_now};
 
 use crate::desk::Desk;
 use crate::flight::{Carried, Item, Message};
@@ -117,12 +117,16 @@ impl<J: Names> World<J> {
     /// is answered `Nothing` and changes nothing. An executor works on messages of its own warehouses alone.
     /// Up to 64 transactions are active at a time: `Busy` exactly where they are. Who is in another's way is waited for where it is
     /// younger, and else the other dies: so nobody waits in a circle, and while anything is active something can be taken or sent.
-    /// While a transaction is the only one that is active, no action of it dies.
+    /// While a transaction is the only one that is active, no action of it dies. Who dies, dies of somebody older, who is active then and
+    /// has a claim on the group that is named; both have the group in their footprints. A session that is told of a death is told
+    /// a group of its own request's, and the age of an older transaction.
     pub fn step(&mut self, alloc: Global, event: &Event) -> EventAnswer
         ensures advances { Advances (together self.old) (one_step event.now result ∷ []) (together self.new) }
         ensures happens { Happens event.now self.old result self.new }
         ensures nothing { (result ≡ EventAnswer.Nothing) ↔ CannotHappen event.now self.old }
         ensures busy { IsBusyExactly event.now self.old result }
+        ensures died { TellsOfOlder self.old result }
+        ensures dies { AllDieOfOlder event.now self.old self.new }
         ensures own { TakesItsOwn event.now self.old }
         ensures routing { self.new.routing ≡ self.old.routing }
         ensures never_stuck { IsNeverStuck self.new }

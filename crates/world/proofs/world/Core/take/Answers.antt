@@ -55,7 +55,7 @@ returns-clause-sound g c =
     let old = c.args.self.now in
     let below = there_of_inbox shared old c.requires.sound c.args.executor (omega (arith, c.waiting.ensures, c.if-waiting-eq0.false)) in
     let done = taken shared old c.requires.sound c.args.executor below c.hand_over.new.self c.hand_over.ensures c.in-Some.message c.take.new.self c.in-Some.ensures.first
-    c.work.new.self c.hand_over-2.new.self c.work.ensures.takes (subst (λ n. All (IsStationOf n) c.work.new.self.stations.items) c.requires.warehouses c.work.ensures.stations) c.hand_over-2.ensures in
+    c.claims_are_of_the_footprint.ensures.once c.work.new.self c.hand_over-2.new.self c.work.ensures.takes (subst (λ n. All (IsStationOf n) c.work.new.self.stations.items) c.requires.warehouses c.work.ensures.stations) c.hand_over-2.ensures in
     done.0
 
 pub returns-clause-advances : goal.returns-clause-advances
@@ -64,7 +64,7 @@ returns-clause-advances g c =
     let old = c.args.self.now in
     let below = there_of_inbox shared old c.requires.sound c.args.executor (omega (arith, c.waiting.ensures, c.if-waiting-eq0.false)) in
     let done = taken shared old c.requires.sound c.args.executor below c.hand_over.new.self c.hand_over.ensures c.in-Some.message c.take.new.self c.in-Some.ensures.first
-    c.work.new.self c.hand_over-2.new.self c.work.ensures.takes (subst (λ n. All (IsStationOf n) c.work.new.self.stations.items) c.requires.warehouses c.work.ensures.stations) c.hand_over-2.ensures in
+    c.claims_are_of_the_footprint.ensures.once c.work.new.self c.hand_over-2.new.self c.work.ensures.takes (subst (λ n. All (IsStationOf n) c.work.new.self.stations.items) c.requires.warehouses c.work.ensures.stations) c.hand_over-2.ensures in
     done.1.0
 
 pub returns-clause-happens : goal.returns-clause-happens
@@ -73,5 +73,5 @@ returns-clause-happens g c =
     let old = c.args.self.now in
     let below = there_of_inbox shared old c.requires.sound c.args.executor (omega (arith, c.waiting.ensures, c.if-waiting-eq0.false)) in
     let done = taken shared old c.requires.sound c.args.executor below c.hand_over.new.self c.hand_over.ensures c.in-Some.message c.take.new.self c.in-Some.ensures.first
-    c.work.new.self c.hand_over-2.new.self c.work.ensures.takes (subst (λ n. All (IsStationOf n) c.work.new.self.stations.items) c.requires.warehouses c.work.ensures.stations) c.hand_over-2.ensures in
+    c.claims_are_of_the_footprint.ensures.once c.work.new.self c.hand_over-2.new.self c.work.ensures.takes (subst (λ n. All (IsStationOf n) c.work.new.self.stations.items) c.requires.warehouses c.work.ensures.stations) c.hand_over-2.ensures in
     done.1.1

@@ -16,7 +16,7 @@ returns-in_err-push-in-Event-clause-err g c =
       steps,
       (
         subst (λ item. Begins c.args.self.now.routing.executors (item ∷ []) steps) (sym c.in-Event.is) (begins_all c.args.self.now.routing.executors (scheduled.Event event) (output.Event answer ∷ []) steps (answer, (refl, refl))),
-        event_comes event answer c.args.self.now c.step-answer.new.self c.step-answer.ensures.happens c.step-answer.ensures.advances,
+        event_comes event answer c.args.self.now c.step-answer.new.self c.step-answer.ensures.happens c.step-answer.ensures.died c.step-answer.ensures.dies c.step-answer.ensures.advances,
       ),
     )
 
@@ -33,7 +33,7 @@ returns-in_ok-push-in-Event-clause-follows g c =
           c.in_ok-push-in-Event.ensures.items,
           (
             subst (λ item. Follows c.args.self.now.routing.executors item added steps) (sym c.in-Event.is) (answer, (refl, refl)),
-            event_comes event answer c.args.self.now c.step-answer.new.self c.step-answer.ensures.happens c.step-answer.ensures.advances,
+            event_comes event answer c.args.self.now c.step-answer.new.self c.step-answer.ensures.happens c.step-answer.ensures.died c.step-answer.ensures.dies c.step-answer.ensures.advances,
           ),
         ),
       ),

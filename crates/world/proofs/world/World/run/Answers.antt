@@ -41,7 +41,7 @@ loop-event-preserved g c =
       room = omega (arith, c.push_reserved.ensures.capacity, c.loop-event.invariant.room);
       happen = subst (λ (ss : List Step). HappenInTurn ss c.args.self.now c.step-answer.new.self) (sym steps)
           (happen_after (steps_of (take i events) answers) (step event answer ∷ []) c.args.self.now c.loop-event.self c.step-answer.new.self c.loop-event.invariant.happen
-          (happens_once event answer c.loop-event.self c.step-answer.new.self c.step-answer.ensures.happens));
+          (happens_once event answer c.loop-event.self c.step-answer.new.self c.step-answer.ensures.happens c.step-answer.ensures.died c.step-answer.ensures.dies));
       advances = subst (λ (ss : List Step). Advances (together c.args.self.now) ss (together c.step-answer.new.self)) (sym steps)
           (one_after_another (together c.args.self.now) (together c.loop-event.self) (together c.step-answer.new.self) (steps_of (take i events) answers) (step event answer ∷ []) c.loop-event.invariant.advances c.step-answer.ensures.advances);
     }

@@ -38,8 +38,8 @@ loop-executor-preserved g c =
             outputs_turned turns t c.args.outputs.now.items l.outputs.items c.add_output.new.outputs.items c.add_output-in-loop-executor.new.outputs.items inv.turns.1.1.0 c.add_output.ensures.added c.add_output-in-loop-executor.ensures.added,
             (
               turn_comes turns l.executor t c.args.self.now l.self mid new inv.turns.1.0 inv.turns.1.1.1.0
-                  (event_comes (Take l.executor) t.took l.self mid c.step-took.ensures.happens c.step-took.ensures.advances)
-                  (event_comes (Send l.executor) t.sent mid new c.step-sent.ensures.happens c.step-sent.ensures.advances),
+                  (event_comes (Take l.executor) t.took l.self mid c.step-took.ensures.happens c.step-took.ensures.died c.step-took.ensures.dies c.step-took.ensures.advances)
+                  (event_comes (Send l.executor) t.sent mid new c.step-sent.ensures.happens c.step-sent.ensures.died c.step-sent.ensures.dies c.step-sent.ensures.advances),
               (
                 λ is. let both = c.stays_idle-is_idle.ensures.0 is in idle_more turns t (exactly.0 both.0) both.1,
                 λ idle. let both = idle_before turns t idle in c.stays_idle-is_idle.ensures.1 (exactly.1 both.0, both.1),

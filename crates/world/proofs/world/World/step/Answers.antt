@@ -5,11 +5,13 @@ use Rattle.history.specs.History.{Step, step}
 use Rattle.world.specs.declared.world.Core.{Core}
 use Rattle.world.specs.Slots.{count_active}
 use Rattle.world.specs.Together.{together}
-use Rattle.world.specs.Worlds.{Advances, Fits, Happens, IsBusyExactly, NoneDies, TakesItsOwn}
+use Rattle.world.specs.Worlds.{Advances, AllDieOfOlder, Fits, Happens, IsBusyExactly, NoneDies, TakesItsOwn, TellsOfOlder}
 use Rattle.world.proofs.Alone.{none_dies}
 use Rattle.world.proofs.Executing.{takes_its_own}
 use Rattle.world.proofs.NeverStuck.{never_stuck}
 use Rattle.world.proofs.Busy.{busy_exactly}
+use Rattle.world.proofs.Deaths.{tells_of_older}
+use Rattle.world.proofs.Dying.{die_of_older}
 use Rattle.world.proofs.Answered.{nothing_exactly}
 use Rattle.world.proofs.Schedules.{routing_stays}
 use Rattle.world.proofs.world.World.step.Goals as goal
@@ -27,6 +29,16 @@ pub returns-clause-busy : goal.returns-clause-busy
 returns-clause-busy g c =
     subst (λ (old : Core g.row.J.Denot). IsBusyExactly c.args.event.now old c.happen.result) c.self.view_is
     (busy_exactly (shared_of g.J.LogNames.opening) c.args.event.now c.self.inside.core c.happen.new.self c.happen.result c.self.invariant.0 c.happen.ensures.happens)
+
+pub returns-clause-died : goal.returns-clause-died
+returns-clause-died g c =
+    subst (λ (old : Core g.row.J.Denot). TellsOfOlder old c.happen.result) c.self.view_is
+    (tells_of_older (shared_of g.J.LogNames.opening) c.args.event.now c.self.inside.core c.happen.new.self c.happen.result c.self.invariant.0 c.happen.ensures.happens)
+
+pub returns-clause-dies : goal.returns-clause-dies
+returns-clause-dies g c =
+    subst (λ (old : Core g.row.J.Denot). AllDieOfOlder c.args.event.now old c.happen.new.self) c.self.view_is
+    (die_of_older c.claims_are_of_the_footprint.ensures.once (shared_of g.J.LogNames.opening) c.args.event.now c.self.inside.core c.happen.new.self c.happen.result c.self.invariant.0 c.happen.ensures.sound c.happen.ensures.happens)
 
 pub returns-clause-alone : goal.returns-clause-alone
 returns-clause-alone g c =
