@@ -19,11 +19,12 @@ use Rattle.transactions.specs.declared.work.Work.{Work}
 use Rattle.transactions.specs.Acting.{IsBy, IsDoneBy}
 use Rattle.transactions.specs.Laws.{WorksAreDoneAtHome}
 use Rattle.transactions.specs.Stations.{ActsAs, OneTurn, Stationed, parked}
-use Rattle.transactions.specs.Works.{HasDone}
+use Rattle.transactions.specs.Works.{HasDone, wishes_of}
 use Rattle.executor.specs.declared.errand.Carried.{Carried}
 use Rattle.executor.specs.Journeys.{AreUndoneBy, IsAged}
 use Rattle.executor.specs.Carrying.{CarriesErrand, CarriesReport, Erranding, IsRanBy, reporting}
 use Rattle.executor.specs.Posts.{CarriesPost, CarriesWaiting, carried_by, report_by, report_turned}
+use Rattle.executor.proofs.Refusals.{dies_of_wished}
 
 -- where the scale and the items stay, all that is shared stays
 pub shared_kept : (before after : List Claiming) (old new : Sliced) → SliceKeeps before old after new → shared_of new.tables ≡ shared_of old.tables
@@ -43,7 +44,7 @@ module _ (at_home : WorksAreDoneAtHome) (shared : Shared) where
     acted_by : (by : Holder) (age : ℕ) (work : Work) (carried told : Carried J) (old new : Stationed (Carried J)) (one : Ran J) → by.age ≡ age → shared_of old.slice.tables ≡ shared
         → ActsAs by work carried old (acted.Ran one told) new → IsRanBy shared age work one
     acted_by by age work carried told old new (ran.Done claims found) aged is acts = done_by by age old.slice work claims found aged is acts.1
-    acted_by by age work carried told old new (ran.Died group holder) aged is acts = tt
+    acted_by by age work carried told old new (ran.Died group holder) aged is acts = dies_of_wished old.slice.holdings by.age (wishes_of work) group holder acts.1.0
     acted_by by age work carried told old new ran.NoMemory aged is acts = tt
 
     -- its report
@@ -95,7 +96,7 @@ module _ (at_home : WorksAreDoneAtHome) (shared : Shared) where
     turned_by : (age : ℕ) (old new : Stationed (Carried J)) (by : Holder) (one : Ran J) (carried : Carried J) → by.age ≡ age → shared_of old.slice.tables ≡ shared
         → (turn : OneTurn old (record { by = by; ran = one; carried = carried }) new) → IsRanBy shared age turn.work one
     turned_by age old new by (ran.Done claims found) carried aged is turn = done_by by age (with_waiters new.slice.waiters old.slice) turn.work claims found aged is turn.ran
-    turned_by age old new by (ran.Died group holder) carried aged is turn = tt
+    turned_by age old new by (ran.Died group holder) carried aged is turn = dies_of_wished old.slice.holdings by.age (wishes_of turn.work) group holder turn.ran.0
     turned_by age old new by ran.NoMemory carried aged is turn = tt
 
     -- its report

@@ -2,6 +2,7 @@ pub mod Shares
 pub mod Phases
 pub mod SentOut
 pub mod SortedOut
+pub mod Refusals
 pub mod AtPosts
 pub mod Onward
 pub mod Logged

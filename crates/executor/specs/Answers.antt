@@ -1,11 +1,16 @@
 -- What an answer tells, and what goes back with it.
-use Rattle.std.specs.Prelude.{◌≡◌, ◌≤◌, ◌+◌, ℕ, Bool, true, false, List, [], ◌∷◌, ◌++◌, All}
+use Rattle.std.specs.Prelude.{◌≡◌, ◌≤◌, ◌+◌, ℕ, Bool, true, false, List, [], ◌∷◌, ◌++◌, All, Contains}
 use Rattle.requests.specs.declared.answer.Answer.{Answer}
 use Rattle.requests.specs.declared.answer.Answer.TheVariants.{Done, Refused}
+use Rattle.requests.specs.declared.request.Request.{Request}
+use Rattle.requests.specs.declared.refusal.Refusal.{Refusal}
+use Rattle.requests.specs.declared.refusal.Refusal.TheVariants.{Died, NoMemory, LogFull}
+use Rattle.groups.specs.Footprint.{footprint, groups_of}
 use Rattle.tickets.specs.Claims.{Claiming}
 use Rattle.commit_log.specs.declared.asking.Asking.{Asking}
 use Rattle.commit_log.specs.Items.{item}
 use Rattle.commit_log.specs.Passing.{Passing}
+use Rattle.executor.specs.Courses.{Keeping}
 use Rattle.executor.specs.Journeys.{CanAllBeSettled, CanAllBeUndone}
 
 -- ---- the answer
@@ -20,12 +25,20 @@ pub record Telling : Type 0 where
 abbrev pub telling : ℕ → ℕ → Passing → Answer → Telling
 telling age number pass answer = record { age = age; number = number; pass = pass; answer = answer }
 
+-- For what a request may be refused that is under way, where the log has reached so many entries: there was no memory; or the log has its
+-- most entries; or an action died on a group that the request claims, of whomever. It is refused for nothing else.
+abbrev pub MayBeRefused : ℕ → Request → Refusal → Type 0
+MayBeRefused entries request NoMemory = Unit {0}
+MayBeRefused entries request LogFull = 16777216 ≤ entries
+MayBeRefused entries request (Died group holder) = Contains (groups_of (footprint request)) group
+MayBeRefused entries request _ = ⊥
+
 -- What the pass has seen and logged is what it had when the session asked this, and the answer: an entry behind all that it had
--- seen; or nothing more, where it was refused.
+-- seen; or nothing more, where it was refused, and it may be refused for this.
 abbrev pub IsToldBy : Asking → Passing → Answer → Type 0
 IsToldBy asks pass (Done place shown) =
     (asks.seen ≤ place) × (pass.seen ≡ place + 1) × (pass.mine ≡ asks.mine ++ item place asks.number asks.request shown ∷ [])
-IsToldBy asks pass (Refused why) = (pass.seen ≡ asks.seen) × (pass.mine ≡ asks.mine)
+IsToldBy asks pass (Refused why) = (pass.seen ≡ asks.seen) × (pass.mine ≡ asks.mine) × MayBeRefused pass.reached asks.request why
 
 -- an answer is to the request that its session asked with the pass, and the pass tells it
 pub record CarriesAnswer (t : Telling) : Type 0 where
@@ -51,3 +64,14 @@ IsGiven false claims = CanAllBeUndone claims
 -- so are those of all
 abbrev pub AreGiven : Bool → List (List Claiming) → Type 0
 AreGiven settle held = All (IsGiven settle) held
+
+-- ---- a transaction that is over
+
+-- what its session is told, what its actions give back, and who keeps its course
+pub record Releasing : Type 0 where
+  pub told : Telling
+  pub returns : Returning
+  pub keeper : Keeping
+
+abbrev pub releasing : Telling → Returning → Keeping → Releasing
+releasing told returns keeper = record { told = told; returns = returns; keeper = keeper }

@@ -17,10 +17,9 @@ use Rattle.commit_log.specs.Claimed.{IsCarriedOut, claims_logged}
 use Rattle.commit_log.specs.Items.{entry_of, item}
 use Rattle.commit_log.specs.Passing.{Passing, after_item, after_refusal}
 use Rattle.executor.specs.declared.journey.Transaction.{Transaction}
-use Rattle.executor.specs.declared.release.Release.{Release}
-use Rattle.executor.specs.Courses.{Keeping}
+use Rattle.executor.specs.Courses.{Keeping, KeepsWhole}
 use Rattle.executor.specs.Journeys.{AreUndoneBy, IsAskedBy}
-use Rattle.executor.specs.Answers.{returning, telling}
+use Rattle.executor.specs.Answers.{Releasing, releasing, returning, telling}
 
 -- the refusal by which a fault of the log is answered
 abbrev pub why_refused : AppendFault → Refusal
@@ -48,36 +47,34 @@ abbrev pub committing : {J : Type 0} → Keeping → Transaction J → List (Lis
 committing keeper t held shown =
     record { keeper = keeper; age = t.age; slot = t.slot; number = t.number; request = t.request; pass = t.pass; held = held; shown = shown }
 
--- Its session asks it; its check accepts the request, which was carried out under these claims with this reply; and all that was done
--- under them can be taken back.
+-- Its session asks it; its check accepts the request, which was carried out under these claims with this reply; all that was done
+-- under them can be taken back; and who keeps its course has all shares.
 pub record CarriesCommit (opening : Database) (c : Committing) : Type 0 where
   pub asked : IsAskedBy c.number c.request c.pass
   pub accepted : IsAccepted opening.scale c.request
   pub carried_out : IsCarriedOut opening c.request (all_claims c.held) c.shown
   pub undone : All (AreUndoneBy c.age) c.held
+  pub whole : KeepsWhole c.slot c.keeper
 
 -- its entry
 abbrev pub entry_committed : Committing → Entry
 entry_committed c = entry_of c.pass.session c.number c.request c.shown
 
-module _ {J : Type 0} where
-  -- It is logged at this place: its session is told so, and its claims go back, as they are then.
-  abbrev pub logging : Committing → ℕ → Release J
-  logging c place = record {
-    told = telling c.age c.number (after_item c.pass (item place c.number c.request c.shown)) (Done place c.shown);
-    returns = returning c.slot (is_settled c.shown) (map (claims_logged c.shown) c.held);
-    keeper = c.keeper;
-  }
+-- It is logged at this place: its session is told so, and its claims go back, as they are then.
+abbrev pub logging : Committing → ℕ → Releasing
+logging c place =
+    releasing (telling c.age c.number (after_item c.pass (item place c.number c.request c.shown)) (Done place c.shown))
+    (returning c.slot (is_settled c.shown) (map (claims_logged c.shown) c.held)) c.keeper
 
-  -- it is refused: its session is told so, with this pass, and what its actions did is taken back
-  abbrev pub refusing : Committing → Passing → Refusal → Release J
-  refusing c pass why = record { told = telling c.age c.number pass (Refused why); returns = returning c.slot false c.held; keeper = c.keeper }
+-- it is refused: its session is told so, with this pass, and what its actions did is taken back
+abbrev pub refusing : Committing → Passing → Refusal → Releasing
+refusing c pass why = releasing (telling c.age c.number pass (Refused why)) (returning c.slot false c.held) c.keeper
 
-  -- The log has the entry more, at its end; or it refused it, and is as it was. A full log refuses every entry; but there may be no
-  -- memory for an answer that shows the lines of an order.
-  abbrev pub Commits : Committing → List Entry → Release J → List Entry → Type 0
-  Commits c old release new =
-      ((length old < 16777216) × ((release ≡ logging c (length old)) × (new ≡ old ++ entry_committed c ∷ [])))
-      ⊎ ((why : AppendFault) × ((why ≡ fault.LogFull → 16777216 ≤ length old)
-      × ((16777216 ≤ length old → (why ≡ fault.LogFull) ⊎ ShowsLines c.shown)
-      × ((release ≡ refusing c (after_refusal why (length old) c.pass) (why_refused why)) × (new ≡ old)))))
+-- The log has the entry more, at its end; or it refused it, and is as it was. A full log refuses every entry; but there may be no
+-- memory for an answer that shows the lines of an order.
+abbrev pub Commits : Committing → List Entry → Releasing → List Entry → Type 0
+Commits c old release new =
+    ((length old < 16777216) × ((release ≡ logging c (length old)) × (new ≡ old ++ entry_committed c ∷ [])))
+    ⊎ ((why : AppendFault) × ((why ≡ fault.LogFull → 16777216 ≤ length old)
+    × ((16777216 ≤ length old → (why ≡ fault.LogFull) ⊎ ShowsLines c.shown)
+    × ((release ≡ refusing c (after_refusal why (length old) c.pass) (why_refused why)) × (new ≡ old)))))

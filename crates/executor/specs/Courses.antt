@@ -34,6 +34,10 @@ pub record Keeping : Type 0 where
 abbrev pub keeping : ℕ → Course → ℕ → Keeping
 keeping slot told out = record { slot = slot; course = told; out = out }
 
+-- this one keeps the course in the slot, and has all shares
+abbrev pub KeepsWhole : ℕ → Keeping → Type 0
+KeepsWhole slot keeper = (keeper.slot ≡ slot) × (keeper.out ≡ 0)
+
 -- ---- the seats
 
 -- the agreement on a course: a share for each action that a transaction may have, and one more

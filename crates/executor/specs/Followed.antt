@@ -1,5 +1,5 @@
 -- What follows when a phase has met.
-use Rattle.std.specs.Prelude.{◌≡◌, ℕ, List, ◌++◌, Option, Some, None}
+use Rattle.std.specs.Prelude.{◌≡◌, List, ◌++◌, Option, Some, None}
 use Rattle.partitions.specs.Parts.{Shared}
 use Rattle.requests.specs.declared.request.Request.{Request}
 use Rattle.requests.specs.declared.reply.Reply.{Reply}
@@ -16,7 +16,7 @@ use Rattle.transactions.specs.Progresses.{FollowsFrom, IsReached, works_of}
 use Rattle.executor.specs.declared.journey.Transaction.{Transaction}
 use Rattle.executor.specs.declared.following.Following.{Following}
 use Rattle.executor.specs.declared.following.Following.TheVariants.{Phase, Commit, Over}
-use Rattle.executor.specs.Courses.{Keeping}
+use Rattle.executor.specs.Courses.{Keeping, KeepsWhole}
 use Rattle.executor.specs.Journeys.{Journeying, journeying}
 use Rattle.executor.specs.Begins.{awaiting_all, errands_of}
 use Rattle.executor.specs.Phases.{Meeting}
@@ -39,10 +39,6 @@ IsReplyOf (Next progress) shown = ⊥
 IsReplyOf (Finish reply) shown = shown ≡ reply
 IsReplyOf (RollBack fault) shown = shown ≡ RolledBack fault
 
--- this one keeps the course in the slot, and has all shares
-abbrev pub KeepsWhole : ℕ → Keeping → Type 0
-KeepsWhole slot keeper = (keeper.slot ≡ slot) × (keeper.out ≡ 0)
-
 module _ {J : Type 0} where
   -- who the transaction is
   abbrev pub transaction_of : Journeying → Transaction J
@@ -51,6 +47,12 @@ module _ {J : Type 0} where
   -- the transaction, come to another phase under these claims
   abbrev pub moved : Transaction J → List (List Claiming) → Progress → Journeying
   moved t held progress = journeying t.age t.slot t.number t.request t.pass held progress
+
+  -- The transaction's next phase is under way; or there is no memory for it, and the transaction is refused.
+  abbrev pub Starts : Keeping → Journeying → Following J → Type 0
+  Starts keeper j (Phase phase errands) = (phase ≡ awaiting_all j) × (errands.items ≡ errands_of j)
+  Starts keeper j (Commit commit) = ⊥
+  Starts keeper j (Over release) = release ≡ refused keeper (transaction_of j) j.held refusal.NoMemory
 
   -- What follows of what was found is done: the next phase is under way, or the transaction is to be logged, with the reply; unless there is
   -- no memory for it: then the transaction is refused.

@@ -6,10 +6,9 @@ use Rattle.tickets.specs.Claims.{Claiming}
 use Rattle.executor.specs.declared.journey.Transaction.{Transaction}
 use Rattle.executor.specs.declared.release.GivenBack.{GivenBack}
 use Rattle.executor.specs.declared.release.GivenBack.TheVariants.{Settle, Undo}
-use Rattle.executor.specs.declared.release.Release.{Release}
 use Rattle.executor.specs.Courses.{Keeping}
 use Rattle.executor.specs.Givings.{giving}
-use Rattle.executor.specs.Answers.{Returning, returning, telling}
+use Rattle.executor.specs.Answers.{Releasing, Returning, releasing, returning, telling}
 
 -- the claims go back as they are to: settled, or to be taken back
 abbrev pub IsGivenFor : {J : Type 0} → ℕ → Bool → List Claiming → GivenBack J → Type 0
@@ -21,5 +20,5 @@ abbrev pub IsGivenBack : {J : Type 0} → Returning → Returning → GivenBack 
 IsGivenBack old new given = (claims : List Claiming) × ((old ≡ returning new.slot new.settle (new.held ++ claims ∷ [])) × IsGivenFor old.slot old.settle claims given)
 
 -- the transaction is refused for this, and what its actions did is taken back
-abbrev pub refused : {J : Type 0} → Keeping → Transaction J → List (List Claiming) → Refusal → Release J
-refused keeper t held why = record { told = telling t.age t.number t.pass (Refused why); returns = returning t.slot false held; keeper = keeper }
+abbrev pub refused : {J : Type 0} → Keeping → Transaction J → List (List Claiming) → Refusal → Releasing
+refused keeper t held why = releasing (telling t.age t.number t.pass (Refused why)) (returning t.slot false held) keeper

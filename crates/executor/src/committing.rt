@@ -7,20 +7,22 @@ ghost use Rattle.commit_log.specs.Items.{item};
 ghost use Rattle.commit_log.specs.Passing.{after_item, after_refusal};
 ghost use Rattle.executor.specs.Commits as spec;
 ghost use Rattle.executor.specs.Commits.{Commits, committing};
+ghost use Rattle.executor.specs.Courses.{KeepsWhole};
 ghost use Rattle.executor.specs.Journeys.{AreUndoneBy, IsAskedBy};
 
 use crate::journey::Transaction;
 use crate::release::Returns;
 use crate::{CourseNames, HeldClaims, Keeper, Release, Told};
 use commit_log::{AppendFault, Entry, Log, Pass};
-use requests::{Answer, Refusal, Reply};
+use requests::{Answer, Refusal, Reply, Request};
 use std::marker::Model;
 
 /// A transaction that was carried out, on its way to the log.
 ///
 /// Contracts see the transaction's age, its slot, the number of its request in its session, the request, the pass, the claims of
-/// its actions, by place, and the reply. It keeps that its session asks it with this pass, which is as it was then; that the check
-/// accepts the request; that it was carried out under these claims with this reply; and that all that was done can be taken back.
+/// its actions, by place, the reply, and who keeps its course. It keeps that its session asks it with this pass, which is as it was
+/// then; that the check accepts the request; that it was carried out under these claims with this reply; that all that was done can
+/// be taken back; and that who keeps its course has all shares.
 #[derive(Drop)]
 pub struct Commit<J: CourseNames> {
     transaction: Transaction<J>,
@@ -57,6 +59,7 @@ impl<J: CourseNames> Commit<J> {
         requires accepted { IsAccepted J.opening.scale transaction.request }
         requires carried_out { IsCarriedOut J.opening transaction.request (all_claims held) reply }
         requires undone { All (AreUndoneBy transaction.age) held }
+        requires whole { KeepsWhole transaction.slot keeper }
         ensures { result ≡ committing keeper transaction held reply }
     {
         Commit {
@@ -65,6 +68,27 @@ impl<J: CourseNames> Commit<J> {
             reply,
             keeper,
         }
+    }
+
+    /// The session that asks it.
+    pub fn session(&self) -> u32
+        ensures { result ≡ self.now.pass.session }
+    {
+        self.transaction.pass.session()
+    }
+
+    /// The number of the request in its session.
+    pub fn number(&self) -> u32
+        ensures { result ≡ self.now.number }
+    {
+        self.transaction.number
+    }
+
+    /// The request.
+    pub fn request(&self) -> &Request
+        ensures { result.now ≡ self.now.request }
+    {
+        &self.transaction.request
     }
 
     /// The transaction is logged, or refused where there is no memory, or the log is full. Then it is over: what its actions

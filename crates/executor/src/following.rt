@@ -2,7 +2,7 @@
 ghost use Rattle.std.specs.Prelude.{◌≡◌, All};
 ghost use Rattle.partitions.specs.Parts.{shared_of};
 ghost use Rattle.executor.specs.Journeys.{AreUndoneBy, IsAskedBy};
-ghost use Rattle.executor.specs.Followed.{Follows, Gathers, HasMetUnder};
+ghost use Rattle.executor.specs.Followed.{Follows, Gathers, HasMetUnder, Starts};
 
 use crate::journey::Transaction;
 use crate::sorting::Sorted;
@@ -10,7 +10,8 @@ use crate::{Commit, CourseNames, Errand, HeldClaims, Journey, Keeper, Met, Phase
 use requests::{Refusal, Reply};
 use std::alloc::Global;
 use transactions::{
-    Found, Gathered, Progress, reached_requests_are_accepted, transactions_have_few_actions,
+    Found, Gathered, Progress, claims_are_of_the_footprint, reached_requests_are_accepted,
+    transactions_have_few_actions,
 };
 
 /// What follows when all actions of a phase have reported.
@@ -31,6 +32,7 @@ impl<J: CourseNames> Met<J> {
         ensures { Follows self result }
     {
         transactions_have_few_actions();
+        claims_are_of_the_footprint();
         let Met {
             keeper,
             journey,
@@ -50,6 +52,30 @@ impl<J: CourseNames> Met<J> {
         match refusal {
             Some(why) => Following::Over(Release::refused(keeper, transaction, held, why)),
             None => gather(alloc, keeper, transaction, held, progress, found),
+        }
+    }
+}
+
+/// A phase begins of a transaction, which has all shares of its course; or there is no memory for it, and the transaction is
+/// refused.
+pub fn start<J: CourseNames>(
+    alloc: Global,
+    journey: Journey<J>,
+    keeper: Keeper<J>,
+) -> Following<J>
+    requires slot { journey.slot ≡ keeper.slot }
+    requires all { keeper.out ≡ 0 }
+    ensures { Starts keeper journey result }
+{
+    match begin(alloc, journey, keeper) {
+        Ok((phase, errands)) => Following::Phase(phase, errands),
+        Err((journey, keeper)) => {
+            let Journey {
+                transaction,
+                held,
+                progress: _,
+            } = journey;
+            Following::Over(Release::refused(keeper, transaction, held, Refusal::NoMemory))
         }
     }
 }
@@ -81,17 +107,7 @@ fn gather<J: CourseNames>(
                 held,
                 progress,
             };
-            match begin(alloc, journey, keeper) {
-                Ok((phase, errands)) => Following::Phase(phase, errands),
-                Err((journey, keeper)) => {
-                    let Journey {
-                        transaction,
-                        held,
-                        progress: _,
-                    } = journey;
-                    Following::Over(Release::refused(keeper, transaction, held, Refusal::NoMemory))
-                }
-            }
+            start(alloc, journey, keeper)
         }
         Gathered::Finish(reply) => {
             Following::Commit(Commit::new(keeper, transaction, held, reply))

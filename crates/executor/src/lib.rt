@@ -26,7 +26,7 @@ pub use beginning::begin;
 pub use committing::Commit;
 pub use course::{Course, Keeper, OpenedCourse, Share};
 pub use errand::{Carried, Errand, Report};
-pub use following::Following;
+pub use following::{Following, start};
 pub use giving_back::{Settle, Undo};
 pub use held::HeldClaims;
 pub use journey::Journey;

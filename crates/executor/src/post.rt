@@ -55,7 +55,8 @@ impl<J: CourseNames> Post<J> {
 
     /// The slice, without those who wait: what they carry is let go.
     pub fn into_slice(self) -> Slice<J>
-        ensures { result ≡ self.slice }
+        ensures slice { result ≡ self.slice }
+        ensures shared { shared_of result.tables ≡ shared_of J.opening }
     {
         self.station.into_slice()
     }

@@ -1,7 +1,8 @@
 //! A transaction that is over: its answer, and what its actions give back.
 ghost use Rattle.std.specs.Prelude.{◌≡◌, [], All, IfNone, IfSome, length};
 ghost use Rattle.executor.specs.Journeys.{AreUndoneBy, IsAskedBy};
-ghost use Rattle.executor.specs.Answers.{AreGiven, IsGiven, IsToldBy, returning};
+ghost use Rattle.executor.specs.Answers.{AreGiven, IsGiven, IsToldBy, MayBeRefused, returning};
+ghost use Rattle.executor.specs.Courses.{KeepsWhole};
 ghost use Rattle.executor.specs.Released.{IsGivenBack, IsGivenFor, refused};
 
 use crate::journey::Transaction;
@@ -14,7 +15,8 @@ use tickets::Claims;
 /// An answer on its way to its session, with the session's pass.
 ///
 /// Contracts see the transaction's age, the number of the request in its session, the pass, and the answer. It keeps that the
-/// pass has seen and logged what it had when the session asked, and this answer: so the session may learn all that from it.
+/// pass has seen and logged what it had when the session asked, and this answer; and that a request that is refused may be
+/// refused for this: so the session may learn all that from it.
 #[derive(Drop)]
 pub struct Told<J: CourseNames> {
     pub(crate) age: u64,
@@ -36,6 +38,20 @@ impl<J: CourseNames> Model for Told<J> {
 }
 
 impl<J: CourseNames> Told<J> {
+    /// The session to which it goes.
+    pub fn session(&self) -> u32
+        ensures { result ≡ self.now.pass.session }
+    {
+        self.pass.session()
+    }
+
+    /// The number of the request in its session.
+    pub fn number(&self) -> u32
+        ensures { result ≡ self.now.number }
+    {
+        self.number
+    }
+
     /// Its parts: the pass, and the answer to the request that the session asked with it.
     pub fn into_parts(self) -> (Pass<J>, Answer)
         ensures pass { result.0 ≡ self.pass }
@@ -124,12 +140,31 @@ fn given_back<J: CourseNames>(slot: usize, is_settled: bool, claims: Claims<J>) 
 }
 
 /// A transaction that is over.
+///
+/// Contracts see what its session is told, what its actions give back, and who keeps its course. It keeps that this one keeps
+/// the course in the transaction's slot and has all shares: another may have the slot once all claims are given back.
 #[derive(Drop)]
 pub struct Release<J: CourseNames> {
-    pub told: Told<J>,
-    pub returns: Returns<J>,
-    /// The keeper of its course, with all shares: another transaction may have its slot once all claims are given back.
-    pub keeper: Keeper<J>,
+    pub(crate) told: Told<J>,
+    pub(crate) returns: Returns<J>,
+    pub(crate) keeper: Keeper<J>,
+}
+
+impl<J: CourseNames> Model for Release<J> {
+    ghost use Rattle.std.specs.Coded.{codes};
+    ghost use Rattle.groups.specs.contracts.content.Content as content;
+    ghost use Rattle.executor.specs.Answers.{Releasing};
+
+    ghost Value = { Releasing };
+
+    ghost coded = { Prim.hlevel (codes, content.the_row.coded) };
+
+    ghost use Rattle.executor.specs.Answers.{releasing};
+    ghost use Rattle.executor.specs.Courses.{KeepsWhole};
+
+    ghost view = { λ r. releasing r.told r.returns r.keeper };
+
+    ghost invariant = { λ r. KeepsWhole r.returns.slot r.keeper };
 }
 
 impl<J: CourseNames> Release<J> {
@@ -141,7 +176,9 @@ impl<J: CourseNames> Release<J> {
         why: Refusal,
     ) -> Release<J>
         requires asked { IsAskedBy transaction.number transaction.request transaction.pass }
+        requires may { MayBeRefused transaction.pass.reached transaction.request why }
         requires undone { All (AreUndoneBy transaction.age) held }
+        requires whole { KeepsWhole transaction.slot keeper }
         ensures { result ≡ refused keeper transaction held why }
     {
         let Transaction {
@@ -162,5 +199,15 @@ impl<J: CourseNames> Release<J> {
             returns: Returns::new(slot, false, held),
             keeper,
         }
+    }
+
+    /// Its parts: the answer, what goes back, and the keeper, which has all shares of the course in the slot.
+    pub fn into_parts(self) -> (Told<J>, Returns<J>, Keeper<J>)
+        ensures told { result.0 ≡ self.told }
+        ensures returns { result.1 ≡ self.returns }
+        ensures keeper { result.2 ≡ self.keeper }
+        ensures whole { KeepsWhole self.returns.slot self.keeper }
+    {
+        (self.told, self.returns, self.keeper)
     }
 }

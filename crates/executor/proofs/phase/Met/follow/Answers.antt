@@ -6,12 +6,14 @@ use Rattle.transactions.specs.declared.work.Found.{Found}
 use Rattle.transactions.specs.Progresses.{works_of}
 use Rattle.executor.specs.declared.following.Following.{Following}
 use Rattle.executor.specs.declared.following.Following.TheVariants.{Over}
+use Rattle.executor.specs.Courses.{KeepsWhole}
 use Rattle.executor.specs.Journeys.{AreUndoneBy, Journeying, journeying}
 use Rattle.executor.specs.Phases.{AreAllRans, Meeting}
 use Rattle.executor.specs.Sorted.{found_in, held_in}
 use Rattle.executor.specs.Released.{refused}
-use Rattle.executor.specs.Followed.{Follows, Gathers, HasMetUnder, KeepsWhole, transaction_of}
+use Rattle.executor.specs.Followed.{Follows, Gathers, HasMetUnder, transaction_of}
 use Rattle.executor.proofs.Onward.{follows_gathered, follows_refused, met_under, none_before, room_then, undone_then}
+use Rattle.executor.proofs.Refusals.{may_be_refused}
 use Rattle.executor.proofs.phase.Met.follow.Given as given
 use Rattle.executor.proofs.phase.Met.follow.Goals as goal
 use Rattle.executor.proofs.phase.Met.follow.Goals.{After-start-sorted, After-sort_out-held}
@@ -50,6 +52,15 @@ sort_out-held-requires-clause-room g c =
 pub refused-requires-clause-undone : goal.refused-requires-clause-undone
 refused-requires-clause-undone g c =
     undone g (goal.at.refused-requires-clause-undone g c).After-start-sorted c.sort_out-held.result.held (held_is g (goal.at.refused-requires-clause-undone g c).After-sort_out-held)
+
+pub refused-requires-clause-may : goal.refused-requires-clause-may
+refused-requires-clause-may g c =
+    let at = (goal.at.refused-requires-clause-may g c).After-start-sorted in
+    may_be_refused (shared_of g.J.LogNames.opening) (journey_of g at) c.self.inside.rans c.start-sorted.result.refusal c.in-Some.why c.claims_are_of_the_footprint.ensures.some c.journey.invariant (are g at)
+    c.start-sorted.ensures.refusal (sym c.sort_out-held.ensures.refusal ∙ c.in-Some.is)
+
+pub refused-requires-clause-whole : goal.refused-requires-clause-whole
+refused-requires-clause-whole g c = whole g (goal.at.refused-requires-clause-whole g c).After-start-sorted
 
 pub gather-requires-clause-undone : goal.gather-requires-clause-undone
 gather-requires-clause-undone g c =
