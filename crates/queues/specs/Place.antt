@@ -1,0 +1,29 @@
+-- What a sender and a taker keep of their place at the queue.
+use Rattle.std.specs.Prelude.{◌≡◌, ℕ, Option}
+use Rattle.crossbeam_queue.specs.declared.array_queue.Doing.{Doing}
+use Rattle.crossbeam_queue.specs.declared.array_queue.Slotted.{Slotted}
+use Rattle.crossbeam_queue.specs.Passes.{Pass, view, IsPassOf}
+use Rattle.queues.specs.declared.sent.Sent.{Sent}
+use Rattle.queues.specs.declared.rule.View.{View}
+use Rattle.queues.specs.Ends.{Sending, Taking, sending, taking}
+use Rattle.queues.specs.Rule.{sender_view, taker_view}
+
+module _ {T : Type 0} where
+  -- what a contract sees of a sender with this number at this place
+  abbrev pub sending_at : ℕ → Pass (Sent T) (View T) → Sending T
+  sending_at number place = sending place.table_id number (view place).put
+
+  -- what a contract sees of a taker at this place that has made so many senders
+  abbrev pub taking_at : ℕ → Pass (Sent T) (View T) → Taking T
+  taking_at senders place = taking place.table_id senders (view place).got
+
+module _ {T Q A : Type 0} where
+  -- the place is at this queue, and a sender with this number sits there
+  pub record IsSenderAt (queue : Slotted (Option (Sent T)) (Doing (Sent T) (View T)) Q A) (number : ℕ) (place : Pass (Sent T) (View T)) : Type 0 where
+    pub at_queue : IsPassOf queue place
+    pub knows : view place ≡ sender_view number (view place).put
+
+  -- the place is at this queue, and a taker that has made so many senders sits there
+  pub record IsTakerAt (queue : Slotted (Option (Sent T)) (Doing (Sent T) (View T)) Q A) (senders : ℕ) (place : Pass (Sent T) (View T)) : Type 0 where
+    pub at_queue : IsPassOf queue place
+    pub knows : view place ≡ taker_view senders (view place).got

@@ -1,0 +1,86 @@
+ghost use Rattle.std.specs.Prelude.{◌≡◌, ◌++◌, ◌<◌, ◌≤◌, ℕ, List, [], IsTrue, IfErr, OnOk, MatchOption};
+ghost use Rattle.queues.specs.Desks.{put_to, with_put, with_got};
+ghost use Rattle.queues.specs.Order.{of};
+
+use crate::{InboxNames, Sender, Sent, Taker};
+use std::marker::{Model, PhantomData};
+use std::sync::Wait;
+
+/// What one of several threads has of their inboxes: it takes from its own, and puts into any. Its messages have its
+/// number. A desk may be sent to another thread.
+#[derive(Drop)]
+pub struct Desk<T, J: InboxNames> {
+    pub(crate) number: u32,
+    pub(crate) senders: Vec<Sender<T>>,
+    pub(crate) taker: Taker<T>,
+    pub(crate) names: PhantomData<J>,
+}
+
+impl<T, J: InboxNames> Model for Desk<T, J> {
+    ghost use Rattle.queues.specs.Desks.{AtDesk, IsDeskOf, at_desk, put_by};
+
+    ghost Value = { AtDesk T };
+
+    ghost view = { λ d. at_desk d.number (put_by d.senders.items) d.taker.got };
+
+    ghost invariant = { λ d. IsDeskOf J.inboxes J.inbox d.number d.senders.items d.taker };
+}
+
+impl<T: Drop, J: InboxNames> Desk<T, J> {
+    /// Its number, which its messages have.
+    pub fn number(&self) -> u32
+        ensures number { result ≡ self.now.number }
+        ensures has_inbox { result < J.inboxes }
+    {
+        self.number
+    }
+
+    /// How many inboxes there are.
+    pub fn inboxes(&self) -> usize
+        ensures { result ≡ J.inboxes }
+    {
+        self.senders.len()
+    }
+
+    /// Puts a message at the end of the inbox of this number. Where there is no room it comes back, and nothing changes.
+    pub fn put<R: Wait>(&mut self, rt: &R, to: usize, message: T) -> Result<(), T>
+        requires { to < J.inboxes }
+        ensures put { OnOk result (self.new ≡ with_put self.old to message) }
+        ensures full { IfErr result (λ back. (back ≡ message) × (self.new ≡ self.old)) }
+    {
+        self.senders[to].put(rt, message)
+    }
+
+    /// Takes the first message of its own inbox, with the number of the desk that put it; `None` where none stands there.
+    pub fn take<R: Wait>(&mut self, rt: &R) -> Option<Sent<T>>
+        ensures { MatchOption result (self.new ≡ self.old) (λ sent. self.new ≡ with_got self.old sent) }
+    {
+        self.taker.take(rt)
+    }
+
+    /// Learns how what it got goes together with what another desk has put into its inbox. Both stay as they were. The
+    /// answer is whether nothing stood in its inbox: then it got all that the other has put there.
+    pub fn audit(&mut self, other: &mut Desk<T, J>) -> bool
+        ensures same { (self.new ≡ self.old) × (other.new ≡ other.old) }
+        ensures beginning { (rest : List T) × (put_to other.old self.old.number ≡ of other.old.number self.old.got ++ rest) }
+        ensures whole { IsTrue result → put_to other.old self.old.number ≡ of other.old.number self.old.got }
+        ensures no_other { (number : ℕ) → J.inboxes ≤ number → of number self.old.got ≡ [] }
+    {
+        self.taker.audit(&mut other.senders[self.number as usize])
+    }
+
+    /// Learns the same of what the desk itself has put into its inbox.
+    pub fn audit_own(&mut self) -> bool
+        ensures same { self.new ≡ self.old }
+        ensures beginning { (rest : List T) × (put_to self.old self.old.number ≡ of self.old.number self.old.got ++ rest) }
+        ensures whole { IsTrue result → put_to self.old self.old.number ≡ of self.old.number self.old.got }
+    {
+        let Desk {
+            number,
+            senders,
+            taker,
+            ..
+        } = self;
+        taker.audit(&mut senders[*number as usize])
+    }
+}

@@ -1,0 +1,114 @@
+//! The rule of an inbox's queue, and what its steps do to the views.
+use crate::Sent;
+use crossbeam_queue::protocol::{Join, Lesson, Outcome, Protocol, Split};
+use std::collections::LinkedList;
+
+/// What a place at the queue knows. No value of it is made.
+pub struct View<T> {
+    /// Whether it may put messages, as the sender of this number, and what it has put.
+    pub sends: bool,
+    pub number: u32,
+    pub put: LinkedList<T>,
+    /// Whether it may take messages, how many senders it has made, and what it got.
+    pub takes: bool,
+    pub senders: u32,
+    pub got: LinkedList<Sent<T>>,
+}
+
+/// What was got, followed by what stands in the queue, is one order of all that was put.
+pub struct OneOrder;
+
+impl<T> Protocol<Sent<T>, View<T>> for OneOrder {
+    ghost use Rattle.std.specs.Prelude.{[]};
+    ghost use Rattle.queues.specs.Rule.{AreInOrder, taker_view};
+
+    ghost holds = { AreInOrder };
+
+    ghost first = { taker_view 0 [] };
+}
+
+/// The taker makes one more sender.
+pub struct OneMore;
+
+impl<T> Split<View<T>> for OneMore {
+    ghost use Rattle.std.specs.Prelude.{◌+◌, []};
+    ghost use Rattle.queues.specs.Rule.{taker_view, sender_view};
+
+    ghost left = { λ v. taker_view (v.senders + 1) v.got };
+
+    ghost right = { λ v. sender_view v.senders [] };
+}
+
+/// The taker makes a place that knows nothing and may do nothing.
+pub struct Spare;
+
+impl<T> Split<View<T>> for Spare {
+    ghost use Rattle.queues.specs.Rule.{spent_view};
+
+    ghost left = { λ v. v };
+
+    ghost right = { λ v. spent_view };
+}
+
+/// The taker takes in a sender, and is both.
+pub struct TakeIn;
+
+impl<T> Join<View<T>> for TakeIn {
+    ghost use Rattle.queues.specs.Rule.{both_views, spent_view};
+
+    ghost both = { both_views };
+
+    ghost spent = { spent_view };
+}
+
+/// The sender that was taken in goes to a place of its own again.
+pub struct HandBack;
+
+impl<T> Split<View<T>> for HandBack {
+    ghost use Rattle.queues.specs.Rule.{taker_view, sender_view};
+
+    ghost left = { λ v. taker_view v.senders v.got };
+
+    ghost right = { λ v. sender_view v.number v.put };
+}
+
+/// A sender puts a message.
+pub struct Puts;
+
+impl<T> Outcome<Sent<T>, View<T>> for Puts {
+    ghost use Rattle.std.specs.Prelude.{◌≡◌, ◌∷◌, [], ◌++◌};
+    ghost use Rattle.queues.specs.Rule.{sender_view};
+
+    ghost then = { λ v sent w. w ≡ sender_view v.number (v.put ++ sent.message ∷ []) };
+}
+
+impl<T> Lesson<Sent<T>, View<T>> for Puts {
+    ghost use Rattle.std.specs.Prelude.{⊤};
+
+    ghost fact = { λ v standing. ⊤ };
+}
+
+/// The taker takes the first message.
+pub struct Takes;
+
+impl<T> Outcome<Sent<T>, View<T>> for Takes {
+    ghost use Rattle.std.specs.Prelude.{◌≡◌, ◌∷◌, [], ◌++◌};
+    ghost use Rattle.queues.specs.Rule.{taker_view};
+
+    ghost then = { λ v sent w. w ≡ taker_view v.senders (v.got ++ sent ∷ []) };
+}
+
+impl<T> Lesson<Sent<T>, View<T>> for Takes {
+    ghost use Rattle.std.specs.Prelude.{⊤};
+
+    ghost fact = { λ v standing. ⊤ };
+}
+
+/// Who is taker and sender compares what was put with what was got and what stands in the queue.
+pub struct Compares;
+
+impl<T> Lesson<Sent<T>, View<T>> for Compares {
+    ghost use Rattle.queues.specs.Rule.{IsCompared};
+
+    ghost fact = { IsCompared };
+}

@@ -1,0 +1,52 @@
+ghost use Rattle.std.specs.Prelude.{◌≡◌, ◌∷◌, [], ◌++◌, IfErr, OnOk};
+ghost use Rattle.queues.specs.Ends.{sending};
+
+use crate::Sent;
+use crate::places::{self, Board, Place};
+use std::marker::Model;
+use std::sync::Wait;
+
+/// One of the senders of an inbox. Contracts see the messages that it has put. It may be sent to another thread.
+#[derive(Drop)]
+pub struct Sender<T> {
+    pub(crate) board: Board<T>,
+    pub(crate) number: u32,
+    pub(crate) place: Place<T>,
+}
+
+impl<T> Model for Sender<T> {
+    ghost use Rattle.std.specs.Arc.{arc_value};
+    ghost use Rattle.queues.specs.Ends.{Sending};
+    ghost use Rattle.queues.specs.Place.{IsSenderAt, sending_at};
+
+    ghost Value = { Sending T };
+
+    ghost view = { λ s. sending_at s.number s.place };
+
+    ghost invariant = { λ s. IsSenderAt (arc_value s.board) s.number s.place };
+}
+
+impl<T: Drop> Sender<T> {
+    /// The number that its messages have.
+    pub fn number(&self) -> u32
+        ensures { result ≡ self.now.number }
+    {
+        self.number
+    }
+
+    /// Puts a message at the end of the inbox. Where there is no room it comes back, and nothing changes.
+    pub fn put<R: Wait>(&mut self, rt: &R, message: T) -> Result<(), T>
+        ensures put { OnOk result (self.new ≡ sending self.old.inbox self.old.number (self.old.put ++ message ∷ [])) }
+        ensures full { IfErr result (λ back. (back ≡ message) × (self.new ≡ self.old)) }
+        ensures same { (self.new.inbox ≡ self.old.inbox) × (self.new.number ≡ self.old.number) }
+    {
+        let sent = Sent {
+            sender: self.number,
+            message,
+        };
+        match places::put(&self.board, rt, &mut self.place, sent) {
+            Ok(()) => Ok(()),
+            Err(Sent { sender: _, message }) => Err(message),
+        }
+    }
+}

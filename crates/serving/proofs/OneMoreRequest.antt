@@ -1,0 +1,220 @@
+-- A session asks one request more.
+use Rattle.std.proofs.Common.{◌≡◌, ℕ, zero, suc, ◌+◌, ◌<◌, ◌≤◌, true, false, cond, eqb, List, [], ◌∷◌, ◌++◌, length, Some, Ok, inl, inr, length-append, get_or, take, refl, sym, ap, subst, ◌∙◌, arith}
+use Rattle.std.specs.List.{slice_get}
+use Rattle.std.proofs.lemmas.Bool.Decides.{nat_tests}
+use Rattle.std.proofs.Math.Seq.{take-suc}
+use Rattle.std.proofs.lemmas.List.{length-take-le}
+use Rattle.std.proofs.lemmas.List.Elements.{Contains-append_left, Contains-push_cases, Contains-push}
+use Rattle.schema.specs.declared.scale.Scale.{Scale}
+use Rattle.requests.specs.declared.request.Request.{Request}
+use Rattle.requests.specs.declared.reply.Reply.{Reply}
+use Rattle.requests.specs.declared.refusal.Refusal.{Refusal}
+use Rattle.requests.specs.declared.answer.Answer.{Answer}
+use Rattle.requests.specs.declared.answer.Answer.TheVariants.{Done, Refused}
+use Rattle.commit_log.specs.declared.mine.Item.{Item}
+use Rattle.commit_log.specs.Items.{item}
+use Rattle.requests.specs.Check.{check_of}
+use Rattle.serving.specs.Asking.{HasSeen, ServedSoFar}
+use Rattle.serving.specs.Outcome.{IsRefusal}
+use Rattle.serving.specs.Served.{IsAnswerTo, Served}
+use Rattle.serving.proofs.Together.{longer}
+
+-- ---- lists with one more at the end
+
+-- what stands in a list with one more
+slice_get-push : {X : Type 0} (xs : List X) (x : X) (n : ℕ) → slice_get (xs ++ x ∷ []) n ≡ cond (eqb n (length xs)) (Some x) (slice_get xs n)
+slice_get-push [] x zero = refl
+slice_get-push [] x (suc n) = let e : eqb (suc n) 0 ≡ false = grind (arith, nat_tests) in rw e refl
+slice_get-push (y ∷ ys) x zero = let e : eqb 0 (suc (length ys)) ≡ false = grind (arith, nat_tests) in rw e refl
+slice_get-push (y ∷ ys) x (suc n) = let e : eqb (suc n) (suc (length ys)) ≡ eqb n (length ys) = grind (arith, nat_tests) in slice_get-push ys x n ∙ rw e refl
+
+pub within : {X : Type 0} (xs : List X) (n : ℕ) (x : X) → slice_get xs n ≡ Some x → n < length xs
+within [] n x h = absurd cc
+within (y ∷ ys) zero x h = omega arith
+within (y ∷ ys) (suc n) x h = let rest : n < length ys = within ys n x h in omega arith
+
+-- it is the new one, or one of before
+pub by_end : {X : Type 0} (G : Type 0) (xs : List X) (x y : X) (n : ℕ) → slice_get (xs ++ x ∷ []) n ≡ Some y
+    → (n ≡ length xs → x ≡ y → G) → (n < length xs → slice_get xs n ≡ Some y → G) → G
+by_end G xs x y n h new old =
+    let at : cond (eqb n (length xs)) (Some x) (slice_get xs n) ≡ Some y = sym (slice_get-push xs x n) ∙ h in
+    elim (eqb n (length xs)) as (λ b. eqb n (length xs) ≡ b → cond b (Some x) (slice_get xs n) ≡ Some y → G) [
+      | true ↦ λ t e. new (grind (arith, nat_tests)) cc
+      | false ↦ λ t e. old (within xs n y e) e
+    ] refl at
+
+stands : {X : Type 0} (xs : List X) (x : X) → slice_get (xs ++ x ∷ []) (length xs) ≡ Some x
+stands xs x = let here : eqb (length xs) (length xs) ≡ true = grind (arith, nat_tests) in slice_get-push xs x (length xs) ∙ rw here refl
+
+stays : {X : Type 0} (xs : List X) (x y : X) (n : ℕ) → slice_get xs n ≡ Some y → slice_get (xs ++ x ∷ []) n ≡ Some y
+stays xs x y n h =
+    let low : n < length xs = within xs n y h in
+    let other : eqb n (length xs) ≡ false = grind (arith, nat_tests) in
+    slice_get-push xs x n ∙ rw other h
+
+-- ---- one request more
+
+-- an answer says the same when the session has logged more, and knows the log to reach further
+answers_still : (scale : Scale) (reached further : ℕ) (mine rest : List Item) (k : ℕ) (request : Request) (answer : Answer) → reached ≤ further
+    → IsAnswerTo scale reached mine k request answer → IsAnswerTo scale further (mine ++ rest) k request answer
+answers_still scale reached further mine rest k request (Done place reply) grown h = (h.0, Contains-append_left mine rest (item place k request reply) h.1)
+answers_still scale reached further mine rest k request (Refused refusal) grown h = longer scale reached further request refusal grown h
+
+answers_further : (scale : Scale) (reached further : ℕ) (mine : List Item) (k : ℕ) (request : Request) (answer : Answer) → reached ≤ further
+    → IsAnswerTo scale reached mine k request answer → IsAnswerTo scale further mine k request answer
+answers_further scale reached further mine k request (Done place reply) grown h = h
+answers_further scale reached further mine k request (Refused refusal) grown h = longer scale reached further request refusal grown h
+
+evenly : {X Y : Type 0} (xs : List X) (x : X) (ys : List Y) (y : Y) → length xs ≡ length ys → length (xs ++ x ∷ []) ≡ length (ys ++ y ∷ [])
+evenly xs x ys y even = length-append xs (x ∷ []) ∙ ap (λ n. n + 1) even ∙ sym (length-append ys (y ∷ []))
+
+-- nothing was asked
+pub served_begun : (scale : Scale) (reached : ℕ) → Served scale [] [] [] reached
+served_begun scale reached = record {
+  answered = refl;
+  each = λ k request answer asked told. absurd cc;
+  logged = λ x c. let low = c.1 in absurd (omega arith);
+  ascending = λ j k place later reply next below first second. absurd cc;
+}
+
+done_more : (scale : Scale) (script : List Request) (answers : List Answer) (mine : List Item) (reached further seen place : ℕ) (request : Request) (reply : Reply)
+    → Served scale script answers mine reached → HasSeen seen answers → reached ≤ further → seen ≤ place
+    → IsAnswerTo scale further (mine ++ item place (length script) request reply ∷ []) (length script) request (Done place reply)
+    → Served scale (script ++ request ∷ []) (answers ++ Done place reply ∷ []) (mine ++ item place (length script) request reply ∷ []) further
+done_more scale script answers mine reached further seen place request reply h saw grown behind so =
+    let x = item place (length script) request reply in
+    let even = h.answered in
+    record {
+      answered = evenly answers (Done place reply) script request even;
+      each = λ k r a asked told.
+          by_end (IsAnswerTo scale further (mine ++ x ∷ []) k r a) script request r k asked
+          (λ k_is r_is. by_end (IsAnswerTo scale further (mine ++ x ∷ []) k r a) answers (Done place reply) a k told
+          (λ _ a_is. subst (λ n. IsAnswerTo scale further (mine ++ x ∷ []) n r a) (sym k_is)
+          (subst (λ q. IsAnswerTo scale further (mine ++ x ∷ []) (length script) q a) r_is
+          (subst (IsAnswerTo scale further (mine ++ x ∷ []) (length script) request) a_is so)))
+          (λ low _. absurd (omega arith)))
+          (λ low before. by_end (IsAnswerTo scale further (mine ++ x ∷ []) k r a) answers (Done place reply) a k told
+          (λ k_is _. absurd (omega arith))
+          (λ _ old. answers_still scale reached further mine (x ∷ []) k r a grown (h.each k r a before old)));
+      logged = λ y c.
+          elim (Contains-push_cases mine x y c) as (λ _. slice_get (answers ++ Done place reply ∷ []) y.number ≡ Some (Done y.place y.reply)) [
+            | inl before ↦ stays answers (Done place reply) (Done y.place y.reply) y.number (h.logged y before)
+            | inr is ↦ subst (λ (z : Item). slice_get (answers ++ Done place reply ∷ []) z.number ≡ Some (Done z.place z.reply)) is
+                (subst (λ n. slice_get (answers ++ Done place reply ∷ []) n ≡ Some (Done place reply)) even (stands answers (Done place reply)))
+          ];
+      ascending = λ j k earlier later r next below first second.
+          by_end (earlier < later) answers (Done place reply) (Done earlier r) j first
+          (λ j_is _. by_end (earlier < later) answers (Done place reply) (Done later next) k second
+          (λ k_is _. absurd (omega arith)) (λ low _. absurd (omega arith)))
+          (λ _ before. by_end (earlier < later) answers (Done place reply) (Done later next) k second
+          (λ _ is. let placed : place ≡ later = cc in let low : earlier < seen = saw j earlier r before in omega arith)
+          (λ _ after. h.ascending j k earlier later r next below before after));
+    }
+
+refused_more : (scale : Scale) (script : List Request) (answers : List Answer) (mine : List Item) (reached further : ℕ) (request : Request) (refusal : Refusal)
+    → Served scale script answers mine reached → reached ≤ further
+    → IsAnswerTo scale further mine (length script) request (Refused refusal)
+    → Served scale (script ++ request ∷ []) (answers ++ Refused refusal ∷ []) mine further
+refused_more scale script answers mine reached further request refusal h grown so =
+    let even = h.answered in
+    record {
+      answered = evenly answers (Refused refusal) script request even;
+      each = λ k r a asked told.
+          by_end (IsAnswerTo scale further mine k r a) script request r k asked
+          (λ k_is r_is. by_end (IsAnswerTo scale further mine k r a) answers (Refused refusal) a k told
+          (λ _ a_is. subst (λ n. IsAnswerTo scale further mine n r a) (sym k_is)
+          (subst (λ q. IsAnswerTo scale further mine (length script) q a) r_is
+          (subst (IsAnswerTo scale further mine (length script) request) a_is so)))
+          (λ low _. absurd (omega arith)))
+          (λ low before. by_end (IsAnswerTo scale further mine k r a) answers (Refused refusal) a k told
+          (λ k_is _. absurd (omega arith))
+          (λ _ old. answers_further scale reached further mine k r a grown (h.each k r a before old)));
+      logged = λ y c. stays answers (Refused refusal) (Done y.place y.reply) y.number (h.logged y c);
+      ascending = λ j k earlier later r next below first second.
+          by_end (earlier < later) answers (Refused refusal) (Done earlier r) j first
+          (λ _ is. absurd cc)
+          (λ _ before. by_end (earlier < later) answers (Refused refusal) (Done later next) k second
+          (λ _ is. absurd cc)
+          (λ _ after. h.ascending j k earlier later r next below before after));
+    }
+
+seen_still : (answers : List Answer) (refusal : Refusal) (before after : ℕ) → after ≡ before → HasSeen before answers → HasSeen after (answers ++ Refused refusal ∷ [])
+seen_still answers refusal before after same saw k there r at =
+    by_end (there < after) answers (Refused refusal) (Done there r) k at
+    (λ _ is. absurd cc)
+    (λ _ told. let low : there < before = saw k there r told in omega arith)
+
+-- What a session was served, when the log has come to reach further.
+pub served_further : (scale : Scale) (script : List Request) (answers : List Answer) (mine : List Item) (reached further : ℕ) → reached ≤ further
+    → Served scale script answers mine reached → Served scale script answers mine further
+served_further scale script answers mine reached further grown h = record {
+  answered = h.answered;
+  each = λ k r a asked told. answers_further scale reached further mine k r a grown (h.each k r a asked told);
+  logged = h.logged;
+  ascending = h.ascending;
+}
+
+-- the beginning of a list with its next item
+take-next : {X : Type 0} (xs : List X) (n : ℕ) (x : X) → n < length xs → x ≡ get_or xs n x → take (n + 1) xs ≡ take n xs ++ x ∷ []
+take-next xs n x below is =
+    let next : n + 1 ≡ suc n = omega arith in
+    ap (λ m. take m xs) next ∙ take-suc xs n x below ∙ ap (λ y. take n xs ++ y ∷ []) (sym is)
+
+-- what stands at a place is what an index finds there
+at_index : {X : Type 0} (xs : List X) (n : ℕ) (x : X) → slice_get xs n ≡ Some x → x ≡ get_or xs n x
+at_index [] n x h = absurd cc
+at_index (y ∷ ys) zero x h = cc
+at_index (y ∷ ys) (suc n) x h = at_index ys n x h
+
+-- ---- the script of a session
+
+-- no request was asked yet
+pub nothing_asked : (scale : Scale) (script : List Request) (mine : List Item) (seen reached : ℕ) (answers : List Answer) → mine ≡ [] → answers ≡ [] → ServedSoFar scale script mine seen reached answers
+nothing_asked scale script mine seen reached answers new none =
+    subst (ServedSoFar scale script mine seen reached) (sym none) (subst (λ (m : List Item). ServedSoFar scale script m seen reached []) (sym new) (record {
+      few = omega arith;
+      served = served_begun scale reached;
+      has_seen = λ k place reply at. absurd cc;
+    }))
+
+module _ (scale : Scale) (script : List Request) (answers : List Answer) (request : Request) (next : slice_get script (length answers) ≡ Some request) where
+  below : length answers < length script
+  below = within script (length answers) request next
+
+  taken : length (take (length answers) script) ≡ length answers
+  taken = length-take-le (length answers) script (omega (arith, below))
+
+  -- with one answer more, the requests that were asked are one more
+  one_more : (answer : Answer) → take (length (answers ++ answer ∷ [])) script ≡ take (length answers) script ++ request ∷ []
+  one_more answer = ap (λ (n : ℕ). take n script) (length-append answers (answer ∷ [])) ∙ take-next script (length answers) request below (at_index script (length answers) request next)
+
+  few_still : (answer : Answer) → length (answers ++ answer ∷ []) ≤ length script
+  few_still answer = let more = length-append answers (answer ∷ []) in let low = below in omega (arith, more, low)
+
+  -- it was done
+  pub next_done : (mine : List Item) (seen reached further place : ℕ) (reply : Reply) → ServedSoFar scale script mine seen reached answers → reached ≤ further → seen ≤ place
+      → check_of scale request ≡ Ok tt
+      → ServedSoFar scale script (mine ++ item place (length answers) request reply ∷ []) (place + 1) further (answers ++ Done place reply ∷ [])
+  next_done mine seen reached further place reply h grown behind accepted =
+      let asked = take (length answers) script in
+      let x = item place (length asked) request reply in
+      let so = done_more scale asked answers mine reached further seen place request reply h.served h.has_seen grown behind (accepted, Contains-push mine x) in
+      record {
+        few = few_still (Done place reply);
+        served = subst (λ (rs : List Request). Served scale rs (answers ++ Done place reply ∷ []) (mine ++ item place (length answers) request reply ∷ []) further) (sym (one_more (Done place reply)))
+            (subst (λ (n : ℕ). Served scale (asked ++ request ∷ []) (answers ++ Done place reply ∷ []) (mine ++ item place n request reply ∷ []) further) taken so);
+        has_seen = λ k there r at.
+            by_end (there < place + 1) answers (Done place reply) (Done there r) k at
+            (λ _ is. let placed : place ≡ there = cc in omega arith)
+            (λ _ before. let low : there < seen = h.has_seen k there r before in omega arith);
+      }
+
+  -- it was refused
+  pub next_refused : (mine : List Item) (seen reached further : ℕ) (why : Refusal) → ServedSoFar scale script mine seen reached answers → reached ≤ further
+      → IsRefusal scale further request why → ServedSoFar scale script mine seen further (answers ++ Refused why ∷ [])
+  next_refused mine seen reached further why h grown rightly = record {
+    few = few_still (Refused why);
+    served = subst (λ (rs : List Request). Served scale rs (answers ++ Refused why ∷ []) mine further) (sym (one_more (Refused why)))
+        (refused_more scale (take (length answers) script) answers mine reached further request why h.served grown rightly);
+    has_seen = seen_still answers why seen seen refl h.has_seen;
+  }

@@ -1,0 +1,137 @@
+//! What all executors share.
+ghost use Rattle.std.specs.Prelude.{◌≡◌};
+
+use crate::inbox::Inbox;
+use crate::place::{Advanced, Ended, Place, Strange};
+use crate::{Gate, ServeNames};
+use commit_log::Log;
+use executor::{Keeper, Met, Phase, Report, Told};
+use requests::{Request, Script};
+use routing::Routing;
+use schema::Scale;
+use std::alloc::Global;
+use std::sync::atomic::{AtomicBool, AtomicU64, AtomicUsize, Ordering};
+use std::sync::{Mutex, Wait};
+
+/// What all executors share: the log under its lock, the place of each session under a lock of its own, the inboxes, and what
+/// needs no lock. No lock is common to all executors but the log's, and nobody takes one while it has another.
+#[derive(Drop)]
+pub struct Engine<'a, J: ServeNames, G: Gate> {
+    pub(crate) scale: Scale,
+    pub(crate) scripts: &'a [Script],
+    /// How often a request is asked at most.
+    pub(crate) tries: u32,
+    pub(crate) routing: Routing,
+    pub(crate) gate: G,
+    pub(crate) log: Mutex<Log<J>>,
+    /// By the sessions' numbers.
+    pub(crate) places: Vec<Mutex<Place<'a, J>>>,
+    /// By the executors' numbers.
+    pub(crate) inboxes: Vec<Inbox<J>>,
+    /// The age of the next transaction.
+    pub(crate) ages: AtomicU64,
+    /// How many sessions are not at the end of their scripts.
+    pub(crate) unserved: AtomicUsize,
+    /// Whether the executors are to end, be all served or not.
+    pub(crate) is_stopped: AtomicBool,
+    ghost opening_scale: { scale ≡ J.opening.scale },
+}
+
+impl<J: ServeNames, G: Gate> Engine<'_, J, G> {
+    /// Whether all scripts are served, or the executors are to end without.
+    pub fn is_over(&self) -> bool {
+        self.unserved.load(Ordering::SeqCst) == 0 || self.is_stopped.load(Ordering::SeqCst)
+    }
+
+    /// The executors are to end.
+    pub fn stop(&self) {
+        self.is_stopped.store(true, Ordering::SeqCst);
+        self.wake_all();
+    }
+
+    /// A session is at the end of its script. With the last one the executors end.
+    pub(crate) fn end_session(&self) {
+        if self.unserved.fetch_sub(1, Ordering::SeqCst) == 1 {
+            self.wake_all();
+        }
+    }
+
+    fn wake_all(&self) {
+        for inbox in self.inboxes.iter() {
+            inbox.wake();
+        }
+    }
+
+    /// The request of this number in this session's script.
+    pub(crate) fn request(&self, session: u32, number: u32) -> Option<&Request> {
+        self.scripts
+            .get(session as usize)?
+            .requests()
+            .get(number as usize)
+    }
+
+    // ---- the places of sessions
+
+    /// An action reports to the phase in this slot: `None` where another has not yet.
+    pub(crate) fn report(
+        &self,
+        rt: &impl Wait,
+        slot: usize,
+        report: Report<J>,
+    ) -> Result<Option<Met<J>>, Strange> {
+        match self.places.get(slot) {
+            Some(place) => place.lock(rt).report(report),
+            None => Err(Strange),
+        }
+    }
+
+    /// The next phase of the transaction in this slot is under way.
+    pub(crate) fn go_on(&self, rt: &impl Wait, slot: usize, phase: Phase<J>) {
+        if let Some(place) = self.places.get(slot) {
+            place.lock(rt).go_on(phase);
+        }
+    }
+
+    /// The transaction in this slot is over.
+    pub(crate) fn end(
+        &self,
+        rt: &impl Wait,
+        slot: usize,
+        told: Told<J>,
+        keeper: Keeper<J>,
+        ending: usize,
+    ) -> Result<Ended, Strange> {
+        match self.places.get(slot) {
+            Some(place) => place.lock(rt).end(told, keeper, ending, self.tries),
+            None => Err(Strange),
+        }
+    }
+
+    /// An action of the transaction in this slot, which is over, has given its claims back. The executor that began it, if it was
+    /// the last action.
+    pub(crate) fn give_back(&self, rt: &impl Wait, slot: usize) -> Option<u32> {
+        self.places.get(slot)?.lock(rt).give_back()
+    }
+
+    /// The executor at whose warehouse the session of this slot asks its next request.
+    pub(crate) fn next_executor(&self, rt: &impl Wait, slot: usize) -> Option<u32> {
+        let home = self.places.get(slot)?.lock(rt).next_home()?;
+        Some(self.routing.route(home))
+    }
+
+    /// The session of this slot goes on with its script, at this executor.
+    pub(crate) fn advance(
+        &self,
+        rt: &impl Wait,
+        alloc: Global,
+        slot: usize,
+        executor: u32,
+    ) -> Result<Advanced<J>, Strange> {
+        match self.places.get(slot) {
+            Some(place) => place
+                .lock(rt)
+                .advance(alloc, &self.scale, &self.ages, slot, self.tries, executor),
+            None => Err(Strange),
+        }
+    }
+}

@@ -1,0 +1,25 @@
+//! What goes from executor to executor.
+use executor::{CourseNames, Errand, GivenBack, Settle, Undo};
+
+/// A message to an executor. What is known of it is kept by its own type.
+#[derive(Drop)]
+pub(crate) enum Message<J: CourseNames> {
+    /// The session of this place is to begin its next request here.
+    Begin(usize),
+    /// The transaction of this place, which was begun here, is over, and all its claims are given back.
+    Over(usize),
+    /// An action asks at the post of its warehouse.
+    Errand(Errand<J>),
+    /// The claims of an action of a logged transaction come back to their post.
+    Settle(Settle<J>),
+    /// What an action did is taken back at its post, and its claims come back.
+    Undo(Undo<J>),
+}
+
+/// The claims of an action, as they go back, and the W_ID of the warehouse that they go to.
+pub(crate) fn going_back<J: CourseNames>(given: GivenBack<J>) -> (u32, Message<J>) {
+    match given {
+        GivenBack::Settle(settle) => (settle.home(), Message::Settle(settle)),
+        GivenBack::Undo(undo) => (undo.home(), Message::Undo(undo)),
+    }
+}

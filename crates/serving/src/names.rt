@@ -1,0 +1,18 @@
+use executor::CourseNames;
+use std::marker::Brand;
+
+/// Names the scripts that are served, beside what all that is under way agrees on: whatever serves them has it as a type
+/// parameter. It is no data of the program: the call that serves the scripts picks it.
+pub trait ServeNames: CourseNames {
+    ghost use Rattle.std.specs.Prelude.{List};
+    ghost use Rattle.requests.specs.declared.request.Request.{Request};
+
+    /// The scripts, by the numbers of their sessions.
+    ghost scripts: { List (List Request) };
+}
+
+impl ServeNames for Brand {
+    ghost use Rattle.std.specs.Prelude.{[]};
+
+    ghost scripts = { [] };
+}
