@@ -58,11 +58,7 @@ impl<J: CourseNames> Met<J> {
 
 /// A phase begins of a transaction, which has all shares of its course; or there is no memory for it, and the transaction is
 /// refused.
-pub fn start<J: CourseNames>(
-    alloc: Global,
-    journey: Journey<J>,
-    keeper: Keeper<J>,
-) -> Following<J>
+pub fn start<J: CourseNames>(alloc: Global, journey: Journey<J>, keeper: Keeper<J>) -> Following<J>
     requires slot { journey.slot ≡ keeper.slot }
     requires all { keeper.out ≡ 0 }
     ensures { Starts keeper journey result }
