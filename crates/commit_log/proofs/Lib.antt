@@ -3,3 +3,4 @@ pub mod Repeated
 pub mod Claimed
 pub mod Booking
 pub mod Opening
+pub mod Sendable

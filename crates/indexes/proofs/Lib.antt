@@ -8,3 +8,4 @@ pub mod Middles
 pub mod Names
 pub mod Places
 pub mod Raised
+pub mod Sendable

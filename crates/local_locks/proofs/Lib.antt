@@ -18,3 +18,4 @@ pub mod Stands
 pub mod Left
 pub mod Named
 pub mod Contents
+pub mod Sendable

@@ -19,3 +19,4 @@ pub mod HomeWrites
 pub mod HomeOrders
 pub mod Undelivered
 pub mod HomeDeliveries
+pub mod Sendable

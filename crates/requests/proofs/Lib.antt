@@ -6,3 +6,4 @@ pub mod OrderStatusReplies
 pub mod DeliveryReplies
 pub mod StockLevelReplies
 pub mod SameReplies
+pub mod Sendable

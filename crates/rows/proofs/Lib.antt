@@ -3,3 +3,4 @@ pub mod Fitting
 pub mod Decimals
 pub mod Restocks
 pub mod Words
+pub mod Sendable

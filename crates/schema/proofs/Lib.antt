@@ -14,3 +14,4 @@ pub mod OrderLines
 pub mod Deliveries
 pub mod OrderSpans
 pub mod OrdersKept
+pub mod Sendable

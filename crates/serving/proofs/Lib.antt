@@ -6,3 +6,4 @@ pub mod Nowhere
 pub mod Settled
 pub mod AtOpening
 pub mod Closed
+pub mod Sendable

@@ -14,3 +14,4 @@ pub mod Joined
 pub mod HomeBoxes
 pub mod Cuts
 pub mod Asking
+pub mod Sendable

@@ -6,3 +6,4 @@ pub mod OnePlace
 pub mod AllOpened
 pub mod Settling
 pub mod Boxes
+pub mod Sendable

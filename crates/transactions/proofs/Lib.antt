@@ -48,3 +48,4 @@ pub mod DeliverySteps
 pub mod Stations
 pub mod Wanted
 pub mod Held
+pub mod Sendable

@@ -1,0 +1,12 @@
+-- A list of payments, and what stood in the places of an order's rows, may go to another thread.
+use denote.Param.Send.{IsSend, sendable}
+use Rattle.std.proofs.Crossing.{Vec-send}
+use Rattle.rows.proofs.Sendable.{History-send, Order-send, OrderLine-send}
+use Rattle.schema.specs.contracts.history_list.HistoryList as HistoryList
+use Rattle.schema.specs.contracts.order_rows.Replaced as Replaced
+
+pub HistoryList-send : IsSend HistoryList.the_row
+HistoryList-send = search (History-send, Vec-send, sendable) depth 40
+
+pub Replaced-send : IsSend Replaced.the_row
+Replaced-send = search (Order-send, OrderLine-send, Vec-send, sendable) depth 40
