@@ -12,6 +12,9 @@ use Rattle.agreement.specs.contracts.seat.Seat as Seat
 module _ (V : RattleType) (values : Values V.Denot) where
   pub Seat-send : IsSend (Seat.the_row V values)
   Seat-send = view_send _ _ _ _ _ (declared_send (Seat.TheInside.the_type V values) (
-        search (board.the_send, board.the_sync, lease.the_send, lease.the_sync, crosses, sendable) depth 40,
-        (search (place.the_send, sendable) depth 40,
-        tt)))
+    search (board.the_send, board.the_sync, lease.the_send, lease.the_sync, crosses, sendable) depth 40,
+    (
+      search (place.the_send, sendable) depth 40,
+      tt,
+    ),
+  ))

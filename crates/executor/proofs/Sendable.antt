@@ -34,94 +34,165 @@ module _ (J : RattleType) (names : GroupNames J.Denot) (s : IsSend J) where
 module _ (J : RattleType) (course : CourseNames J.Denot) (log : LogNames J.Denot) (groups : GroupNames J.Denot) (s : IsSend J) where
   Share-send : IsSend (Share.the_row J course log groups)
   Share-send = view_send _ _ _ _ _ (declared_send (Share.TheInside.the_type J course log groups) (
+    search sendable depth 20,
+    (
+      search (Seat-send, sendable) depth 20,
+      (
         search sendable depth 20,
-        (search (Seat-send, sendable) depth 20,
-        (search sendable depth 20,
-        tt))))
+        tt,
+      ),
+    ),
+  ))
 
   pub Keeper-send : IsSend (Keeper.the_row J course log groups)
   Keeper-send = view_send _ _ _ _ _ (declared_send (Keeper.TheInside.the_type J course log groups) (
-        search sendable depth 20,
-        (search (Seat-send, sendable) depth 20,
-        (search (Seat-send, Vec-send, sendable) depth 20,
-        (search sendable depth 20,
-        tt)))))
+    search sendable depth 20,
+    (
+      search (Seat-send, sendable) depth 20,
+      (
+        search (Seat-send, Vec-send, sendable) depth 20,
+        (
+          search sendable depth 20,
+          tt,
+        ),
+      ),
+    ),
+  ))
 
   Transaction-send : IsSend (Transaction.the_row J log)
   Transaction-send = declared_send (Transaction.the_type J log) (
+    search sendable depth 20,
+    (
+      search sendable depth 20,
+      (
         search sendable depth 20,
-        (search sendable depth 20,
-        (search sendable depth 20,
-        (Request-send,
-        (Pass-send J log s,
-        tt)))))
+        (
+          Request-send,
+          (
+            Pass-send J log s,
+            tt,
+          ),
+        ),
+      ),
+    ),
+  )
 
   pub Journey-send : IsSend (Journey.the_row J course log groups)
   Journey-send = view_send _ _ _ _ _ (declared_send (Journey.TheInside.the_type J course log groups) (
-        Transaction-send,
-        (HeldClaims-send J groups s,
-        (Progress-send,
-        tt))))
+    Transaction-send,
+    (
+      HeldClaims-send J groups s,
+      (
+        Progress-send,
+        tt,
+      ),
+    ),
+  ))
 
   pub Errand-send : IsSend (Errand.the_row J course log groups)
   Errand-send = view_send _ _ _ _ _ (declared_send (Errand.TheInside.the_type J course log groups) (
-        search sendable depth 40,
-        (search sendable depth 20,
-        (Work-send,
-        (Share-send,
-        (search (Journey-send, sendable) depth 20,
-        tt))))))
+    search sendable depth 40,
+    (
+      search sendable depth 20,
+      (
+        Work-send,
+        (
+          Share-send,
+          (
+            search (Journey-send, sendable) depth 20,
+            tt,
+          ),
+        ),
+      ),
+    ),
+  ))
 
   Carried-send : IsSend (Carried.the_row J course log groups)
   Carried-send = declared_send (Carried.the_type J course log groups) (
-        search sendable depth 20,
-        (Share-send,
-        (search (Journey-send, sendable) depth 20,
-        tt)))
+    search sendable depth 20,
+    (
+      Share-send,
+      (
+        search (Journey-send, sendable) depth 20,
+        tt,
+      ),
+    ),
+  )
 
   pub Report-send : IsSend (Report.the_row J course log groups)
   Report-send = view_send _ _ _ _ _ (declared_send (Report.TheInside.the_type J course log groups) (
-        search sendable depth 20,
-        (Ran-send J groups s,
-        (Share-send,
-        (search (Journey-send, sendable) depth 20,
-        tt)))))
+    search sendable depth 20,
+    (
+      Ran-send J groups s,
+      (
+        Share-send,
+        (
+          search (Journey-send, sendable) depth 20,
+          tt,
+        ),
+      ),
+    ),
+  ))
 
   pub Settle-send : IsSend (Settle.the_row J course log groups)
   Settle-send = view_send _ _ _ _ _ (declared_send (Settle.TheInside.the_type J course log groups) (
-        search sendable depth 20,
-        (Claims-send J groups s,
-        tt)))
+    search sendable depth 20,
+    (
+      Claims-send J groups s,
+      tt,
+    ),
+  ))
 
   pub Undo-send : IsSend (Undo.the_row J course log groups)
   Undo-send = view_send _ _ _ _ _ (declared_send (Undo.TheInside.the_type J course log groups) (
-        search sendable depth 20,
-        (Claims-send J groups s,
-        tt)))
+    search sendable depth 20,
+    (
+      Claims-send J groups s,
+      tt,
+    ),
+  ))
 
   pub Phase-send : IsSend (Phase.the_row J course log groups)
   Phase-send = view_send _ _ _ _ _ (declared_send (Phase.TheInside.the_type J course log groups) (
-        Keeper-send,
-        (search (Journey-send, sendable) depth 20,
-        (search (Ran-send, Meeting-send, sendable) depth 20,
-        tt))))
+    Keeper-send,
+    (
+      search (Journey-send, sendable) depth 20,
+      (
+        search (Ran-send, Meeting-send, sendable) depth 20,
+        tt,
+      ),
+    ),
+  ))
 
   pub Met-send : IsSend (Met.the_row J course log groups)
   Met-send = view_send _ _ _ _ _ (declared_send (Met.TheInside.the_type J course log groups) (
-        Keeper-send,
-        (Journey-send,
-        (search (Ran-send, Results-send, sendable) depth 20,
-        tt))))
+    Keeper-send,
+    (
+      Journey-send,
+      (
+        search (Ran-send, Results-send, sendable) depth 20,
+        tt,
+      ),
+    ),
+  ))
 
   pub Told-send : IsSend (Told.the_row J course log groups)
   Told-send = view_send _ _ _ _ _ (declared_send (Told.TheInside.the_type J course log groups) (
-        search sendable depth 20,
-        (search sendable depth 20,
-        (Pass-send J log s,
-        (Answer-send,
-        tt)))))
+    search sendable depth 20,
+    (
+      search sendable depth 20,
+      (
+        Pass-send J log s,
+        (
+          Answer-send,
+          tt,
+        ),
+      ),
+    ),
+  ))
 
   pub Post-send : IsSend (Post.the_row J course log groups)
   Post-send = view_send _ _ _ _ _ (declared_send (Post.TheInside.the_type J course log groups) (
-        search (Carried-send, Station-send, sendable) depth 20,
-        tt))
+    search (Carried-send, Station-send, sendable) depth 20,
+    tt,
+  ))

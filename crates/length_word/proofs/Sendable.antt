@@ -10,14 +10,24 @@ use Rattle.length_word.specs.contracts.length.Mark as Mark
 
 pub Length-send : IsSend Length.the_row
 Length-send = view_send _ _ _ _ _ (declared_send Length.TheInside.the_type (
-      search (board.the_send, board.the_sync, lease.the_send, lease.the_sync, crosses, sendable) depth 40,
-      (search sendable depth 20,
-      (search (place.the_send, sendable) depth 40,
-      tt))))
+  search (board.the_send, board.the_sync, lease.the_send, lease.the_sync, crosses, sendable) depth 40,
+  (
+    search sendable depth 20,
+    (
+      search (place.the_send, sendable) depth 40,
+      tt,
+    ),
+  ),
+))
 
 pub Mark-send : IsSend Mark.the_row
 Mark-send = view_send _ _ _ _ _ (declared_send Mark.TheInside.the_type (
-      search (board.the_send, board.the_sync, lease.the_send, lease.the_sync, crosses, sendable) depth 40,
-      (search sendable depth 20,
-      (search (place.the_send, sendable) depth 40,
-      tt))))
+  search (board.the_send, board.the_sync, lease.the_send, lease.the_sync, crosses, sendable) depth 40,
+  (
+    search sendable depth 20,
+    (
+      search (place.the_send, sendable) depth 40,
+      tt,
+    ),
+  ),
+))

@@ -20,20 +20,33 @@ Holder-send = search sendable depth 40
 module _ (J : RattleType) (names : GroupNames J.Denot) (s : IsSend J) where
   Lock-send : IsSend (Lock.the_row J names)
   Lock-send = view_send _ _ _ _ _ (declared_send (Lock.TheInside.the_type J names) (
-        TicketBox-send J names s,
-        (search (Holder-send, sendable) depth 100 fits 50000,
-        tt)))
+    TicketBox-send J names s,
+    (
+      search (Holder-send, sendable) depth 100 fits 50000,
+      tt,
+    ),
+  ))
 
   Waiter-send : IsSend (Waiter.the_row J names)
   Waiter-send = view_send _ _ _ _ _ (declared_send (Waiter.TheInside.the_type J names) (
-        Holder-send,
-        (search (Want-send, Vec-send) depth 10,
-        (search (Claim-send, Vec-send) depth 10,
-        tt))))
+    Holder-send,
+    (
+      search (Want-send, Vec-send) depth 10,
+      (
+        search (Claim-send, Vec-send) depth 10,
+        tt,
+      ),
+    ),
+  ))
 
   pub LockTable-send : IsSend (LockTable.the_row J names)
   LockTable-send = view_send _ _ _ _ _ (declared_send (LockTable.TheInside.the_type J names) (
-        search sendable depth 10,
-        (search (Lock-send, Vec-send) depth 10,
-        (search (Waiter-send, Vec-send) depth 10,
-        tt))))
+    search sendable depth 10,
+    (
+      search (Lock-send, Vec-send) depth 10,
+      (
+        search (Waiter-send, Vec-send) depth 10,
+        tt,
+      ),
+    ),
+  ))

@@ -24,15 +24,30 @@ RowRoom-send = search (send-Returned, Box-send, sendable) depth 40
 
 HomeRows-send : IsSend HomeRows.the_row
 HomeRows-send = declared_send HomeRows.the_type (
-      rows.Warehouse-send,
-      (search (rows.District-send, Vec-send) depth 10,
-      (search (rows.Stock-send, Vec-send) depth 10,
-      (search (rows.Customer-send, Vec-send) depth 10,
-      (search (HistoryList-send, Vec-send) depth 10,
-      (search (rows.OrderKey-send, rows.Order-send, BTreeMap-send, sendable) depth 20,
-      (NewOrderRows-send,
-      (search (rows.OrderLineKey-send, rows.OrderLine-send, BTreeMap-send, sendable) depth 20,
-      tt))))))))
+  rows.Warehouse-send,
+  (
+    search (rows.District-send, Vec-send) depth 10,
+    (
+      search (rows.Stock-send, Vec-send) depth 10,
+      (
+        search (rows.Customer-send, Vec-send) depth 10,
+        (
+          search (HistoryList-send, Vec-send) depth 10,
+          (
+            search (rows.OrderKey-send, rows.Order-send, BTreeMap-send, sendable) depth 20,
+            (
+              NewOrderRows-send,
+              (
+                search (rows.OrderLineKey-send, rows.OrderLine-send, BTreeMap-send, sendable) depth 20,
+                tt,
+              ),
+            ),
+          ),
+        ),
+      ),
+    ),
+  ),
+)
 
 pub BeforeDelivery-send : IsSend BeforeDelivery.the_row
 BeforeDelivery-send = search (RowRoom-send, sendable) depth 40

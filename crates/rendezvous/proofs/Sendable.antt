@@ -9,9 +9,12 @@ use Rattle.rendezvous.specs.contracts.results.Results as Results
 module _ (R : RattleType) (s : IsSend R) where
   pub Meeting-send : IsSend (Meeting.the_row R)
   Meeting-send = view_send _ _ _ _ _ (declared_send (Meeting.TheInside.the_type R) (
-        search (Vec-send, sendable) depth 20,
-        (search sendable depth 20,
-        tt)))
+    search (Vec-send, sendable) depth 20,
+    (
+      search sendable depth 20,
+      tt,
+    ),
+  ))
 
   pub Results-send : IsSend (Results.the_row R)
   Results-send = view_send _ _ _ _ _ (declared_send (Results.TheInside.the_type R) (search (Vec-send, sendable) depth 20, tt))

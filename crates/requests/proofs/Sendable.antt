@@ -65,26 +65,45 @@ OrderedLine-sync = search sendable depth 40
 
 pub NewOrder-send : IsSend NewOrder.the_row
 NewOrder-send = declared_send NewOrder.the_type (
+  search sendable depth 40,
+  (
+    search sendable depth 40,
+    (
       search sendable depth 40,
-      (search sendable depth 40,
-      (search sendable depth 40,
-      (search (OrderedLine-send, Lines-send, sendable) depth 40,
-      tt))))
+      (
+        search (OrderedLine-send, Lines-send, sendable) depth 40,
+        tt,
+      ),
+    ),
+  ),
+)
 
 pub Payment-send : IsSend Payment.the_row
 Payment-send = declared_send Payment.the_type (
-      search sendable depth 40,
-      (search sendable depth 40,
-      (Choice-send,
-      (search sendable depth 40,
-      (search sendable depth 40,
-      tt)))))
+  search sendable depth 40,
+  (
+    search sendable depth 40,
+    (
+      Choice-send,
+      (
+        search sendable depth 40,
+        (
+          search sendable depth 40,
+          tt,
+        ),
+      ),
+    ),
+  ),
+)
 
 pub OrderStatus-send : IsSend OrderStatus.the_row
 OrderStatus-send = declared_send OrderStatus.the_type (
-      search sendable depth 40,
-      (Choice-send,
-      tt))
+  search sendable depth 40,
+  (
+    Choice-send,
+    tt,
+  ),
+)
 
 pub Delivery-send : IsSend Delivery.the_row
 Delivery-send = search sendable depth 40
@@ -94,35 +113,63 @@ StockLevel-send = search sendable depth 40
 
 pub Request-send : IsSend Request.the_row
 Request-send = variants_send Request.enum (
-      (NewOrder-send, tt),
-      ((Payment-send, tt),
-      ((OrderStatus-send, tt),
-      ((Delivery-send, tt),
-      ((StockLevel-send, tt),
-      tt)))))
+  (NewOrder-send, tt),
+  (
+    (Payment-send, tt),
+    (
+      (OrderStatus-send, tt),
+      (
+        (Delivery-send, tt),
+        (
+          (StockLevel-send, tt),
+          tt,
+        ),
+      ),
+    ),
+  ),
+)
 
 NewOrder-sync : IsSync NewOrder.the_row
 NewOrder-sync = declared_sync NewOrder.the_type (
+  search sendable depth 40,
+  (
+    search sendable depth 40,
+    (
       search sendable depth 40,
-      (search sendable depth 40,
-      (search sendable depth 40,
-      (search (OrderedLine-sync, Lines-sync, sendable) depth 40,
-      tt))))
+      (
+        search (OrderedLine-sync, Lines-sync, sendable) depth 40,
+        tt,
+      ),
+    ),
+  ),
+)
 
 Payment-sync : IsSync Payment.the_row
 Payment-sync = declared_sync Payment.the_type (
-      search sendable depth 40,
-      (search sendable depth 40,
-      (Choice-sync,
-      (search sendable depth 40,
-      (search sendable depth 40,
-      tt)))))
+  search sendable depth 40,
+  (
+    search sendable depth 40,
+    (
+      Choice-sync,
+      (
+        search sendable depth 40,
+        (
+          search sendable depth 40,
+          tt,
+        ),
+      ),
+    ),
+  ),
+)
 
 OrderStatus-sync : IsSync OrderStatus.the_row
 OrderStatus-sync = declared_sync OrderStatus.the_type (
-      search sendable depth 40,
-      (Choice-sync,
-      tt))
+  search sendable depth 40,
+  (
+    Choice-sync,
+    tt,
+  ),
+)
 
 Delivery-sync : IsSync Delivery.the_row
 Delivery-sync = search sendable depth 40
@@ -132,12 +179,21 @@ StockLevel-sync = search sendable depth 40
 
 pub Request-sync : IsSync Request.the_row
 Request-sync = variants_sync Request.enum (
-      (NewOrder-sync, tt),
-      ((Payment-sync, tt),
-      ((OrderStatus-sync, tt),
-      ((Delivery-sync, tt),
-      ((StockLevel-sync, tt),
-      tt)))))
+  (NewOrder-sync, tt),
+  (
+    (Payment-sync, tt),
+    (
+      (OrderStatus-sync, tt),
+      (
+        (Delivery-sync, tt),
+        (
+          (StockLevel-sync, tt),
+          tt,
+        ),
+      ),
+    ),
+  ),
+)
 
 pub Script-sync : IsSync Script.the_row
 Script-sync = view_sync _ _ _ _ _ (declared_sync Script.TheInside.the_type (search (Request-sync, Vec-sync) depth 20, tt))
@@ -145,67 +201,141 @@ Script-sync = view_sync _ _ _ _ _ (declared_sync Script.TheInside.the_type (sear
 -- ---- answers
 pub NewOrderLine-send : IsSend NewOrderLine.the_row
 NewOrderLine-send = declared_send NewOrderLine.the_type (
-      search sendable depth 40,
-      (search sendable depth 40,
-      (Text-send (number 24),
-      (search sendable depth 40,
-      (search sendable depth 40,
-      (search sendable depth 40,
-      (search sendable depth 40,
-      (search sendable depth 40,
-      tt))))))))
+  search sendable depth 40,
+  (
+    search sendable depth 40,
+    (
+      Text-send (number 24),
+      (
+        search sendable depth 40,
+        (
+          search sendable depth 40,
+          (
+            search sendable depth 40,
+            (
+              search sendable depth 40,
+              (
+                search sendable depth 40,
+                tt,
+              ),
+            ),
+          ),
+        ),
+      ),
+    ),
+  ),
+)
 
 pub NewOrderReply-send : IsSend NewOrderReply.the_row
 NewOrderReply-send = declared_send NewOrderReply.the_type (
-      Text-send (number 16),
-      (search sendable depth 40,
-      (search sendable depth 40,
-      (search sendable depth 40,
-      (search sendable depth 40,
-      (search sendable depth 40,
-      (search sendable depth 40,
-      (search sendable depth 40,
-      (search (NewOrderLine-send, Lines-send, sendable) depth 40,
-      tt)))))))))
+  Text-send (number 16),
+  (
+    search sendable depth 40,
+    (
+      search sendable depth 40,
+      (
+        search sendable depth 40,
+        (
+          search sendable depth 40,
+          (
+            search sendable depth 40,
+            (
+              search sendable depth 40,
+              (
+                search sendable depth 40,
+                (
+                  search (NewOrderLine-send, Lines-send, sendable) depth 40,
+                  tt,
+                ),
+              ),
+            ),
+          ),
+        ),
+      ),
+    ),
+  ),
+)
 
 pub PaymentReply-send : IsSend PaymentReply.the_row
 PaymentReply-send = declared_send PaymentReply.the_type (
-      search sendable depth 40,
-      (Text-send (number 16),
-      (Text-send (number 2),
-      (Text-send (number 16),
-      (search sendable depth 40,
-      (search sendable depth 40,
-      (search sendable depth 40,
-      (Text-send (number 200),
-      tt))))))))
+  search sendable depth 40,
+  (
+    Text-send (number 16),
+    (
+      Text-send (number 2),
+      (
+        Text-send (number 16),
+        (
+          search sendable depth 40,
+          (
+            search sendable depth 40,
+            (
+              search sendable depth 40,
+              (
+                Text-send (number 200),
+                tt,
+              ),
+            ),
+          ),
+        ),
+      ),
+    ),
+  ),
+)
 
 StatusLine-send : IsSend StatusLine.the_row
 StatusLine-send = declared_send StatusLine.the_type (
+  search sendable depth 40,
+  (
+    search sendable depth 40,
+    (
       search sendable depth 40,
-      (search sendable depth 40,
-      (search sendable depth 40,
-      (search sendable depth 40,
-      (search sendable depth 40,
-      tt)))))
+      (
+        search sendable depth 40,
+        (
+          search sendable depth 40,
+          tt,
+        ),
+      ),
+    ),
+  ),
+)
 
 pub StatusOrder-send : IsSend StatusOrder.the_row
 StatusOrder-send = declared_send StatusOrder.the_type (
+  search sendable depth 40,
+  (
+    search sendable depth 40,
+    (
       search sendable depth 40,
-      (search sendable depth 40,
-      (search sendable depth 40,
-      (search (StatusLine-send, Lines-send, sendable) depth 40,
-      tt))))
+      (
+        search (StatusLine-send, Lines-send, sendable) depth 40,
+        tt,
+      ),
+    ),
+  ),
+)
 
 OrderStatusReply-send : IsSend OrderStatusReply.the_row
 OrderStatusReply-send = declared_send OrderStatusReply.the_type (
-      search sendable depth 40,
-      (Text-send (number 16),
-      (Text-send (number 2),
-      (Text-send (number 16),
-      (search sendable depth 40,
-      (search (StatusOrder-send, sendable) depth 40,
-      tt))))))
+  search sendable depth 40,
+  (
+    Text-send (number 16),
+    (
+      Text-send (number 2),
+      (
+        Text-send (number 16),
+        (
+          search sendable depth 40,
+          (
+            search (StatusOrder-send, sendable) depth 40,
+            tt,
+          ),
+        ),
+      ),
+    ),
+  ),
+)
 
 DeliveryReply-send : IsSend DeliveryReply.the_row
 DeliveryReply-send = search sendable depth 40
@@ -218,21 +348,36 @@ Fault-send = search (Text-send, sendable) depth 80 fits 50000
 
 Shown-send : IsSend Shown.the_row
 Shown-send = variants_send Shown.enum (
-      (NewOrderReply-send, tt),
-      ((PaymentReply-send, tt),
-      ((OrderStatusReply-send, tt),
-      ((DeliveryReply-send, tt),
-      ((StockLevelReply-send, tt),
-      tt)))))
+  (NewOrderReply-send, tt),
+  (
+    (PaymentReply-send, tt),
+    (
+      (OrderStatusReply-send, tt),
+      (
+        (DeliveryReply-send, tt),
+        (
+          (StockLevelReply-send, tt),
+          tt,
+        ),
+      ),
+    ),
+  ),
+)
 
 pub Reply-send : IsSend Reply.the_row
 Reply-send = variants_send Reply.enum (
-      (Shown-send, tt),
-      ((Fault-send, tt),
-      tt))
+  (Shown-send, tt),
+  (
+    (Fault-send, tt),
+    tt,
+  ),
+)
 
 pub Answer-send : IsSend Answer.the_row
 Answer-send = variants_send Answer.enum (
-      (search sendable depth 20, (Reply-send, tt)),
-      ((Refusal-send, tt),
-      tt))
+  (search sendable depth 20, (Reply-send, tt)),
+  (
+    (Refusal-send, tt),
+    tt,
+  ),
+)

@@ -25,77 +25,155 @@ use Rattle.serving.specs.contracts.place.Session as Session
 module _ (J : RattleType) (course : CourseNames J.Denot) (log : LogNames J.Denot) (groups : GroupNames J.Denot) (s : IsSend J) where
   Message-send : IsSend (Message.the_row J course log groups)
   Message-send = variants_send (Message.enum J course log groups) (
-        (search sendable depth 20, tt),
-        ((search sendable depth 20, tt),
-        ((Errand-send J course log groups s, tt),
-        ((Settle-send J course log groups s, tt),
-        ((Undo-send J course log groups s, tt),
-        tt)))))
+    (search sendable depth 20, tt),
+    (
+      (search sendable depth 20, tt),
+      (
+        (Errand-send J course log groups s, tt),
+        (
+          (Settle-send J course log groups s, tt),
+          (
+            (Undo-send J course log groups s, tt),
+            tt,
+          ),
+        ),
+      ),
+    ),
+  )
 
   pub Executor-send : IsSend (Executor.the_row J course log groups)
   Executor-send = declared_send (Executor.the_type J course log groups) (
-        search sendable depth 20,
-        (search (Post-send, Vec-send, sendable) depth 20,
-        (search (Message-send, Deque-send, sendable) depth 20,
-        (search (Message-send, Deque-send, sendable) depth 20,
-        (search (Deque-send, sendable) depth 20,
-        (search sendable depth 20,
-        tt))))))
+    search sendable depth 20,
+    (
+      search (Post-send, Vec-send, sendable) depth 20,
+      (
+        search (Message-send, Deque-send, sendable) depth 20,
+        (
+          search (Message-send, Deque-send, sendable) depth 20,
+          (
+            search (Deque-send, sendable) depth 20,
+            (
+              search sendable depth 20,
+              tt,
+            ),
+          ),
+        ),
+      ),
+    ),
+  )
 
   Inbox-sync : IsSync (Inbox.the_row J course log groups)
   Inbox-sync = declared_sync (Inbox.the_type J course log groups) (
-        search (Message-send, board.the_sync, lease.the_sync, crosses, sendable) depth 40,
-        (search (crosses, sendable) depth 20,
-        (search (crosses, sendable) depth 20,
-        tt)))
+    search (Message-send, board.the_sync, lease.the_sync, crosses, sendable) depth 40,
+    (
+      search (crosses, sendable) depth 20,
+      (
+        search (crosses, sendable) depth 20,
+        tt,
+      ),
+    ),
+  )
 
   module _ (a : NamedLft) (serve : ServeNames J.Denot) where
     Ready-send : IsSend (Ready.the_row a J serve course log groups)
     Ready-send = view_send _ _ _ _ _ (declared_send (Ready.TheInside.the_type a J serve course log groups) (
-          search (Script-sync, sendable) depth 20,
-          (SessionSeat-send J log s,
-          (Pass-send J log s,
-          (search (Answer-send, Vec-send) depth 10,
-          (search sendable depth 20,
-          (search sendable depth 20,
-          tt)))))))
+      search (Script-sync, sendable) depth 20,
+      (
+        SessionSeat-send J log s,
+        (
+          Pass-send J log s,
+          (
+            search (Answer-send, Vec-send) depth 10,
+            (
+              search sendable depth 20,
+              (
+                search sendable depth 20,
+                tt,
+              ),
+            ),
+          ),
+        ),
+      ),
+    ))
 
     Asked-send : IsSend (Asked.the_row a J serve course log groups)
     Asked-send = view_send _ _ _ _ _ (declared_send (Asked.TheInside.the_type a J serve course log groups) (
-          search (Script-sync, sendable) depth 20,
-          (SessionSeat-send J log s,
-          (search (Answer-send, Vec-send) depth 10,
-          (search sendable depth 20,
-          tt)))))
+      search (Script-sync, sendable) depth 20,
+      (
+        SessionSeat-send J log s,
+        (
+          search (Answer-send, Vec-send) depth 10,
+          (
+            search sendable depth 20,
+            tt,
+          ),
+        ),
+      ),
+    ))
 
     Session-send : IsSend (Session.the_row a J serve course log groups)
     Session-send = variants_send (Session.enum a J serve course log groups) (
+      (search (Ready-send, sendable) depth 20, tt),
+      (
+        (search (Asked-send, sendable) depth 20, tt),
+        (
           (search (Ready-send, sendable) depth 20, tt),
-          ((search (Asked-send, sendable) depth 20, tt),
-          ((search (Ready-send, sendable) depth 20, tt),
-          tt)))
+          tt,
+        ),
+      ),
+    )
 
     Place-send : IsSend (Place.the_row a J serve course log groups)
     Place-send = declared_send (Place.the_type a J serve course log groups) (
-          search (Session-send, sendable) depth 20,
-          (search (Phase-send, sendable) depth 20,
-          (search (Keeper-send, sendable) depth 20,
-          (search sendable depth 20,
-          (search sendable depth 20,
-          tt)))))
+      search (Session-send, sendable) depth 20,
+      (
+        search (Phase-send, sendable) depth 20,
+        (
+          search (Keeper-send, sendable) depth 20,
+          (
+            search sendable depth 20,
+            (
+              search sendable depth 20,
+              tt,
+            ),
+          ),
+        ),
+      ),
+    )
 
     module _ (G : RattleType) (y : IsSync G) where
       pub Engine-sync : IsSync (Engine.the_row a J G serve course log groups)
       Engine-sync = declared_sync (Engine.the_type a J G serve course log groups) (
-            search sendable depth 40,
-            (search (Script-sync, sendable) depth 20,
-            (search sendable depth 20,
-            (search sendable depth 40,
-            (search sendable depth 20,
-            (search (Log-send, crosses, sendable) depth 20,
-            (search (Place-send, crosses, sendable) depth 20,
-            (search (Inbox-sync, Vec-sync, sendable) depth 20,
-            (search (crosses, sendable) depth 20,
-            (search (crosses, sendable) depth 20,
-            (search (crosses, sendable) depth 20,
-            tt)))))))))))
+        search sendable depth 40,
+        (
+          search (Script-sync, sendable) depth 20,
+          (
+            search sendable depth 20,
+            (
+              search sendable depth 40,
+              (
+                search sendable depth 20,
+                (
+                  search (Log-send, crosses, sendable) depth 20,
+                  (
+                    search (Place-send, crosses, sendable) depth 20,
+                    (
+                      search (Inbox-sync, Vec-sync, sendable) depth 20,
+                      (
+                        search (crosses, sendable) depth 20,
+                        (
+                          search (crosses, sendable) depth 20,
+                          (
+                            search (crosses, sendable) depth 20,
+                            tt,
+                          ),
+                        ),
+                      ),
+                    ),
+                  ),
+                ),
+              ),
+            ),
+          ),
+        ),
+      )

@@ -19,14 +19,27 @@ IndexedRows-send = view_send _ _ _ _ _ (declared_send IndexedRows.TheInside.the_
 
 Kept-send : IsSend Kept.the_row
 Kept-send = variants_send Kept.enum (
-      (search sendable depth 20, (rows.Warehouse-send, tt)),
-      ((search sendable depth 20, (rows.District-send, tt)),
-      ((search sendable depth 20, (rows.Stock-send, tt)),
-      ((search sendable depth 20, (rows.Customer-send, tt)),
-      ((search sendable depth 20, tt),
-      ((rows.OrderKey-send, (Replaced-send, tt)),
-      ((rows.OrderKey-send, (BeforeDelivery-send, tt)),
-      tt)))))))
+  (search sendable depth 20, (rows.Warehouse-send, tt)),
+  (
+    (search sendable depth 20, (rows.District-send, tt)),
+    (
+      (search sendable depth 20, (rows.Stock-send, tt)),
+      (
+        (search sendable depth 20, (rows.Customer-send, tt)),
+        (
+          (search sendable depth 20, tt),
+          (
+            (rows.OrderKey-send, (Replaced-send, tt)),
+            (
+              (rows.OrderKey-send, (BeforeDelivery-send, tt)),
+              tt,
+            ),
+          ),
+        ),
+      ),
+    ),
+  ),
+)
 
 Ground-send : IsSend Ground.the_row
 Ground-send = search (Kept-send, Vec-send, sendable) depth 40

@@ -14,34 +14,63 @@ use Rattle.tickets.specs.contracts.ticket_box.TicketBox as TicketBox
 module _ (J : RattleType) (names : GroupNames J.Denot) (s : IsSend J) where
   pub TicketBox-send : IsSend (TicketBox.the_row J names)
   TicketBox-send = view_send _ _ _ _ _ (declared_send (TicketBox.TheInside.the_type J names) (
+    search sendable depth 20,
+    (
+      search sendable depth 20,
+      (
         search sendable depth 20,
-        (search sendable depth 20,
-        (search sendable depth 20,
-        (search (Seat-send, sendable) depth 20,
-        (search (Seat-send, sendable) depth 20,
-        (search (Seat-send, Vec-send, sendable) depth 20,
-        (search sendable depth 20,
-        tt))))))))
+        (
+          search (Seat-send, sendable) depth 20,
+          (
+            search (Seat-send, sendable) depth 20,
+            (
+              search (Seat-send, Vec-send, sendable) depth 20,
+              (
+                search sendable depth 20,
+                tt,
+              ),
+            ),
+          ),
+        ),
+      ),
+    ),
+  ))
 
   pub Claim-send : IsSend (Claim.the_row J names)
   Claim-send = view_send _ _ _ _ _ (declared_send (Claim.TheInside.the_type J names) (
+    search sendable depth 20,
+    (
+      search sendable depth 20,
+      (
         search sendable depth 20,
-        (search sendable depth 20,
-        (search sendable depth 20,
-        (search (Seat-send, sendable) depth 20,
-        (search (Seat-send, sendable) depth 20,
-        (search sendable depth 20,
-        tt)))))))
+        (
+          search (Seat-send, sendable) depth 20,
+          (
+            search (Seat-send, sendable) depth 20,
+            (
+              search sendable depth 20,
+              tt,
+            ),
+          ),
+        ),
+      ),
+    ),
+  ))
 
   pub Claims-send : IsSend (Claims.the_row J names)
   Claims-send = view_send _ _ _ _ _ (declared_send (Claims.TheInside.the_type J names) (search (Claim-send, Vec-send) depth 10, tt))
 
   LogSeat-send : IsSend (LogSeat.the_row J names)
   LogSeat-send = view_send _ _ _ _ _ (declared_send (LogSeat.TheInside.the_type J names) (
+    search sendable depth 20,
+    (
+      search (Seat-send, sendable) depth 20,
+      (
         search sendable depth 20,
-        (search (Seat-send, sendable) depth 20,
-        (search sendable depth 20,
-        tt))))
+        tt,
+      ),
+    ),
+  ))
 
   pub LogSeats-send : IsSend (LogSeats.the_row J names)
   LogSeats-send = view_send _ _ _ _ _ (declared_send (LogSeats.TheInside.the_type J names) (search (LogSeat-send, Vec-send) depth 10, tt))

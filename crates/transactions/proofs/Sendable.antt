@@ -71,52 +71,90 @@ LineSold-send = declared_send LineSold.the_type (search sendable depth 20, (Orde
 
 StockTaken-send : IsSend StockTaken.the_row
 StockTaken-send = variants_send StockTaken.enum (
+  tt,
+  (
+    tt,
+    (
+      (search (LineSold-send, Listed-send, sendable) depth 40, tt),
       tt,
-      (tt,
-      ((search (LineSold-send, Listed-send, sendable) depth 40, tt),
-      tt)))
+    ),
+  ),
+)
 
 OrderBegun-send : IsSend OrderBegun.the_row
 OrderBegun-send = declared_send OrderBegun.the_type (
-      requests.NewOrder-send,
-      (HomeShown-send,
-      (Orderer-send,
-      (requests.Group-send,
-      (search (requests.Group-send, Listed-send, sendable) depth 40,
-      tt)))))
+  requests.NewOrder-send,
+  (
+    HomeShown-send,
+    (
+      Orderer-send,
+      (
+        requests.Group-send,
+        (
+          search (requests.Group-send, Listed-send, sendable) depth 40,
+          tt,
+        ),
+      ),
+    ),
+  ),
+)
 
 OrderRows-send : IsSend OrderRows.the_row
 OrderRows-send = declared_send OrderRows.the_type (
-      search sendable depth 40,
-      (Order-send,
-      (search (OrderLine-send, Listed-send, sendable) depth 40,
-      tt)))
+  search sendable depth 40,
+  (
+    Order-send,
+    (
+      search (OrderLine-send, Listed-send, sendable) depth 40,
+      tt,
+    ),
+  ),
+)
 
 OrderPlaced-send : IsSend OrderPlaced.the_row
 OrderPlaced-send = declared_send OrderPlaced.the_type (OrderRows-send, (requests.NewOrderReply-send, tt))
 
 NewOrderProgress-send : IsSend NewOrderProgress.the_row
 NewOrderProgress-send = variants_send NewOrderProgress.enum (
-      (requests.NewOrder-send, tt),
-      ((OrderBegun-send, tt),
-      ((OrderPlaced-send, tt),
-      tt)))
+  (requests.NewOrder-send, tt),
+  (
+    (OrderBegun-send, tt),
+    (
+      (OrderPlaced-send, tt),
+      tt,
+    ),
+  ),
+)
 
 NewOrderWork-send : IsSend NewOrderWork.the_row
 NewOrderWork-send = variants_send NewOrderWork.enum (
-      (requests.NewOrder-send, tt),
-      ((requests.NewOrder-send, tt),
-      ((requests.NewOrder-send, (requests.Group-send, tt)),
-      ((OrderRows-send, tt),
-      tt))))
+  (requests.NewOrder-send, tt),
+  (
+    (requests.NewOrder-send, tt),
+    (
+      (requests.NewOrder-send, (requests.Group-send, tt)),
+      (
+        (OrderRows-send, tt),
+        tt,
+      ),
+    ),
+  ),
+)
 
 NewOrderFound-send : IsSend NewOrderFound.the_row
 NewOrderFound-send = variants_send NewOrderFound.enum (
-      (HomeFound-send, tt),
-      ((OrdererFound-send, tt),
-      ((StockTaken-send, tt),
-      (tt,
-      tt))))
+  (HomeFound-send, tt),
+  (
+    (OrdererFound-send, tt),
+    (
+      (StockTaken-send, tt),
+      (
+        tt,
+        tt,
+      ),
+    ),
+  ),
+)
 
 -- ---- Payment
 Paid-send : IsSend Paid.the_row
@@ -124,49 +162,79 @@ Paid-send = declared_send Paid.the_type (requests.Payment-send, (History-send, (
 
 HomePaid-send : IsSend HomePaid.the_row
 HomePaid-send = variants_send HomePaid.enum (
+  tt,
+  (
+    tt,
+    (
+      (Text-send (number 10), (Text-send (number 10), tt)),
       tt,
-      (tt,
-      ((Text-send (number 10), (Text-send (number 10), tt)),
-      tt)))
+    ),
+  ),
+)
 
 CustomerPaid-send : IsSend CustomerPaid.the_row
 CustomerPaid-send = variants_send CustomerPaid.enum (
+  tt,
+  (
+    tt,
+    (
+      (requests.PaymentReply-send, tt),
       tt,
-      (tt,
-      ((requests.PaymentReply-send, tt),
-      tt)))
+    ),
+  ),
+)
 
 PaymentProgress-send : IsSend PaymentProgress.the_row
 PaymentProgress-send = variants_send PaymentProgress.enum ((requests.Payment-send, tt), ((Paid-send, tt), tt))
 
 PaymentWork-send : IsSend PaymentWork.the_row
 PaymentWork-send = variants_send PaymentWork.enum (
-      (requests.Payment-send, tt),
-      ((requests.Payment-send, tt),
-      ((requests.Payment-send, (History-send, tt)),
-      tt)))
+  (requests.Payment-send, tt),
+  (
+    (requests.Payment-send, tt),
+    (
+      (requests.Payment-send, (History-send, tt)),
+      tt,
+    ),
+  ),
+)
 
 PaymentFound-send : IsSend PaymentFound.the_row
 PaymentFound-send = variants_send PaymentFound.enum (
-      (HomePaid-send, tt),
-      ((CustomerPaid-send, tt),
-      (tt,
-      tt)))
+  (HomePaid-send, tt),
+  (
+    (CustomerPaid-send, tt),
+    (
+      tt,
+      tt,
+    ),
+  ),
+)
 
 -- ---- Order-Status
 StatusCustomer-send : IsSend StatusCustomer.the_row
 StatusCustomer-send = declared_send StatusCustomer.the_type (
+  Text-send (number 16),
+  (
+    Text-send (number 2),
+    (
       Text-send (number 16),
-      (Text-send (number 2),
-      (Text-send (number 16),
-      (search sendable depth 40,
-      tt))))
+      (
+        search sendable depth 40,
+        tt,
+      ),
+    ),
+  ),
+)
 
 CustomerShown-send : IsSend CustomerShown.the_row
 CustomerShown-send = variants_send CustomerShown.enum (
-      tt,
-      ((search sendable depth 40, (StatusCustomer-send, tt)),
-      tt))
+  tt,
+  (
+    (search sendable depth 40, (StatusCustomer-send, tt)),
+    tt,
+  ),
+)
 
 StatusShown-send : IsSend StatusShown.the_row
 StatusShown-send = declared_send StatusShown.the_type (search sendable depth 40, (StatusCustomer-send, tt))
@@ -179,28 +247,40 @@ OrderStatusWork-send = variants_send OrderStatusWork.enum ((requests.OrderStatus
 
 OrderStatusFound-send : IsSend OrderStatusFound.the_row
 OrderStatusFound-send = variants_send OrderStatusFound.enum (
-      (CustomerShown-send, tt),
-      ((search (requests.StatusOrder-send, sendable) depth 40, tt),
-      tt))
+  (CustomerShown-send, tt),
+  (
+    (search (requests.StatusOrder-send, sendable) depth 40, tt),
+    tt,
+  ),
+)
 
 -- ---- Delivery
 DeliveryProgress-send : IsSend DeliveryProgress.the_row
 DeliveryProgress-send = variants_send DeliveryProgress.enum (
-      (requests.Delivery-send, tt),
-      ((requests.Delivery-send, (search sendable depth 40, tt)),
-      tt))
+  (requests.Delivery-send, tt),
+  (
+    (requests.Delivery-send, (search sendable depth 40, tt)),
+    tt,
+  ),
+)
 
 DeliveryWork-send : IsSend DeliveryWork.the_row
 DeliveryWork-send = variants_send DeliveryWork.enum (
-      (requests.Delivery-send, tt),
-      ((requests.Delivery-send, (search sendable depth 40, tt)),
-      tt))
+  (requests.Delivery-send, tt),
+  (
+    (requests.Delivery-send, (search sendable depth 40, tt)),
+    tt,
+  ),
+)
 
 DeliveryFound-send : IsSend DeliveryFound.the_row
 DeliveryFound-send = variants_send DeliveryFound.enum (
-      (search sendable depth 40, tt),
-      ((search sendable depth 40, tt),
-      tt))
+  (search sendable depth 40, tt),
+  (
+    (search sendable depth 40, tt),
+    tt,
+  ),
+)
 
 -- ---- Stock-Level
 Items-send : IsSend Items.the_row
@@ -208,72 +288,127 @@ Items-send = view_send _ _ _ _ _ (declared_send Items.TheInside.the_type (search
 
 StockLevelProgress-send : IsSend StockLevelProgress.the_row
 StockLevelProgress-send = variants_send StockLevelProgress.enum (
-      (requests.StockLevel-send, tt),
-      ((requests.StockLevel-send, (search sendable depth 20, tt)),
-      ((requests.StockLevel-send, (Items-send, tt)),
-      tt)))
+  (requests.StockLevel-send, tt),
+  (
+    (requests.StockLevel-send, (search sendable depth 20, tt)),
+    (
+      (requests.StockLevel-send, (Items-send, tt)),
+      tt,
+    ),
+  ),
+)
 
 StockLevelWork-send : IsSend StockLevelWork.the_row
 StockLevelWork-send = variants_send StockLevelWork.enum (
-      (requests.StockLevel-send, tt),
-      ((requests.StockLevel-send, (search sendable depth 20, tt)),
-      ((requests.StockLevel-send, (Items-send, tt)),
-      tt)))
+  (requests.StockLevel-send, tt),
+  (
+    (requests.StockLevel-send, (search sendable depth 20, tt)),
+    (
+      (requests.StockLevel-send, (Items-send, tt)),
+      tt,
+    ),
+  ),
+)
 
 StockLevelFound-send : IsSend StockLevelFound.the_row
 StockLevelFound-send = variants_send StockLevelFound.enum (
+  (search sendable depth 20, tt),
+  (
+    (Items-send, tt),
+    (
       (search sendable depth 20, tt),
-      ((Items-send, tt),
-      ((search sendable depth 20, tt),
-      tt)))
+      tt,
+    ),
+  ),
+)
 
 -- ---- any transaction
 pub Progress-send : IsSend Progress.the_row
 Progress-send = variants_send Progress.enum (
-      (NewOrderProgress-send, tt),
-      ((PaymentProgress-send, tt),
-      ((OrderStatusProgress-send, tt),
-      ((DeliveryProgress-send, tt),
-      ((StockLevelProgress-send, tt),
-      tt)))))
+  (NewOrderProgress-send, tt),
+  (
+    (PaymentProgress-send, tt),
+    (
+      (OrderStatusProgress-send, tt),
+      (
+        (DeliveryProgress-send, tt),
+        (
+          (StockLevelProgress-send, tt),
+          tt,
+        ),
+      ),
+    ),
+  ),
+)
 
 pub Work-send : IsSend Work.the_row
 Work-send = variants_send Work.enum (
-      (NewOrderWork-send, tt),
-      ((PaymentWork-send, tt),
-      ((OrderStatusWork-send, tt),
-      ((DeliveryWork-send, tt),
-      ((StockLevelWork-send, tt),
-      tt)))))
+  (NewOrderWork-send, tt),
+  (
+    (PaymentWork-send, tt),
+    (
+      (OrderStatusWork-send, tt),
+      (
+        (DeliveryWork-send, tt),
+        (
+          (StockLevelWork-send, tt),
+          tt,
+        ),
+      ),
+    ),
+  ),
+)
 
 pub Found-send : IsSend Found.the_row
 Found-send = variants_send Found.enum (
-      (NewOrderFound-send, tt),
-      ((PaymentFound-send, tt),
-      ((OrderStatusFound-send, tt),
-      ((DeliveryFound-send, tt),
-      ((StockLevelFound-send, tt),
-      tt)))))
+  (NewOrderFound-send, tt),
+  (
+    (PaymentFound-send, tt),
+    (
+      (OrderStatusFound-send, tt),
+      (
+        (DeliveryFound-send, tt),
+        (
+          (StockLevelFound-send, tt),
+          tt,
+        ),
+      ),
+    ),
+  ),
+)
 
 -- ---- at a station
 module _ (J : RattleType) (names : GroupNames J.Denot) (s : IsSend J) where
   pub Ran-send : IsSend (Ran.the_row J names)
   Ran-send = variants_send (Ran.enum J names) (
-        (Claims-send J names s, (Found-send, tt)),
-        ((requests.Group-send, (search sendable depth 20, tt)),
-        (tt,
-        tt)))
+    (Claims-send J names s, (Found-send, tt)),
+    (
+      (requests.Group-send, (search sendable depth 20, tt)),
+      (
+        tt,
+        tt,
+      ),
+    ),
+  )
 
   module _ (T : RattleType) (t : IsSend T) where
     Parked-send : IsSend (Parked.the_row T)
     Parked-send = declared_send (Parked.the_type T) (
-          search sendable depth 40,
-          (Work-send,
-          (search sendable depth 20,
-          tt)))
+      search sendable depth 40,
+      (
+        Work-send,
+        (
+          search sendable depth 20,
+          tt,
+        ),
+      ),
+    )
 
     pub Station-send : IsSend (Station.the_row J T names)
     Station-send = view_send _ _ _ _ _ (declared_send (Station.TheInside.the_type J T names) (
-          Slice-send J names s,
-          (search (Parked-send, Vec-send, sendable) depth 20,
-          tt)))
+      Slice-send J names s,
+      (
+        search (Parked-send, Vec-send, sendable) depth 20,
+        tt,
+      ),
+    ))
