@@ -3,9 +3,9 @@
 `tpcc run` and `tpcc sim` serve a few requests on a small set, once for each of their allocations, with that one refused.
 Each must end with status 4 and `tpcc: no memory`, or with answers that are all done or refused for want of memory (12) or as
 died (11); then `replay` and `check` of what was written must agree with it. A log is there whole or not at all. Where it is
-there all answers are printed, also where `tpcc sim` finds no memory for its tables, which has to be among its runs; where it is
-not no answer is printed, or the log stands whole under its other name. The first run in which no allocation is left to refuse
-ends the sweep.
+there all answers are printed, also where there is no memory for the tables, which has to be among the runs; where it is not no
+answer is printed, or the log stands whole under its other name. The first run in which no allocation is left to refuse ends the
+sweep.
 """
 
 import os
@@ -54,10 +54,10 @@ def has_a_log(folder):
     return os.path.exists(f"{folder}/log.csv")
 
 
-def has_kept_its_log(ends):
-    """Whether a run without memory for its tables had its log: they are made before the log is written and the first record is
-    printed, which takes memory too."""
-    return True in ends and False in ends[ends.index(True) :]
+def has_kept_its_log(command, ends):
+    """Whether a run without memory for its tables had its log. `tpcc sim` makes them before the log is written and the first record
+    is printed, which takes memory too."""
+    return True in ends and (command == "run" or False in ends[ends.index(True) :])
 
 
 def library(room):
@@ -75,10 +75,8 @@ class Sweep:
     def __init__(self, program, room, refuser, command, inputs, requests):
         self.program, self.room, self.refuser, self.requests = program, room, refuser, requests
         self.dataset = inputs[0]
-        self.words = [command, *inputs, "--log", "log.csv"]
+        self.words = [command, *inputs, "--log", "log.csv", "--tables", "tables.csv"]
         self.command = command
-        if command == "sim":
-            self.words += ["--tables", "tables.csv"]
 
     def call(self, folder, *words, **more):
         return subprocess.run([self.program, *words], cwd=folder, capture_output=True, text=True, check=False, **more)
@@ -106,7 +104,7 @@ class Sweep:
             return "a log though no thread was started" if self.left(folder) else None
         if ran.returncode != 0:
             return f"status {ran.returncode}, {ran.stderr.strip() or 'no message'}"
-        return self.answered(folder, ran, self.command == "sim")
+        return self.answered(folder, ran, True)
 
     def answered(self, folder, ran, has_tables):
         """Returns what is wrong with the answers and the log of a run whose log is whole, or None."""
@@ -159,8 +157,8 @@ class Sweep:
                         well = False
                     ends.append(has_log)
                     if not was_refused:
-                        if self.command == "sim" and not has_kept_its_log(ends):
-                            print("allocations: tpcc sim: no log where there was no memory for the tables")
+                        if not has_kept_its_log(self.command, ends):
+                            print(f"allocations: tpcc {self.command}: no log where there was no memory for the tables")
                             well = False
                         print(f"allocations: tpcc {self.command}: each of {number - 1} allocations refused in turn", flush=True)
                         return well

@@ -1,13 +1,11 @@
 -- A transaction more leaves a log legal.
-use Rattle.std.proofs.Common.{◌≡◌, ℕ, List, [], ◌∷◌, ◌++◌, map, refl, sym, ap, subst, ◌∙◌}
+use Rattle.std.proofs.Common.{◌≡◌, ℕ, List, [], ◌∷◌, ◌++◌, map, refl, sym, ap, ◌∙◌}
 use Rattle.schema.specs.Database.{Database}
 use Rattle.requests.specs.declared.request.Request.{Request}
 use Rattle.requests.specs.declared.reply.Reply.{Reply}
 use Rattle.machine.specs.Machine.{transaction, replies, tables_after}
-use Rattle.machine.proofs.RequestLaws.{tables_after-scale}
 use Rattle.commit_log.specs.declared.entry.Entry.{Entry}
 use Rattle.commit_log.specs.Log.{IsLegal, requests_of}
-use Rattle.commit_log.specs.Logged.{Booked, booked}
 
 pub replies-append : (t : Database) (requests : List Request) (request : Request)
     → replies t (requests ++ request ∷ []) ≡ replies t requests ++ (transaction (tables_after t requests) request).reply ∷ []
@@ -41,19 +39,3 @@ legal-append opening entries tables new_tables entry h reply_is tables_is =
           ∙ sym (tables_after-append opening (requests_of entries) request)
           ∙ ap (tables_after opening) (sym asked);
     }
-
--- a legal log has the scale of its opening
-pub legal-scale : (opening : Database) (entries : List Entry) (tables : Database) → IsLegal opening entries tables → tables.scale ≡ opening.scale
-legal-scale opening entries tables h = ap (λ (t : Database). t.scale) h.left ∙ tables_after-scale opening (requests_of entries)
-
--- A book with one entry more, of a request that was carried out, is that of a legal log.
-pub legal-booked : (opening : Database) (before entries : List Entry) (after : Booked) (spare : ℕ) (tables new_tables : Database) (entry : Entry) (request : Request) → IsLegal opening before tables
-    → after ≡ booked (entries ++ entry ∷ []) spare → entries ≡ before
-    → entry.request ≡ request → entry.reply ≡ (transaction tables request).reply → new_tables ≡ (transaction tables request).tables
-    → IsLegal opening after.entries new_tables
-legal-booked opening before entries after spare tables new_tables entry request legal after_is same_entries same_request reply_is tables_is =
-    let entries_are : after.entries ≡ before ++ entry ∷ [] = ap (λ b. b.entries) after_is ∙ ap (λ (l : List Entry). l ++ entry ∷ []) same_entries in
-    subst (λ (l : List Entry). IsLegal opening l new_tables) (sym entries_are)
-    (legal-append opening before tables new_tables entry legal
-    (reply_is ∙ ap (λ (r : Request). (transaction tables r).reply) (sym same_request))
-    (tables_is ∙ ap (λ (r : Request). (transaction tables r).tables) (sym same_request)))

@@ -1,5 +1,5 @@
 pub mod NoTables
-pub mod Logged
+pub mod Booked
 pub mod Log
 pub mod Replay
 pub mod Claimed

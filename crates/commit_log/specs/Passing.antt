@@ -1,5 +1,5 @@
 -- What a contract sees of a pass, and of a session's seat.
-use Rattle.std.specs.Prelude.{◌≡◌, ℕ, ◌+◌, ◌≤◌, max, List, [], ◌∷◌, ◌++◌}
+use Rattle.std.specs.Prelude.{ℕ, ◌+◌, max, List, [], ◌∷◌, ◌++◌}
 use Rattle.commit_log.specs.declared.asking.Asking.{Asking}
 use Rattle.commit_log.specs.declared.log_book.AppendFault.{AppendFault}
 use Rattle.commit_log.specs.declared.log_book.AppendFault.TheVariants.{NoMemory, LogFull}
@@ -39,11 +39,6 @@ after_item pass item = passing pass.session (item.place + 1) (item.place + 1) (p
 abbrev pub after_refusal : AppendFault → ℕ → Passing → Passing
 after_refusal NoMemory entries pass = pass
 after_refusal LogFull entries pass = passing pass.session pass.seen entries pass.mine pass.asks
-
--- a pass before and after a request was refused: where the log was full, it knows that the log has reached its most entries
-abbrev pub IsRefused : AppendFault → Passing → Passing → Type 0
-IsRefused NoMemory before after = after ≡ before
-IsRefused LogFull before after = (after ≡ after_refusal LogFull after.reached before) × (16777216 ≤ after.reached)
 
 -- the pass after it met another
 abbrev pub having_met : Passing → Passing → Passing

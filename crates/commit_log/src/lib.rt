@@ -13,7 +13,6 @@ mod names;
 mod pass;
 mod replaying;
 mod session_seat;
-mod step_log;
 mod unnamed_log;
 mod verdict;
 
@@ -27,6 +26,5 @@ pub use names::Names;
 pub use pass::{Pass, meet};
 pub use replaying::replay;
 pub use session_seat::SessionSeat;
-pub use step_log::StepLog;
 pub use unnamed_log::{SESSIONS, UnnamedLog};
 pub use verdict::Replay;

@@ -3,7 +3,7 @@ ghost use Rattle.length_word.specs.Reaching.{reaching};
 ghost use Rattle.commit_log.specs.Items.{entry_of, item, items_of};
 ghost use Rattle.commit_log.specs.Passing.{new_pass, new_seat, after_item, after_refusal};
 ghost use Rattle.commit_log.specs.LogTables.{table_of};
-ghost use Rattle.commit_log.specs.Logged.{booked};
+ghost use Rattle.commit_log.specs.Booked.{booked};
 
 use crate::mine::{Logs, tell};
 use crate::{Entry, LogNames, Mine, Pass, SessionSeat, UnnamedLog};
@@ -40,7 +40,7 @@ impl<J: LogNames> Model for LogBook<J> {
     ghost use Rattle.std.specs.Prelude.{◌-◌, vec_len, vec_capacity, refl};
     ghost use Rattle.std.specs.Coded.{code_by, coded×, coded_list, coded_ℕ};
     ghost use Rattle.commit_log.specs.contracts.entry.Entry as entry;
-    ghost use Rattle.commit_log.specs.Logged.{Booked, booked};
+    ghost use Rattle.commit_log.specs.Booked.{Booked, booked};
     ghost use Rattle.commit_log.specs.Kept.{IsBookOf};
 
     ghost Value = { Booked };

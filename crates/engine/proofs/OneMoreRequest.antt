@@ -14,7 +14,9 @@ use Rattle.requests.specs.declared.answer.Answer.TheVariants.{Done, Refused}
 use Rattle.commit_log.specs.declared.mine.Item.{Item}
 use Rattle.commit_log.specs.Items.{item}
 use Rattle.requests.specs.Check.{check_of}
-use Rattle.engine.specs.Served.{IsAnswerTo, Served, Sessioned, Brings, Asks}
+use Rattle.engine.specs.Asking.{HasSeen, ServedSoFar}
+use Rattle.engine.specs.Outcome.{IsRefusal}
+use Rattle.engine.specs.Served.{IsAnswerTo, Served}
 use Rattle.engine.proofs.Together.{longer}
 
 -- ---- lists with one more at the end
@@ -26,7 +28,7 @@ slice_get-push [] x (suc n) = let e : eqb (suc n) 0 ≡ false = grind (arith, na
 slice_get-push (y ∷ ys) x zero = let e : eqb 0 (suc (length ys)) ≡ false = grind (arith, nat_tests) in rw e refl
 slice_get-push (y ∷ ys) x (suc n) = let e : eqb (suc n) (suc (length ys)) ≡ eqb n (length ys) = grind (arith, nat_tests) in slice_get-push ys x n ∙ rw e refl
 
-within : {X : Type 0} (xs : List X) (n : ℕ) (x : X) → slice_get xs n ≡ Some x → n < length xs
+pub within : {X : Type 0} (xs : List X) (n : ℕ) (x : X) → slice_get xs n ≡ Some x → n < length xs
 within [] n x h = absurd cc
 within (y ∷ ys) zero x h = omega arith
 within (y ∷ ys) (suc n) x h = let rest : n < length ys = within ys n x h in omega arith
@@ -51,10 +53,6 @@ stays xs x y n h =
     slice_get-push xs x n ∙ rw other h
 
 -- ---- one request more
-
--- every place that was answered is one that the session has seen
-abbrev pub HasSeen : ℕ → List Answer → Type 0
-HasSeen seen answers = (k place : ℕ) (reply : Reply) → slice_get answers k ≡ Some (Done place reply) → place < seen
 
 -- an answer says the same when the session has logged more, and knows the log to reach further
 answers_still : (scale : Scale) (reached further : ℕ) (mine rest : List Item) (k : ℕ) (request : Request) (answer : Answer) → reached ≤ further
@@ -146,43 +144,6 @@ seen_still answers refusal before after same saw k there r at =
     (λ _ is. absurd cc)
     (λ _ told. let low : there < before = saw k there r told in omega arith)
 
--- The next request, which was brought to the log.
-served_brought : (scale : Scale) (script : List Request) (answers : List Answer) (old new : Sessioned) (request : Request) (answer : Answer)
-    → Served scale script answers old.mine old.reached → HasSeen old.seen answers → old.reached ≤ new.reached
-    → check_of scale request ≡ Ok tt → Brings (length script) request old new answer
-    → Served scale (script ++ request ∷ []) (answers ++ answer ∷ []) new.mine new.reached × HasSeen new.seen (answers ++ answer ∷ [])
-served_brought scale script answers old new request (Done place reply) h saw grown accepted brings =
-    let x = item place (length script) request reply in
-    let mine : new.mine ≡ old.mine ++ x ∷ [] = brings.1.1 in
-    let behind : old.seen ≤ place = brings.0 in
-    let seen : new.seen ≡ place + 1 = brings.1.0 in
-    let so = done_more scale script answers old.mine old.reached new.reached old.seen place request reply h saw grown behind (accepted, Contains-push old.mine x) in (
-      subst (λ m. Served scale (script ++ request ∷ []) (answers ++ Done place reply ∷ []) m new.reached) (sym mine) so,
-      λ k there r at.
-          by_end (there < new.seen) answers (Done place reply) (Done there r) k at
-          (λ _ is. let placed : place ≡ there = cc in omega arith)
-          (λ _ before. let low : there < old.seen = saw k there r before in omega arith),
-    )
-served_brought scale script answers old new request (Refused refusal) h saw grown accepted brings =
-    let so = refused_more scale script answers old.mine old.reached new.reached request refusal h grown (inr (accepted, brings.1.1)) in (
-      subst (λ m. Served scale (script ++ request ∷ []) (answers ++ Refused refusal ∷ []) m new.reached) (sym brings.1.0) so,
-      seen_still answers refusal old.seen new.seen brings.0 saw,
-    )
-
--- The next request, with what asking it did to the session.
-pub served_more : (scale : Scale) (script : List Request) (answers : List Answer) (old new : Sessioned) (request : Request) (answer : Answer)
-    → Served scale script answers old.mine old.reached → HasSeen old.seen answers → Asks scale (length script) request old new answer
-    → Served scale (script ++ request ∷ []) (answers ++ answer ∷ []) new.mine new.reached × HasSeen new.seen (answers ++ answer ∷ [])
-served_more scale script answers old new request answer h saw asks =
-    elim asks.outcome as (λ _. Served scale (script ++ request ∷ []) (answers ++ answer ∷ []) new.mine new.reached × HasSeen new.seen (answers ++ answer ∷ [])) [
-      | inl refused ↦
-          let so = refused_more scale script answers old.mine old.reached old.reached request refused.0 h (omega arith) (inl refused.1) in
-          subst (λ a. Served scale (script ++ request ∷ []) (answers ++ a ∷ []) new.mine new.reached × HasSeen new.seen (answers ++ a ∷ [])) (sym refused.2)
-          (subst (λ (s : Sessioned). Served scale (script ++ request ∷ []) (answers ++ Refused refused.0 ∷ []) s.mine s.reached × HasSeen s.seen (answers ++ Refused refused.0 ∷ [])) (sym refused.3)
-          (so, seen_still answers refused.0 old.seen old.seen refl saw))
-      | inr brought ↦ served_brought scale script answers old new request answer h saw asks.further brought.0 brought.1
-    ]
-
 -- What a session was served, when the log has come to reach further.
 pub served_further : (scale : Scale) (script : List Request) (answers : List Answer) (mine : List Item) (reached further : ℕ) → reached ≤ further
     → Served scale script answers mine reached → Served scale script answers mine further
@@ -193,36 +154,67 @@ served_further scale script answers mine reached further grown h = record {
   ascending = h.ascending;
 }
 
--- the session of this number was served this script so far
-pub record ServedSoFar (scale : Scale) (number : ℕ) (script : List Request) (session : Sessioned) (answers : List Answer) : Type 0 where
-  pub whose : session.session ≡ number
-  pub served : Served scale script answers session.mine session.reached
-  pub seen : HasSeen session.seen answers
-
-pub nothing_asked : (scale : Scale) (session : Sessioned) (answers : List Answer) → session.mine ≡ [] → answers ≡ [] → ServedSoFar scale session.session [] session answers
-nothing_asked scale session answers new none =
-    let begun : Served scale [] [] session.mine session.reached = subst (λ m. Served scale [] [] m session.reached) (sym new) (served_begun scale session.reached) in
-    let so : ServedSoFar scale session.session [] session [] = record {
-      whose = refl;
-      served = begun;
-      seen = λ k place reply at. absurd cc;
-    } in
-    subst (ServedSoFar scale session.session [] session) (sym none) so
-
 -- the beginning of a list with its next item
 take-next : {X : Type 0} (xs : List X) (n : ℕ) (x : X) → n < length xs → x ≡ get_or xs n x → take (n + 1) xs ≡ take n xs ++ x ∷ []
 take-next xs n x below is =
     let next : n + 1 ≡ suc n = omega arith in
     ap (λ m. take m xs) next ∙ take-suc xs n x below ∙ ap (λ y. take n xs ++ y ∷ []) (sym is)
 
--- the session asked the next request of its script
-pub next_asked : (scale : Scale) (number : ℕ) (script : List Request) (n : ℕ) (old new : Sessioned) (told after : List Answer) (request : Request) (answer : Answer)
-    → ServedSoFar scale number (take n script) old told → n < length script → request ≡ get_or script n request
-    → Asks scale n request old new answer → after ≡ told ++ answer ∷ []
-    → ServedSoFar scale number (take (n + 1) script) new after
-next_asked scale number script n old new told after request answer h below is asks pushed =
-    let taken : length (take n script) ≡ n = length-take-le n script (omega arith) in
-    let more = served_more scale (take n script) told old new request answer h.served h.seen (subst (λ m. Asks scale m request old new answer) (sym taken) asks) in
-    let so : ServedSoFar scale number (take n script ++ request ∷ []) new (told ++ answer ∷ []) = record { whose = asks.same ∙ h.whose; served = more.0; seen = more.1 } in
-    subst (λ rs. ServedSoFar scale number rs new after) (sym (take-next script n request below is))
-    (subst (ServedSoFar scale number (take n script ++ request ∷ []) new) (sym pushed) so)
+-- what stands at a place is what an index finds there
+at_index : {X : Type 0} (xs : List X) (n : ℕ) (x : X) → slice_get xs n ≡ Some x → x ≡ get_or xs n x
+at_index [] n x h = absurd cc
+at_index (y ∷ ys) zero x h = cc
+at_index (y ∷ ys) (suc n) x h = at_index ys n x h
+
+-- ---- the script of a session
+
+-- no request was asked yet
+pub nothing_asked : (scale : Scale) (script : List Request) (mine : List Item) (seen reached : ℕ) (answers : List Answer) → mine ≡ [] → answers ≡ [] → ServedSoFar scale script mine seen reached answers
+nothing_asked scale script mine seen reached answers new none =
+    subst (ServedSoFar scale script mine seen reached) (sym none) (subst (λ (m : List Item). ServedSoFar scale script m seen reached []) (sym new) (record {
+      few = omega arith;
+      served = served_begun scale reached;
+      has_seen = λ k place reply at. absurd cc;
+    }))
+
+module _ (scale : Scale) (script : List Request) (answers : List Answer) (request : Request) (next : slice_get script (length answers) ≡ Some request) where
+  below : length answers < length script
+  below = within script (length answers) request next
+
+  taken : length (take (length answers) script) ≡ length answers
+  taken = length-take-le (length answers) script (omega (arith, below))
+
+  -- with one answer more, the requests that were asked are one more
+  one_more : (answer : Answer) → take (length (answers ++ answer ∷ [])) script ≡ take (length answers) script ++ request ∷ []
+  one_more answer = ap (λ (n : ℕ). take n script) (length-append answers (answer ∷ [])) ∙ take-next script (length answers) request below (at_index script (length answers) request next)
+
+  few_still : (answer : Answer) → length (answers ++ answer ∷ []) ≤ length script
+  few_still answer = let more = length-append answers (answer ∷ []) in let low = below in omega (arith, more, low)
+
+  -- it was done
+  pub next_done : (mine : List Item) (seen reached further place : ℕ) (reply : Reply) → ServedSoFar scale script mine seen reached answers → reached ≤ further → seen ≤ place
+      → check_of scale request ≡ Ok tt
+      → ServedSoFar scale script (mine ++ item place (length answers) request reply ∷ []) (place + 1) further (answers ++ Done place reply ∷ [])
+  next_done mine seen reached further place reply h grown behind accepted =
+      let asked = take (length answers) script in
+      let x = item place (length asked) request reply in
+      let so = done_more scale asked answers mine reached further seen place request reply h.served h.has_seen grown behind (accepted, Contains-push mine x) in
+      record {
+        few = few_still (Done place reply);
+        served = subst (λ (rs : List Request). Served scale rs (answers ++ Done place reply ∷ []) (mine ++ item place (length answers) request reply ∷ []) further) (sym (one_more (Done place reply)))
+            (subst (λ (n : ℕ). Served scale (asked ++ request ∷ []) (answers ++ Done place reply ∷ []) (mine ++ item place n request reply ∷ []) further) taken so);
+        has_seen = λ k there r at.
+            by_end (there < place + 1) answers (Done place reply) (Done there r) k at
+            (λ _ is. let placed : place ≡ there = cc in omega arith)
+            (λ _ before. let low : there < seen = h.has_seen k there r before in omega arith);
+      }
+
+  -- it was refused
+  pub next_refused : (mine : List Item) (seen reached further : ℕ) (why : Refusal) → ServedSoFar scale script mine seen reached answers → reached ≤ further
+      → IsRefusal scale further request why → ServedSoFar scale script mine seen further (answers ++ Refused why ∷ [])
+  next_refused mine seen reached further why h grown rightly = record {
+    few = few_still (Refused why);
+    served = subst (λ (rs : List Request). Served scale rs (answers ++ Refused why ∷ []) mine further) (sym (one_more (Refused why)))
+        (refused_more scale (take (length answers) script) answers mine reached further request why h.served grown rightly);
+    has_seen = seen_still answers why seen seen refl h.has_seen;
+  }

@@ -6,11 +6,10 @@ use Rattle.requests.specs.declared.request.Request.{Request}
 use Rattle.requests.specs.declared.answer.Answer.{Answer}
 use Rattle.commit_log.specs.declared.entry.Entry.{Entry}
 use Rattle.commit_log.specs.Items.{items_of}
-use Rattle.commit_log.specs.Logged.{Logged}
 use Rattle.commit_log.specs.Passing.{Passing, Seating, new_pass, new_seat}
-use Rattle.engine.specs.Served.{Served, Sessioned, session_of, ServedAs, ServedEach}
+use Rattle.engine.specs.Served.{Served, ServedEach}
 use Rattle.engine.specs.Sessions.{AreNewFrom}
-use Rattle.engine.proofs.OneMoreRequest.{by_end, served_further}
+use Rattle.engine.proofs.OneMoreRequest.{by_end}
 
 -- what an index finds
 pub found : {X : Type 0} (xs : List X) (n : ℕ) (x : X) → n < length xs → x ≡ get_or xs n x → slice_get xs n ≡ Some x
@@ -44,11 +43,11 @@ new_next first pass seat lanes h low =
     )
 
 -- a new session that has logged just what stands of it has nothing there
-pub none_of : (session : ℕ) (pass : Passing) (before log : Logged) → pass ≡ new_pass session → pass.mine ≡ items_of pass.session before.entries → before ≡ log → items_of session log.entries ≡ []
+pub none_of : (session : ℕ) (pass : Passing) (before log : List Entry) → pass ≡ new_pass session → pass.mine ≡ items_of pass.session before → before ≡ log → items_of session log ≡ []
 none_of session pass before log new mine same =
     let whose : pass.session ≡ session = ap (λ (p : Passing). p.session) new in
     let none : pass.mine ≡ [] = ap (λ (p : Passing). p.mine) new in
-    sym (ap (λ n. items_of n before.entries) whose ∙ ap (λ (l : Logged). items_of session l.entries) same) ∙ sym mine ∙ none
+    sym (ap (λ n. items_of n before) whose ∙ ap (items_of session) same) ∙ sym mine ∙ none
 
 -- one session more of which nothing stands in the log
 pub none_next : (first session : ℕ) (entries : List Entry) → ((s : ℕ) → first ≤ s → s < session → items_of s entries ≡ []) → items_of session entries ≡ []
@@ -63,16 +62,6 @@ none_next first session entries before here s from up =
     by_last (suc n) (suc m) G up' less last = by_last n m G (omega arith) (λ l. less (omega arith)) (λ e. last (ap suc e))
 
 -- ---- sessions that were served
-
--- What a session was served, once it is compared with the log.
-pub audited : (scale : Scale) (k : ℕ) (script : List Request) (session : Sessioned) (answers : List Answer) (before log : Logged) → ServedAs scale k script session answers
-    → session.mine ≡ items_of session.session before.entries → session.reached ≤ length before.entries → before ≡ log
-    → Served scale script answers (items_of k log.entries) (length log.entries)
-audited scale k script session answers before log h mine reached same =
-    let mine_is : session.mine ≡ items_of k log.entries = mine ∙ ap (λ n. items_of n before.entries) h.whose ∙ ap (λ (l : Logged). items_of k l.entries) same in
-    let count : length before.entries ≡ length log.entries = ap (λ (l : Logged). length l.entries) same in
-    subst (λ m. Served scale script answers m (length log.entries)) mine_is
-    (served_further scale script answers session.mine session.reached (length log.entries) (omega arith) h.served)
 
 -- one script more that was served its answers
 pub each_next : (scale : Scale) (scripts : List (List Request)) (entries : List Entry) (answers after : List (List Answer)) (k : ℕ) (script : List Request) (told : List Answer)
@@ -90,14 +79,6 @@ each_next scale scripts entries answers after k script told before count asked s
     (subst (λ a. Served scale asked_there a (items_of k entries) (length entries)) told_is
     (subst (λ q. Served scale q told (items_of k entries) (length entries)) script_is served)))
     (λ _ old. before s asked_there told_there is_asked old))
-
--- a session whose pass is new has logged nothing
-pub nothing_logged : (first : ℕ) (pass : Passing) (session : Sessioned) → session ≡ session_of pass → pass ≡ new_pass first → session.mine ≡ []
-nothing_logged first pass session is new = ap (λ (s : Sessioned). s.mine) is ∙ ap (λ (p : Passing). p.mine) new
-
--- and is the session of this number
-pub numbered : (first : ℕ) (pass : Passing) (session : Sessioned) (number : ℕ) → session ≡ session_of pass → pass ≡ new_pass first → number ≡ session.session → number ≡ first
-numbered first pass session number is new told = told ∙ ap (λ (s : Sessioned). s.session) is ∙ ap (λ (p : Passing). p.session) new
 
 -- what holds of each item, by its place, and of one more
 pub each_pushed : {H : Type 0} (xs after : List H) (x : H) (n : ℕ) (P : ℕ → H → Type 0) → n ≡ length xs → after ≡ xs ++ x ∷ []

@@ -9,14 +9,15 @@ use Rattle.schema.specs.declared.scale.Scale.{Scale}
 use Rattle.requests.specs.declared.request.Request.{Request}
 use Rattle.requests.specs.declared.reply.Reply.{Reply}
 use Rattle.requests.specs.declared.refusal.Refusal.{Refusal}
+use Rattle.requests.specs.declared.refusal.Refusal.TheVariants as refusal
 use Rattle.requests.specs.declared.answer.Answer.{Answer}
 use Rattle.requests.specs.declared.answer.Answer.TheVariants.{Done, Refused}
 use Rattle.requests.specs.Check.{check_of}
 use Rattle.commit_log.specs.declared.entry.Entry.{Entry}
-use Rattle.commit_log.specs.Logged.{Logged}
 use Rattle.commit_log.specs.Log.{IsLegal}
 use Rattle.commit_log.specs.declared.mine.Item.{Item}
 use Rattle.commit_log.specs.Items.{entry_of, item, items_from, items_of}
+use Rattle.executor.specs.Answers.{MayBeRefused}
 use Rattle.engine.specs.Outcome.{item_at, IsRefusal, IsOutcome}
 use Rattle.engine.specs.Served.{IsAnswerTo, ServedEach}
 
@@ -46,7 +47,7 @@ within [] n x h = absurd cc
 within (y ∷ ys) zero x h = omega arith
 within (y ∷ ys) (suc n) x h = let rest : n < length ys = within ys n x h in omega arith
 
-reaches : {X : Type 0} (xs : List X) (n : ℕ) → n < length xs → (x : X) × (slice_get xs n ≡ Some x)
+pub reaches : {X : Type 0} (xs : List X) (n : ℕ) → n < length xs → (x : X) × (slice_get xs n ≡ Some x)
 reaches [] n h = absurd (omega arith)
 reaches (x ∷ xs) zero h = (x, refl)
 reaches (x ∷ xs) (suc n) h = reaches xs n (omega arith)
@@ -127,9 +128,24 @@ logged_by_session es place e h =
 -- a refusal stands when the log is longer
 pub longer : (scale : Scale) (reached entries : ℕ) (request : Request) (refusal : Refusal) → reached ≤ entries
     → IsRefusal scale reached request refusal → IsRefusal scale entries request refusal
-longer scale reached entries request refusal grown (inl refused) = inl refused
-longer scale reached entries request refusal grown (inr (accepted, inl memory)) = inr (accepted, inl memory)
-longer scale reached entries request refusal grown (inr (accepted, inr full)) = let most = full.1 in inr (accepted, inr (full.0, omega arith))
+longer scale reached entries request why grown (inl refused) = inl refused
+longer scale reached entries request why grown (inr (accepted, reason)) = inr (accepted, still why reason)
+  where
+    still : (one : Refusal) → MayBeRefused reached request one → MayBeRefused entries request one
+    still (refusal.Died group holder) r = r
+    still refusal.NoMemory r = r
+    still refusal.LogFull r = omega arith
+    still refusal.BadWarehouse r = r
+    still refusal.BadDistrict r = r
+    still refusal.BadLines r = r
+    still refusal.BadQuantity r = r
+    still refusal.BadSupply r = r
+    still refusal.BadAmount r = r
+    still refusal.BadThreshold r = r
+    still refusal.BadCarrier r = r
+    still refusal.Busy r = r
+    still refusal.SessionBusy r = r
+    still refusal.Closed r = r
 
 pub together : (opening : Database) (scripts : List (List Request)) (entries : List Entry) (last : Database) (answers : List (List Answer))
     → IsLegal opening entries last → length answers ≡ length scripts
@@ -202,31 +218,3 @@ together opening scripts entries last answers legal even known each others =
     refuses_so scale reached mine k request refusal (Done place reply) refuses h = let accepted = h.0 in absurd cc
     refuses_so scale reached mine k request refusal (Refused other) refuses (inl so) = cc
     refuses_so scale reached mine k request refusal (Refused other) refuses (inr so) = let accepted : check_of scale request ≡ Ok tt = so.0 in absurd cc
-
--- ---- the same, as the code goes
-
--- what stands at a place has what all have
-of_all : {X : Type 0} (P : X → Type 0) (xs : List X) (n : ℕ) (x : X) → All P xs → slice_get xs n ≡ Some x → P x
-of_all P xs n x all at = subst P (stands_at xs n x at) (all n x (within xs n x at))
-  where
-    stands_at : {Y : Type 0} (ys : List Y) (k : ℕ) (y : Y) → slice_get ys k ≡ Some y → slice_index_or ys k y ≡ y
-    stands_at [] k y h = absurd cc
-    stands_at (z ∷ ys) zero y h = cc
-    stands_at (z ∷ ys) (suc k) y h = stands_at ys k y h
-
--- The log is as it was when the threads had ended, however often it was looked at since.
-pub concluded : (name opening : Database) (scripts : List (List Request)) (answers : List (List Answer)) (ended served idle : Logged) (log : List Entry) (tables : Database)
-    → name ≡ opening → served ≡ ended → idle ≡ served → log ≡ idle.entries → tables ≡ idle.tables
-    → IsLegal name idle.entries idle.tables → All (λ (e : Entry). e.session < 64) idle.entries
-    → length answers ≡ length scripts → ServedEach name.scale scripts ended.entries answers
-    → ((s : ℕ) → length scripts ≤ s → s < 64 → items_of s served.entries ≡ [])
-    → IsOutcome opening scripts log tables answers
-concluded name opening scripts answers ended served idle log tables named same same' log_is tables_is legal sessions count each none =
-    let back : ended ≡ idle = sym (same' ∙ same) in
-    let each' : ServedEach name.scale scripts idle.entries answers = subst (λ (l : Logged). ServedEach name.scale scripts l.entries answers) back each in
-    let none' : (s : ℕ) → length scripts ≤ s → s < 64 → items_of s idle.entries ≡ [] = subst (λ (l : Logged). (s : ℕ) → length scripts ≤ s → s < 64 → items_of s l.entries ≡ []) (sym same') none in
-    let known : (place : ℕ) (e : Entry) → slice_get idle.entries place ≡ Some e → e.session < 64 = λ place e at. of_all (λ (f : Entry). f.session < 64) idle.entries place e sessions at in
-    let outcome : IsOutcome name scripts idle.entries idle.tables answers = together name scripts idle.entries idle.tables answers legal count known each' none' in
-    subst (λ o. IsOutcome o scripts log tables answers) named
-    (subst (λ l. IsOutcome name scripts l tables answers) (sym log_is)
-    (subst (λ t. IsOutcome name scripts idle.entries t answers) (sym tables_is) outcome))

@@ -1,19 +1,37 @@
--- Why scripts were not served from the opening tables.
+-- For what an engine is opened.
+use Rattle.std.specs.Prelude.{◌≡◌, ◌<◌, ◌≤◌, ℕ, ◌+◌, List, [], Some, length}
+use Rattle.std.specs.List.{slice_get}
+use Rattle.atomic_table.specs.Seated.{TableId}
 use Rattle.schema.specs.Database.{Database}
-use Rattle.schema.specs.Consistency.{Consistent}
-use Rattle.consistency.specs.Broken.{BreaksFirst}
-use Rattle.engine.specs.declared.outcome.ServeFault.{ServeFault}
-use Rattle.engine.specs.declared.outcome.ServeFault.TheVariants.{NoMemory, NotConsistent, NoThread}
+use Rattle.partitions.specs.Parts.{shared_of}
+use Rattle.requests.specs.declared.request.Request.{Request}
+use Rattle.tickets.specs.declared.group_names.GroupNames.{Ghosts as GroupNames}
+use Rattle.tickets.specs.Openings.{AreNamed}
+use Rattle.commit_log.specs.declared.log_names.LogNames.{Ghosts as LogNames}
+use Rattle.commit_log.specs.LogTables.{table_of}
+use Rattle.slices.specs.Openings.{AreOpenedFor}
+use Rattle.slices.specs.Sliced.{Sliced}
+use Rattle.engine.specs.declared.opening.Opening.{Opening}
 
--- why scripts were not served from these tables: NotConsistent names the least condition that they break, and where a
--- thread could not be started they break none
-abbrev pub IsFaultOf : Database → ServeFault → Type 0
-IsFaultOf t NoMemory = Unit
-IsFaultOf t (NotConsistent n) = BreaksFirst t n
-IsFaultOf t NoThread = Consistent t
+-- these are the tables of the courses of the slots from this one on
+abbrev pub AreCoursesFrom : (ℕ → TableId) → ℕ → List TableId → Type 0
+AreCoursesFrom course first tables = (k : ℕ) (table : TableId) → slice_get tables k ≡ Some table → course (first + k) ≡ table
 
--- a fault of serving itself, from tables that are consistent
-abbrev pub IsOfServing : ServeFault → Type 0
-IsOfServing NoMemory = Unit
-IsOfServing (NotConsistent n) = ⊥
-IsOfServing NoThread = Unit
+-- An engine's names were picked for these tables, these scripts and this opening: there are agreements for each group of the tables,
+-- with what the group has; and the names of the agreements are those that were opened.
+pub record IsNamedFor {J : Type 0} (log : LogNames J) (groups : GroupNames J) (course : ℕ → TableId) (named : List (List Request)) (tables : Database) (scripts : List (List Request)) (opening : Opening) : Type 0 where
+  pub opened : AreOpenedFor tables opening.groups.items
+  pub tables_are : log.opening ≡ tables
+  pub warehouses : groups.warehouses ≡ tables.scale.warehouses
+  pub agreements : AreNamed tables.scale.warehouses groups.committed groups.work opening.groups.items
+  pub length_is : log.length ≡ opening.log.length
+  pub mine : (session : ℕ) → session < 64 → log.mine session ≡ table_of opening.log.mine session
+  pub asks : (session : ℕ) → session < 64 → log.asks session ≡ table_of opening.log.asks session
+  pub courses_are : AreCoursesFrom course 0 opening.courses.items
+  pub enough : length scripts ≤ length opening.courses.items
+  pub scripts_are : named ≡ scripts
+
+-- a slice of the opening, for which nobody waits
+pub record IsToOpen (opening : Database) (s : Sliced) : Type 0 where
+  pub shared_is : shared_of s.tables ≡ shared_of opening
+  pub nobody : s.waiters ≡ []

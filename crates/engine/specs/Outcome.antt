@@ -7,24 +7,22 @@ use Rattle.schema.specs.Database.{Database}
 use Rattle.requests.specs.declared.request.Request.{Request}
 use Rattle.requests.specs.declared.reply.Reply.{Reply}
 use Rattle.requests.specs.declared.refusal.Refusal.{Refusal}
-use Rattle.requests.specs.declared.refusal.Refusal.TheVariants.{NoMemory, LogFull}
 use Rattle.requests.specs.declared.answer.Answer.{Answer}
 use Rattle.requests.specs.declared.answer.Answer.TheVariants.{Done, Refused}
 use Rattle.requests.specs.Check.{check_of}
 use Rattle.commit_log.specs.declared.entry.Entry.{Entry}
 use Rattle.commit_log.specs.Items.{entry_of}
 use Rattle.commit_log.specs.Log.{IsLegal}
+use Rattle.executor.specs.Answers.{MayBeRefused}
 
 -- what stands at place k of list s
 abbrev pub item_at : {X : Type 0} → List (List X) → ℕ → ℕ → Option X
 item_at lists s k = option_and_then (λ list. slice_get list k) (slice_get lists s)
 
--- A request that its check refuses is refused so, and another only for want of memory, or where the log, which is so
--- long, has its most entries.
+-- A request that its check refuses is refused so. Another may be refused where the log has so many entries: since it died on a group that it
+-- claims, since there was no memory, or since the log has its most entries.
 abbrev pub IsRefusal : Scale → ℕ → Request → Refusal → Type 0
-IsRefusal scale entries request refusal =
-    (check_of scale request ≡ Err refusal)
-    ⊎ ((check_of scale request ≡ Ok tt) × ((refusal ≡ NoMemory) ⊎ ((refusal ≡ LogFull) × (16777216 ≤ entries))))
+IsRefusal scale entries request refusal = (check_of scale request ≡ Err refusal) ⊎ ((check_of scale request ≡ Ok tt) × MayBeRefused entries request refusal)
 
 -- Script s is session s, and its request at place k has the number k.
 pub record IsOutcome (opening : Database) (scripts : List (List Request)) (log : List Entry) (last : Database) (answers : List (List Answer)) : Type 0 where

@@ -32,65 +32,8 @@ pub record Served (scale : Scale) (script : List Request) (answers : List Answer
   -- and the places ascend
   pub ascending : (j k place later : ℕ) (reply next : Reply) → j < k → slice_get answers j ≡ Some (Done place reply) → slice_get answers k ≡ Some (Done later next) → place < later
 
--- What a contract sees of a session: which it is, how many entries it has seen, how far it knows the log to reach, and what
--- it has logged.
-pub record Sessioned : Type 0 where
-  pub session : ℕ
-  pub seen : ℕ
-  pub reached : ℕ
-  pub mine : List Item
-
--- the session of a pass
-abbrev pub session_of : Passing → Sessioned
-session_of pass = record { session = pass.session; seen = pass.seen; reached = pass.reached; mine = pass.mine }
-
--- the session after it met another
-abbrev pub having_met : Sessioned → Sessioned → Sessioned
-having_met one other = record { session = one.session; seen = max one.seen other.seen; reached = max one.reached other.reached; mine = one.mine }
-
--- What came of an accepted request of this number, which was brought to the log. Done: it stands behind all that the
--- session had seen, which has seen it now, and has logged this one item more. Refused: the session has seen and logged
--- what it had before, and there was no memory, or the log has its most entries.
-abbrev pub Brings : ℕ → Request → Sessioned → Sessioned → Answer → Type 0
-Brings number request old new (Done place reply) =
-    (old.seen ≤ place) × ((new.seen ≡ place + 1) × (new.mine ≡ old.mine ++ item place number request reply ∷ []))
-Brings number request old new (Refused refusal) =
-    (new.seen ≡ old.seen) × ((new.mine ≡ old.mine) × ((refusal ≡ NoMemory) ⊎ ((refusal ≡ LogFull) × (16777216 ≤ new.reached))))
-
--- the same of one session, which forgets nothing of how far the log has reached
-pub record Logs (number : ℕ) (request : Request) (old new : Sessioned) (answer : Answer) : Type 0 where
-  pub same : new.session ≡ old.session
-  pub further : old.reached ≤ new.reached
-  pub brings : Brings number request old new answer
-
--- What came of a request of this number that a session asked: its check refuses it, and the session is as it was; or it
--- was accepted, and brought to the log.
-pub record Asks (scale : Scale) (number : ℕ) (request : Request) (old new : Sessioned) (answer : Answer) : Type 0 where
-  pub same : new.session ≡ old.session
-  pub further : old.reached ≤ new.reached
-  pub outcome :
-      ((refusal : Refusal) × (check_of scale request ≡ Err refusal) × (answer ≡ Refused refusal) × (new ≡ old))
-      ⊎ ((check_of scale request ≡ Ok tt) × Brings number request old new answer)
-
--- what the session of this number was served: this script, from its beginning
-pub record ServedAs (scale : Scale) (number : ℕ) (script : List Request) (session : Sessioned) (answers : List Answer) : Type 0 where
-  pub whose : session.session ≡ number
-  pub served : Served scale script answers session.mine session.reached
-
 -- each script was served its answers, and what its session logged is what stands of it in the log of these entries
 abbrev pub ServedEach : Scale → List (List Request) → List Entry → List (List Answer) → Type 0
 ServedEach scale scripts entries answers =
     (s : ℕ) (script : List Request) (told : List Answer) → slice_get scripts s ≡ Some script → slice_get answers s ≡ Some told
     → Served scale script told (items_of s entries) (length entries)
-
--- ---- a session and its pass
-
--- the session of a pass that is here; a session whose pass is away is not seen
-abbrev pub session_with : Option Passing → Sessioned
-session_with (Some pass) = session_of pass
-session_with None = record { session = 0; seen = 0; reached = 0; mine = [] }
-
--- the pass of the session is here, and so is its seat
-abbrev pub IsAtHome : ℕ → Option Passing → Seating → Type 0
-IsAtHome number (Some pass) seat = (pass.session ≡ number) × (seat.session ≡ number)
-IsAtHome number None seat = ⊥

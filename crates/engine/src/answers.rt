@@ -1,8 +1,6 @@
-ghost use Rattle.std.specs.Prelude.{◌≡◌, [], ◌∷◌, ◌++◌, OnOk, OnErr};
+ghost use Rattle.std.specs.Prelude.{◌≡◌};
 
 use requests::Answer;
-use schema::NoMemory;
-use std::alloc::Global;
 use std::marker::Model;
 
 /// The answers to the requests of one script, by the requests' numbers.
@@ -25,21 +23,11 @@ impl Model for Answers {
 }
 
 impl Answers {
-    /// No answers. It takes no memory.
-    pub fn new(alloc: Global) -> Answers
-        ensures { result ≡ [] }
+    // These answers.
+    pub(crate) fn of(answers: Vec<Answer>) -> Answers
+        ensures { result ≡ answers.items }
     {
-        Answers {
-            answers: Vec::new(alloc),
-        }
-    }
-
-    /// Adds the answer to the next request; an error changes nothing.
-    pub fn push(&mut self, answer: Answer) -> Result<(), NoMemory>
-        ensures ok { OnOk result (self.new ≡ self.old ++ answer ∷ []) }
-        ensures err { OnErr result (self.new ≡ self.old) }
-    {
-        Ok(self.answers.push(answer)?)
+        Answers { answers }
     }
 
     /// The answers, by the numbers of their requests.

@@ -1,93 +1,143 @@
-ghost use Rattle.std.specs.Prelude.{◌≡◌, ◌≤◌};
-ghost use Rattle.requests.specs.Check.{IsAccepted};
-ghost use Rattle.engine.specs.Served.{Logs, session_of};
+//! What all executors share.
+ghost use Rattle.std.specs.Prelude.{◌≡◌};
 
-use crate::Gate;
-use commit_log::{AppendFault, LogNames, Pass, StepLog};
-use requests::{Answer, Refusal, Request};
+use crate::bed::Bed;
+use crate::place::{Advanced, Ended, Place, Strange};
+use crate::{Gate, ServeNames};
+use commit_log::Log;
+use executor::{Keeper, Met, Phase, Report, Told};
+use requests::{Request, Script};
+use routing::Routing;
 use schema::Scale;
+use std::alloc::Global;
+use std::sync::atomic::{AtomicBool, AtomicU64, AtomicUsize, Ordering};
 use std::sync::{Mutex, Wait};
 
-/// What the threads of all sessions share: the log under its lock, and what needs no lock.
+/// What all executors share: the log under its lock, the place of each session under a lock of its own, and what needs no lock. No lock is common to all executors but the log's, and nobody takes one while it has another.
 #[derive(Drop)]
-pub struct Engine<J: LogNames, G: Gate> {
-    scale: Scale,
-    gate: G,
-    log: Mutex<StepLog<J>>,
+pub struct Engine<'a, J: ServeNames, G: Gate> {
+    pub(crate) scale: Scale,
+    pub(crate) scripts: &'a [Script],
+    /// How often a request is asked at most.
+    pub(crate) tries: u32,
+    pub(crate) routing: Routing,
+    pub(crate) gate: G,
+    pub(crate) log: Mutex<Log<J>>,
+    /// By the sessions' numbers.
+    pub(crate) places: Vec<Mutex<Place<'a, J>>>,
+    /// By the executors' numbers.
+    pub(crate) beds: Vec<Bed>,
+    /// The age of the next transaction.
+    pub(crate) ages: AtomicU64,
+    /// How many sessions are not at the end of their scripts.
+    pub(crate) unserved: AtomicUsize,
+    /// Whether the executors are to end, be all served or not.
+    pub(crate) is_stopped: AtomicBool,
     ghost opening_scale: { scale ≡ J.opening.scale },
 }
 
-impl<J: LogNames, G: Gate> Engine<J, G> {
-    /// An engine over a log.
-    pub fn new(log: StepLog<J>, gate: G) -> Engine<J, G> {
-        Engine {
-            scale: opening_scale(&log),
-            gate,
-            log: Mutex::new(log),
+impl<J: ServeNames, G: Gate> Engine<'_, J, G> {
+    /// Whether all scripts are served, or the executors are to end without.
+    pub fn is_over(&self) -> bool {
+        self.unserved.load(Ordering::SeqCst) == 0 || self.is_stopped.load(Ordering::SeqCst)
+    }
+
+    /// The executors are to end.
+    pub fn stop(&self) {
+        self.is_stopped.store(true, Ordering::SeqCst);
+        self.wake_all();
+    }
+
+    /// A session is at the end of its script. With the last one the executors end.
+    pub(crate) fn end_session(&self) {
+        if self.unserved.fetch_sub(1, Ordering::SeqCst) == 1 {
+            self.wake_all();
         }
     }
 
-    /// The scale of the tables, from their opening on.
-    pub fn scale(&self) -> Scale
-        ensures { result ≡ J.opening.scale }
-    {
-        self.scale
+    fn wake_all(&self) {
+        for bed in self.beds.iter() {
+            bed.wake();
+        }
     }
 
-    /// What stands before and behind the log.
-    pub fn gate(&self) -> &G {
-        &self.gate
+    /// A message has come for this executor.
+    pub(crate) fn call(&self, executor: u32) {
+        if let Some(bed) = self.beds.get(executor as usize) {
+            bed.call();
+        }
     }
 
-    /// Carries out what the pass asks, and logs it, in one hold of the log's lock. The pass comes back
-    /// with the answer.
-    pub fn append(
+    /// The request of this number in this session's script.
+    pub(crate) fn request(&self, session: u32, number: u32) -> Option<&Request> {
+        self.scripts
+            .get(session as usize)?
+            .requests()
+            .get(number as usize)
+    }
+
+    // ---- the places of sessions
+
+    /// An action reports to the phase in this slot: `None` where another has not yet.
+    pub(crate) fn report(
         &self,
         rt: &impl Wait,
-        pass: Pass<J>,
-        number: u32,
-        request: &Request,
-    ) -> (Answer, Pass<J>)
-        requires accepted { IsAccepted J.opening.scale request.now }
-        requires number { pass.asks.number ≡ number }
-        requires request { pass.asks.request ≡ request.now }
-        ensures { Logs number request.now (session_of pass) (session_of result.1) result.0 }
-    {
-        append_step(&mut self.log.lock(rt), pass, number, request)
+        slot: usize,
+        report: Report<J>,
+    ) -> Result<Option<Met<J>>, Strange> {
+        match self.places.get(slot) {
+            Some(place) => place.lock(rt).report(report),
+            None => Err(Strange),
+        }
     }
-}
 
-impl<J: LogNames, G: Gate + Drop> Engine<J, G> {
-    /// The log, when no thread has the engine any more.
-    pub fn into_log(self) -> StepLog<J> {
-        self.log.into_inner()
+    /// The next phase of the transaction in this slot is under way.
+    pub(crate) fn go_on(&self, rt: &impl Wait, slot: usize, phase: Phase<J>) {
+        if let Some(place) = self.places.get(slot) {
+            place.lock(rt).go_on(phase);
+        }
     }
-}
 
-// The scale of the tables of a log, from their opening on.
-fn opening_scale<J: LogNames>(log: &StepLog<J>) -> Scale
-    ensures { result ≡ J.opening.scale }
-{
-    let _entries = log.entries();
-    log.tables().scale()
-}
+    /// The transaction in this slot is over.
+    pub(crate) fn end(
+        &self,
+        rt: &impl Wait,
+        slot: usize,
+        told: Told<J>,
+        keeper: Keeper<J>,
+        ending: usize,
+    ) -> Result<Ended, Strange> {
+        match self.places.get(slot) {
+            Some(place) => place.lock(rt).end(told, keeper, ending, self.tries),
+            None => Err(Strange),
+        }
+    }
 
-// Carries out what the pass asks, and logs it. The pass comes back with the answer.
-fn append_step<J: LogNames>(
-    log: &mut StepLog<J>,
-    pass: Pass<J>,
-    number: u32,
-    request: &Request,
-) -> (Answer, Pass<J>)
-    requires accepted { IsAccepted J.opening.scale request.now }
-    requires number { pass.asks.number ≡ number }
-    requires request { pass.asks.request ≡ request.now }
-    ensures { Logs number request.now (session_of pass) (session_of result.1) result.0 }
-{
-    let _entries = log.entries();
-    match log.append_step(pass, number, request) {
-        Ok((place, reply, pass)) => (Answer::Done { place, reply }, pass),
-        Err((AppendFault::NoMemory, pass)) => (Answer::Refused(Refusal::NoMemory), pass),
-        Err((AppendFault::LogFull, pass)) => (Answer::Refused(Refusal::LogFull), pass),
+    /// An action of the transaction in this slot, which is over, has given its claims back. The executor that began it, if it was
+    /// the last action.
+    pub(crate) fn give_back(&self, rt: &impl Wait, slot: usize) -> Option<u32> {
+        self.places.get(slot)?.lock(rt).give_back()
+    }
+
+    /// The executor at whose warehouse the session of this slot asks its next request.
+    pub(crate) fn next_executor(&self, rt: &impl Wait, slot: usize) -> Option<u32> {
+        let home = self.places.get(slot)?.lock(rt).next_home()?;
+        Some(self.routing.route(home))
+    }
+
+    /// The session of this slot goes on with its script, at this executor.
+    pub(crate) fn advance(
+        &self,
+        rt: &impl Wait,
+        alloc: Global,
+        slot: usize,
+        executor: u32,
+    ) -> Result<Advanced<J>, Strange> {
+        match self.places.get(slot) {
+            Some(place) => place
+                .lock(rt)
+                .advance(alloc, &self.scale, &self.ages, slot, self.tries, executor),
+            None => Err(Strange),
+        }
     }
 }

@@ -1,12 +1,16 @@
 use requests::Request;
 
-/// Stands before and behind the engine's log, and may hold a thread up there. A request that its check
-/// refuses does not come by. Whatever a gate does, the engine's answers keep their promise.
+/// Stands by while requests are served, and may hold an executor up where they come by. A request that its
+/// check refuses does not come by, nor one that can't be begun for want of memory. Whatever a gate does, the
+/// engine's answers keep their promise.
 pub trait Gate {
-    /// The session is about to take the log's lock, for its request of this number.
+    /// The session's request of this number is under way, for the first time.
+    fn asked(&self, session: u32, number: u32, request: &Request);
+
+    /// An executor is about to take the log's lock, for this request.
     fn commit(&self, session: u32, number: u32, request: &Request);
 
-    /// The session has its answer, and has let the lock go.
+    /// The request has its answer, and the session goes on.
     fn answered(&self, session: u32, number: u32, request: &Request);
 }
 
@@ -15,6 +19,8 @@ pub trait Gate {
 pub struct OpenGate;
 
 impl Gate for OpenGate {
+    fn asked(&self, _session: u32, _number: u32, _request: &Request) {}
+
     fn commit(&self, _session: u32, _number: u32, _request: &Request) {}
 
     fn answered(&self, _session: u32, _number: u32, _request: &Request) {}
@@ -22,6 +28,10 @@ impl Gate for OpenGate {
 
 /// A gate that is lent, so that who lends it can look at it afterwards.
 impl<G: Gate> Gate for &G {
+    fn asked(&self, session: u32, number: u32, request: &Request) {
+        (**self).asked(session, number, request);
+    }
+
     fn commit(&self, session: u32, number: u32, request: &Request) {
         (**self).commit(session, number, request);
     }

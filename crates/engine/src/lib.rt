@@ -1,18 +1,34 @@
-//! The engine: serves scripts of requests, each in a thread of its own, and tells what came of each.
+//! What executors in threads of their own do to serve scripts: an engine is opened over tables and scripts, each executor works
+//! on messages and begins the requests of sessions, and what came of it all is told once they have ended. Nothing here starts a
+//! thread.
 #![tactic(auto)]
 
 mod answers;
-mod audits;
+mod asking;
+mod bed;
+mod closing;
 mod engine;
+mod executing;
 mod gate;
+mod message;
+mod names;
+mod opening;
 mod outcome;
+mod place;
 mod serving;
-mod session;
-mod threads;
 
 pub use answers::Answers;
+pub use closing::close;
 pub use engine::Engine;
+pub use executing::{AtWork, Executor};
 pub use gate::{Gate, OpenGate};
-pub use outcome::{Outcome, ServeFault};
-pub use serving::{MOST_SESSIONS, serve};
-pub use session::{Session, meet};
+pub use names::ServeNames;
+pub use opening::{Opened, Opening, open};
+pub use outcome::{CloseFault, Outcome, ServeFault};
+pub use serving::serve;
+
+/// The most executors that scripts are served by.
+pub const MOST_EXECUTORS: u32 = 16;
+
+/// The most sessions that are served at a time.
+pub const MOST_SESSIONS: usize = 64;

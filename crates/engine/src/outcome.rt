@@ -1,5 +1,6 @@
 ghost use Rattle.std.specs.Prelude.{◌≡◌};
-ghost use Rattle.engine.specs.declared.outcome.ServeFault.TheVariants.{NoMemory};
+ghost use Rattle.engine.specs.declared.outcome.CloseFault.TheVariants as close;
+ghost use Rattle.engine.specs.declared.outcome.ServeFault.TheVariants as serve;
 
 use crate::Answers;
 use commit_log::Entry;
@@ -17,20 +18,39 @@ pub struct Outcome {
     pub answers: Vec<Answers>,
 }
 
+/// Why executors that have ended came to no outcome.
+#[derive(Clone, Copy, Debug, PartialEq, Eq)]
+pub enum CloseFault {
+    /// There was no memory for the outcome.
+    NoMemory,
+    /// A session, a slice or a claim was not back.
+    Unsettled,
+}
+
+impl From<AllocError> for CloseFault {
+    ghost from_gives = { λ _ fault. fault ≡ close.NoMemory };
+
+    fn from(_error: AllocError) -> CloseFault {
+        CloseFault::NoMemory
+    }
+}
+
 /// Why scripts were not served.
 #[derive(Clone, Copy, Debug, PartialEq, Eq)]
 pub enum ServeFault {
-    /// There was no memory to check the opening tables, to open the log, or for the answers.
+    /// There was no memory to check the opening tables, to open the engine, or for what came of it.
     NoMemory,
-    /// The opening tables break the consistency condition of this number, and none of a lower one: 1 to
-    /// 10, or 12 (TPC-C 5.11, clause 3.3.2).
+    /// The opening tables break the consistency condition of this number, and none of a lower one: 1 to 10, or 12
+    /// (TPC-C 5.11, clause 3.3.2).
     NotConsistent(u8),
     /// A thread could not be started.
     NoThread,
+    /// A session, a slice or a claim was not back when all executors had ended.
+    Unsettled,
 }
 
 impl From<AllocError> for ServeFault {
-    ghost from_gives = { λ _ fault. fault ≡ NoMemory };
+    ghost from_gives = { λ _ fault. fault ≡ serve.NoMemory };
 
     fn from(_error: AllocError) -> ServeFault {
         ServeFault::NoMemory

@@ -3,12 +3,12 @@ use denote.RattleType.{RattleType}
 use denote.Param.Send.{IsSend, sendable, view_send}
 use denote.Param.SendFields.{declared_send}
 use Rattle.std.proofs.Crossing.{Vec-send}
-use Rattle.requests.proofs.Sendable.{Request-send, Answer-send}
+use Rattle.requests.proofs.Sendable.{Request-send}
 use Rattle.agreement.proofs.Sendable.{Seat-send}
 use Rattle.tickets.proofs.Sendable.{Claims-send}
 use Rattle.commit_log.proofs.Sendable.{Pass-send}
 use Rattle.transactions.proofs.Sendable.{Progress-send, Work-send, Ran-send, Station-send}
-use Rattle.rendezvous.proofs.Sendable.{Meeting-send, Results-send}
+use Rattle.rendezvous.proofs.Sendable.{Meeting-send}
 use Rattle.tickets.specs.declared.group_names.GroupNames.{Ghosts as GroupNames}
 use Rattle.commit_log.specs.declared.log_names.LogNames.{Ghosts as LogNames}
 use Rattle.executor.specs.declared.names.CourseNames.{Ghosts as CourseNames}
@@ -16,16 +16,13 @@ use Rattle.executor.specs.contracts.course.Share as Share
 use Rattle.executor.specs.contracts.course.Keeper as Keeper
 use Rattle.executor.specs.contracts.errand.Errand as Errand
 use Rattle.executor.specs.contracts.errand.Carried as Carried
-use Rattle.executor.specs.contracts.errand.Report as Report
 use Rattle.executor.specs.contracts.giving_back.Settle as Settle
 use Rattle.executor.specs.contracts.giving_back.Undo as Undo
 use Rattle.executor.specs.contracts.held.HeldClaims as HeldClaims
 use Rattle.executor.specs.contracts.journey.Transaction as Transaction
 use Rattle.executor.specs.contracts.journey.Journey as Journey
 use Rattle.executor.specs.contracts.phase.Phase as Phase
-use Rattle.executor.specs.contracts.phase.Met as Met
 use Rattle.executor.specs.contracts.post.Post as Post
-use Rattle.executor.specs.contracts.release.Told as Told
 
 module _ (J : RattleType) (names : GroupNames J.Denot) (s : IsSend J) where
   HeldClaims-send : IsSend (HeldClaims.the_row J names)
@@ -77,7 +74,7 @@ module _ (J : RattleType) (course : CourseNames J.Denot) (log : LogNames J.Denot
     ),
   )
 
-  pub Journey-send : IsSend (Journey.the_row J course log groups)
+  Journey-send : IsSend (Journey.the_row J course log groups)
   Journey-send = view_send _ _ _ _ _ (declared_send (Journey.TheInside.the_type J course log groups) (
     Transaction-send,
     (
@@ -119,21 +116,6 @@ module _ (J : RattleType) (course : CourseNames J.Denot) (log : LogNames J.Denot
     ),
   )
 
-  pub Report-send : IsSend (Report.the_row J course log groups)
-  Report-send = view_send _ _ _ _ _ (declared_send (Report.TheInside.the_type J course log groups) (
-    search sendable depth 20,
-    (
-      Ran-send J groups s,
-      (
-        Share-send,
-        (
-          search (Journey-send, sendable) depth 20,
-          tt,
-        ),
-      ),
-    ),
-  ))
-
   pub Settle-send : IsSend (Settle.the_row J course log groups)
   Settle-send = view_send _ _ _ _ _ (declared_send (Settle.TheInside.the_type J course log groups) (
     search sendable depth 20,
@@ -160,33 +142,6 @@ module _ (J : RattleType) (course : CourseNames J.Denot) (log : LogNames J.Denot
       (
         search (Ran-send, Meeting-send, sendable) depth 20,
         tt,
-      ),
-    ),
-  ))
-
-  pub Met-send : IsSend (Met.the_row J course log groups)
-  Met-send = view_send _ _ _ _ _ (declared_send (Met.TheInside.the_type J course log groups) (
-    Keeper-send,
-    (
-      Journey-send,
-      (
-        search (Ran-send, Results-send, sendable) depth 20,
-        tt,
-      ),
-    ),
-  ))
-
-  pub Told-send : IsSend (Told.the_row J course log groups)
-  Told-send = view_send _ _ _ _ _ (declared_send (Told.TheInside.the_type J course log groups) (
-    search sendable depth 20,
-    (
-      search sendable depth 20,
-      (
-        Pass-send J log s,
-        (
-          Answer-send,
-          tt,
-        ),
       ),
     ),
   ))

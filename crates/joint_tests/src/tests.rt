@@ -15,7 +15,12 @@ mod sources;
 
 // A payment in district (1, 1) by customer 1 there, on 2024-05-01 at noon.
 fn payment(amount: u32) -> Request {
-    let home = DistrictKey { w_id: 1, d_id: 1 };
+    payment_at(1, amount)
+}
+
+// The same at a warehouse.
+fn payment_at(w_id: u32, amount: u32) -> Request {
+    let home = DistrictKey { w_id, d_id: 1 };
     Request::Payment(Payment {
         home,
         customer_home: home,

@@ -4,3 +4,4 @@ pub mod Lists
 pub mod KeptDesks
 pub mod NewDesks
 pub mod Audited
+pub mod Sendable

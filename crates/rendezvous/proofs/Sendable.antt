@@ -1,10 +1,9 @@
--- A meeting and its results may go to another thread, where what is reported may.
+-- A meeting may go to another thread, where what is reported may.
 use denote.RattleType.{RattleType}
 use denote.Param.Send.{IsSend, sendable, view_send}
 use denote.Param.SendFields.{declared_send}
 use Rattle.std.proofs.Crossing.{Vec-send}
 use Rattle.rendezvous.specs.contracts.meeting.Meeting as Meeting
-use Rattle.rendezvous.specs.contracts.results.Results as Results
 
 module _ (R : RattleType) (s : IsSend R) where
   pub Meeting-send : IsSend (Meeting.the_row R)
@@ -15,6 +14,3 @@ module _ (R : RattleType) (s : IsSend R) where
       tt,
     ),
   ))
-
-  pub Results-send : IsSend (Results.the_row R)
-  Results-send = view_send _ _ _ _ _ (declared_send (Results.TheInside.the_type R) (search (Vec-send, sendable) depth 20, tt))

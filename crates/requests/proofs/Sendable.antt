@@ -34,7 +34,7 @@ use Rattle.requests.specs.contracts.stock_level.StockLevelReply as StockLevelRep
 pub Group-send : IsSend Group.the_row
 Group-send = search sendable depth 80
 
-pub Refusal-send : IsSend Refusal.the_row
+Refusal-send : IsSend Refusal.the_row
 Refusal-send = search sendable depth 80
 
 -- ---- requests
@@ -51,7 +51,7 @@ Choice-sync : IsSync Choice.the_row
 Choice-sync = search (LastName-sync, sendable) depth 40
 
 module _ (T : RattleType) where
-  pub Lines-send : IsSend T → IsSend (Lines.the_row T)
+  Lines-send : IsSend T → IsSend (Lines.the_row T)
   Lines-send s = view_send _ _ _ _ _ (declared_send (Lines.TheInside.the_type T) (search (Vec-send, sendable) depth 20, tt))
 
   Lines-sync : IsSync T → IsSync (Lines.the_row T)
@@ -177,7 +177,7 @@ Delivery-sync = search sendable depth 40
 StockLevel-sync : IsSync StockLevel.the_row
 StockLevel-sync = search sendable depth 40
 
-pub Request-sync : IsSync Request.the_row
+Request-sync : IsSync Request.the_row
 Request-sync = variants_sync Request.enum (
   (NewOrder-sync, tt),
   (
@@ -343,7 +343,7 @@ DeliveryReply-send = search sendable depth 40
 StockLevelReply-send : IsSend StockLevelReply.the_row
 StockLevelReply-send = search sendable depth 40
 
-pub Fault-send : IsSend Fault.the_row
+Fault-send : IsSend Fault.the_row
 Fault-send = search (Text-send, sendable) depth 80 fits 50000
 
 Shown-send : IsSend Shown.the_row

@@ -32,6 +32,7 @@ status_of (fault.File path of) = status.Failed
 status_of (fault.NotConsistent condition) = status.NotConsistent
 status_of (fault.NoWarehouse warehouse) = status.Usage
 status_of fault.NoThread = status.Failed
+status_of fault.Unsettled = status.Failed
 status_of fault.NotIdle = status.Failed
 
 -- the status where clap did not understand the words, or had no memory
@@ -63,6 +64,7 @@ abbrev pub fault_of_serving : ServeFault → CommandFault
 fault_of_serving serve.NoMemory = fault.NoMemory
 fault_of_serving (serve.NotConsistent condition) = fault.NotConsistent condition
 fault_of_serving serve.NoThread = fault.NoThread
+fault_of_serving serve.Unsettled = fault.Unsettled
 
 -- no memory, or a fault of a file
 abbrev pub IsOfFile : CommandFault → Type 0
@@ -71,12 +73,13 @@ IsOfFile (fault.File path of) = Unit {0}
 IsOfFile _ = ⊥
 
 -- The same, or of the tables that the source gives: that they break this condition first; or, as they are consistent, that a
--- thread could not be started.
+-- thread could not be started, or something was not back when all executors had ended.
 abbrev pub IsOfServing : Option (List ℕ) → CommandFault → Type 0
 IsOfServing source fault.NoMemory = Unit {0}
 IsOfServing source (fault.File path of) = Unit {0}
 IsOfServing source (fault.NotConsistent condition) = (tables : Database) × Gives source (AreRecords tables) × BreaksFirst tables condition
 IsOfServing source fault.NoThread = (tables : Database) × Gives source (AreRecords tables) × Consistent tables
+IsOfServing source fault.Unsettled = (tables : Database) × Gives source (AreRecords tables) × Consistent tables
 IsOfServing source (fault.NoWarehouse warehouse) = ⊥
 IsOfServing source fault.NotIdle = ⊥
 

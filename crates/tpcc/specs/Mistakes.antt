@@ -81,11 +81,14 @@ IsFilesFault files fault = ((fault ≡ usage.FileCount) × (IsFileCount files �
 -- ---- of each command
 
 module _ (found : Found) where
-  -- there are not 1 to 64 scripts
+  -- there are not 1 to 64 scripts, the files that are written have one path, or there are not 1 to 16 executors, or else not 1 to 10000 tries
   abbrev pub IsRunFault : UsageFault → Type 0
   IsRunFault (usage.Words error) = kind_of error ≡ OutOfMemory
   IsRunFault usage.ScriptCount = (1 ≤ length (all_words found (codes "SCRIPT"))) × (length (all_words found (codes "SCRIPT")) ≤ 64) → ⊥
-  IsRunFault _ = ⊥
+  IsRunFault usage.SameOutput = AreOnePath (first_value found (codes "log")) (first_value found (codes "tables"))
+  IsRunFault fault =
+      IsNumberFault (codes "--executors") 1 16 (first_value found (codes "executors")) fault
+      ⊎ (IsNumberWord 1 16 (first_value found (codes "executors")) × IsNumberFault (codes "--tries") 1 10000 (first_value found (codes "tries")) fault)
 
   -- two of the files that are written have one path, or there are not 1 to 16 executors
   abbrev pub IsSimFault : UsageFault → Type 0

@@ -1,5 +1,5 @@
--- How `tpcc run` ends well.
-use Rattle.std.specs.Prelude.{◌≡◌, ℕ, ◌+◌, List, [], ◌∷◌, ◌++◌, Option}
+-- How `tpcc run` ends well, and what has its name where it ends early.
+use Rattle.std.specs.Prelude.{◌≡◌, ◌⊎◌, ℕ, ◌+◌, true, List, [], ◌∷◌, ◌++◌, Option, is_some}
 use Rattle.std.specs.List.{AllZip}
 use Rattle.schema.specs.Database.{Database}
 use Rattle.schema.specs.Consistency.{Consistent}
@@ -20,20 +20,34 @@ AreAllAnswers session [] rows = rows ≡ []
 AreAllAnswers session (told ∷ others) rows =
     (these : List (List (List ℕ))) × (rest : List (List (List ℕ))) × AreAnswers session told these × AreAllAnswers (session + 1) others rest × (rows ≡ these ++ rest)
 
-module _ {F : Type 0} (contents : F → Option (List ℕ)) («data» : Option (List ℕ)) (sources : List (Option (List ℕ))) (file : Option F) (before after : Option (List ℕ))
-    (named named' : Option (List (Option (List ℕ)))) (told told' : Option (List CommandFault)) where
-  -- The scripts that the sources give were served from the tables that `data` gives; the records of all answers were printed; and
-  -- the file, if there is one, has got its name with the records of the log.
-  pub record Serves : Type 0 where
-    pub opening : Database
-    pub is_dataset : Gives «data» (AreRecords opening)
-    pub consistent : Consistent opening
-    pub scripts : List (List Request)
-    pub are_scripts : AllZip (λ source script. Gives source (IsScript script)) sources scripts
-    pub log : List Entry
-    pub last : Database
-    pub answers : List (List Answer)
-    pub outcome : IsOutcome opening scripts log last answers
-    pub printed : Writes before after (AreAllAnswers 0 answers)
-    pub logged : NamesFile contents file named named' (IsLog log)
-    pub no_fault : told' ≡ told
+-- the scripts that the sources give were served from the tables that `data` gives, with this log, these last tables and these answers
+pub record AreServed («data» : Option (List ℕ)) (sources : List (Option (List ℕ))) (log : List Entry) (last : Database) (answers : List (List Answer)) : Type 0 where
+  pub opening : Database
+  pub is_dataset : Gives «data» (AreRecords opening)
+  pub consistent : Consistent opening
+  pub scripts : List (List Request)
+  pub are_scripts : AllZip (λ source script. Gives source (IsScript script)) sources scripts
+  pub outcome : IsOutcome opening scripts log last answers
+
+module _ {F : Type 0} (contents : F → Option (List ℕ)) («data» : Option (List ℕ)) (sources : List (Option (List ℕ))) (file tables : Option F) where
+  -- no file has got its name; or, where tables are asked for, the log may have, with what is in it where all went well
+  abbrev pub ServesSome : Option (List (Option (List ℕ))) → Option (List (Option (List ℕ))) → Type 0
+  ServesSome named named' =
+      (named' ≡ named)
+      ⊎ ((is_some tables ≡ true)
+      × ((log : List Entry) × (last : Database) × (answers : List (List Answer)) × AreServed «data» sources log last answers × NamesFile contents file named named' (IsLog log)))
+
+  module _ (before after : Option (List ℕ)) (named named' : Option (List (Option (List ℕ)))) (told told' : Option (List CommandFault)) where
+    -- The scripts that the sources give were served from the tables that `data` gives; the records of all answers were printed; and
+    -- the files, of these two those that there are, have got their names, in turn: the log with its records, and the tables with the
+    -- records of the last tables.
+    pub record Serves : Type 0 where
+      pub log : List Entry
+      pub last : Database
+      pub answers : List (List Answer)
+      pub are_served : AreServed «data» sources log last answers
+      pub printed : Writes before after (AreAllAnswers 0 answers)
+      pub with_log : Option (List (Option (List ℕ)))
+      pub logged : NamesFile contents file named with_log (IsLog log)
+      pub left : NamesFile contents tables with_log named' (AreRecords last)
+      pub no_fault : told' ≡ told

@@ -20,6 +20,8 @@ pub enum CommandFault<'a> {
     NoWarehouse(u32),
     /// A thread could not be started.
     NoThread,
+    /// A session, a slice or a claim was not back when all executors had ended.
+    Unsettled,
     /// The tables were asked for while a transaction was active.
     NotIdle,
 }
@@ -57,6 +59,7 @@ impl<'a> CommandFault<'a> {
             ServeFault::NoMemory => CommandFault::NoMemory,
             ServeFault::NotConsistent(number) => CommandFault::NotConsistent(number),
             ServeFault::NoThread => CommandFault::NoThread,
+            ServeFault::Unsettled => CommandFault::Unsettled,
         }
     }
 
@@ -66,9 +69,10 @@ impl<'a> CommandFault<'a> {
     {
         match self {
             CommandFault::NoMemory => Status::NoMemory,
-            CommandFault::File { .. } | CommandFault::NoThread | CommandFault::NotIdle => {
-                Status::Failed
-            }
+            CommandFault::File { .. }
+            | CommandFault::NoThread
+            | CommandFault::Unsettled
+            | CommandFault::NotIdle => Status::Failed,
             CommandFault::NoWarehouse(_) => Status::Usage,
             CommandFault::NotConsistent(_) => Status::NotConsistent,
         }
@@ -86,6 +90,7 @@ impl fmt::Display for CommandFault<'_> {
             CommandFault::NotConsistent(number) => write!(f, "not consistent: {number}"),
             CommandFault::NoWarehouse(number) => write!(f, "no warehouse: {number}"),
             CommandFault::NoThread => f.write_str("no thread"),
+            CommandFault::Unsettled => f.write_str("unsettled"),
             CommandFault::NotIdle => f.write_str("not idle"),
         }
     }

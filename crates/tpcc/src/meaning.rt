@@ -29,7 +29,11 @@ pub fn tell_meaning<R: Files + AllocGlobal, W: Write>(
         ),
         CommandFault::NoThread => tell(
             sink,
-            "fewer scripts are needed, or more threads for the process",
+            "fewer executors are needed, or more threads for the process",
+        ),
+        CommandFault::Unsettled => tell(
+            sink,
+            "not all was back when the executors had ended, so nothing that they did is shown",
         ),
         CommandFault::NotIdle => tell(
             sink,

@@ -4,15 +4,15 @@ ghost use Rattle.terminals.specs.Answers.{AreAnswers};
 ghost use Rattle.terminals.specs.Script.{IsScript};
 ghost use Rattle.tpcc.specs.Edges.{Gives, Writes};
 ghost use Rattle.tpcc.specs.Faults.{IsOfFile, IsOfServing, EndsEarly};
-ghost use Rattle.tpcc.specs.Run.{AreAllAnswers, Serves};
-ghost use Rattle.tpcc.specs.Settings.{HasSessions};
+ghost use Rattle.tpcc.specs.Run.{AreAllAnswers, Serves, ServesSome};
+ghost use Rattle.tpcc.specs.Settings.{IsRunnable};
 
 use crate::command_fault::CommandFault;
 use crate::report::Report;
 use crate::settings::RunSettings;
 use crate::shelf::Shelf;
 use crate::status::Status;
-use crate::streams::{STANDARD_OUTPUT, name_printed, read_tables, write_entries};
+use crate::streams::{STANDARD_OUTPUT, name_printed, read_tables, write_entries, write_tables};
 use crate::summary::Summary;
 use crate::tally::Tally;
 use crate::watch::Watch;
@@ -26,20 +26,21 @@ use std::sync::Wait;
 use std::thread::Threads;
 use terminals::{read_script, write_answers};
 
-/// Serves the scripts from the dataset, one thread for each. An error is the exit status.
+/// Serves the scripts from the dataset, by as many executors as are asked for. An error is the exit status.
 ///
 /// `data` is read first, and then the scripts in turn; the first fault decides, and then nothing was run.
 /// The log is written to `log` and is on the disk first; then the answers go to `answers`, by session and
-/// number; then the log gets its name on `shelf`. `watch` looks on while they are served, and what it all came
-/// to is summed up to `errors`, if that sums up. Why a run ended early is told to `errors`: a fault of a
-/// file, tables that are not consistent, no thread or no memory.
+/// number; then the log gets its name on `shelf`, and then the tables as they are left are written to `tables`
+/// and get theirs. `watch` looks on while they are served, and what it all came to is summed up to `errors`,
+/// if that sums up. Why a run ended early is told to `errors`: a fault of a file, tables that are not
+/// consistent, no thread, something that was not back at the end, or no memory.
 pub fn run_over<
     R: Clock + Threads + Wait + Sync,
     D: Read + Drop,
     S: Read + Drop,
     A: Write + Drop,
-    L: Write + Drop,
-    N: Shelf<L>,
+    F: Write + Drop,
+    N: Shelf<F>,
     E: Report,
 >(
     rt: &R,
@@ -48,35 +49,36 @@ pub fn run_over<
     data: D,
     scripts: &mut [S],
     answers: A,
-    log: Option<L>,
+    log: Option<F>,
+    tables: Option<F>,
     shelf: &mut N,
     watch: Watch<'_, R>,
     errors: &mut E,
 ) -> Result<A, Status>
-    requires sessions { HasSessions settings.now }
+    requires limits { IsRunnable settings.now }
     requires sources { length scripts.old ≡ length settings.now.scripts.items }
-    requires asked { is_some log ≡ is_some settings.now.log }
-    ensures serves { IfOk result (λ full. Serves L.contents (D.remaining «data») (map S.remaining scripts.old) log (A.contents answers) (A.contents full) (N.named shelf.old) (N.named shelf.new) (E.told errors.old) (E.told errors.new)) }
-    ensures named { OnErr result (N.named shelf.new ≡ N.named shelf.old) }
+    requires log { is_some log ≡ is_some settings.now.log }
+    requires tables { is_some tables ≡ is_some settings.now.tables }
+    ensures serves { IfOk result (λ full. Serves F.contents (D.remaining «data») (map S.remaining scripts.old) log tables (A.contents answers) (A.contents full) (N.named shelf.old) (N.named shelf.new) (E.told errors.old) (E.told errors.new)) }
+    ensures some { OnErr result (ServesSome F.contents (D.remaining «data») (map S.remaining scripts.old) log tables (N.named shelf.old) (N.named shelf.new)) }
     ensures early { IfErr result (EndsEarly (IsOfServing (D.remaining «data»)) (E.told errors.old) (E.told errors.new)) }
 {
     match run(
-        rt, alloc, settings, data, scripts, answers, log, shelf, watch, errors,
+        rt, alloc, settings, data, scripts, answers, log, tables, shelf, watch, errors,
     ) {
         Ok(full) => Ok(full),
         Err(fault) => Err(errors.report(fault)),
     }
 }
 
-// Where it ends early the log has not got its name.
 fn run<
     'a,
     R: Clock + Threads + Wait + Sync,
     D: Read + Drop,
     S: Read + Drop,
     A: Write + Drop,
-    L: Write + Drop,
-    N: Shelf<L>,
+    F: Write + Drop,
+    N: Shelf<F>,
     E: Report,
 >(
     rt: &R,
@@ -85,23 +87,33 @@ fn run<
     data: D,
     scripts: &mut [S],
     answers: A,
-    log: Option<L>,
+    log: Option<F>,
+    tables: Option<F>,
     shelf: &mut N,
     mut watch: Watch<'_, R>,
     errors: &mut E,
 ) -> Result<A, CommandFault<'a>>
-    requires sessions { HasSessions settings.now }
+    requires limits { IsRunnable settings.now }
     requires sources { length scripts.old ≡ length settings.now.scripts.items }
-    requires asked { is_some log ≡ is_some settings.now.log }
-    ensures serves { IfOk result (λ full. Serves L.contents (D.remaining «data») (map S.remaining scripts.old) log (A.contents answers) (A.contents full) (N.named shelf.old) (N.named shelf.new) (E.told errors.old) (E.told errors.new)) }
-    ensures named { OnErr result (N.named shelf.new ≡ N.named shelf.old) }
+    requires log { is_some log ≡ is_some settings.now.log }
+    requires tables { is_some tables ≡ is_some settings.now.tables }
+    ensures serves { IfOk result (λ full. Serves F.contents (D.remaining «data») (map S.remaining scripts.old) log tables (A.contents answers) (A.contents full) (N.named shelf.old) (N.named shelf.new) (E.told errors.old) (E.told errors.new)) }
+    ensures some { OnErr result (ServesSome F.contents (D.remaining «data») (map S.remaining scripts.old) log tables (N.named shelf.old) (N.named shelf.new)) }
     ensures told { OnErr result (E.told errors.new ≡ E.told errors.old) }
     ensures fault { IfErr result (IsOfServing (D.remaining «data»)) }
 {
     let opening = read_tables(alloc, settings.data, data)?;
     let scripts = read_scripts(alloc, &settings.scripts, scripts)?;
     let _ = watch.prepare(alloc, scripts.as_slice());
-    let outcome = match serve(rt, alloc, opening, scripts.as_slice(), &watch) {
+    let outcome = match serve(
+        rt,
+        alloc,
+        opening,
+        scripts.as_slice(),
+        settings.executors,
+        settings.tries,
+        &watch,
+    ) {
         Ok(outcome) => outcome,
         Err(fault) => return Err(CommandFault::of_serving(fault)),
     };
@@ -109,6 +121,7 @@ fn run<
     let log = write_entries(alloc, settings.log, log, outcome.log.as_slice(), shelf)?;
     let printed = print_answers(alloc, answers, outcome.answers.as_slice());
     let full = name_printed(printed, log, shelf)?;
+    write_tables(alloc, settings.tables, tables, &outcome.tables, shelf)?;
     sum_up(
         alloc,
         &watch,

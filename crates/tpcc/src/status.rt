@@ -5,7 +5,8 @@ ghost use Rattle.tpcc.specs.Status.{exit_status};
 #[derive(Clone, Copy, Debug, PartialEq, Eq)]
 pub enum Status {
     Success,
-    /// A file has a fault, or can't be opened, made, read or written; or a thread could not be started.
+    /// A file has a fault, or can't be opened, made, read or written; or a thread could not be started,
+    /// or not all was back when the executors had ended.
     Failed,
     /// The words of the command line are not understood, or out of their limits.
     Usage,

@@ -1,5 +1,5 @@
 //! What several commands read and write, with faults that name the files.
-ghost use Rattle.std.specs.Prelude.{◌≡◌, ◌++◌, ◌∷◌, [], ℕ, List, Some, Ok, is_some, map, IfOk, IfErr, IfSome, OnOk, OnErr, string_bytes};
+ghost use Rattle.std.specs.Prelude.{◌≡◌, ◌++◌, ◌∷◌, [], ℕ, List, Some, Ok, is_some, true, map, IfOk, IfErr, IfSome, OnOk, OnErr, string_bytes};
 ghost use Rattle.std.specs.Io.KnownBytes.{Appends};
 ghost use Rattle.dataset.specs.Records.{AreRecords};
 ghost use Rattle.terminals.specs.LogRecord.{IsLog};
@@ -86,6 +86,7 @@ pub fn write_tables<'a, T: Write + Drop, N: Shelf<T>>(
     shelf: &mut N,
 ) -> Result<(), CommandFault<'a>>
     requires { is_some sink ≡ is_some path }
+    ensures asked { OnErr result (is_some sink ≡ true) }
     ensures named { OnOk result (NamesFile T.contents sink (N.named shelf.old) (N.named shelf.new) (AreRecords tables.now)) }
     ensures err { OnErr result (N.named shelf.new ≡ N.named shelf.old) }
     ensures fault { IfErr result IsOfFile }

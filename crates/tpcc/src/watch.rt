@@ -12,7 +12,7 @@ use std::sync::atomic::{AtomicU64, Ordering};
 const STRIDE: u64 = 1_000_000_000;
 
 /// Looks on while scripts are served: how many requests were answered, and how long each took from when
-/// it was asked for. It holds nobody up, and looks at no clock where nothing is to be told.
+/// it was asked for the first time. It holds nobody up, and looks at no clock where nothing is to be told.
 #[derive(Drop)]
 pub struct Watch<'a, R> {
     // Where it is told of the serving, if anywhere.
@@ -112,7 +112,7 @@ impl<'a, R: Clock> Watch<'a, R> {
 }
 
 impl<R: Clock> Gate for Watch<'_, R> {
-    fn commit(&self, session: u32, number: u32, _request: &Request) {
+    fn asked(&self, session: u32, number: u32, _request: &Request) {
         if let Some(now) = self.now() {
             if self.first.load(Ordering::SeqCst) == 0 {
                 let _ = self
@@ -122,6 +122,8 @@ impl<R: Clock> Gate for Watch<'_, R> {
             self.latencies.begin(session, number, now);
         }
     }
+
+    fn commit(&self, _session: u32, _number: u32, _request: &Request) {}
 
     fn answered(&self, session: u32, number: u32, _request: &Request) {
         if let Some(now) = self.now() {

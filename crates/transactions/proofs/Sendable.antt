@@ -359,7 +359,7 @@ Work-send = variants_send Work.enum (
   ),
 )
 
-pub Found-send : IsSend Found.the_row
+Found-send : IsSend Found.the_row
 Found-send = variants_send Found.enum (
   (NewOrderFound-send, tt),
   (

@@ -1,27 +1,61 @@
 use super::*;
-use engine::{Gate, serve};
-use requests::Script;
+use engine::{Gate, Outcome, serve};
+use requests::{Answer, Script};
 use std::alloc::Global;
+use std::process::Abort;
+use std::sync::Wait;
 use std::sync::atomic::{AtomicU64, Ordering};
-use std::thread::yield_now;
+use std::thread::{Threads, yield_now};
 
-// One payment of that amount.
-fn script(alloc: Global, amount: u32) -> Result<Script, Fail> {
+// How often a thread gives way at most before it goes on.
+const MOST_TURNS: u32 = 100_000;
+
+// One payment of that amount at a warehouse.
+fn script(alloc: Global, w_id: u32, amount: u32) -> Result<Script, Fail> {
+    scripted(alloc, w_id, amount, 1)
+}
+
+// So many payments of that amount at a warehouse.
+fn scripted(alloc: Global, w_id: u32, amount: u32, count: usize) -> Result<Script, Fail> {
     let mut requests = Vec::new(alloc);
-    requests.push(payment(amount))?;
+    for _ in 0..count {
+        requests.push(payment_at(w_id, amount))?;
+    }
     Ok(Script::checked_new(requests).ok_or("a script")?)
 }
 
-// At this gate each of two sessions waits for the other before it takes the log's lock, giving way, but
-// not forever.
+// Whether a count gets so far before the thread has given way too often.
+fn comes_to(count: &AtomicU64, least: u64) -> bool {
+    for _ in 0..MOST_TURNS {
+        if count.load(Ordering::SeqCst) >= least {
+            return true;
+        }
+        yield_now();
+    }
+    false
+}
+
+// How many answers say that the request was carried out.
+fn done_in(outcome: &Outcome) -> usize {
+    let mut count: usize = 0;
+    for answers in &outcome.answers {
+        for answer in answers.as_slice() {
+            if matches!(answer, Answer::Done { .. }) {
+                count = count.saturating_add(1);
+            }
+        }
+    }
+    count
+}
+
+// At this gate each of two executors waits for the other before it takes the log's lock, giving way, but not
+// forever.
 #[derive(Drop)]
 struct BothEnter {
     entered: AtomicU64,
     met: AtomicU64,
     answered: AtomicU64,
 }
-
-const MOST_TURNS: u32 = 100_000;
 
 impl BothEnter {
     fn new() -> BothEnter {
@@ -34,14 +68,12 @@ impl BothEnter {
 }
 
 impl Gate for BothEnter {
+    fn asked(&self, _session: u32, _number: u32, _request: &Request) {}
+
     fn commit(&self, _session: u32, _number: u32, _request: &Request) {
         self.entered.fetch_add(1, Ordering::SeqCst);
-        for _ in 0..MOST_TURNS {
-            if self.entered.load(Ordering::SeqCst) == 2 {
-                self.met.fetch_add(1, Ordering::SeqCst);
-                return;
-            }
-            yield_now();
+        if comes_to(&self.entered, 2) {
+            self.met.fetch_add(1, Ordering::SeqCst);
         }
     }
 
@@ -50,16 +82,105 @@ impl Gate for BothEnter {
     }
 }
 
-// One after the other, the first session would not have met the second; a refused request comes to no gate.
+// One after the other, the first executor would not have met the second; a refused request comes to no gate.
 #[test]
-fn sessions_are_served_at_the_same_time(rt: HostRuntime) -> Result<(), Fail> {
+fn executors_serve_at_the_same_time(rt: HostRuntime) -> Result<(), Fail> {
     let alloc = rt.alloc();
-    let scripts = [script(alloc, 100)?, script(alloc, 100)?, script(alloc, 99)?];
+    let scripts = [
+        script(alloc, 1, 100)?,
+        script(alloc, 2, 100)?,
+        script(alloc, 1, 99)?,
+    ];
     let gate = BothEnter::new();
-    let outcome = serve(&rt, alloc, warehouses(alloc, 1)?, &scripts, &gate)?;
+    let outcome = serve(&rt, alloc, warehouses(alloc, 2)?, &scripts, 2, 100, &gate)?;
     assert_eq!(rt; outcome.log.len(), 2);
     assert_eq!(rt; gate.entered.load(Ordering::SeqCst), 2);
     assert_eq!(rt; gate.met.load(Ordering::SeqCst), 2);
     assert_eq!(rt; gate.answered.load(Ordering::SeqCst), 2);
+    Ok(())
+}
+
+// At this gate the executor that is to log the request of one session waits until the other session is answered.
+#[derive(Drop)]
+struct OneWaits {
+    waits: u32,
+    answered: AtomicU64,
+    met: AtomicU64,
+}
+
+impl Gate for OneWaits {
+    fn asked(&self, _session: u32, _number: u32, _request: &Request) {}
+
+    fn commit(&self, session: u32, _number: u32, _request: &Request) {
+        if session == self.waits && comes_to(&self.answered, 1) {
+            self.met.fetch_add(1, Ordering::SeqCst);
+        }
+    }
+
+    fn answered(&self, session: u32, _number: u32, _request: &Request) {
+        if session != self.waits {
+            self.answered.fetch_add(1, Ordering::SeqCst);
+        }
+    }
+}
+
+// The session of this number waits for the other, which is logged first.
+fn one_waits<R: Threads + Wait + Abort + Sync>(
+    rt: &R,
+    alloc: Global,
+    waits: u32,
+) -> Result<(), Fail> {
+    let scripts = [script(alloc, 1, 100)?, script(alloc, 2, 100)?];
+    let gate = OneWaits {
+        waits,
+        answered: AtomicU64::new(0),
+        met: AtomicU64::new(0),
+    };
+    let outcome = serve(rt, alloc, warehouses(alloc, 2)?, &scripts, 2, 100, &gate)?;
+    assert_eq!(rt; outcome.log.len(), 2);
+    assert_eq!(rt; gate.met.load(Ordering::SeqCst), 1);
+    let first = outcome.log.first().ok_or("an entry")?;
+    assert_eq!(rt; first.session, if waits == 0 { 1 } else { 0 });
+    Ok(())
+}
+
+#[test]
+fn the_first_executor_waits_for_the_second(rt: HostRuntime) -> Result<(), Fail> {
+    one_waits(&rt, rt.alloc(), 0)
+}
+
+#[test]
+fn the_second_executor_waits_for_the_first(rt: HostRuntime) -> Result<(), Fail> {
+    one_waits(&rt, rt.alloc(), 1)
+}
+
+// Eight sessions at two warehouses, by one, two and three executors: each payment is carried out.
+#[test]
+fn all_that_is_asked_is_carried_out(rt: HostRuntime) -> Result<(), Fail> {
+    let alloc = rt.alloc();
+    for executors in 1..4 {
+        let scripts = [
+            scripted(alloc, 1, 100, 25)?,
+            scripted(alloc, 2, 100, 25)?,
+            scripted(alloc, 1, 100, 25)?,
+            scripted(alloc, 2, 100, 25)?,
+            scripted(alloc, 1, 100, 25)?,
+            scripted(alloc, 2, 100, 25)?,
+            scripted(alloc, 1, 100, 25)?,
+            scripted(alloc, 2, 100, 25)?,
+        ];
+        let tables = warehouses(alloc, 2)?;
+        let outcome = serve(
+            &rt,
+            alloc,
+            tables,
+            &scripts,
+            executors,
+            100,
+            engine::OpenGate,
+        )?;
+        assert_eq!(rt; done_in(&outcome), 200);
+        assert_eq!(rt; outcome.log.len(), 200);
+    }
     Ok(())
 }

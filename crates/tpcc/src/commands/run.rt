@@ -1,5 +1,5 @@
 ghost use Rattle.std.specs.Prelude.{◌≡◌, length, is_some, IfOk};
-ghost use Rattle.tpcc.specs.Settings.{HasSessions};
+ghost use Rattle.tpcc.specs.Settings.{IsRunnable};
 
 use crate::command_fault::CommandFault;
 use crate::commands::ended;
@@ -24,7 +24,7 @@ pub fn carry_out<R: Files + AllocGlobal + Clock + Threads + Wait + Sync>(
     stderr: Stderr,
     settings: &RunSettings,
 ) -> Status
-    requires { HasSessions settings.now }
+    requires { IsRunnable settings.now }
 {
     let trouble = Trouble::new();
     let mut teller = Teller::new(rt, stderr, settings.quiet, settings.summary, &trouble);
@@ -35,6 +35,7 @@ pub fn carry_out<R: Files + AllocGlobal + Clock + Threads + Wait + Sync>(
                 data,
                 mut scripts,
                 log,
+                tables,
             },
         ) => ended(run_over(
             rt,
@@ -44,6 +45,7 @@ pub fn carry_out<R: Files + AllocGlobal + Clock + Threads + Wait + Sync>(
             scripts.as_mut_slice(),
             NotingWriter::new(stdout, &trouble),
             log,
+            tables,
             &mut Folders,
             Watch::new(rt, rt.alloc(), opener.terminal, teller.sums_up()),
             &mut teller,
@@ -52,11 +54,12 @@ pub fn carry_out<R: Files + AllocGlobal + Clock + Threads + Wait + Sync>(
     }
 }
 
-// The files of a run: those that are read, and the one that is written.
+// The files of a run: those that are read, and those that are written.
 struct RunFiles<'a, R: Files> {
     data: Watched<'a, R::File>,
     scripts: Vec<Watched<'a, R::File>>,
     log: Option<NewFile<'a, R>>,
+    tables: Option<NewFile<'a, R>>,
 }
 
 impl<'a, R: Files + AllocGlobal> RunFiles<'a, R> {
@@ -66,6 +69,7 @@ impl<'a, R: Files + AllocGlobal> RunFiles<'a, R> {
     ) -> Result<RunFiles<'a, R>, CommandFault<'a>>
         ensures scripts { IfOk result (λ files. length files.scripts.items ≡ length settings.now.scripts.items) }
         ensures log { IfOk result (λ files. is_some files.log ≡ is_some settings.now.log) }
+        ensures tables { IfOk result (λ files. is_some files.tables ≡ is_some settings.now.tables) }
     {
         let data = opener.open(settings.data)?;
         let mut scripts = Vec::new(opener.rt.alloc());
@@ -73,6 +77,12 @@ impl<'a, R: Files + AllocGlobal> RunFiles<'a, R> {
             scripts.push(opener.open(path)?)?;
         }
         let log = opener.make(settings.log)?;
-        Ok(RunFiles { data, scripts, log })
+        let tables = opener.make(settings.tables)?;
+        Ok(RunFiles {
+            data,
+            scripts,
+            log,
+            tables,
+        })
     }
 }

@@ -1,10 +1,11 @@
 //! Options and arguments of several commands.
-ghost use Rattle.std.specs.Prelude.{◌≡◌, ◌≤◌, [], codes, option_map, IfOk, IfErr, None, Ok};
+ghost use Rattle.std.specs.Prelude.{◌≡◌, ◌≤◌, ◌↔◌, [], codes, option_map, IfOk, IfErr, IsTrue, None, Ok};
 ghost use Rattle.clap.specs.Words.{found_of};
 ghost use Rattle.tpcc.specs.CommandLine.{alone, argument, arguments, command, flag, option, IsArgument, IsCommand};
-ghost use Rattle.tpcc.specs.Mistakes.{IsMomentFault, IsNumberFault, IsNumberWord};
+ghost use Rattle.tpcc.specs.Mistakes.{AreOnePath, IsMomentFault, IsNumberFault, IsNumberWord};
 ghost use Rattle.tpcc.specs.Words.{word_of, IsNumber, IsMoment};
 
+use crate::other_name::are_one;
 use crate::usage::UsageFault;
 use clap::{Arg, ArgAction, ArgMatches, Command};
 use files::{parse_moment, parse_whole};
@@ -112,6 +113,27 @@ pub fn counted<'a>(alloc: Global, name: &'static str, help: &'static str) -> Arg
     ensures { IsArgument (option name.now) result }
 {
     option(alloc, name, "N", help)
+}
+
+/// How many executors there are.
+pub fn executors<'a>(alloc: Global) -> Arg<'a>
+    ensures { IsArgument (option (codes "executors")) result }
+{
+    counted(
+        alloc,
+        "executors",
+        "How many executors there are, 1 to 16; 2 by default",
+    )
+}
+
+/// Whether both are to be written, under one path.
+pub fn same(one: Option<&str>, other: Option<&str>) -> bool
+    ensures { IsTrue result ↔ AreOnePath (option_map (λ path. path.now) one.entry) (option_map (λ path. path.now) other.entry) }
+{
+    match (one, other) {
+        (Some(one), Some(other)) => are_one(one, other),
+        _ => false,
+    }
 }
 
 /// The word that stands for an argument, the empty one if none does.

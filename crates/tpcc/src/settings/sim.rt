@@ -1,13 +1,12 @@
-ghost use Rattle.std.specs.Prelude.{◌↔◌, option_map, IfOk, IfErr, IsTrue};
+ghost use Rattle.std.specs.Prelude.{IfOk, IfErr};
 ghost use Rattle.clap.specs.Words.{found_of};
 ghost use Rattle.tpcc.specs.CommandLine.{alone, sim_command, IsCommand};
-ghost use Rattle.tpcc.specs.Mistakes.{AreOnePath, IsSimFault};
+ghost use Rattle.tpcc.specs.Mistakes.{IsSimFault};
 ghost use Rattle.tpcc.specs.Settings.{HasExecutors};
 ghost use Rattle.tpcc.specs.Words.{AsksToSimulate};
 
-use crate::other_name::are_one;
 use crate::settings::arguments::{
-    argument, counted, data, log, named, number, option, quiet, word,
+    argument, data, executors, log, named, number, option, quiet, same, word,
 };
 use crate::usage::UsageFault;
 use clap::{ArgMatches, Command};
@@ -50,16 +49,6 @@ pub fn read<'a>(matches: &ArgMatches<'a>) -> Result<SimSettings<'a>, UsageFault>
     })
 }
 
-// Whether both are to be written, under one path.
-fn same(one: Option<&str>, other: Option<&str>) -> bool
-    ensures { IsTrue result ↔ AreOnePath (option_map (λ path. path.now) one.entry) (option_map (λ path. path.now) other.entry) }
-{
-    match (one, other) {
-        (Some(one), Some(other)) => are_one(one, other),
-        _ => false,
-    }
-}
-
 /// The command and its options.
 pub fn command<'a>(alloc: Global) -> Result<Command<'a>, AllocError>
     ensures { IfOk result (IsCommand (alone sim_command)) }
@@ -69,11 +58,6 @@ pub fn command<'a>(alloc: Global) -> Result<Command<'a>, AllocError>
         alloc,
         "SCHEDULE",
         "What is to happen: submissions, takes, sends and rounds, one after another",
-    );
-    let executors = counted(
-        alloc,
-        "executors",
-        "How many executors there are, 1 to 16; 2 by default",
     );
     let picture = option(
         alloc,
@@ -90,7 +74,7 @@ pub fn command<'a>(alloc: Global) -> Result<Command<'a>, AllocError>
     let command = named(alloc, "sim", about, HELP)
         .arg(data(alloc))?
         .arg(schedule)?
-        .arg(executors)?
+        .arg(executors(alloc))?
         .arg(log(alloc))?
         .arg(picture)?
         .arg(tables)?

@@ -1,11 +1,28 @@
--- The log is opened on the opening tables, with the seats that were made for it.
+-- The engine is opened on the opening tables, for the scripts, with the agreements that were opened for it.
+use Rattle.std.specs.Prelude.{slice_index_or}
 use Rattle.commit_log.specs.LogTables.{table_of}
+use Rattle.tickets.specs.Openings.{opened}
+use Rattle.tickets.specs.Places.{place_of}
+use Rattle.tickets.specs.Unset.{no_table, nothing}
 use Rattle.engine.proofs.serving.serve.Given as goal
 
-abbrev pub ghosts-serve_from : goal.ghosts-serve_from
-ghosts-serve_from g a = record {
-  opening = a.opening;
-  length = a.seats.length;
-  mine = table_of a.seats.mine;
-  asks = table_of a.seats.asks;
+abbrev pub ghosts-serve_from-J-LogNames : goal.ghosts-serve_from-J-LogNames
+ghosts-serve_from-J-LogNames g a = record {
+  opening = a.tables;
+  length = a.opening.log.length;
+  mine = table_of a.opening.log.mine;
+  asks = table_of a.opening.log.asks;
 }
+
+abbrev pub ghosts-serve_from-J-GroupNames : goal.ghosts-serve_from-J-GroupNames
+ghosts-serve_from-J-GroupNames g a = record {
+  warehouses = a.tables.scale.warehouses;
+  committed = λ group. (slice_index_or a.opening.groups.items (place_of group) (opened no_table no_table nothing)).committed;
+  work = λ group. (slice_index_or a.opening.groups.items (place_of group) (opened no_table no_table nothing)).work;
+}
+
+abbrev pub ghosts-serve_from-J-CourseNames : goal.ghosts-serve_from-J-CourseNames
+ghosts-serve_from-J-CourseNames g a = record { course = λ slot. slice_index_or a.opening.courses.items slot no_table }
+
+abbrev pub ghosts-serve_from-J-ServeNames : goal.ghosts-serve_from-J-ServeNames
+ghosts-serve_from-J-ServeNames g a = record { scripts = a.scripts.now }

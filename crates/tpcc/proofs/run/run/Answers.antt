@@ -1,14 +1,15 @@
-use Rattle.std.proofs.Common.{◌≡◌, ◌≤◌, List, length, ap, sym, subst, ◌∙◌, arith}
+use Rattle.std.proofs.Common.{◌≡◌, ◌≤◌, ℕ, List, Option, inr, length, map, ap, sym, subst, ◌∙◌, arith}
 use Rattle.requests.specs.declared.request.Request.{Request}
 use Rattle.requests.specs.declared.answer.Answer.{Answer}
 use Rattle.commit_log.specs.declared.entry.Entry.{Entry}
 use Rattle.engine.specs.Outcome.{IsOutcome}
 use Rattle.terminals.specs.LogRecord.{IsLog}
-use Rattle.tpcc.specs.Edges.{Writes, HasWritten}
+use Rattle.tpcc.specs.Edges.{Writes, HasWritten, NamesFile}
 use Rattle.tpcc.specs.Faults.{IsOfServing}
-use Rattle.tpcc.specs.Run.{AreAllAnswers}
+use Rattle.tpcc.specs.Run.{AreAllAnswers, AreServed}
 use Rattle.tpcc.proofs.AnswerRecords.{same_count}
 use Rattle.tpcc.proofs.FileNames.{names_written, printed_well}
+use Rattle.tpcc.proofs.ScriptFiles.{on_any_err}
 use Rattle.tpcc.proofs.ServeFaults.{of_tables}
 use Rattle.tpcc.proofs.run.run.Goals as goal
 
@@ -24,34 +25,70 @@ print_answers-printed-requires g c =
     let asked : length answers ≡ length c.as_slice-2.result.now = same_count answers c.as_slice-2.result.now c.in-Ok.ensures.outcome.answered in
     let scripts : length c.as_slice-2.result.now ≡ length c.in_ok-scripts.scripts.items = ap length c.as_slice-2.ensures.value in
     let paths : length c.in_ok-scripts.scripts.items ≡ length c.args.settings.now.scripts.items = c.in_ok-scripts.ensures.count ∙ ap length c.deref.ensures.value in
-    let few : length c.args.settings.now.scripts.items ≤ 64 = c.requires.sessions.1 in
+    let few : length c.args.settings.now.scripts.items ≤ 64 = c.requires.limits.0.1 in
     omega arith
 
-pub returns-clause-serves : goal.returns-clause-serves
-returns-clause-serves g c =
-    let contents = g.A.Write.contents in
+pub returns-in_err-write_tables-clause-some : goal.returns-in_err-write_tables-clause-some
+returns-in_err-write_tables-clause-some g c =
+    let names = g.N.Shelf.named in
     let opening = c.in_ok-opening.opening in
     let log = c.in-Ok.outcome.log.items in
     let last = c.in-Ok.outcome.tables in
     let answers = c.in-Ok.outcome.answers.items in
-    let scripts = c.in_ok-scripts.scripts.items in
-    let full = c.in_ok-full.full in
+    let sources = map g.S.Read.remaining c.args.scripts.now in
     let Serves : List (List Request) → Type 0 = λ l. IsOutcome opening l log last answers in
-    let Prints : List (List Answer) → Type 0 = λ l. Writes (contents c.args.answers) (contents full) (AreAllAnswers 0 l) in
-    let Logs : List Entry → Type 0 = λ l. HasWritten g.L.Write.contents c.args.log (IsLog l) c.in_ok-log.log in
-    record {
+    let are : AreServed (g.D.Read.remaining c.args.data) sources log last answers = record {
       opening = opening;
       is_dataset = c.in_ok-opening.ensures.tables;
       consistent = c.in-Ok.ensures.consistent;
-      scripts = scripts;
+      scripts = c.in_ok-scripts.scripts.items;
       are_scripts = c.in_ok-scripts.ensures.scripts;
+      outcome = subst Serves c.as_slice-2.ensures.value c.in-Ok.ensures.outcome;
+    } in
+    let with_log = names c.name_printed.new.shelf in
+    let Logs : List Entry → Type 0 = λ l. HasWritten g.F.Write.contents c.args.log (IsLog l) c.in_ok-log.log in
+    let logged : NamesFile g.F.Write.contents c.args.log (names c.args.shelf.now) with_log (IsLog log) =
+    names_written g.F.Write.contents c.args.log (IsLog log) c.in_ok-log.log (names c.args.shelf.now) (names c.write_entries.new.shelf) with_log
+    c.in_ok-log.ensures.same (subst Logs c.as_slice-3.ensures.value c.in_ok-log.ensures.written) c.in_ok-full.ensures.named in
+    let now = names c.write_tables.new.shelf in
+    let Named : Option (List (Option (List ℕ))) → Type 0 = λ named. NamesFile g.F.Write.contents c.args.log (names c.args.shelf.now) named (IsLog log) in
+    let same : now ≡ with_log = c.in_err-write_tables.ensures.err in
+    on_any_err c.from_residual-in_err-write_tables.result (inr (c.in_err-write_tables.ensures.asked, (log, last, answers, are, subst Named (sym same) logged)))
+
+pub returns-clause-serves : goal.returns-clause-serves
+returns-clause-serves g c =
+    let names = g.N.Shelf.named in
+    let opening = c.in_ok-opening.opening in
+    let log = c.in-Ok.outcome.log.items in
+    let last = c.in-Ok.outcome.tables in
+    let answers = c.in-Ok.outcome.answers.items in
+    let sources = map g.S.Read.remaining c.args.scripts.now in
+    let Serves : List (List Request) → Type 0 = λ l. IsOutcome opening l log last answers in
+    let are : AreServed (g.D.Read.remaining c.args.data) sources log last answers = record {
+      opening = opening;
+      is_dataset = c.in_ok-opening.ensures.tables;
+      consistent = c.in-Ok.ensures.consistent;
+      scripts = c.in_ok-scripts.scripts.items;
+      are_scripts = c.in_ok-scripts.ensures.scripts;
+      outcome = subst Serves c.as_slice-2.ensures.value c.in-Ok.ensures.outcome;
+    } in
+    let with_log = names c.name_printed.new.shelf in
+    let Logs : List Entry → Type 0 = λ l. HasWritten g.F.Write.contents c.args.log (IsLog l) c.in_ok-log.log in
+    let logged : NamesFile g.F.Write.contents c.args.log (names c.args.shelf.now) with_log (IsLog log) =
+    names_written g.F.Write.contents c.args.log (IsLog log) c.in_ok-log.log (names c.args.shelf.now) (names c.write_entries.new.shelf) with_log
+    c.in_ok-log.ensures.same (subst Logs c.as_slice-3.ensures.value c.in_ok-log.ensures.written) c.in_ok-full.ensures.named in
+    let contents = g.A.Write.contents in
+    let full = c.in_ok-full.full in
+    let Prints : List (List Answer) → Type 0 = λ l. Writes (contents c.args.answers) (contents full) (AreAllAnswers 0 l) in
+    record {
       log = log;
       last = last;
       answers = answers;
-      outcome = subst Serves c.as_slice-2.ensures.value c.in-Ok.ensures.outcome;
+      are_served = are;
       printed = subst Prints c.as_slice-4.ensures.value
           (printed_well (λ (kept : g.row.A.Denot). Writes (contents c.args.answers) (contents kept) (AreAllAnswers 0 c.as_slice-4.result.now)) c.print_answers-printed.result full c.in_ok-full.ensures.printed c.print_answers-printed.ensures.printed);
-      logged = names_written g.L.Write.contents c.args.log (IsLog log) c.in_ok-log.log (g.N.Shelf.named c.args.shelf.now) (g.N.Shelf.named c.write_entries.new.shelf) (g.N.Shelf.named c.name_printed.new.shelf)
-          c.in_ok-log.ensures.same (subst Logs c.as_slice-3.ensures.value c.in_ok-log.ensures.written) c.in_ok-full.ensures.named;
+      with_log = with_log;
+      logged = logged;
+      left = c.in_ok-write_tables.ensures.named;
       no_fault = c.sum_up.ensures;
     }

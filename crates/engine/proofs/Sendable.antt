@@ -1,0 +1,204 @@
+-- Executors may go to another thread, and an engine may be shared by threads, where the names and the gate may.
+use mathlib.Core.List.{[], ◌∷◌}
+use mir.Syntax.{Sym}
+use denote.RattleType.{RattleType}
+use denote.Ref.{NamedLft}
+use denote.Struct.Field.{row_field}
+use denote.Struct.Tuple.{TupleAt, type_at}
+use denote.Param.Send.{IsSend, IsSync, sendable, view_send}
+use denote.Param.SendFields.{as_row_send, declared_send, declared_sync, variants_send}
+use Rattle.std.proofs.Crossing.{crosses, Vec-send, Vec-sync, Deque-send}
+use Rattle.queues.specs.contracts.sender.Sender as Sender
+use Rattle.queues.proofs.Sendable.{Taker-send, Sender-send}
+use Rattle.requests.proofs.Sendable.{Answer-send, Script-sync}
+use Rattle.commit_log.proofs.Sendable.{Log-send, Pass-send, SessionSeat-send}
+use Rattle.executor.proofs.Sendable.{Errand-send, Settle-send, Undo-send, Phase-send, Keeper-send, Post-send}
+use Rattle.tickets.specs.declared.group_names.GroupNames.{Ghosts as GroupNames}
+use Rattle.commit_log.specs.declared.log_names.LogNames.{Ghosts as LogNames}
+use Rattle.executor.specs.declared.names.CourseNames.{Ghosts as CourseNames}
+use Rattle.engine.specs.declared.names.ServeNames.{Ghosts as ServeNames}
+use Rattle.engine.specs.contracts.asking.Ready as Ready
+use Rattle.engine.specs.contracts.asking.Asked as Asked
+use Rattle.engine.specs.contracts.bed.Bed as Bed
+use Rattle.engine.specs.contracts.engine.Engine as Engine
+use Rattle.engine.specs.contracts.executing.AtWork as AtWork
+use Rattle.engine.specs.contracts.executing.Executor as Executor
+use Rattle.engine.specs.contracts.message.Message as Message
+use Rattle.engine.specs.contracts.place.Place as Place
+use Rattle.engine.specs.contracts.place.Session as Session
+
+Bed-sync : IsSync Bed.the_row
+Bed-sync = declared_sync Bed.the_type (search (crosses, sendable) depth 20, (search (crosses, sendable) depth 20, tt))
+
+module _ (J : RattleType) (course : CourseNames J.Denot) (log : LogNames J.Denot) (groups : GroupNames J.Denot) (s : IsSend J) where
+  Message-send : IsSend (Message.the_row J course log groups)
+  Message-send = variants_send (Message.enum J course log groups) (
+    (search sendable depth 20, tt),
+    (
+      (search sendable depth 20, tt),
+      (
+        (Errand-send J course log groups s, tt),
+        (
+          (Settle-send J course log groups s, tt),
+          (
+            (Undo-send J course log groups s, tt),
+            tt,
+          ),
+        ),
+      ),
+    ),
+  )
+
+  Outlet-send : IsSend (Sender.the_row (Message.the_row J course log groups))
+  Outlet-send = Sender-send (Message.the_row J course log groups) Message-send
+
+  pub Executor-send : IsSend (Executor.the_row J course log groups)
+  Executor-send = declared_send (Executor.the_type J course log groups) (
+    search sendable depth 20,
+    (
+      search (Post-send, Vec-send, sendable) depth 20,
+      (
+        Taker-send (Message.the_row J course log groups) Message-send,
+        (
+          search (Outlet-send, Vec-send, sendable) depth 20,
+          (
+            search (Message-send, Deque-send, sendable) depth 20,
+            (
+              search (Message-send, Deque-send, sendable) depth 20,
+              (
+                search (Deque-send, sendable) depth 20,
+                (
+                  search sendable depth 20,
+                  tt,
+                ),
+              ),
+            ),
+          ),
+        ),
+      ),
+    ),
+  )
+
+  module _ (a : NamedLft) (serve : ServeNames J.Denot) where
+    Ready-send : IsSend (Ready.the_row a J serve course log groups)
+    Ready-send = view_send _ _ _ _ _ (declared_send (Ready.TheInside.the_type a J serve course log groups) (
+      search (Script-sync, sendable) depth 20,
+      (
+        SessionSeat-send J log s,
+        (
+          Pass-send J log s,
+          (
+            search (Answer-send, Vec-send) depth 10,
+            (
+              search sendable depth 20,
+              (
+                search sendable depth 20,
+                tt,
+              ),
+            ),
+          ),
+        ),
+      ),
+    ))
+
+    Asked-send : IsSend (Asked.the_row a J serve course log groups)
+    Asked-send = view_send _ _ _ _ _ (declared_send (Asked.TheInside.the_type a J serve course log groups) (
+      search (Script-sync, sendable) depth 20,
+      (
+        SessionSeat-send J log s,
+        (
+          search (Answer-send, Vec-send) depth 10,
+          (
+            search sendable depth 20,
+            tt,
+          ),
+        ),
+      ),
+    ))
+
+    Session-send : IsSend (Session.the_row a J serve course log groups)
+    Session-send = variants_send (Session.enum a J serve course log groups) (
+      (search (Ready-send, sendable) depth 20, tt),
+      (
+        (search (Asked-send, sendable) depth 20, tt),
+        (
+          (search (Ready-send, sendable) depth 20, tt),
+          tt,
+        ),
+      ),
+    )
+
+    Place-send : IsSend (Place.the_row a J serve course log groups)
+    Place-send = declared_send (Place.the_type a J serve course log groups) (
+      search (Session-send, sendable) depth 20,
+      (
+        search (Phase-send, sendable) depth 20,
+        (
+          search (Keeper-send, sendable) depth 20,
+          (
+            search sendable depth 20,
+            (
+              search sendable depth 20,
+              tt,
+            ),
+          ),
+        ),
+      ),
+    )
+
+    module _ (G : RattleType) (y : IsSync G) where
+      pub Engine-sync : IsSync (Engine.the_row a J G serve course log groups)
+      Engine-sync = declared_sync (Engine.the_type a J G serve course log groups) (
+        search sendable depth 40,
+        (
+          search (Script-sync, sendable) depth 20,
+          (
+            search sendable depth 20,
+            (
+              search sendable depth 40,
+              (
+                search sendable depth 20,
+                (
+                  search (Log-send, crosses, sendable) depth 20,
+                  (
+                    search (Place-send, crosses, sendable) depth 20,
+                    (
+                      search (Bed-sync, Vec-sync, sendable) depth 20,
+                      (
+                        search (crosses, sendable) depth 20,
+                        (
+                          search (crosses, sendable) depth 20,
+                          (
+                            search (crosses, sendable) depth 20,
+                            tt,
+                          ),
+                        ),
+                      ),
+                    ),
+                  ),
+                ),
+              ),
+            ),
+          ),
+        ),
+      )
+
+      module _ (e : NamedLft) (R : RattleType) (r : IsSync R) where
+        AtWork-send : IsSend (AtWork.the_row e a J G R serve course log groups)
+        AtWork-send = declared_send (AtWork.the_type e a J G R serve course log groups) (
+          search (r, sendable) depth 10,
+          (
+            search sendable depth 20,
+            (
+              search (Engine-sync, sendable) depth 10,
+              (
+                search (Executor-send, sendable) depth 10,
+                tt,
+              ),
+            ),
+          ),
+        )
+
+        -- so may a closure that has taken it and nothing else
+        pub taken_send : (ν : Sym) → IsSend (TupleAt ν (AtWork.the_row e a J G R serve course log groups ∷ []))
+        taken_send ν = declared_send (type_at ν (AtWork.the_row e a J G R serve course log groups ∷ [])) (as_row_send (row_field (AtWork.the_row e a J G R serve course log groups)) AtWork-send, tt)

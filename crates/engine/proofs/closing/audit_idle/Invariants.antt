@@ -1,0 +1,11 @@
+-- The sessions so far are compared with the log.
+use Rattle.std.proofs.Common.{◌≡◌, ℕ, ◌+◌, ◌<◌, ◌≤◌, []}
+use Rattle.std.specs.Vec.Iter.{into_iter_items, into_iter_len}
+use Rattle.commit_log.specs.Items.{items_of}
+use Rattle.engine.specs.Sessions.{AreNewFrom}
+use Rattle.engine.proofs.closing.audit_idle.Given as goal
+
+abbrev pub invariant-loop-session : goal.invariant-loop-session
+invariant-loop-session g l =
+    (into_iter_len l.idle + l._session ≡ 64) × AreNewFrom l._session (into_iter_items l.idle)
+    × ((s : ℕ) → l.fn.first ≤ s → s < l._session → items_of s l.fn.log ≡ []) × (l.log ≡ l.fn.log)

@@ -1,0 +1,38 @@
+use Rattle.std.proofs.Common.{sym, subst, arith}
+use Rattle.std.specs.Prelude.{All}
+use Rattle.schema.specs.Database.{Database}
+use Rattle.schema.specs.Scale.{warehouse_ids}
+use Rattle.groups.specs.Content.{content}
+use Rattle.tickets.specs.LogSeats.{SeatsTell}
+use Rattle.tickets.specs.Places.{AreInPlace}
+use Rattle.slices.specs.Openings.{AreBoxesOf}
+use Rattle.slices.proofs.Opened.{opened_groups_have_boxes}
+use Rattle.engine.specs.Opening.{IsToOpen}
+use Rattle.engine.proofs.AtOpening.{cut_to_open, seats_tell}
+use Rattle.engine.proofs.Sessions.{all_new}
+use Rattle.engine.proofs.opening.open.Goals as goal
+
+pub cut-requires-clause-boxes : goal.cut-requires-clause-boxes
+cut-requires-clause-boxes g c =
+    let boxed = c.in_ok-boxes.ensures in
+    let in_place : AreInPlace c.args.tables.scale.warehouses c.in_ok-boxes.seats = subst (λ s. AreInPlace s.warehouses c.in_ok-boxes.seats) c.scale-scale.ensures.value boxed.places in
+    subst (AreBoxesOf c.args.tables) (sym boxed.boxes) (opened_groups_have_boxes c.args.tables c.args.opening.groups.items c.in_ok-boxes.seats c.requires.named.opened in_place boxed.contents)
+
+pub new-log-requires-clause-opening : goal.new-log-requires-clause-opening
+new-log-requires-clause-opening g c =
+    let boxed = c.in_ok-boxes.ensures in
+    let in_place : AreInPlace c.args.tables.scale.warehouses c.in_ok-boxes.seats = subst (λ s. AreInPlace s.warehouses c.in_ok-boxes.seats) c.scale-scale.ensures.value boxed.places in
+    subst (λ (t : Database). SeatsTell (content t) c.in_ok-boxes.seats) (sym c.requires.named.tables_are)
+    (seats_tell c.args.tables c.args.opening.groups.items c.in_ok-boxes.seats c.requires.named.opened in_place boxed.contents)
+
+pub open_executors-requires : goal.open_executors-requires
+open_executors-requires g c =
+    let slices = c.in_ok-catalog.slices.items in
+    subst (λ (t : Database). All (IsToOpen t) slices) (sym c.requires.named.tables_are)
+    (subst (All (IsToOpen c.args.tables)) (sym c.in_ok-catalog.ensures.slices) (cut_to_open c.args.tables (warehouse_ids c.args.tables.scale)))
+
+pub open_places-requires-clause-new : goal.open_places-requires-clause-new
+open_places-requires-clause-new g c = all_new c.in_ok-book.lanes.items c.in_ok-book.ensures.sessions
+
+pub open_places-requires-clause-each : goal.open_places-requires-clause-each
+open_places-requires-clause-each g c = omega (arith, c.requires.named.enough, c.args.opening.courses.ok.0)

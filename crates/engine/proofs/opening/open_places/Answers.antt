@@ -1,0 +1,65 @@
+use Rattle.std.proofs.Common.{◌≡◌, List, Some, slice_get, sym, ap, subst, ◌∙◌, arith}
+use Rattle.std.specs.Vec.Iter.{into_iter_items}
+use Rattle.requests.specs.declared.request.Request.{Request}
+use Rattle.commit_log.specs.Passing.{Passing, Seating}
+use Rattle.engine.specs.Opening.{AreCoursesFrom}
+use Rattle.engine.specs.Sessions.{AreNewFrom}
+use Rattle.engine.proofs.AtOpening.{courses_next}
+use Rattle.engine.proofs.Sessions.{found, new_next}
+use Rattle.engine.proofs.opening.open_places.Goals as goal
+
+-- the pass and the seat are those of this session, which has asked nothing and has this script
+pub open-requires-clause-script : goal.open-requires-clause-script
+open-requires-clause-script g c =
+    let slot = c.loop-slot.slot in
+    let below = c.loop-slot-test.true in
+    let most = c.requires.most in
+    let next = c.in-Some.ensures.cases in
+    let rest = new_next slot c.in-Some.pass c.in-Some.seat (into_iter_items c.next.new.self) (subst (AreNewFrom slot) next.0 c.loop-slot.invariant.new) (omega (arith, below, most)) in
+    ap (slice_get g.J.ServeNames.scripts) (ap (λ (p : Passing). p.session) rest.0)
+    ∙ ap (λ (l : List (List Request)). slice_get l slot) c.requires.scripts
+    ∙ found c.args.scripts.now slot c.index-scripts-slot.result below c.index-scripts-slot.is
+
+pub open-requires-clause-seat : goal.open-requires-clause-seat
+open-requires-clause-seat g c =
+    let slot = c.loop-slot.slot in
+    let below = c.loop-slot-test.true in
+    let most = c.requires.most in
+    let next = c.in-Some.ensures.cases in
+    let rest = new_next slot c.in-Some.pass c.in-Some.seat (into_iter_items c.next.new.self) (subst (AreNewFrom slot) next.0 c.loop-slot.invariant.new) (omega (arith, below, most)) in
+    ap (λ (s : Seating). s.session) rest.1 ∙ sym (ap (λ (p : Passing). p.session) rest.0)
+
+pub open-requires-clause-nothing : goal.open-requires-clause-nothing
+open-requires-clause-nothing g c =
+    let slot = c.loop-slot.slot in
+    let below = c.loop-slot-test.true in
+    let most = c.requires.most in
+    let next = c.in-Some.ensures.cases in
+    let rest = new_next slot c.in-Some.pass c.in-Some.seat (into_iter_items c.next.new.self) (subst (AreNewFrom slot) next.0 c.loop-slot.invariant.new) (omega (arith, below, most)) in
+    ap (λ (p : Passing). p.mine) rest.0
+
+-- and its course is the one that was opened for it
+pub named-keeper-requires : goal.named-keeper-requires
+named-keeper-requires g c =
+    let slot = c.loop-slot.slot in
+    let next = c.in-Some-next.ensures.cases in
+    (courses_next g.J.CourseNames.course slot c.in-Some-next.course (into_iter_items c.next-in-loop-slot.new.self)
+    (subst (AreCoursesFrom g.J.CourseNames.course slot) next.0 c.loop-slot.invariant.named)).0
+
+-- one place more
+pub loop-slot-preserved : goal.loop-slot-preserved
+loop-slot-preserved g c =
+    let slot = c.loop-slot.slot in
+    let known = c.loop-slot.invariant in
+    let below = c.loop-slot-test.true in
+    let most = c.requires.most in
+    let next = c.in-Some.ensures.cases in
+    let course = c.in-Some-next.ensures.cases in
+    let rest = new_next slot c.in-Some.pass c.in-Some.seat (into_iter_items c.next.new.self) (subst (AreNewFrom slot) next.0 known.new) (omega (arith, below, most)) in
+    record {
+      sessions = omega (arith, known.sessions, next.1);
+      new = rest.2;
+      more = omega (arith, known.more, course.1);
+      named = (courses_next g.J.CourseNames.course slot c.in-Some-next.course (into_iter_items c.next-in-loop-slot.new.self)
+          (subst (AreCoursesFrom g.J.CourseNames.course slot) course.0 known.named)).1;
+    }

@@ -1,0 +1,14 @@
+-- The places so far are made, and the other sessions and courses wait.
+use Rattle.std.proofs.Common.{◌≡◌, ◌+◌, vec_len}
+use Rattle.std.specs.Vec.Iter.{into_iter_items, into_iter_len}
+use Rattle.engine.specs.Opening.{AreCoursesFrom}
+use Rattle.engine.specs.Sessions.{AreNewFrom}
+use Rattle.engine.proofs.opening.open_places.Given as goal
+
+abbrev pub invariant-loop-slot : goal.invariant-loop-slot
+invariant-loop-slot g l = record {
+  sessions : into_iter_len l.idle + l.slot ≡ 64;
+  new : AreNewFrom l.slot (into_iter_items l.idle);
+  more : into_iter_len l.courses + l.slot ≡ vec_len l.fn.courses;
+  named : AreCoursesFrom g.J.CourseNames.course l.slot (into_iter_items l.courses);
+}

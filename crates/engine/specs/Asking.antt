@@ -1,0 +1,78 @@
+-- A session that asks the requests of its script, one after another.
+use Rattle.std.specs.Prelude.{◌≡◌, ℕ, ◌<◌, ◌≤◌, Bool, true, false, List, take, length, Some, Ok, if◌then◌else◌}
+use Rattle.std.specs.List.{slice_get}
+use Rattle.schema.specs.declared.scale.Scale.{Scale}
+use Rattle.requests.specs.declared.request.Request.{Request}
+use Rattle.requests.specs.declared.reply.Reply.{Reply}
+use Rattle.requests.specs.declared.refusal.Refusal.{Refusal}
+use Rattle.requests.specs.declared.answer.Answer.{Answer}
+use Rattle.requests.specs.declared.refusal.Refusal.TheVariants.{LogFull}
+use Rattle.requests.specs.declared.answer.Answer.TheVariants.{Done, Refused}
+use Rattle.requests.specs.Check.{check_of}
+use Rattle.commit_log.specs.declared.mine.Item.{Item}
+use Rattle.commit_log.specs.Passing.{Passing, Seating}
+use Rattle.engine.specs.Outcome.{IsRefusal}
+use Rattle.engine.specs.Served.{Served}
+
+-- every place that was answered is one that the session has seen
+abbrev pub HasSeen : ℕ → List Answer → Type 0
+HasSeen seen answers = (k place : ℕ) (reply : Reply) → slice_get answers k ≡ Some (Done place reply) → place < seen
+
+-- The session was asked the first requests of this script, as many as there are answers, which say what came of them: it has logged
+-- `mine`, has seen so many entries, and knows the log to have reached so many.
+pub record ServedSoFar (scale : Scale) (script : List Request) (mine : List Item) (seen reached : ℕ) (answers : List Answer) : Type 0 where
+  pub few : length answers ≤ length script
+  pub served : Served scale (take (length answers) script) answers mine reached
+  pub has_seen : HasSeen seen answers
+
+-- whether an answer says that the log is full
+abbrev pub says_full : Answer → Bool
+says_full (Refused LogFull) = true
+says_full _ = false
+
+-- how far a session has to know the log to have reached: only where the log was full for it
+abbrev pub known_of : Bool → ℕ → ℕ
+known_of is_full reached = if is_full then reached else 0
+
+-- What a contract sees of a session none of whose requests is under way: its script, its seat, its pass, the answers so far, and whether the
+-- log was full for it.
+pub record Resting : Type 0 where
+  pub script : List Request
+  pub seat : Seating
+  pub pass : Passing
+  pub answers : List Answer
+  pub is_full : Bool
+
+abbrev pub resting : List Request → Seating → Passing → List Answer → Bool → Resting
+resting script seat pass answers is_full = record { script = script; seat = seat; pass = pass; answers = answers; is_full = is_full }
+
+-- Its pass is here, and its requests so far are answered. There is room for all answers.
+pub record IsReady (scale : Scale) (scripts : List (List Request)) (s : Resting) (room : ℕ) : Type 0 where
+  pub script_is : slice_get scripts s.pass.session ≡ Some s.script
+  pub seat_is : s.seat.session ≡ s.pass.session
+  pub so_far : ServedSoFar scale s.script s.pass.mine s.pass.seen (known_of s.is_full s.pass.reached) s.answers
+  pub full : s.is_full ≡ true → 16777216 ≤ s.pass.reached
+  pub room_is : length s.script ≤ room
+
+-- what a contract sees of a session whose next request is under way
+pub record Waiting : Type 0 where
+  pub script : List Request
+  pub seat : Seating
+  pub answers : List Answer
+
+abbrev pub waiting : List Request → Seating → List Answer → Waiting
+waiting script seat answers = record { script = script; seat = seat; answers = answers }
+
+-- Its pass goes with the request: its seat tells what it asked, and what the pass was then.
+pub record IsAsked (scale : Scale) (scripts : List (List Request)) (s : Waiting) (room : ℕ) : Type 0 where
+  pub script_is : slice_get scripts s.seat.session ≡ Some s.script
+  pub so_far : ServedSoFar scale s.script s.seat.asking.mine s.seat.asking.seen 0 s.answers
+  pub number_is : s.seat.asking.number ≡ length s.answers
+  pub request_is : slice_get s.script (length s.answers) ≡ Some s.seat.asking.request
+  pub accepted : check_of scale s.seat.asking.request ≡ Ok tt
+  pub room_is : length s.script ≤ room
+
+-- the session's next request is refused for a reason that holds
+abbrev pub IsRefusedNext : Scale → Resting → Refusal → Type 0
+IsRefusedNext scale s why =
+    (request : Request) × (slice_get s.script (length s.answers) ≡ Some request) × IsRefusal scale (known_of s.is_full s.pass.reached) request why

@@ -1,0 +1,298 @@
+//! A session and its script: between two requests, and while one is under way.
+ghost use Rattle.std.specs.Prelude.{◌≡◌, [], length, false, Some, Ok, IfSome, IsTrue, slice_get};
+ghost use Rattle.requests.specs.Check.{check_of};
+ghost use Rattle.commit_log.specs.Items.{items_of};
+ghost use Rattle.executor.specs.Answers.{IsToldBy};
+ghost use Rattle.engine.specs.Asking as spec;
+ghost use Rattle.engine.specs.Asking.{IsRefusedNext};
+ghost use Rattle.engine.specs.Served.{Served};
+
+use crate::{Answers, ServeNames};
+use commit_log::{Log, Pass, SessionSeat};
+use executor::{Journey, Told};
+use requests::{Answer, Refusal, Request, Script, check};
+use schema::{NoMemory, Scale};
+use std::alloc::Global;
+use std::marker::Model;
+use std::sync::atomic::{AtomicU64, Ordering};
+
+/// A session none of whose requests is under way: its pass is here. It keeps that its requests so far have the answers that
+/// are here, each of which says what came of it.
+#[derive(Drop)]
+pub(crate) struct Ready<'a, J: ServeNames> {
+    script: &'a Script,
+    seat: SessionSeat<J>,
+    pass: Pass<J>,
+    // There is room for the answers to all requests.
+    answers: Vec<Answer>,
+    // How often its next request may still be asked.
+    tries_left: u32,
+    // Whether the log was full when it asked: it asks no more then.
+    is_full: bool,
+}
+
+impl<'a, J: ServeNames> Model for Ready<'a, J> {
+    ghost use Rattle.engine.specs.Asking.{Resting};
+
+    ghost Value = { Resting };
+
+    ghost use Rattle.std.specs.Prelude.{vec_capacity};
+    ghost use Rattle.engine.specs.Asking.{IsReady, resting};
+
+    ghost view = { λ r. resting r.script.now r.seat r.pass r.answers.items r.is_full };
+
+    ghost invariant = { λ r. IsReady J.opening.scale J.scripts (resting r.script.now r.seat r.pass r.answers.items r.is_full) (vec_capacity r.answers) };
+}
+
+/// A session one of whose requests is under way: its pass goes with it. It keeps the same of the requests before.
+#[derive(Drop)]
+pub(crate) struct Asked<'a, J: ServeNames> {
+    script: &'a Script,
+    seat: SessionSeat<J>,
+    answers: Vec<Answer>,
+    tries_left: u32,
+}
+
+impl<'a, J: ServeNames> Model for Asked<'a, J> {
+    ghost use Rattle.engine.specs.Asking.{Waiting};
+
+    ghost Value = { Waiting };
+
+    ghost use Rattle.std.specs.Prelude.{vec_capacity};
+    ghost use Rattle.engine.specs.Asking.{IsAsked, waiting};
+
+    ghost view = { λ a. waiting a.script.now a.seat a.answers.items };
+
+    ghost invariant = { λ a. IsAsked J.opening.scale J.scripts (waiting a.script.now a.seat a.answers.items) (vec_capacity a.answers) };
+}
+
+/// What comes next of a session.
+#[derive(Drop)]
+pub(crate) enum Next<'a, J: ServeNames> {
+    /// Its next request was refused at once, or is to be asked again.
+    Ready(Ready<'a, J>),
+    /// Its next request is on its way.
+    Asks(Asked<'a, J>, Journey<J>),
+    /// Its script is at its end.
+    Ended(Ready<'a, J>),
+}
+
+impl<'a, J: ServeNames> Ready<'a, J> {
+    /// A session before the first request of its script, with room for all answers.
+    pub(crate) fn open(
+        alloc: Global,
+        script: &'a Script,
+        pass: Pass<J>,
+        seat: SessionSeat<J>,
+        tries: u32,
+    ) -> Result<Ready<'a, J>, NoMemory>
+        requires script { slice_get J.scripts pass.session ≡ Some script.now }
+        requires seat { seat.session ≡ pass.session }
+        requires nothing { pass.mine ≡ [] }
+    {
+        let answers = Vec::with_capacity(alloc, script.requests().len())?;
+        Ok(Ready {
+            script,
+            seat,
+            pass,
+            answers,
+            tries_left: tries,
+            is_full: false,
+        })
+    }
+
+    /// The session comes to its next request: what its check refuses is answered so; anything else begins in this slot, with
+    /// the next age; and once the log was full for it, all else is refused so.
+    pub(crate) fn next(
+        self,
+        alloc: Global,
+        scale: &Scale,
+        ages: &AtomicU64,
+        slot: usize,
+        tries: u32,
+    ) -> Next<'a, J>
+        requires { scale.now ≡ J.opening.scale }
+    {
+        let Some(request) = self.script.requests().get(self.answers.len()) else {
+            return Next::Ended(self);
+        };
+        match check(scale, request) {
+            Err(refusal) => Next::Ready(self.refused(refusal, tries)),
+            Ok(()) if self.is_full => Next::Ready(self.refused(Refusal::LogFull, tries)),
+            Ok(()) => self.ask(alloc, ages, slot, tries, request),
+        }
+    }
+
+    // Its next request is refused.
+    fn refused(self, refusal: Refusal, tries: u32) -> Ready<'a, J>
+        requires { IsRefusedNext J.opening.scale self refusal }
+    {
+        let Ready {
+            script,
+            seat,
+            pass,
+            mut answers,
+            tries_left: _,
+            is_full,
+        } = self;
+        answers.push_reserved(Answer::Refused(refusal));
+        Ready {
+            script,
+            seat,
+            pass,
+            answers,
+            tries_left: tries,
+            is_full,
+        }
+    }
+
+    // Its next request, which its check accepts, is asked.
+    fn ask(
+        self,
+        alloc: Global,
+        ages: &AtomicU64,
+        slot: usize,
+        tries: u32,
+        request: &Request,
+    ) -> Next<'a, J>
+        requires request { slice_get self.script (length self.answers) ≡ Some request.now }
+        requires accepted { check_of J.opening.scale request.now ≡ Ok tt }
+        requires open { self.is_full ≡ false }
+    {
+        let Ready {
+            script,
+            mut seat,
+            mut pass,
+            answers,
+            tries_left,
+            is_full: _,
+        } = self;
+        let _ = script.requests();
+        let number = answers.len() as u32;
+        seat.ask(&mut pass, number, request);
+        let asked = Asked {
+            script,
+            seat,
+            answers,
+            tries_left,
+        };
+        let age = ages.fetch_add(1, Ordering::SeqCst);
+        match Journey::begin(alloc, age, slot, number, request, pass) {
+            Ok(journey) => Next::Asks(asked, journey),
+            Err(pass) => Next::Ready(asked.answered(
+                pass,
+                Answer::Refused(Refusal::NoMemory),
+                tries,
+            )),
+        }
+    }
+
+    /// The W_ID of the warehouse whose terminal asks its next request.
+    pub(crate) fn next_home(&self) -> Option<u32> {
+        let request = self.script.requests().get(self.answers.len())?;
+        Some(home_of(request))
+    }
+
+    /// Whether its next request was not asked yet.
+    pub(crate) fn is_fresh(&self, tries: u32) -> bool {
+        self.tries_left == tries
+    }
+
+    /// The answers to the whole script, once they are compared with the log: the session has logged just what stands there of
+    /// it. `None` where it is another session, or its script is not at its end.
+    pub(crate) fn audit(mut self, log: &mut Log<J>, session: usize) -> Option<Answers>
+        ensures served { IfSome result (λ answers. (script : _) → slice_get J.scripts session ≡ Some script → Served J.opening.scale script answers (items_of session log.old) (length log.old)) }
+        ensures same { log.new ≡ log.old }
+    {
+        if self.pass.session() as usize != session
+            || self.answers.len() != self.script.requests().len()
+        {
+            return None;
+        }
+        log.audit(&mut self.pass);
+        Some(Answers::of(self.answers))
+    }
+}
+
+impl<'a, J: ServeNames> Asked<'a, J> {
+    /// The session and the number of its request, if that was not asked before.
+    pub(crate) fn first_try(&self, tries: u32) -> Option<(u32, u32)> {
+        if self.tries_left != tries {
+            return None;
+        }
+        let number = u32::try_from(self.answers.len()).ok()?;
+        Some((self.seat.session(), number))
+    }
+
+    /// The answer has come. Where the request died or found no memory it is asked again, as long as it may. `None` where the
+    /// answer is another session's.
+    pub(crate) fn tell(mut self, told: Told<J>, tries: u32) -> Option<Ready<'a, J>> {
+        let (mut pass, answer) = told.into_parts();
+        if pass.session() != self.seat.session() {
+            return None;
+        }
+        self.seat.look(&mut pass);
+        Some(self.answered(pass, answer, tries))
+    }
+
+    // The pass has come back with this answer.
+    fn answered(self, pass: Pass<J>, answer: Answer, tries: u32) -> Ready<'a, J>
+        requires session { pass.session ≡ self.seat.session }
+        requires told { IsToldBy self.seat.asking pass answer }
+    {
+        let Asked {
+            script,
+            seat,
+            mut answers,
+            tries_left,
+        } = self;
+        if tries_left > 1 && is_asked_again(&answer) {
+            return Ready {
+                script,
+                seat,
+                pass,
+                answers,
+                tries_left: tries_left - 1,
+                is_full: false,
+            };
+        }
+        let is_full = says_full(&answer);
+        answers.push_reserved(answer);
+        Ready {
+            script,
+            seat,
+            pass,
+            answers,
+            tries_left: tries,
+            is_full,
+        }
+    }
+}
+
+// Whether a request with this answer is asked again: it died, or there was no memory.
+fn is_asked_again(answer: &Answer) -> bool
+    ensures { IsTrue result → (why : Refusal) × (answer.now ≡ Answer.Refused why) }
+{
+    matches!(
+        answer,
+        Answer::Refused(Refusal::Died { .. } | Refusal::NoMemory)
+    )
+}
+
+// Whether an answer says that the log is full.
+fn says_full(answer: &Answer) -> bool
+    ensures { result ≡ spec.says_full answer.now }
+{
+    matches!(answer, Answer::Refused(Refusal::LogFull))
+}
+
+// The W_ID of the warehouse whose terminal asks.
+fn home_of(request: &Request) -> u32 {
+    match request {
+        Request::NewOrder(order) => order.home.w_id,
+        Request::Payment(payment) => payment.home.w_id,
+        Request::OrderStatus(asked) => asked.home.w_id,
+        Request::Delivery(delivery) => delivery.w_id,
+        Request::StockLevel(asked) => asked.home.w_id,
+    }
+}

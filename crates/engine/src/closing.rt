@@ -1,0 +1,230 @@
+//! The executors have ended: what came of it all.
+ghost use Rattle.std.specs.Prelude.{◌≡◌, ◌<◌, ◌≤◌, ◌+◌, ℕ, [], ◌∷◌, ◌++◌, IfOk, IfSome, OnOk, length};
+ghost use Rattle.std.specs.Vec.Iter.{into_iter_items, into_iter_len};
+ghost use Rattle.partitions.specs.Parts.{shared_of};
+ghost use Rattle.schema.specs.Database.{IsWithinScale};
+ghost use Rattle.commit_log.specs.Items.{items_of};
+ghost use Rattle.commit_log.specs.Log.{requests_of};
+ghost use Rattle.machine.specs.Machine.{tables_after};
+ghost use Rattle.engine.specs.Closing.{want_of_kind, wants_of_all, AreSettled, IsBackAt, IsSettledAt};
+ghost use Rattle.engine.specs.Outcome.{IsOutcome};
+ghost use Rattle.engine.specs.Served.{ServedEach};
+ghost use Rattle.engine.specs.Sessions.{AreNewFrom};
+
+use crate::engine::Engine;
+use crate::executing::Executor;
+use crate::place::Place;
+use crate::{Answers, CloseFault, Gate, MOST_SESSIONS, Outcome, ServeNames};
+use commit_log::{Log, Pass, SessionSeat};
+use groups::{Extent, Kind, Mode, Prefix, Want};
+use local_locks::Asked;
+use partitions::Catalog;
+use requests::Script;
+use routing::Routing;
+use schema::NoMemory;
+use slices::{Slice, whole};
+use std::alloc::Global;
+use std::sync::Mutex;
+use std::vec::IntoIter;
+use tickets::Claims;
+use wait_die::Holder;
+
+/// The log, the answers and the last tables. Each session is compared with the log, and so is what each group has: so the
+/// answers are those that the log has, and the tables those that its transactions have left. `Unsettled` where something is
+/// not back.
+pub fn close<J: ServeNames, G: Gate + Drop>(
+    alloc: Global,
+    engine: Engine<'_, J, G>,
+    executors: Vec<Executor<J>>,
+    catalog: Catalog,
+    idle: IntoIter<(Pass<J>, SessionSeat<J>)>,
+    scripts: &[Script],
+) -> Result<Outcome, CloseFault>
+    requires scripts { J.scripts ≡ scripts.now }
+    requires catalog { catalog ≡ shared_of J.opening }
+    requires within { IsWithinScale J.opening }
+    requires left { into_iter_len idle + length scripts.now ≡ 64 }
+    requires rest { AreNewFrom (length scripts.now) (into_iter_items idle) }
+    ensures outcome { IfOk result (λ outcome. IsOutcome J.opening scripts.now outcome.log.items outcome.tables outcome.answers.items) }
+{
+    let Engine {
+        scale,
+        routing,
+        log,
+        places,
+        ..
+    } = engine;
+    let mut log = log.into_inner();
+    let answers = audit_served(alloc, &mut log, places, scripts)?;
+    audit_idle(&mut log, idle, scripts.len());
+    let slices = settle_all(alloc, &mut log, &routing, scale.warehouses, executors)?;
+    let tables = whole(catalog, slices)?;
+    let _ = tables.scale();
+    let _ = log.entries();
+    Ok(Outcome {
+        log: log.into_entries(),
+        tables,
+        answers,
+    })
+}
+
+// One item more at the end.
+fn put<T: Drop>(items: &mut Vec<T>, item: T) -> Result<(), NoMemory>
+    ensures { OnOk result (items.new.items ≡ items.old.items ++ item ∷ []) }
+{
+    Ok(items.push(item)?)
+}
+
+// ---- the sessions
+
+// The answers to the scripts, whose sessions are compared with the log: each has logged just what stands there of it.
+fn audit_served<J: ServeNames>(
+    alloc: Global,
+    log: &mut Log<J>,
+    places: Vec<Mutex<Place<'_, J>>>,
+    scripts: &[Script],
+) -> Result<Vec<Answers>, CloseFault>
+    requires scripts { J.scripts ≡ scripts.now }
+    ensures count { IfOk result (λ answers. length answers.items ≡ length scripts.now) }
+    ensures each { IfOk result (λ answers. ServedEach J.opening.scale scripts.now log.old answers.items) }
+    ensures same { log.new ≡ log.old }
+{
+    let mut places = places.into_iter();
+    let mut answers = Vec::new(alloc);
+    for session in 0..scripts.len() {
+        let Some(place) = places.next() else {
+            return Err(CloseFault::Unsettled);
+        };
+        let Some(ready) = place.into_inner().into_session() else {
+            return Err(CloseFault::Unsettled);
+        };
+        let Some(told) = ready.audit(log, session) else {
+            return Err(CloseFault::Unsettled);
+        };
+        put(&mut answers, told)?;
+    }
+    Ok(answers)
+}
+
+// The sessions from the first on, which have asked nothing, are compared with the log: nothing stands there of them.
+fn audit_idle<J: ServeNames>(
+    log: &mut Log<J>,
+    mut idle: IntoIter<(Pass<J>, SessionSeat<J>)>,
+    first: usize,
+)
+    requires new { AreNewFrom first (into_iter_items idle) }
+    requires left { into_iter_len idle + first ≡ 64 }
+    ensures none { (s : ℕ) → first ≤ s → s < 64 → items_of s log.old ≡ [] }
+    ensures same { log.new ≡ log.old }
+{
+    for _session in first..MOST_SESSIONS {
+        let Some((mut pass, _seat)) = idle.next() else {
+            unreachable!()
+        };
+        log.audit(&mut pass);
+    }
+}
+
+// ---- the tables
+
+// The slices of all warehouses, in order, each of whose groups has what the log's transactions have left there.
+fn settle_all<J: ServeNames>(
+    alloc: Global,
+    log: &mut Log<J>,
+    routing: &Routing,
+    warehouses: u32,
+    executors: Vec<Executor<J>>,
+) -> Result<Vec<Slice<J>>, CloseFault>
+    requires { warehouses ≡ J.opening.scale.warehouses }
+    ensures settled { IfOk result (λ slices. AreSettled J.opening (tables_after J.opening (requests_of log.old)) slices.items) }
+    ensures same { log.new ≡ log.old }
+{
+    let mut executors = executors;
+    let mut slices = Vec::with_capacity(alloc, warehouses as usize)?;
+    for place in 0..warehouses {
+        let home = place + 1;
+        let to = routing.route(home) as usize;
+        let Some(slice) = slice_at(&mut executors, to, home) else {
+            return Err(CloseFault::Unsettled);
+        };
+        let Some(slice) = settle(alloc, log, slice)? else {
+            return Err(CloseFault::Unsettled);
+        };
+        put(&mut slices, slice)?;
+    }
+    Ok(slices)
+}
+
+// The slice of a warehouse, if this executor has its post.
+fn slice_at<J: ServeNames>(
+    executors: &mut Vec<Executor<J>>,
+    executor: usize,
+    home: u32,
+) -> Option<Slice<J>>
+    ensures { IfSome result (IsBackAt J.opening home) }
+{
+    let post = executors.get_mut(executor)?.take_post(home)?;
+    if post.home() != home {
+        return None;
+    }
+    let slice = post.into_slice();
+    let _ = slice.partition();
+    Some(slice)
+}
+
+// The slice, once all its groups were claimed and the log has looked at the claims: each has what the log's transactions have
+// left there. `None` where a claim is still out.
+fn settle<J: ServeNames>(
+    alloc: Global,
+    log: &mut Log<J>,
+    mut slice: Slice<J>,
+) -> Result<Option<Slice<J>>, NoMemory>
+    requires { IsBackAt J.opening slice.home slice }
+    ensures settled { IfOk result (λ settled. IfSome settled (IsSettledAt J.opening (tables_after J.opening (requests_of log.old)) slice.home)) }
+    ensures same { log.new ≡ log.old }
+{
+    let home = slice.home();
+    let last = Holder {
+        age: u64::MAX,
+        place: 0,
+    };
+    match slice.ask(alloc, last, &all_groups(home))? {
+        Asked::Granted(claims) => {
+            let mut held = one(alloc, Claims::new(claims))?;
+            log.look(&mut held);
+            Ok(Some(slice))
+        }
+        _ => Ok(None),
+    }
+}
+
+fn one<J: ServeNames>(alloc: Global, claims: Claims<J>) -> Result<Vec<Claims<J>>, NoMemory>
+    ensures { IfOk result (λ held. held.items ≡ claims ∷ []) }
+{
+    let mut held = Vec::with_capacity(alloc, 1)?;
+    held.push_reserved(claims);
+    Ok(held)
+}
+
+// All groups of a warehouse, to change them.
+fn all_groups(home: u32) -> [Want; 6]
+    ensures { result ≡ wants_of_all home }
+{
+    [
+        all_of(home, Kind::Warehouse),
+        all_of(home, Kind::District),
+        all_of(home, Kind::Customers),
+        all_of(home, Kind::Orders),
+        all_of(home, Kind::History),
+        all_of(home, Kind::Stock),
+    ]
+}
+
+fn all_of(w_id: u32, kind: Kind) -> Want
+    ensures { result ≡ want_of_kind w_id kind }
+{
+    Want {
+        extent: Extent::Every(Prefix { kind, w_id }),
+        mode: Mode::Exclusive,
+    }
+}

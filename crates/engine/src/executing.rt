@@ -1,0 +1,439 @@
+//! An executor, and its work.
+ghost use Rattle.std.specs.Prelude.{◌≡◌, IfSome};
+
+use crate::engine::Engine;
+use crate::message::{Message, going_back};
+use crate::place::{Advanced, Ended, Strange};
+use crate::{Gate, MOST_SESSIONS, ServeNames};
+use crossbeam_utils::Backoff;
+use executor::{Commit, CourseNames, Errand, Following, Post, Release, Report, Settle, Undo};
+use queues::{Sender, Taker};
+use schema::NoMemory;
+use std::alloc::Global;
+use std::collections::VecDeque;
+use std::sync::Wait;
+
+/// The most messages that an executor has to itself, or that found an inbox full: 64 transactions have no more.
+const ROOM: usize = 4096;
+
+/// How many transactions an executor has begun at a time, at most, that are not over. Those of one warehouse are in each other's way
+/// from their first action on, and all but the oldest die: so one more would cost more than it brings (docs/COSTS.md).
+const MOST_BEGUN: usize = 1;
+
+/// An executor: the posts of its warehouses, and the messages that it has still to take or to send.
+#[derive(Drop)]
+pub struct Executor<J: CourseNames> {
+    number: u32,
+    /// Each at its warehouse's W_ID less one; the others are elsewhere.
+    pub(crate) posts: Vec<Option<Post<J>>>,
+    /// From the others.
+    inbox: Taker<Message<J>>,
+    /// Into the inboxes of all, by the executors' numbers.
+    outlets: Vec<Sender<Message<J>>>,
+    /// To itself.
+    lane: VecDeque<Message<J>>,
+    /// To others whose inbox was full.
+    outbox: VecDeque<(u32, Message<J>)>,
+    /// The sessions that are to begin their next request here.
+    ready: VecDeque<usize>,
+    /// How many transactions it has begun that are not over.
+    begun: usize,
+}
+
+impl<J: CourseNames> Executor<J> {
+    /// An executor without posts, with room for those of so many warehouses, which takes from this
+    /// inbox and puts into those.
+    pub(crate) fn open(
+        alloc: Global,
+        number: u32,
+        warehouses: u32,
+        inbox: Taker<Message<J>>,
+        outlets: Vec<Sender<Message<J>>>,
+    ) -> Result<Executor<J>, NoMemory> {
+        let mut posts = Vec::with_capacity(alloc, warehouses as usize)?;
+        for _ in 0..warehouses {
+            posts.push(None)?;
+        }
+        let lane = VecDeque::with_capacity(alloc, ROOM)?;
+        let outbox = VecDeque::with_capacity(alloc, ROOM)?;
+        let ready = VecDeque::with_capacity(alloc, MOST_SESSIONS)?;
+        Ok(Executor {
+            number,
+            posts,
+            inbox,
+            outlets,
+            lane,
+            outbox,
+            ready,
+            begun: 0,
+        })
+    }
+
+    /// Has this post, in the place of what it had of the warehouse.
+    pub(crate) fn put_post(&mut self, post: Post<J>) {
+        if let Some(place) = self.posts.get_mut(place_of(post.home())) {
+            *place = Some(post);
+        }
+    }
+
+    // The post of a warehouse, if it has it.
+    fn post_mut(&mut self, home: u32) -> Option<&mut Post<J>>
+        ensures { IfSome result (λ post. post.now.slice.home ≡ home) }
+    {
+        let Some(Some(post)) = self.posts.get_mut(place_of(home)) else {
+            return None;
+        };
+        if post.home() != home {
+            return None;
+        }
+        Some(post)
+    }
+
+    /// Gives the post of a warehouse, if it has it.
+    pub(crate) fn take_post(&mut self, home: u32) -> Option<Post<J>> {
+        self.posts.get_mut(place_of(home))?.take()
+    }
+}
+
+// The place of a warehouse among all.
+fn place_of(home: u32) -> usize {
+    home.wrapping_sub(1) as usize
+}
+
+/// An executor at work in its thread.
+#[derive(Drop)]
+pub struct AtWork<'e, 'a, J: ServeNames, G: Gate, R: Wait> {
+    pub rt: &'e R,
+    pub alloc: Global,
+    pub engine: &'e Engine<'a, J, G>,
+    pub own: Executor<J>,
+}
+
+impl<J: ServeNames, G: Gate, R: Wait> AtWork<'_, '_, J, G, R> {
+    /// Works on messages, and begins the requests of sessions, until all scripts are served.
+    pub fn run(mut self) -> Executor<J> {
+        let rt = self.rt;
+        self.take_sessions();
+        let backoff = Backoff::new();
+        for _ in rt.forever() {
+            if self.work() {
+                backoff.reset();
+            } else if self.engine.is_over() {
+                return self.own;
+            } else if backoff.is_completed() && self.own.outbox.is_empty() {
+                self.rest();
+            } else {
+                backoff.snooze();
+            }
+        }
+        unreachable!()
+    }
+
+    // The sessions whose first request is asked at its warehouses are to begin here.
+    fn take_sessions(&mut self) {
+        for slot in 0..self.engine.places.len() {
+            let to = self.engine.next_executor(self.rt, slot).unwrap_or(0);
+            if to == self.own.number {
+                self.get_ready(slot);
+            }
+        }
+    }
+
+    // Works on the next message of others and on the next of its own, or begins a request. Whether there was any.
+    fn work(&mut self) -> bool {
+        self.send_again();
+        let theirs = self.take_theirs();
+        let own = self.take_own();
+        self.begin_next() || theirs || own
+    }
+
+    // Takes the first message from its inbox. Whether there was one.
+    fn take_theirs(&mut self) -> bool {
+        let Some(sent) = self.own.inbox.take(self.rt) else {
+            return false;
+        };
+        self.take(sent.message);
+        true
+    }
+
+    // Takes the first message that it has to itself. Whether there was one.
+    fn take_own(&mut self) -> bool {
+        let Some(message) = self.own.lane.pop_front() else {
+            return false;
+        };
+        self.take(message);
+        true
+    }
+
+    // Rests until a message comes. One that came while it lay down is taken at once.
+    fn rest(&mut self) {
+        let Some(bed) = self.engine.beds.get(self.own.number as usize) else {
+            return;
+        };
+        bed.lie_down();
+        if !self.take_theirs() {
+            bed.rest(self.rt);
+        }
+        bed.get_up();
+    }
+
+    // ---- sessions
+
+    // A session is to begin its next request here.
+    fn get_ready(&mut self, slot: usize) {
+        if self.own.ready.push_back(slot).is_err() {
+            self.engine.stop();
+        }
+    }
+
+    // Begins the next request of the session that has waited longest, unless it has begun enough. Whether it did.
+    fn begin_next(&mut self) -> bool {
+        if self.own.begun >= MOST_BEGUN {
+            return false;
+        }
+        let Some(slot) = self.own.ready.pop_front() else {
+            return false;
+        };
+        self.advance(slot);
+        true
+    }
+
+    // The session goes on with its script as far as it can.
+    fn advance(&mut self, slot: usize) {
+        for _ in self.rt.forever() {
+            match self
+                .engine
+                .advance(self.rt, self.alloc, slot, self.own.number)
+            {
+                Ok(Advanced::Answered) => {}
+                Ok(Advanced::Sends(first, errands)) => {
+                    self.own.begun = self.own.begun.saturating_add(1);
+                    self.tell_asked(first);
+                    self.send_all(errands);
+                    return;
+                }
+                Ok(Advanced::Waits) => return,
+                Ok(Advanced::Ended) => {
+                    self.engine.end_session();
+                    return;
+                }
+                Err(Strange) => {
+                    self.engine.stop();
+                    return;
+                }
+            }
+        }
+    }
+
+    // A session asks the request of this number for the first time.
+    fn tell_asked(&self, first: Option<(u32, u32)>) {
+        if let Some((session, number)) = first
+            && let Some(request) = self.engine.request(session, number)
+        {
+            self.engine.gate.asked(session, number, request);
+        }
+    }
+
+    // A transaction that was begun here is over: its session goes to where it asks its next request.
+    fn over(&mut self, slot: usize) {
+        self.own.begun = self.own.begun.saturating_sub(1);
+        match self.engine.next_executor(self.rt, slot) {
+            Some(to) if to != self.own.number => self.push(to, Message::Begin(slot)),
+            _ => self.get_ready(slot),
+        }
+    }
+
+    // ---- messages
+
+    fn take(&mut self, message: Message<J>) {
+        let taken = match message {
+            Message::Begin(slot) => {
+                self.get_ready(slot);
+                Ok(())
+            }
+            Message::Over(slot) => {
+                self.over(slot);
+                Ok(())
+            }
+            Message::Errand(errand) => self.act(errand),
+            Message::Settle(settle) => self.settle(settle),
+            Message::Undo(undo) => self.undo(undo),
+        };
+        if taken.is_err() {
+            self.engine.stop();
+        }
+    }
+
+    // An action asks at its post, and reports unless it waits there.
+    fn act(&mut self, errand: Errand<J>) -> Result<(), Strange> {
+        let home = errand.home();
+        let Some(post) = self.own.post_mut(home) else {
+            return Err(Strange);
+        };
+        if let Some(report) = post.work(self.alloc, errand) {
+            self.report(report);
+        }
+        self.take_turns(home);
+        Ok(())
+    }
+
+    // Claims come back to their post.
+    fn settle(&mut self, settle: Settle<J>) -> Result<(), Strange> {
+        let home = settle.home();
+        let slot = settle.slot();
+        let Some(post) = self.own.post_mut(home) else {
+            return Err(Strange);
+        };
+        post.settle(settle);
+        self.give_back(slot);
+        self.take_turns(home);
+        Ok(())
+    }
+
+    // What was done under claims is taken back, and they come back to their post.
+    fn undo(&mut self, undo: Undo<J>) -> Result<(), Strange> {
+        let home = undo.home();
+        let slot = undo.slot();
+        let Some(post) = self.own.post_mut(home) else {
+            return Err(Strange);
+        };
+        post.undo(undo);
+        self.give_back(slot);
+        self.take_turns(home);
+        Ok(())
+    }
+
+    // Each of those who wait at a post and need not any more has its turn, and reports.
+    fn take_turns(&mut self, home: u32) {
+        for _ in self.rt.forever() {
+            let Some(post) = self.own.post_mut(home) else {
+                return;
+            };
+            let Some(report) = post.turn(self.alloc) else {
+                return;
+            };
+            self.report(report);
+        }
+    }
+
+    // ---- what comes of them
+
+    // An action reports to its phase. With the last report the transaction goes on.
+    fn report(&mut self, report: Report<J>) {
+        let slot = report.slot();
+        match self.engine.report(self.rt, slot, report) {
+            Ok(Some(met)) => self.follow(slot, met.follow(self.alloc)),
+            Ok(None) => {}
+            Err(Strange) => self.engine.stop(),
+        }
+    }
+
+    fn follow(&mut self, slot: usize, following: Following<J>) {
+        match following {
+            Following::Phase(phase, errands) => {
+                self.engine.go_on(self.rt, slot, phase);
+                self.send_all(errands);
+            }
+            Following::Commit(commit) => self.commit(slot, commit),
+            Following::Over(release) => self.release(slot, release),
+        }
+    }
+
+    // The transaction is logged, or refused by the log.
+    fn commit(&mut self, slot: usize, commit: Commit<J>) {
+        self.engine
+            .gate
+            .commit(commit.session(), commit.number(), commit.request());
+        let release = commit.commit(&mut self.engine.log.lock(self.rt));
+        self.release(slot, release);
+    }
+
+    // The transaction is over: its session has the answer, and its claims go back.
+    fn release(&mut self, slot: usize, release: Release<J>) {
+        let (told, mut returns, keeper) = release.into_parts();
+        let session = told.session();
+        let number = told.number();
+        let ending = returns.len();
+        let Ok(ended) = self.engine.end(self.rt, slot, told, keeper, ending) else {
+            self.engine.stop();
+            return;
+        };
+        self.tell_answered(session, number, ended);
+        for _ in 0..ending {
+            let Some(given) = returns.next_back() else {
+                break;
+            };
+            let (home, message) = going_back(given);
+            self.send(home, message);
+        }
+        self.send_over(slot, ended.over);
+    }
+
+    // The request of this number has its answer, unless it is asked again.
+    fn tell_answered(&self, session: u32, number: u32, ended: Ended) {
+        if ended.is_answered
+            && let Some(request) = self.engine.request(session, number)
+        {
+            self.engine.gate.answered(session, number, request);
+        }
+    }
+
+    // An action of a transaction that is over has given its claims back.
+    fn give_back(&mut self, slot: usize) {
+        let over = self.engine.give_back(self.rt, slot);
+        self.send_over(slot, over);
+    }
+
+    // The transaction is over, and all its claims are back: who began it is told.
+    fn send_over(&mut self, slot: usize, over: Option<u32>) {
+        match over {
+            Some(by) if by == self.own.number => self.over(slot),
+            Some(by) => self.push(by, Message::Over(slot)),
+            None => {}
+        }
+    }
+
+    // ---- sending
+
+    fn send_all(&mut self, errands: Vec<Errand<J>>) {
+        for errand in errands {
+            self.send(errand.home(), Message::Errand(errand));
+        }
+    }
+
+    // Sends a message to who has this warehouse.
+    fn send(&mut self, home: u32, message: Message<J>) {
+        let to = self.engine.routing.route(home);
+        if to != self.own.number {
+            self.push(to, message);
+        } else if self.own.lane.push_back(message).is_err() {
+            self.engine.stop();
+        }
+    }
+
+    // Puts a message into another's inbox, or keeps it where that is full.
+    fn push(&mut self, to: u32, message: Message<J>) {
+        let Some(outlet) = self.own.outlets.get_mut(to as usize) else {
+            self.engine.stop();
+            return;
+        };
+        match outlet.put(self.rt, message) {
+            Ok(()) => self.engine.call(to),
+            Err(message) => self.keep(to, message),
+        }
+    }
+
+    // Keeps a message that found an inbox full.
+    fn keep(&mut self, to: u32, message: Message<J>) {
+        if self.own.outbox.push_back((to, message)).is_err() {
+            self.engine.stop();
+        }
+    }
+
+    // Tries the first message once more that found an inbox full.
+    fn send_again(&mut self) {
+        if let Some((to, message)) = self.own.outbox.pop_front() {
+            self.push(to, message);
+        }
+    }
+}

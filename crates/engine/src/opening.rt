@@ -1,0 +1,250 @@
+//! An engine is opened over tables, for scripts.
+ghost use Rattle.std.specs.Prelude.{◌≡◌, ◌≤◌, ◌+◌, ℕ, All, IfOk, length, vec_len};
+ghost use Rattle.std.specs.Vec.Iter.{into_iter_items, into_iter_len};
+ghost use Rattle.partitions.specs.Parts.{shared_of};
+ghost use Rattle.slices.specs.Openings.{AreOpenedFor};
+ghost use Rattle.engine.specs.Opening.{AreCoursesFrom, IsNamedFor, IsToOpen};
+ghost use Rattle.engine.specs.Sessions.{AreNewFrom};
+
+use crate::asking::Ready;
+use crate::bed::Bed;
+use crate::engine::Engine;
+use crate::executing::Executor;
+use crate::message::Message;
+use crate::place::Place;
+use crate::{Gate, ServeNames};
+use commit_log::{Log, LogBook, Pass, SessionSeat, UnnamedLog};
+use executor::{OpenedCourse, Post};
+use partitions::Catalog;
+use queues::Sender;
+use requests::Script;
+use routing::Routing;
+use schema::{NoMemory, Tables};
+use slices::{Slice, cut, open_groups};
+use std::alloc::Global;
+use std::sync::Mutex;
+use std::sync::atomic::{AtomicBool, AtomicU64, AtomicUsize};
+use std::vec::IntoIter;
+use tickets::{GroupSeats, named_all};
+
+/// The most messages that an inbox holds.
+const ROOM: usize = 1024;
+
+/// What all that is under way will agree on, before it has a name: what a name is picked from.
+#[derive(Drop)]
+pub struct Opening {
+    /// The seats of all groups, by their places.
+    pub(crate) groups: Vec<GroupSeats>,
+    pub(crate) log: UnnamedLog,
+    /// The course of each session's transactions, by the sessions' numbers.
+    pub(crate) courses: Vec<OpenedCourse>,
+}
+
+impl Opening {
+    /// The agreements of the tables' groups, of a log without entries, and of so many sessions' courses. Nothing is left after
+    /// an error.
+    pub fn open(alloc: Global, tables: &Tables, sessions: usize) -> Result<Opening, NoMemory>
+        ensures groups { IfOk result (λ opening. AreOpenedFor tables.now opening.groups.items) }
+        ensures courses { IfOk result (λ opening. vec_len opening.courses ≡ sessions) }
+    {
+        let groups = open_groups(alloc, tables)?;
+        let log = UnnamedLog::open(alloc)?;
+        let courses = open_courses(alloc, sessions)?;
+        Ok(Opening {
+            groups,
+            log,
+            courses,
+        })
+    }
+}
+
+fn open_courses(alloc: Global, sessions: usize) -> Result<Vec<OpenedCourse>, NoMemory>
+    ensures { IfOk result (λ courses. vec_len courses ≡ sessions) }
+{
+    let mut courses = Vec::with_capacity(alloc, sessions)?;
+    for _slot in 0..sessions {
+        courses.push(OpenedCourse::open(alloc)?)?;
+    }
+    Ok(courses)
+}
+
+/// An engine that was opened: what its threads share, the executors, what the tables' parts share, and the sessions without a
+/// script.
+#[derive(Drop)]
+pub struct Opened<'a, J: ServeNames, G: Gate> {
+    pub engine: Engine<'a, J, G>,
+    pub executors: Vec<Executor<J>>,
+    pub catalog: Catalog,
+    pub idle: IntoIter<(Pass<J>, SessionSeat<J>)>,
+}
+
+/// An engine over these tables, with so many executors, for these scripts. Nothing is left after an error.
+pub fn open<'a, J: ServeNames, G: Gate + Drop>(
+    alloc: Global,
+    opening: Opening,
+    tables: Tables,
+    scripts: &'a [Script],
+    executors: u32,
+    tries: u32,
+    gate: G,
+) -> Result<Opened<'a, J, G>, NoMemory>
+    requires named { IsNamedFor J.LogNames J.GroupNames J.course J.scripts tables scripts.now opening }
+    requires some { 1 ≤ executors }
+    requires most { length scripts.now ≤ 64 }
+    ensures catalog { IfOk result (λ opened. opened.catalog ≡ shared_of tables) }
+    ensures left { IfOk result (λ opened. into_iter_len opened.idle + length scripts.now ≡ 64) }
+    ensures rest { IfOk result (λ opened. AreNewFrom (length scripts.now) (into_iter_items opened.idle)) }
+{
+    let Opening {
+        groups,
+        log,
+        courses,
+    } = opening;
+    let scale = tables.scale();
+    let routing = Routing::opening(&scale, executors);
+    let (boxes, seats) = named_all::<J>(alloc, scale.warehouses, groups)?;
+    let (catalog, slices) = cut(alloc, tables, boxes)?;
+    let executors = open_executors(alloc, &routing, scale.warehouses, slices)?;
+    let beds = beds_for(alloc, executors.len())?;
+    let (book, lanes) = LogBook::<J>::open(alloc, log)?;
+    let mut log = Log::new(book, seats);
+    log.reserve(requests_in(scripts))?;
+    let (places, idle) = open_places(alloc, lanes, courses, scripts, tries)?;
+    let engine = Engine {
+        scale,
+        scripts,
+        tries,
+        routing,
+        gate,
+        log: Mutex::new(log),
+        places,
+        beds,
+        ages: AtomicU64::new(0),
+        unserved: AtomicUsize::new(scripts.len()),
+        is_stopped: AtomicBool::new(false),
+    };
+    Ok(Opened {
+        engine,
+        executors,
+        catalog,
+        idle,
+    })
+}
+
+// How many requests the scripts have.
+fn requests_in(scripts: &[Script]) -> usize {
+    let mut count: usize = 0;
+    for script in scripts {
+        count = count.saturating_add(script.requests().len());
+    }
+    count
+}
+
+// The executors, each with the posts of its warehouses.
+fn open_executors<J: ServeNames>(
+    alloc: Global,
+    routing: &Routing,
+    warehouses: u32,
+    slices: Vec<Slice<J>>,
+) -> Result<Vec<Executor<J>>, NoMemory>
+    requires { All (IsToOpen J.opening) slices.items }
+{
+    let mut executors = open_idle(alloc, routing.executors(), warehouses)?;
+    for slice in slices {
+        let post = Post::new(alloc, slice);
+        let to = routing.route(post.home()) as usize;
+        put_post(&mut executors, to, post);
+    }
+    Ok(executors)
+}
+
+// An executor has this post. One that nobody has would be missed at the end.
+fn put_post<J: ServeNames>(executors: &mut Vec<Executor<J>>, to: usize, post: Post<J>) {
+    if let Some(executor) = executors.get_mut(to) {
+        executor.put_post(post);
+    }
+}
+
+// So many executors, each with its inbox, and no posts yet.
+fn open_idle<J: ServeNames>(
+    alloc: Global,
+    count: u32,
+    warehouses: u32,
+) -> Result<Vec<Executor<J>>, NoMemory> {
+    let mut inboxes = Vec::with_capacity(alloc, count as usize)?;
+    let mut senders = Vec::with_capacity(alloc, count as usize)?;
+    for _ in 0..count {
+        let (into_one, inbox) = queues::open::<Message<J>>(alloc, ROOM, count)?;
+        inboxes.push(inbox)?;
+        senders.push(into_one.into_iter())?;
+    }
+    let mut executors = Vec::with_capacity(alloc, count as usize)?;
+    for (number, inbox) in (0..count).zip(inboxes) {
+        let outlets = next_of_each(alloc, &mut senders)?;
+        executors.push(Executor::open(alloc, number, warehouses, inbox, outlets)?)?;
+    }
+    Ok(executors)
+}
+
+// The next sender into each inbox.
+fn next_of_each<T: Drop>(
+    alloc: Global,
+    senders: &mut Vec<IntoIter<Sender<T>>>,
+) -> Result<Vec<Sender<T>>, NoMemory> {
+    let mut next = Vec::with_capacity(alloc, senders.len())?;
+    for into_one in senders.iter_mut() {
+        if let Some(sender) = into_one.next() {
+            next.push(sender)?;
+        }
+    }
+    Ok(next)
+}
+
+// A bed for each executor.
+fn beds_for(alloc: Global, executors: usize) -> Result<Vec<Bed>, NoMemory> {
+    let mut beds = Vec::with_capacity(alloc, executors)?;
+    for _ in 0..executors {
+        beds.push(Bed::new())?;
+    }
+    Ok(beds)
+}
+
+// The place of each session that has a script, and the sessions that have none.
+fn open_places<'a, J: ServeNames>(
+    alloc: Global,
+    lanes: Vec<(Pass<J>, SessionSeat<J>)>,
+    courses: Vec<OpenedCourse>,
+    scripts: &'a [Script],
+    tries: u32,
+) -> Result<
+    (
+        Vec<Mutex<Place<'a, J>>>,
+        IntoIter<(Pass<J>, SessionSeat<J>)>,
+    ),
+    NoMemory,
+>
+    requires scripts { J.scripts ≡ scripts.now }
+    requires new { AreNewFrom 0 lanes.items }
+    requires all { vec_len lanes ≡ 64 }
+    requires courses { AreCoursesFrom J.course 0 courses.items }
+    requires each { length scripts.now ≤ vec_len courses }
+    requires most { length scripts.now ≤ 64 }
+    ensures left { IfOk result (λ opened. into_iter_len opened.1 + length scripts.now ≡ 64) }
+    ensures rest { IfOk result (λ opened. AreNewFrom (length scripts.now) (into_iter_items opened.1)) }
+{
+    let mut idle = lanes.into_iter();
+    let mut courses = courses.into_iter();
+    let mut places = Vec::with_capacity(alloc, scripts.len())?;
+    for (slot, script) in scripts.iter().enumerate() {
+        let Some((pass, seat)) = idle.next() else {
+            unreachable!()
+        };
+        let Some(course) = courses.next() else {
+            unreachable!()
+        };
+        let ready = Ready::open(alloc, script, pass, seat, tries)?;
+        let keeper = course.named::<J>(slot);
+        places.push(Mutex::new(Place::new(ready, keeper)))?;
+    }
+    Ok((places, idle))
+}

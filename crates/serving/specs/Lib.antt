@@ -1,6 +1,0 @@
-pub mod Outcome
-pub mod Served
-pub mod Asking
-pub mod Closing
-pub mod Sessions
-pub mod Opening
