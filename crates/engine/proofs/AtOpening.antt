@@ -1,13 +1,12 @@
 -- An engine is opened: the log's seats tell what the tables have, nobody waits for the slices that were cut, and each place has its course.
-use Rattle.std.proofs.Common.{◌≡◌, ℕ, zero, suc, ◌+◌, ◌<◌, List, [], ◌∷◌, length, map, get_or, Some, refl, sym, ap, subst, ◌∙◌, arith}
+use Rattle.std.proofs.Common.{◌≡◌, ℕ, suc, ◌+◌, ◌<◌, List, [], ◌∷◌, length, map, get_or, refl, sym, ap, subst, ◌∙◌, arith}
 use Rattle.std.specs.Prelude.{All}
-use Rattle.std.specs.List.{slice_get}
 use Rattle.std.proofs.lemmas.List.{get_or-map, get_or_default, length-map}
 use Rattle.std.proofs.lemmas.Option.{get_or_from_slice_get}
 use Rattle.std.proofs.lemmas.List.Elements.{All-cons, All-nil}
 use Rattle.atomic_table.specs.Seated.{TableId}
 use Rattle.schema.specs.Database.{Database}
-use Rattle.partitions.specs.Parts.{part_of, shared_of}
+use Rattle.partitions.specs.Parts.{part_of}
 use Rattle.groups.specs.Content.{content}
 use Rattle.tickets.specs.Boxes.{Boxed}
 use Rattle.tickets.specs.LogSeats.{Committed}

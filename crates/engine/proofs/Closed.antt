@@ -1,5 +1,5 @@
 -- The executors have ended: what the log, the sessions and the slices tell makes the outcome.
-use Rattle.std.proofs.Common.{◌≡◌, ℕ, zero, suc, ◌<◌, ◌≤◌, List, [], ◌∷◌, length, map, Some, refl, sym, ap, subst, ◌∙◌, arith}
+use Rattle.std.proofs.Common.{◌≡◌, ℕ, zero, suc, ◌<◌, ◌≤◌, List, [], ◌∷◌, length, Some, sym, ap, subst, ◌∙◌}
 use Rattle.std.specs.List.{slice_get, slice_index_or, All}
 use Rattle.std.proofs.lemmas.List.Elements.{All-map}
 use Rattle.schema.specs.Database.{Database, IsWithinScale}

@@ -1,7 +1,7 @@
 -- The tables that settled slices make are those that the log's transactions have left.
-use Rattle.std.proofs.Common.{◌≡◌, ◌≢◌, ◌⊎◌, inl, inr, ⊎_elim, ℕ, zero, suc, ◌+◌, ◌-◌, ◌<◌, ◌≤◌, Bool, true, false, List, [], ◌∷◌, ◌++◌, length, map, get_or, Some, refl, sym, ap, subst, ◌∙◌, arith}
+use Rattle.std.proofs.Common.{◌≡◌, ◌≢◌, ◌⊎◌, inl, inr, ⊎_elim, ℕ, zero, suc, ◌+◌, ◌-◌, ◌<◌, ◌≤◌, List, [], ◌∷◌, ◌++◌, length, map, get_or, Some, refl, sym, ap, subst, ◌∙◌, arith}
 use Rattle.std.specs.Prelude.{All}
-use Rattle.std.specs.List.{Contains, slice_get, flat_map, AllPairs}
+use Rattle.std.specs.List.{Contains, slice_get}
 use Rattle.std.proofs.lemmas.List.{append-nil, length-map}
 use Rattle.std.proofs.lemmas.List.Elements.{All-contains, All-head, All-tail, All-weaker, Contains-get_or}
 use Rattle.schema.specs.Database.{Database, IsWithinScale}
@@ -18,7 +18,6 @@ use Rattle.groups.specs.declared.wishes.Mode.TheVariants.{Exclusive}
 use Rattle.groups.specs.declared.wishes.Wish.{Wish}
 use Rattle.groups.specs.declared.wants.Kind.{Kind}
 use Rattle.groups.specs.declared.wants.Kind.TheVariants as kind
-use Rattle.groups.specs.declared.wants.Want.{Want}
 use Rattle.groups.proofs.RowsInGroups.{contents_make_tables}
 use Rattle.machine.specs.Machine.{transaction, tables_after}
 use Rattle.machine.proofs.RequestLaws.{tables_after-scale, tables_after-items, transaction_keeps_other_groups}

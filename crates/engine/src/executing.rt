@@ -20,6 +20,9 @@ const ROOM: usize = 4096;
 /// from their first action on, and all but the oldest die: so one more would cost more than it brings (docs/COSTS.md).
 const MOST_BEGUN: usize = 1;
 
+/// How many messages to itself an executor takes at most before it looks at its inbox.
+const MOST_OWN: u32 = 16;
+
 /// An executor: the posts of its warehouses, and the messages that it has still to take or to send.
 #[derive(Drop)]
 pub struct Executor<J: CourseNames> {
@@ -139,12 +142,12 @@ impl<J: ServeNames, G: Gate, R: Wait> AtWork<'_, '_, J, G, R> {
         }
     }
 
-    // Works on the next message of others and on the next of its own, or begins a request. Whether there was any.
+    // Works on what it has to itself and on the next message of others, and begins a request. Whether there was any.
     fn work(&mut self) -> bool {
         self.send_again();
-        let theirs = self.take_theirs();
         let own = self.take_own();
-        self.begin_next() || theirs || own
+        let theirs = self.take_theirs();
+        self.begin_next() || own || theirs
     }
 
     // Takes the first message from its inbox. Whether there was one.
@@ -156,12 +159,14 @@ impl<J: ServeNames, G: Gate, R: Wait> AtWork<'_, '_, J, G, R> {
         true
     }
 
-    // Takes the first message that it has to itself. Whether there was one.
+    // Takes the messages that it has to itself, up to so many. Whether there was one.
     fn take_own(&mut self) -> bool {
-        let Some(message) = self.own.lane.pop_front() else {
-            return false;
-        };
-        self.take(message);
+        for taken in 0..MOST_OWN {
+            let Some(message) = self.own.lane.pop_front() else {
+                return taken > 0;
+            };
+            self.take(message);
+        }
         true
     }
 
