@@ -1,5 +1,5 @@
 -- Commands as clap reads them, one argument or one command more at a time.
-use Rattle.std.proofs.Common.{◌≡◌, ◌||◌, Bool, ap, ap₂, ◌∙◌}
+use Rattle.std.proofs.Common.{◌||◌, Bool, ap, ap₂, ◌∙◌}
 use Rattle.clap.specs.Words.{AddsArg, AddsSubcommand, App, Rule, Shape, with_rule, with_subcommand}
 use Rattle.clap.specs.declared.builder.arg.Arg.{Arg}
 use Rattle.clap.specs.declared.builder.command.Command.{Command}

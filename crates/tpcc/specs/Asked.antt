@@ -1,7 +1,7 @@
 -- What `read_words` makes of the words of the command line.
 use Rattle.std.specs.Prelude.{◌≡◌, ◌⊎◌, ℕ, List, [], ◌∷◌, Option, None, Some, MatchOption, if◌then◌else◌, codes}
 use Rattle.std.specs.Str.{bytes_eq}
-use Rattle.clap.specs.Words.{HasKind, IsAmong, Row, fault_of, rows_of, subcommand_of}
+use Rattle.clap.specs.Words.{HasKind, IsAmong, fault_of, rows_of, subcommand_of}
 use Rattle.clap.specs.declared.error.ErrorKind.TheVariants.{DisplayHelp, DisplayVersion}
 use Rattle.clap.specs.declared.parser.matches.Found.{Found}
 use Rattle.tpcc.specs.declared.settings.Settings.{Settings}

@@ -4,7 +4,6 @@ use Rattle.std.proofs.lemmas.List.{drop-drop, get_or-drop}
 use Rattle.requests.specs.Check.{IsAccepted}
 use Rattle.requests.specs.declared.request.Request.{Request}
 use Rattle.terminals.specs.Script.{IsScript}
-use Rattle.tpcc.specs.Edges.{NamesFile}
 use Rattle.tpcc.specs.Script.{AreDrawn, NamesScripts}
 use Rattle.tpcc.proofs.ScriptFiles.{names-first, on_any_err, scripts-more}
 use Rattle.tpcc.proofs.script.write_scripts.Goals as goal
