@@ -69,7 +69,7 @@ for name in "${names[@]}"; do
 done
 
 say "NOTHING IS PROVED of the program that has just run: it was built to be seen soon, with checks as it runs, and is gone."
-echo "   Now every crate is proved that tpcc stands on, and last tpcc itself: some 70 minutes on four free processors,"
+echo "   Now every crate is proved that tpcc stands on, and last tpcc itself: more than an hour on four processors,"
 echo "   longer beside other work, and seconds once it is done. The first line comes after some minutes. Ctrl-C ends it;"
 echo "   what was proved by then is kept."
 SECONDS=0
