@@ -13,7 +13,8 @@ use std::alloc::Global;
 use std::sync::atomic::{AtomicBool, AtomicU64, AtomicUsize, Ordering};
 use std::sync::{Mutex, Wait};
 
-/// What all executors share: the log under its lock, the place of each session under a lock of its own, and what needs no lock. No lock is common to all executors but the log's, and nobody takes one while it has another.
+/// What all executors share: the log under its lock, the place of each session under a lock of its own, and what needs no
+/// lock. No lock is common to all executors but the log's, and nobody takes one while it has another.
 #[derive(Drop)]
 pub struct Engine<'a, J: ServeNames, G: Gate> {
     pub(crate) scale: Scale,

@@ -25,10 +25,8 @@ pub use gate::{Gate, OpenGate};
 pub use names::ServeNames;
 pub use opening::{Opened, Opening, open};
 pub use outcome::{CloseFault, Outcome, ServeFault};
+pub use routing::MOST_EXECUTORS;
 pub use serving::serve;
-
-/// The most executors that scripts are served by.
-pub const MOST_EXECUTORS: u32 = 16;
 
 /// The most sessions that are served at a time.
 pub const MOST_SESSIONS: usize = 64;
