@@ -1,8 +1,10 @@
 -- What comes of the actions that ask and wait at a post.
-use Rattle.std.proofs.Common.{◌≡◌, ℕ, ◌<◌, List, ◌∷◌, length, Option, Some, None, sym, ap, subst, ◌∙◌}
+use Rattle.std.proofs.Common.{◌≡◌, ℕ, ◌<◌, ◌≤◌, ◌+◌, arith, List, ◌∷◌, length, Option, Some, None, sym, ap, subst, ◌∙◌}
 use Rattle.std.specs.Prelude.{All, IfNone, IfSome, slice_index_or}
 use Rattle.std.specs.List.{remove}
 use Rattle.std.proofs.lemmas.List.Elements.{All-push, All-tail, All-weaker}
+use Rattle.std.proofs.lemmas.List.{length_push}
+use Rattle.std.proofs.lemmas.List.Edits.{length-remove}
 use Rattle.std.proofs.lemmas.List.Sorted.{All-permutation, IsPermutation-remove}
 use Rattle.partitions.specs.Parts.{Shared, shared_of}
 use Rattle.tickets.specs.Claims.{Claiming}
@@ -23,7 +25,7 @@ use Rattle.transactions.specs.Works.{HasDone, wishes_of}
 use Rattle.executor.specs.declared.errand.Carried.{Carried}
 use Rattle.executor.specs.Journeys.{AreUndoneBy, IsAged}
 use Rattle.executor.specs.Carrying.{CarriesErrand, CarriesReport, Erranding, IsRanBy, reporting}
-use Rattle.executor.specs.Posts.{CarriesPost, CarriesWaiting, carried_by, report_by, report_turned}
+use Rattle.executor.specs.Posts.{AreAtMost, CarriesPost, CarriesWaiting, carried_by, report_by, report_turned}
 use Rattle.executor.proofs.Refusals.{dies_of_wished}
 
 -- where the scale and the items stay, all that is shared stays
@@ -68,6 +70,17 @@ module _ (at_home : WorksAreDoneAtHome) (shared : Shared) where
           shared_is = h.shared_is;
           waiting = All-push (CarriesWaiting shared) old.parked (parked e.by e.work (carried_by e)) h.waiting carries;
         })
+
+    -- how many wait, whatever comes of it
+    pub counted : (e : Erranding) (told : Carried J) (old new : Stationed (Carried J)) (one : Ran J) (waiting : ℕ) → AreAtMost waiting old.parked
+        → ActsAs e.by e.work (carried_by e) old (acted.Ran one told) new → AreAtMost waiting new.parked
+    counted e told old new one waiting h acts = subst (λ (ps : List (Parked (Carried J))). AreAtMost waiting ps) (sym acts.3) h
+
+    pub counted_more : (e : Erranding) (old new : Stationed (Carried J)) (waiting more : ℕ) → AreAtMost waiting old.parked → (more < 18446744073709551615 → waiting + 1 ≤ more)
+        → ActsAs {J = J} e.by e.work (carried_by e) old acted.Waits new → AreAtMost more new.parked
+    counted_more e old new waiting more h by acts =
+        subst (λ (s : Stationed (Carried J)). AreAtMost more s.parked) (sym acts.1)
+        (λ least. omega (arith, by least, h (omega (arith, least, by least)), length_push old.parked (parked e.by e.work (carried_by e))))
 
     -- its report, by what it has again
     pub reports_told : (e : Erranding) (told : Carried J) (old new : Stationed (Carried J)) (one : Ran J) → CarriesErrand shared e → CarriesPost shared old
@@ -116,6 +129,12 @@ module _ (at_home : WorksAreDoneAtHome) (shared : Shared) where
       shared_is = shared_kept _ _ _ new.slice turn.kept ∙ h.shared_is;
       waiting = subst (λ (ps : List (Parked (Carried J))). All (CarriesWaiting shared) ps) (sym turn.rest) (rest_waits old turn.index (parked turned.by turn.work turned.carried) h turn.inside turn.there);
     }
+
+    pub counted_less : (old new : Stationed (Carried J)) (turned : Turned J (Carried J)) (waiting less : ℕ) → AreAtMost waiting old.parked
+        → (less < 18446744073709551615 → (waiting < 18446744073709551615) × (waiting ≤ less + 1)) → OneTurn old turned new → AreAtMost less new.parked
+    counted_less old new turned waiting less h by turn =
+        subst (λ (ps : List (Parked (Carried J))). AreAtMost less ps) (sym turn.rest)
+        (λ least. omega (arith, (by least).1, h (by least).0, length-remove old.parked turn.index turn.inside))
 
     -- or nobody has a turn
     pub after_turns : (old new : Stationed (Carried J)) (turned : Option (Turned J (Carried J))) → CarriesPost shared old → IfSome turned (λ t. OneTurn old t new) → IfNone turned (new ≡ old) → CarriesPost shared new

@@ -93,18 +93,18 @@ module _ {J : Type 0} where
         (keeper, (whole, subst (λ (o : Option Refusal). FollowsUnless o keeper m following) (sym (none_before start m.rans none)) gathers))
 
     over : (why : Refusal) → Following J
-    over why = Over (refused {J = J} keeper (transaction_of m.journey) held_then why)
+    over why = Over (refused keeper (transaction_of m.journey) held_then why)
 
     pub follows_refused : (start : Option Refusal) (why : Refusal) → IfSome start (λ w. w ≡ refusal.NoMemory) → refusal_of start m.rans ≡ Some why
-        → Follows m (Over (refused {J = J} keeper (transaction_of m.journey) held_then why))
-    follows_refused None why begun told = (keeper, (whole, subst (λ (o : Option Refusal). FollowsUnless o keeper m (Over (refused {J = J} keeper (transaction_of m.journey) held_then why))) (sym told) refl))
+        → Follows m (Over (refused keeper (transaction_of m.journey) held_then why))
+    follows_refused None why begun told = (keeper, (whole, subst (λ (o : Option Refusal). FollowsUnless o keeper m (Over (refused keeper (transaction_of m.journey) held_then why))) (sym told) refl))
     follows_refused (Some w) why begun told = by (memory_last m.rans)
       where
         told_so : refusal_of (Some refusal.NoMemory) m.rans ≡ Some why
         told_so = ap (λ (r : Refusal). refusal_of (Some r) m.rans) (sym begun) ∙ told
 
         by : ((refusal_of None m.rans ≡ None) × (refusal_of (Some refusal.NoMemory) m.rans ≡ Some refusal.NoMemory)) ⊎ (refusal_of (Some refusal.NoMemory) m.rans ≡ refusal_of None m.rans)
-            → Follows m (Over (refused {J = J} keeper (transaction_of m.journey) held_then why))
+            → Follows m (Over (refused keeper (transaction_of m.journey) held_then why))
         by (inl none) =
             let memory = none.1 in
             let is_told = told_so in
@@ -112,8 +112,8 @@ module _ {J : Type 0} where
               keeper,
               (
                 whole,
-                subst (λ (o : Option Refusal). FollowsUnless o keeper m (Over (refused {J = J} keeper (transaction_of m.journey) held_then why))) (sym none.0)
-                    (ap (λ (r : Refusal). refused {J = J} keeper (transaction_of m.journey) held_then r) same),
+                subst (λ (o : Option Refusal). FollowsUnless o keeper m (Over (refused keeper (transaction_of m.journey) held_then why))) (sym none.0)
+                    (ap (λ (r : Refusal). refused keeper (transaction_of m.journey) held_then r) same),
               ),
             )
-        by (inr alike) = (keeper, (whole, subst (λ (o : Option Refusal). FollowsUnless o keeper m (Over (refused {J = J} keeper (transaction_of m.journey) held_then why))) (sym (sym alike ∙ told_so)) refl))
+        by (inr alike) = (keeper, (whole, subst (λ (o : Option Refusal). FollowsUnless o keeper m (Over (refused keeper (transaction_of m.journey) held_then why))) (sym (sym alike ∙ told_so)) refl))

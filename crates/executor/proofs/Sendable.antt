@@ -2,8 +2,8 @@
 use denote.RattleType.{RattleType}
 use denote.Param.Send.{IsSend, sendable, view_send}
 use denote.Param.SendFields.{declared_send}
-use Rattle.std.proofs.Crossing.{Vec-send}
-use Rattle.requests.proofs.Sendable.{Request-send}
+use Rattle.std.proofs.Crossing.{Box-send, Vec-send}
+use Rattle.requests.proofs.Sendable.{Reply-send, Request-send}
 use Rattle.agreement.proofs.Sendable.{Seat-send}
 use Rattle.tickets.proofs.Sendable.{Claims-send}
 use Rattle.commit_log.proofs.Sendable.{Pass-send}
@@ -19,10 +19,14 @@ use Rattle.executor.specs.contracts.errand.Carried as Carried
 use Rattle.executor.specs.contracts.giving_back.Settle as Settle
 use Rattle.executor.specs.contracts.giving_back.Undo as Undo
 use Rattle.executor.specs.contracts.held.HeldClaims as HeldClaims
+use Rattle.executor.specs.contracts.journey.Matter as Matter
 use Rattle.executor.specs.contracts.journey.Transaction as Transaction
 use Rattle.executor.specs.contracts.journey.Journey as Journey
 use Rattle.executor.specs.contracts.phase.Phase as Phase
 use Rattle.executor.specs.contracts.post.Post as Post
+
+Matter-send : IsSend Matter.the_row
+Matter-send = declared_send Matter.the_type (Request-send, (Progress-send, (Reply-send, tt)))
 
 module _ (J : RattleType) (names : GroupNames J.Denot) (s : IsSend J) where
   HeldClaims-send : IsSend (HeldClaims.the_row J names)
@@ -64,7 +68,7 @@ module _ (J : RattleType) (course : CourseNames J.Denot) (log : LogNames J.Denot
       (
         search sendable depth 20,
         (
-          Request-send,
+          Box-send Matter.the_row Matter-send,
           (
             Pass-send J log s,
             tt,
@@ -79,10 +83,7 @@ module _ (J : RattleType) (course : CourseNames J.Denot) (log : LogNames J.Denot
     Transaction-send,
     (
       HeldClaims-send J groups s,
-      (
-        Progress-send,
-        tt,
-      ),
+      tt,
     ),
   ))
 
@@ -149,5 +150,8 @@ module _ (J : RattleType) (course : CourseNames J.Denot) (log : LogNames J.Denot
   pub Post-send : IsSend (Post.the_row J course log groups)
   Post-send = view_send _ _ _ _ _ (declared_send (Post.TheInside.the_type J course log groups) (
     search (Carried-send, Station-send, sendable) depth 20,
-    tt,
+    (
+      search sendable depth 20,
+      tt,
+    ),
   ))

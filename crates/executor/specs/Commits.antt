@@ -16,9 +16,9 @@ use Rattle.commit_log.specs.declared.log_book.AppendFault.TheVariants as fault
 use Rattle.commit_log.specs.Claimed.{IsCarriedOut, claims_logged}
 use Rattle.commit_log.specs.Items.{entry_of, item}
 use Rattle.commit_log.specs.Passing.{Passing, after_item, after_refusal}
-use Rattle.executor.specs.declared.journey.Transaction.{Transaction}
 use Rattle.executor.specs.Courses.{Keeping, KeepsWhole}
 use Rattle.executor.specs.Journeys.{AreUndoneBy, IsAskedBy}
+use Rattle.executor.specs.Transactions.{Transacting}
 use Rattle.executor.specs.Answers.{Releasing, releasing, returning, telling}
 
 -- the refusal by which a fault of the log is answered
@@ -43,7 +43,7 @@ pub record Committing : Type 0 where
   pub held : List (List Claiming)
   pub shown : Reply
 
-abbrev pub committing : {J : Type 0} → Keeping → Transaction J → List (List Claiming) → Reply → Committing
+abbrev pub committing : Keeping → Transacting → List (List Claiming) → Reply → Committing
 committing keeper t held shown =
     record { keeper = keeper; age = t.age; slot = t.slot; number = t.number; request = t.request; pass = t.pass; held = held; shown = shown }
 

@@ -13,11 +13,11 @@ use Rattle.transactions.specs.declared.progress.Gathered.{Gathered}
 use Rattle.transactions.specs.declared.progress.Gathered.TheVariants.{Next, Finish, RollBack}
 use Rattle.transactions.specs.Works.{HaveAllDone}
 use Rattle.transactions.specs.Progresses.{FollowsFrom, IsReached, works_of}
-use Rattle.executor.specs.declared.journey.Transaction.{Transaction}
 use Rattle.executor.specs.declared.following.Following.{Following}
 use Rattle.executor.specs.declared.following.Following.TheVariants.{Phase, Commit, Over}
 use Rattle.executor.specs.Courses.{Keeping, KeepsWhole}
 use Rattle.executor.specs.Journeys.{Journeying, journeying}
+use Rattle.executor.specs.Transactions.{Transacting}
 use Rattle.executor.specs.Begins.{awaiting_all, errands_of}
 use Rattle.executor.specs.Phases.{Meeting}
 use Rattle.executor.specs.Sorted.{found_in, held_in, refusal_of}
@@ -39,15 +39,15 @@ IsReplyOf (Next progress) shown = ⊥
 IsReplyOf (Finish reply) shown = shown ≡ reply
 IsReplyOf (RollBack fault) shown = shown ≡ RolledBack fault
 
+-- who the transaction is
+abbrev pub transaction_of : Journeying → Transacting
+transaction_of j = record { age = j.age; slot = j.slot; number = j.number; request = j.request; pass = j.pass }
+
+-- the transaction, come to another phase under these claims
+abbrev pub moved : Transacting → List (List Claiming) → Progress → Journeying
+moved t held progress = journeying t.age t.slot t.number t.request t.pass held progress
+
 module _ {J : Type 0} where
-  -- who the transaction is
-  abbrev pub transaction_of : Journeying → Transaction J
-  transaction_of j = record { age = j.age; slot = j.slot; number = j.number; request = j.request; pass = j.pass }
-
-  -- the transaction, come to another phase under these claims
-  abbrev pub moved : Transaction J → List (List Claiming) → Progress → Journeying
-  moved t held progress = journeying t.age t.slot t.number t.request t.pass held progress
-
   -- The transaction's next phase is under way; or there is no memory for it, and the transaction is refused.
   abbrev pub Starts : Keeping → Journeying → Following J → Type 0
   Starts keeper j (Phase phase errands) = (phase ≡ awaiting_all j) × (errands.items ≡ errands_of j)
@@ -56,7 +56,7 @@ module _ {J : Type 0} where
 
   -- What follows of what was found is done: the next phase is under way, or the transaction is to be logged, with the reply; unless there is
   -- no memory for it: then the transaction is refused.
-  abbrev pub Gathers : Keeping → Transaction J → List (List Claiming) → Progress → List Found → Following J → Type 0
+  abbrev pub Gathers : Keeping → Transacting → List (List Claiming) → Progress → List Found → Following J → Type 0
   Gathers keeper t held progress found (Phase phase errands) =
       (next : Progress) × (FollowsFrom progress found (Next next) × ((phase ≡ awaiting_all (moved t held next)) × (errands.items ≡ errands_of (moved t held next))))
   Gathers keeper t held progress found (Commit commit) =

@@ -1,5 +1,7 @@
 pub mod Courses
 pub mod Journeys
+pub mod Transactions
+pub mod Verdicts
 pub mod Carrying
 pub mod Phases
 pub mod Reports

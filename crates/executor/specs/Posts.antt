@@ -1,5 +1,5 @@
 -- The post of a warehouse, and what comes of the actions that ask and wait there.
-use Rattle.std.specs.Prelude.{◌≡◌, All, Option, Some, None}
+use Rattle.std.specs.Prelude.{◌≡◌, ◌<◌, ◌≤◌, ℕ, List, All, Option, Some, None, length}
 use Rattle.partitions.specs.Parts.{Shared, shared_of}
 use Rattle.local_locks.specs.Asking.{StillWaits}
 use Rattle.transactions.specs.declared.acting.Ran.{Ran}
@@ -24,6 +24,10 @@ module _ {J : Type 0} where
   pub record CarriesPost (shared : Shared) (p : Stationed (Carried J)) : Type 0 where
     pub shared_is : shared_of p.slice.tables ≡ shared
     pub waiting : All (CarriesWaiting shared) p.parked
+
+  -- no more than so many wait; of the largest number nothing is known
+  abbrev pub AreAtMost : ℕ → List (Parked (Carried J)) → Type 0
+  AreAtMost waiting all = waiting < 18446744073709551615 → length all ≤ waiting
 
   -- what an action keeps with it beside its work
   abbrev pub carried_by : Erranding → Carried J

@@ -3,11 +3,11 @@ use Rattle.std.specs.Prelude.{◌≡◌, ℕ, Bool, true, false, List, [], ◌�
 use Rattle.requests.specs.declared.answer.Answer.TheVariants.{Refused}
 use Rattle.requests.specs.declared.refusal.Refusal.{Refusal}
 use Rattle.tickets.specs.Claims.{Claiming}
-use Rattle.executor.specs.declared.journey.Transaction.{Transaction}
 use Rattle.executor.specs.declared.release.GivenBack.{GivenBack}
 use Rattle.executor.specs.declared.release.GivenBack.TheVariants.{Settle, Undo}
 use Rattle.executor.specs.Courses.{Keeping}
 use Rattle.executor.specs.Givings.{giving}
+use Rattle.executor.specs.Transactions.{Transacting}
 use Rattle.executor.specs.Answers.{Releasing, Returning, releasing, returning, telling}
 
 -- the claims go back as they are to: settled, or to be taken back
@@ -20,5 +20,5 @@ abbrev pub IsGivenBack : {J : Type 0} → Returning → Returning → GivenBack 
 IsGivenBack old new given = (claims : List Claiming) × ((old ≡ returning new.slot new.settle (new.held ++ claims ∷ [])) × IsGivenFor old.slot old.settle claims given)
 
 -- the transaction is refused for this, and what its actions did is taken back
-abbrev pub refused : {J : Type 0} → Keeping → Transaction J → List (List Claiming) → Refusal → Releasing
+abbrev pub refused : Keeping → Transacting → List (List Claiming) → Refusal → Releasing
 refused keeper t held why = releasing (telling t.age t.number t.pass (Refused why)) (returning t.slot false held) keeper

@@ -30,7 +30,8 @@ pub fn begin<J: CourseNames>(
     ensures err { IfErr result (λ back. (back.0 ≡ journey) × (back.1 ≡ keeper)) }
 {
     phases_have_actions();
-    let Ok(works) = journey.progress.works(alloc) else {
+    let progress = &journey.transaction.matter.progress;
+    let Ok(works) = progress.works(alloc) else {
         return Err((journey, keeper));
     };
     let count = works.len();
@@ -41,7 +42,7 @@ pub fn begin<J: CourseNames>(
         return Err((journey, keeper));
     };
     let first = journey.held.len();
-    keeper.come_to(journey.transaction.age, first, &journey.progress);
+    keeper.come_to(journey.transaction.age, first, progress);
     let errands = send_out(&mut keeper, journey, works, errands);
     let phase = Phase {
         keeper,

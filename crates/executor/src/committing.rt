@@ -9,12 +9,13 @@ ghost use Rattle.executor.specs.Commits as spec;
 ghost use Rattle.executor.specs.Commits.{Commits, committing};
 ghost use Rattle.executor.specs.Courses.{KeepsWhole};
 ghost use Rattle.executor.specs.Journeys.{AreUndoneBy, IsAskedBy};
+ghost use Rattle.executor.specs.Transactions.{transacting};
 
 use crate::journey::Transaction;
-use crate::release::Returns;
+use crate::release::{Returns, Verdict};
 use crate::{CourseNames, HeldClaims, Keeper, Release, Told};
 use commit_log::{AppendFault, Entry, Log, Pass};
-use requests::{Answer, Refusal, Reply, Request};
+use requests::{Refusal, Reply, Request};
 use std::marker::Model;
 
 /// A transaction that was carried out, on its way to the log.
@@ -27,7 +28,6 @@ use std::marker::Model;
 pub struct Commit<J: CourseNames> {
     transaction: Transaction<J>,
     held: HeldClaims<J>,
-    reply: Reply,
     keeper: Keeper<J>,
 }
 
@@ -41,10 +41,11 @@ impl<J: CourseNames> Model for Commit<J> {
     ghost coded = { Prim.hlevel (codes, content.the_row.coded) };
 
     ghost use Rattle.executor.specs.Commits.{CarriesCommit, committing};
+    ghost use Rattle.executor.specs.Transactions.{transacting};
 
-    ghost view = { λ c. committing c.keeper c.transaction c.held c.reply };
+    ghost view = { λ c. committing c.keeper (transacting c.transaction) c.held c.transaction.matter.value.reply };
 
-    ghost invariant = { λ c. CarriesCommit J.opening (committing c.keeper c.transaction c.held c.reply) };
+    ghost invariant = { λ c. CarriesCommit J.opening (committing c.keeper (transacting c.transaction) c.held c.transaction.matter.value.reply) };
 }
 
 impl<J: CourseNames> Commit<J> {
@@ -53,19 +54,17 @@ impl<J: CourseNames> Commit<J> {
         keeper: Keeper<J>,
         transaction: Transaction<J>,
         held: HeldClaims<J>,
-        reply: Reply,
     ) -> Commit<J>
-        requires asked { IsAskedBy transaction.number transaction.request transaction.pass }
-        requires accepted { IsAccepted J.opening.scale transaction.request }
-        requires carried_out { IsCarriedOut J.opening transaction.request (all_claims held) reply }
+        requires asked { IsAskedBy transaction.number transaction.matter.value.request transaction.pass }
+        requires accepted { IsAccepted J.opening.scale transaction.matter.value.request }
+        requires carried_out { IsCarriedOut J.opening transaction.matter.value.request (all_claims held) transaction.matter.value.reply }
         requires undone { All (AreUndoneBy transaction.age) held }
         requires whole { KeepsWhole transaction.slot keeper }
-        ensures { result ≡ committing keeper transaction held reply }
+        ensures { result ≡ committing keeper (transacting transaction) held transaction.matter.value.reply }
     {
         Commit {
             transaction,
             held,
-            reply,
             keeper,
         }
     }
@@ -88,7 +87,7 @@ impl<J: CourseNames> Commit<J> {
     pub fn request(&self) -> &Request
         ensures { result.now ≡ self.now.request }
     {
-        &self.transaction.request
+        &self.transaction.matter.request
     }
 
     /// The transaction is logged, or refused where there is no memory, or the log is full. Then it is over: what its actions
@@ -99,25 +98,24 @@ impl<J: CourseNames> Commit<J> {
         let Commit {
             transaction,
             held,
-            reply,
             keeper,
         } = self;
-        let Ok(shown) = reply.try_clone() else {
+        let Ok(shown) = transaction.matter.reply.try_clone() else {
             return Release::refused(keeper, transaction, held, Refusal::NoMemory);
         };
-        let is_settled = is_settled(&reply);
+        let is_settled = is_settled(&shown);
         let Transaction {
             age,
             slot,
             number,
-            request,
+            mut matter,
             pass,
         } = transaction;
         let entry = Entry {
             session: pass.session(),
             number,
-            request,
-            reply,
+            request: matter.take_request(),
+            reply: shown,
         };
         let mut held = held;
         match append(log, &mut held, pass, entry) {
@@ -126,10 +124,8 @@ impl<J: CourseNames> Commit<J> {
                     age,
                     number,
                     pass,
-                    answer: Answer::Done {
-                        place,
-                        reply: shown,
-                    },
+                    verdict: Verdict::Done(place),
+                    matter,
                 },
                 returns: Returns::new(slot, is_settled, held),
                 keeper,
@@ -139,7 +135,8 @@ impl<J: CourseNames> Commit<J> {
                     age,
                     number,
                     pass,
-                    answer: Answer::Refused(why_refused(fault)),
+                    verdict: Verdict::Refused(why_refused(fault)),
+                    matter,
                 },
                 returns: Returns::new(slot, false, held),
                 keeper,

@@ -3,6 +3,7 @@ ghost use Rattle.std.specs.Prelude.{◌≡◌, All};
 ghost use Rattle.partitions.specs.Parts.{shared_of};
 ghost use Rattle.executor.specs.Journeys.{AreUndoneBy, IsAskedBy};
 ghost use Rattle.executor.specs.Followed.{Follows, Gathers, HasMetUnder, Starts};
+ghost use Rattle.executor.specs.Transactions.{transacting};
 
 use crate::journey::Transaction;
 use crate::sorting::Sorted;
@@ -39,9 +40,8 @@ impl<J: CourseNames> Met<J> {
             rans,
         } = self;
         let Journey {
-            transaction,
+            mut transaction,
             held,
-            progress,
         } = journey;
         let sorted = Sorted::start(alloc, held, rans.len());
         let Sorted {
@@ -51,7 +51,10 @@ impl<J: CourseNames> Met<J> {
         } = sorted.sort_out(rans);
         match refusal {
             Some(why) => Following::Over(Release::refused(keeper, transaction, held, why)),
-            None => gather(alloc, keeper, transaction, held, progress, found),
+            None => {
+                let progress = transaction.take_progress();
+                gather(alloc, keeper, transaction, held, progress, found)
+            }
         }
     }
 }
@@ -66,11 +69,7 @@ pub fn start<J: CourseNames>(alloc: Global, journey: Journey<J>, keeper: Keeper<
     match begin(alloc, journey, keeper) {
         Ok((phase, errands)) => Following::Phase(phase, errands),
         Err((journey, keeper)) => {
-            let Journey {
-                transaction,
-                held,
-                progress: _,
-            } = journey;
+            let Journey { transaction, held } = journey;
             Following::Over(Release::refused(keeper, transaction, held, Refusal::NoMemory))
         }
     }
@@ -80,17 +79,17 @@ pub fn start<J: CourseNames>(alloc: Global, journey: Journey<J>, keeper: Keeper<
 fn gather<J: CourseNames>(
     alloc: Global,
     keeper: Keeper<J>,
-    transaction: Transaction<J>,
+    mut transaction: Transaction<J>,
     held: HeldClaims<J>,
     progress: Progress,
     found: Vec<Found>,
 ) -> Following<J>
     requires slot { transaction.slot ≡ keeper.slot }
     requires all { keeper.out ≡ 0 }
-    requires asked { IsAskedBy transaction.number transaction.request transaction.pass }
+    requires asked { IsAskedBy transaction.number transaction.matter.value.request transaction.pass }
     requires undone { All (AreUndoneBy transaction.age) held }
-    requires met { HasMetUnder (shared_of J.opening) transaction.request progress held found.items }
-    ensures { Gathers keeper transaction held progress found.items result }
+    requires met { HasMetUnder (shared_of J.opening) transaction.matter.value.request progress held found.items }
+    ensures { Gathers keeper (transacting transaction) held progress found.items result }
 {
     reached_requests_are_accepted();
     let Ok(gathered) = progress.gather(alloc, found) else {
@@ -98,19 +97,16 @@ fn gather<J: CourseNames>(
     };
     match gathered {
         Gathered::Next(progress) => {
-            let journey = Journey {
-                transaction,
-                held,
-                progress,
-            };
-            start(alloc, journey, keeper)
+            transaction.put_progress(progress);
+            start(alloc, Journey { transaction, held }, keeper)
         }
         Gathered::Finish(reply) => {
-            Following::Commit(Commit::new(keeper, transaction, held, reply))
+            transaction.put_reply(reply);
+            Following::Commit(Commit::new(keeper, transaction, held))
         }
         Gathered::RollBack(fault) => {
-            let reply = Reply::RolledBack(fault);
-            Following::Commit(Commit::new(keeper, transaction, held, reply))
+            transaction.put_reply(Reply::RolledBack(fault));
+            Following::Commit(Commit::new(keeper, transaction, held))
         }
     }
 }

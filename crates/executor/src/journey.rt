@@ -1,14 +1,33 @@
 //! A transaction on its way.
-ghost use Rattle.std.specs.Prelude.{◌≡◌, IfErr, IfOk};
+ghost use Rattle.std.specs.Prelude.{◌≡◌, List, IfErr, IfOk};
+ghost use Rattle.partitions.specs.Parts.{Shared};
 ghost use Rattle.requests.specs.Check.{IsAccepted};
+ghost use Rattle.requests.specs.declared.request.Request.{Request as AnyRequest};
+ghost use Rattle.tickets.specs.Claims.{Claiming};
+ghost use Rattle.transactions.specs.Granted.{IsAsked};
+ghost use Rattle.transactions.specs.Progresses.{IsReached};
 ghost use Rattle.executor.specs.Journeys.{HasBegun, IsAskedBy};
+ghost use Rattle.executor.specs.Transactions.{transacting};
 
 use crate::{CourseNames, HeldClaims};
 use commit_log::Pass;
-use requests::Request;
+use requests::{Fault, Reply, Request, StockLevel};
+use schema::{DistrictKey, NoMemory};
 use std::alloc::Global;
 use std::marker::Model;
-use transactions::Progress;
+use std::mem;
+use transactions::{Progress, stock_level};
+
+/// What is large of a transaction, in a box: that is made as the transaction begins, and goes with it until its session is told
+/// what came of it, so whoever passes the transaction on copies none of it.
+#[derive(Drop)]
+pub(crate) struct Matter {
+    pub(crate) request: Request,
+    /// How far it has come, while it is on its way.
+    pub(crate) progress: Progress,
+    /// What it shows, once it was carried out.
+    pub(crate) reply: Reply,
+}
 
 /// Who a transaction is, and the pass of its session.
 #[derive(Drop)]
@@ -16,7 +35,7 @@ pub(crate) struct Transaction<J: CourseNames> {
     pub(crate) age: u64,
     pub(crate) slot: usize,
     pub(crate) number: u32,
-    pub(crate) request: Request,
+    pub(crate) matter: Box<Matter>,
     pub(crate) pass: Pass<J>,
 }
 
@@ -30,7 +49,6 @@ pub struct Journey<J: CourseNames> {
     pub(crate) transaction: Transaction<J>,
     // The claims of the actions of earlier phases, by place.
     pub(crate) held: HeldClaims<J>,
-    pub(crate) progress: Progress,
 }
 
 impl<J: CourseNames> Model for Journey<J> {
@@ -45,10 +63,12 @@ impl<J: CourseNames> Model for Journey<J> {
     ghost use Rattle.partitions.specs.Parts.{shared_of};
     ghost use Rattle.executor.specs.Journeys.{CarriesJourney, journeying};
 
-    ghost view = { λ j. journeying j.transaction.age j.transaction.slot j.transaction.number j.transaction.request j.transaction.pass j.held j.progress };
+    ghost view = { λ j. journeying j.transaction.age j.transaction.slot j.transaction.number j.transaction.matter.value.request j.transaction.pass
+        j.held j.transaction.matter.value.progress };
 
     ghost invariant = { λ j. CarriesJourney (shared_of J.opening)
-        (journeying j.transaction.age j.transaction.slot j.transaction.number j.transaction.request j.transaction.pass j.held j.progress) };
+        (journeying j.transaction.age j.transaction.slot j.transaction.number j.transaction.matter.value.request j.transaction.pass
+        j.held j.transaction.matter.value.progress) };
 }
 
 impl<J: CourseNames> Journey<J> {
@@ -76,16 +96,18 @@ impl<J: CourseNames> Journey<J> {
         let Ok(held) = HeldClaims::open(alloc) else {
             return Err(pass);
         };
+        let Ok(matter) = Matter::begin(alloc, own, given) else {
+            return Err(pass);
+        };
         Ok(Journey {
             transaction: Transaction {
                 age,
                 slot,
                 number,
-                request: own,
+                matter,
                 pass,
             },
             held,
-            progress: Progress::begin(given),
         })
     }
 
@@ -102,4 +124,76 @@ impl<J: CourseNames> Journey<J> {
     {
         self.transaction.slot
     }
+}
+
+impl Matter {
+    // The matter of a transaction that begins with this request, which is given twice.
+    fn begin(alloc: Global, request: Request, given: Request) -> Result<Box<Matter>, NoMemory>
+        ensures request { IfOk result (λ matter. matter.value.request ≡ request) }
+        ensures reached { IfOk result (λ matter. (shared : Shared) (asked : AnyRequest) (held : List (List Claiming)) → IsAsked shared asked given held → IsReached shared asked matter.value.progress held) }
+    {
+        let matter = Matter {
+            request,
+            progress: Progress::begin(given),
+            reply: no_reply(),
+        };
+        Ok(Box::new(alloc, matter)?)
+    }
+
+    // The request, to be kept elsewhere.
+    pub(crate) fn take_request(&mut self) -> Request
+        ensures request { result ≡ self.old.request }
+        ensures reply { self.new.reply ≡ self.old.reply }
+    {
+        mem::replace(&mut self.request, Request::StockLevel(nothing_asked()))
+    }
+
+    // What it shows, to be kept elsewhere.
+    pub(crate) fn take_reply(&mut self) -> Reply
+        ensures { result ≡ self.old.reply }
+    {
+        mem::replace(&mut self.reply, no_reply())
+    }
+}
+
+impl<J: CourseNames> Transaction<J> {
+    // How far it has come, to be gone on with.
+    pub(crate) fn take_progress(&mut self) -> Progress
+        ensures progress { result ≡ self.old.matter.value.progress }
+        ensures same { transacting self.new ≡ transacting self.old }
+    {
+        let begun = stock_level::Progress::ReadNext(nothing_asked());
+        mem::replace(&mut self.matter.progress, Progress::StockLevel(begun))
+    }
+
+    // It has come so far.
+    #[inline(never)]
+    pub(crate) fn put_progress(&mut self, progress: Progress)
+        ensures progress { self.new.matter.value.progress ≡ progress }
+        ensures same { transacting self.new ≡ transacting self.old }
+    {
+        self.matter.progress = progress;
+    }
+
+    // It was carried out, and shows this.
+    #[inline(never)]
+    pub(crate) fn put_reply(&mut self, reply: Reply)
+        ensures reply { self.new.matter.value.reply ≡ reply }
+        ensures same { transacting self.new ≡ transacting self.old }
+    {
+        self.matter.reply = reply;
+    }
+}
+
+// Stands where no request is.
+fn nothing_asked() -> StockLevel {
+    StockLevel {
+        home: DistrictKey { w_id: 0, d_id: 0 },
+        threshold: 0,
+    }
+}
+
+// Stands where no reply is.
+fn no_reply() -> Reply {
+    Reply::RolledBack(Fault::Range)
 }

@@ -1,5 +1,5 @@
 //! The slice of a warehouse, with the actions that wait there.
-ghost use Rattle.std.specs.Prelude.{◌≡◌, [], All};
+ghost use Rattle.std.specs.Prelude.{◌≡◌, ◌<◌, ◌≤◌, ◌+◌, [], All, IsFalse};
 ghost use Rattle.partitions.specs.Parts.{shared_of};
 ghost use Rattle.slices.specs.Sliced.{SliceKeeps};
 ghost use Rattle.transactions.specs.Works.{home_of};
@@ -19,6 +19,8 @@ use transactions::{Acted, Station, Turned, works_are_done_at_home};
 #[derive(Drop)]
 pub struct Post<J: CourseNames> {
     station: Station<J, Carried<J>>,
+    // No more than so many wait there, unless it is the largest number.
+    waiting: usize,
 }
 
 impl<J: CourseNames> Model for Post<J> {
@@ -33,11 +35,11 @@ impl<J: CourseNames> Model for Post<J> {
     ghost coded = { Prim.hlevel (codes, content.the_row.coded, tables_kind.the_row.coded) };
 
     ghost use Rattle.partitions.specs.Parts.{shared_of};
-    ghost use Rattle.executor.specs.Posts.{CarriesPost};
+    ghost use Rattle.executor.specs.Posts.{AreAtMost, CarriesPost};
 
     ghost view = { λ p. p.station };
 
-    ghost invariant = { λ p. CarriesPost (shared_of J.opening) p.station };
+    ghost invariant = { λ p. CarriesPost (shared_of J.opening) p.station × AreAtMost p.waiting p.station.parked };
 }
 
 impl<J: CourseNames> Post<J> {
@@ -50,6 +52,7 @@ impl<J: CourseNames> Post<J> {
     {
         Post {
             station: Station::new(alloc, slice),
+            waiting: 0,
         }
     }
 
@@ -66,6 +69,13 @@ impl<J: CourseNames> Post<J> {
         ensures { result ≡ self.now.slice.home }
     {
         self.station.slice().home()
+    }
+
+    /// Whether an action may wait here. Where none does it is mostly false.
+    pub fn may_have_waiters(&self) -> bool
+        ensures { IsFalse result → self.now.parked ≡ [] }
+    {
+        self.waiting > 0
     }
 
     /// An action asks for all that its work needs, and does it where nobody is in its way. It reports, unless all who are in
@@ -101,7 +111,10 @@ impl<J: CourseNames> Post<J> {
                     journey,
                 })
             }
-            Acted::Waits => None,
+            Acted::Waits => {
+                self.waiting = one_more(self.waiting);
+                None
+            }
         }
     }
 
@@ -114,6 +127,7 @@ impl<J: CourseNames> Post<J> {
         let Some(turned) = self.station.turn(alloc) else {
             return None;
         };
+        self.waiting = one_less(self.waiting);
         let Turned {
             by: _,
             ran,
@@ -150,5 +164,23 @@ impl<J: CourseNames> Post<J> {
     {
         let Undo { slot: _, claims } = undo;
         self.station.undo(claims);
+    }
+}
+
+// One more, unless it is the largest number.
+fn one_more(number: usize) -> usize
+    ensures { result < 18446744073709551615 → number + 1 ≤ result }
+{
+    number.saturating_add(1)
+}
+
+// One less, unless it is the largest number, or none.
+fn one_less(number: usize) -> usize
+    ensures { result < 18446744073709551615 → (number < 18446744073709551615) × (number ≤ result + 1) }
+{
+    if number == usize::MAX {
+        number
+    } else {
+        number.saturating_sub(1)
     }
 }

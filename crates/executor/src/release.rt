@@ -4,8 +4,9 @@ ghost use Rattle.executor.specs.Journeys.{AreUndoneBy, IsAskedBy};
 ghost use Rattle.executor.specs.Answers.{AreGiven, IsGiven, IsToldBy, MayBeRefused, returning};
 ghost use Rattle.executor.specs.Courses.{KeepsWhole};
 ghost use Rattle.executor.specs.Released.{IsGivenBack, IsGivenFor, refused};
+ghost use Rattle.executor.specs.Transactions.{transacting};
 
-use crate::journey::Transaction;
+use crate::journey::{Matter, Transaction};
 use crate::{CourseNames, HeldClaims, Keeper, Settle, Undo};
 use commit_log::Pass;
 use requests::{Answer, Refusal};
@@ -22,7 +23,16 @@ pub struct Told<J: CourseNames> {
     pub(crate) age: u64,
     pub(crate) number: u32,
     pub(crate) pass: Pass<J>,
-    pub(crate) answer: Answer,
+    pub(crate) verdict: Verdict,
+    pub(crate) matter: Box<Matter>,
+}
+
+/// What became of a transaction.
+#[derive(Drop)]
+pub(crate) enum Verdict {
+    /// It is logged at this place, with the reply of its matter.
+    Done(u32),
+    Refused(Refusal),
 }
 
 impl<J: CourseNames> Model for Told<J> {
@@ -31,10 +41,11 @@ impl<J: CourseNames> Model for Told<J> {
     ghost Value = { Telling };
 
     ghost use Rattle.executor.specs.Answers.{CarriesAnswer, telling};
+    ghost use Rattle.executor.specs.Verdicts.{answer_of};
 
-    ghost view = { λ t. telling t.age t.number t.pass t.answer };
+    ghost view = { λ t. telling t.age t.number t.pass (answer_of t.verdict t.matter.value.reply) };
 
-    ghost invariant = { λ t. CarriesAnswer (telling t.age t.number t.pass t.answer) };
+    ghost invariant = { λ t. CarriesAnswer (telling t.age t.number t.pass (answer_of t.verdict t.matter.value.reply)) };
 }
 
 impl<J: CourseNames> Told<J> {
@@ -58,7 +69,20 @@ impl<J: CourseNames> Told<J> {
         ensures answer { result.1 ≡ self.answer }
         ensures told { IsToldBy self.pass.asks self.pass self.answer }
     {
-        (self.pass, self.answer)
+        let Told {
+            pass,
+            verdict,
+            mut matter,
+            ..
+        } = self;
+        let answer = match verdict {
+            Verdict::Done(place) => Answer::Done {
+                place,
+                reply: matter.take_reply(),
+            },
+            Verdict::Refused(why) => Answer::Refused(why),
+        };
+        (pass, answer)
     }
 }
 
@@ -175,24 +199,25 @@ impl<J: CourseNames> Release<J> {
         held: HeldClaims<J>,
         why: Refusal,
     ) -> Release<J>
-        requires asked { IsAskedBy transaction.number transaction.request transaction.pass }
-        requires may { MayBeRefused transaction.pass.reached transaction.request why }
+        requires asked { IsAskedBy transaction.number transaction.matter.value.request transaction.pass }
+        requires may { MayBeRefused transaction.pass.reached transaction.matter.value.request why }
         requires undone { All (AreUndoneBy transaction.age) held }
         requires whole { KeepsWhole transaction.slot keeper }
-        ensures { result ≡ refused keeper transaction held why }
+        ensures { result ≡ refused keeper (transacting transaction) held why }
     {
         let Transaction {
             age,
             slot,
             number,
-            request: _,
+            matter,
             pass,
         } = transaction;
         let told = Told {
             age,
             number,
             pass,
-            answer: Answer::Refused(why),
+            verdict: Verdict::Refused(why),
+            matter,
         };
         Release {
             told,

@@ -1,7 +1,9 @@
-use Rattle.std.proofs.Common.{◌≡◌, ◌≤◌, ◌+◌, ◌∙◌, ◌++◌, length, List, sym, ap, subst}
+use Rattle.std.proofs.Common.{ℕ, ◌≡◌, ◌≤◌, ◌+◌, ◌∙◌, ◌++◌, length, List, sym, ap, subst}
 use Rattle.std.specs.Prelude.{All}
 use Rattle.partitions.specs.Parts.{shared_of}
 use Rattle.tickets.specs.Claims.{Claiming}
+use Rattle.requests.specs.declared.request.Request.{Request}
+use Rattle.transactions.specs.declared.progress.Progress.{Progress}
 use Rattle.transactions.specs.declared.work.Found.{Found}
 use Rattle.transactions.specs.Progresses.{works_of}
 use Rattle.executor.specs.declared.following.Following.{Following}
@@ -12,6 +14,7 @@ use Rattle.executor.specs.Phases.{AreAllRans, Meeting}
 use Rattle.executor.specs.Sorted.{found_in, held_in}
 use Rattle.executor.specs.Released.{refused}
 use Rattle.executor.specs.Followed.{Follows, Gathers, HasMetUnder, transaction_of}
+use Rattle.executor.specs.Transactions.{Transacting, transacting}
 use Rattle.executor.proofs.Onward.{follows_gathered, follows_refused, met_under, none_before, room_then, undone_then}
 use Rattle.executor.proofs.Refusals.{may_be_refused}
 use Rattle.executor.proofs.phase.Met.follow.Given as given
@@ -20,7 +23,7 @@ use Rattle.executor.proofs.phase.Met.follow.Goals.{After-start-sorted, After-sor
 
 -- the transaction, and what has met
 abbrev journey_of : (g : given.Over) → After-start-sorted g → Journeying
-journey_of g c = let t = c.journey.inside.transaction in journeying t.age t.slot t.number t.request t.pass c.journey.inside.held c.journey.inside.progress
+journey_of g c = let t = c.journey.inside.transaction in journeying t.age t.slot t.number t.matter.value.request t.pass c.journey.inside.held t.matter.value.progress
 
 abbrev meeting_of : (g : given.Over) → After-start-sorted g → Meeting g.row.J.Denot
 meeting_of g c = record { journey = journey_of g c; rans = c.self.inside.rans }
@@ -64,7 +67,8 @@ refused-requires-clause-whole g c = whole g (goal.at.refused-requires-clause-who
 
 pub gather-requires-clause-undone : goal.gather-requires-clause-undone
 gather-requires-clause-undone g c =
-    undone g (goal.at.gather-requires-clause-undone g c).After-start-sorted c.sort_out-held.result.held (held_is g (goal.at.gather-requires-clause-undone g c).After-sort_out-held)
+    subst (λ (age : ℕ). All (AreUndoneBy age) c.sort_out-held.result.held) (sym (ap (λ (t : Transacting). t.age) c.take_progress-progress.ensures.same))
+    (undone g (goal.at.gather-requires-clause-undone g c).After-start-sorted c.sort_out-held.result.held (held_is g (goal.at.gather-requires-clause-undone g c).After-sort_out-held))
 
 pub gather-requires-clause-met : goal.gather-requires-clause-met
 gather-requires-clause-met g c =
@@ -73,9 +77,12 @@ gather-requires-clause-met g c =
     let shared = shared_of g.J.LogNames.opening in
     let j = journey_of g at in
     let none = none_before c.start-sorted.result.refusal c.self.inside.rans (sym c.sort_out-held.ensures.refusal ∙ c.in-None.is) in
-    subst (λ (h : List (List Claiming)). HasMetUnder shared j.request j.progress h c.sort_out-held.result.found.items) (sym (held_is g later))
+    subst (λ (r : Request). HasMetUnder shared r c.take_progress-progress.result c.sort_out-held.result.held c.sort_out-held.result.found.items)
+    (sym (ap (λ (t : Transacting). t.request) c.take_progress-progress.ensures.same))
+    (subst (λ (p : Progress). HasMetUnder shared j.request p c.sort_out-held.result.held c.sort_out-held.result.found.items) (sym c.take_progress-progress.ensures.progress)
+    (subst (λ (h : List (List Claiming)). HasMetUnder shared j.request j.progress h c.sort_out-held.result.found.items) (sym (held_is g later))
     (subst (λ (f : List Found). HasMetUnder shared j.request j.progress (j.held ++ held_in c.self.inside.rans) f) (sym (c.sort_out-held.ensures.found c.in-None.is))
-    (met_under shared j c.self.inside.rans c.journey.invariant (are g at) none))
+    (met_under shared j c.self.inside.rans c.journey.invariant (are g at) none))))
 
 pub returns-in-Some : goal.returns-in-Some
 returns-in-Some g c =
@@ -85,7 +92,7 @@ returns-in-Some g c =
     let j = journey_of g at in
     let keeper = c.self.inside.keeper in
     let follows = follows_refused (meeting_of g at) keeper (whole g at) c.start-sorted.result.refusal c.in-Some.why c.start-sorted.ensures.refusal (sym c.sort_out-held.ensures.refusal ∙ c.in-Some.is) in
-    let same = ap (λ (h : List (List Claiming)). Over (refused {J = J} keeper (transaction_of j) h c.in-Some.why)) (sym (held_is g later)) ∙ ap (λ r. Over r) (sym c.refused.ensures) in
+    let same = ap (λ (h : List (List Claiming)). Over (refused keeper (transaction_of j) h c.in-Some.why)) (sym (held_is g later)) ∙ ap (λ r. Over r) (sym c.refused.ensures) in
     subst (λ (m : Meeting J). Follows m (Over c.refused.result)) (seen g at) (subst (λ (f : Following J). Follows (meeting_of g at) f) same follows)
 
 pub returns-in-None : goal.returns-in-None
@@ -96,6 +103,9 @@ returns-in-None g c =
     let j = journey_of g at in
     let keeper = c.self.inside.keeper in
     let gathers = subst (λ (h : List (List Claiming)). Gathers keeper (transaction_of j) h j.progress (found_in c.self.inside.rans) c.gather.result) (held_is g later)
-    (subst (λ (f : List Found). Gathers keeper (transaction_of j) c.sort_out-held.result.held j.progress f c.gather.result) (c.sort_out-held.ensures.found c.in-None.is) c.gather.ensures) in
+    (subst (λ (f : List Found). Gathers keeper (transaction_of j) c.sort_out-held.result.held j.progress f c.gather.result) (c.sort_out-held.ensures.found c.in-None.is)
+    (subst (λ (t : Transacting). Gathers keeper t c.sort_out-held.result.held j.progress c.sort_out-held.result.found.items c.gather.result) c.take_progress-progress.ensures.same
+    (subst (λ (p : Progress). Gathers keeper (transacting c.take_progress-progress.new.self) c.sort_out-held.result.held p c.sort_out-held.result.found.items c.gather.result)
+    c.take_progress-progress.ensures.progress c.gather.ensures))) in
     subst (λ (m : Meeting J). Follows m c.gather.result) (seen g at)
     (follows_gathered (meeting_of g at) keeper (whole g at) c.start-sorted.result.refusal c.gather.result (sym c.sort_out-held.ensures.refusal ∙ c.in-None.is) gathers)
