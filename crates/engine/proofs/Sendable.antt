@@ -64,12 +64,21 @@ module _ (J : RattleType) (course : CourseNames J.Denot) (log : LogNames J.Denot
           (
             search (Message-send, Deque-send, sendable) depth 20,
             (
-              search (Message-send, Deque-send, sendable) depth 20,
+              search (Errand-send, Vec-send, Deque-send, sendable) depth 20,
               (
-                search (Deque-send, sendable) depth 20,
+                search (Settle-send, Deque-send, sendable) depth 20,
                 (
-                  search sendable depth 20,
-                  tt,
+                  search (Undo-send, Deque-send, sendable) depth 20,
+                  (
+                    search (Message-send, Deque-send, sendable) depth 20,
+                    (
+                      search (Deque-send, sendable) depth 20,
+                      (
+                        search sendable depth 20,
+                        tt,
+                      ),
+                    ),
+                  ),
                 ),
               ),
             ),

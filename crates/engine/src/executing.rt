@@ -2,11 +2,13 @@
 ghost use Rattle.std.specs.Prelude.{◌≡◌, IfSome};
 
 use crate::engine::Engine;
-use crate::message::{Message, going_back};
+use crate::message::{Message, going_back, home_of};
 use crate::place::{Advanced, Ended, Strange};
 use crate::{Gate, MOST_SESSIONS, ServeNames};
 use crossbeam_utils::Backoff;
-use executor::{Commit, CourseNames, Errand, Following, Post, Release, Report, Settle, Undo};
+use executor::{
+    Commit, CourseNames, Errand, Following, GivenBack, Post, Release, Report, Settle, Undo,
+};
 use queues::{Sender, Taker};
 use schema::NoMemory;
 use std::alloc::Global;
@@ -33,8 +35,12 @@ pub struct Executor<J: CourseNames> {
     inbox: Taker<Message<J>>,
     /// Into the inboxes of all, by the executors' numbers.
     outlets: Vec<Sender<Message<J>>>,
-    /// To itself.
+    /// To itself, beside what follows.
     lane: VecDeque<Message<J>>,
+    /// The actions of each phase that are all at its own warehouses, and what goes back to these: no message is made of them.
+    phases: VecDeque<Vec<Errand<J>>>,
+    settles: VecDeque<Settle<J>>,
+    undos: VecDeque<Undo<J>>,
     /// To others whose inbox was full.
     outbox: VecDeque<(u32, Message<J>)>,
     /// The sessions that are to begin their next request here.
@@ -58,6 +64,9 @@ impl<J: CourseNames> Executor<J> {
             posts.push(None)?;
         }
         let lane = VecDeque::with_capacity(alloc, ROOM)?;
+        let phases = VecDeque::with_capacity(alloc, MOST_SESSIONS)?;
+        let settles = VecDeque::with_capacity(alloc, ROOM)?;
+        let undos = VecDeque::with_capacity(alloc, ROOM)?;
         let outbox = VecDeque::with_capacity(alloc, ROOM)?;
         let ready = VecDeque::with_capacity(alloc, MOST_SESSIONS)?;
         Ok(Executor {
@@ -66,6 +75,9 @@ impl<J: CourseNames> Executor<J> {
             inbox,
             outlets,
             lane,
+            phases,
+            settles,
+            undos,
             outbox,
             ready,
             begun: 0,
@@ -159,15 +171,64 @@ impl<J: ServeNames, G: Gate, R: Wait> AtWork<'_, '_, J, G, R> {
         true
     }
 
-    // Takes the messages that it has to itself, up to so many. Whether there was one.
+    // Takes what it has to itself, up to so many. Whether there was any.
     fn take_own(&mut self) -> bool {
         for taken in 0..MOST_OWN {
-            let Some(message) = self.own.lane.pop_front() else {
+            if !(self.settle_next() || self.undo_next() || self.act_next() || self.take_next()) {
                 return taken > 0;
-            };
-            self.take(message);
+            }
         }
         true
+    }
+
+    // The first claims that come back here. Whether there were any.
+    fn settle_next(&mut self) -> bool {
+        let Some(settle) = self.own.settles.pop_front() else {
+            return false;
+        };
+        let settled = self.settle(settle);
+        self.stop_if(settled.is_err());
+        true
+    }
+
+    // The first claims that come back here, and under which all is taken back. Whether there were any.
+    fn undo_next(&mut self) -> bool {
+        let Some(undo) = self.own.undos.pop_front() else {
+            return false;
+        };
+        let undone = self.undo(undo);
+        self.stop_if(undone.is_err());
+        true
+    }
+
+    // An action of the first phase that is all here. Whether there was such a phase.
+    fn act_next(&mut self) -> bool {
+        let Some(errands) = self.own.phases.front_mut() else {
+            return false;
+        };
+        match errands.pop() {
+            Some(errand) => {
+                let acted = self.act(errand);
+                self.stop_if(acted.is_err());
+            }
+            None => drop(self.own.phases.pop_front()),
+        }
+        true
+    }
+
+    // The first message to itself. Whether there was one.
+    fn take_next(&mut self) -> bool {
+        let Some(message) = self.own.lane.pop_front() else {
+            return false;
+        };
+        self.take(message);
+        true
+    }
+
+    fn stop_if(&self, is_strange: bool) {
+        if is_strange {
+            self.engine.stop();
+        }
     }
 
     // Rests until a message comes. One that came while it lay down is taken at once.
@@ -308,8 +369,16 @@ impl<J: ServeNames, G: Gate, R: Wait> AtWork<'_, '_, J, G, R> {
         Ok(())
     }
 
-    // Each of those who wait at a post and need not any more has its turn, and reports.
+    // Each of those who wait at a post and need not any more has its turn, and reports. Mostly nobody waits.
     fn take_turns(&mut self, home: u32) {
+        if let Some(post) = self.own.post_mut(home)
+            && post.may_have_waiters()
+        {
+            self.take_each_turn(home);
+        }
+    }
+
+    fn take_each_turn(&mut self, home: u32) {
         for _ in self.rt.forever() {
             let Some(post) = self.own.post_mut(home) else {
                 return;
@@ -368,10 +437,23 @@ impl<J: ServeNames, G: Gate, R: Wait> AtWork<'_, '_, J, G, R> {
             let Some(given) = returns.next_back() else {
                 break;
             };
-            let (home, message) = going_back(given);
-            self.send(home, message);
+            self.send_back(given);
         }
         self.send_over(slot, ended.over);
+    }
+
+    // The claims of an action go back to who has their warehouse.
+    fn send_back(&mut self, given: GivenBack<J>) {
+        let to = self.engine.routing.route(home_of(&given));
+        if to != self.own.number {
+            self.push(to, going_back(given));
+            return;
+        }
+        let kept = match given {
+            GivenBack::Settle(settle) => self.own.settles.push_back(settle).is_ok(),
+            GivenBack::Undo(undo) => self.own.undos.push_back(undo).is_ok(),
+        };
+        self.stop_if(!kept);
     }
 
     // The request of this number has its answer, unless it is asked again.
@@ -401,6 +483,24 @@ impl<J: ServeNames, G: Gate, R: Wait> AtWork<'_, '_, J, G, R> {
     // ---- sending
 
     fn send_all(&mut self, errands: Vec<Errand<J>>) {
+        if !self.are_all_here(&errands) {
+            self.send_each(errands);
+        } else if self.own.phases.push_back(errands).is_err() {
+            self.engine.stop();
+        }
+    }
+
+    // Whether these actions are all at its own warehouses.
+    fn are_all_here(&self, errands: &[Errand<J>]) -> bool {
+        for errand in errands {
+            if self.engine.routing.route(errand.home()) != self.own.number {
+                return false;
+            }
+        }
+        true
+    }
+
+    fn send_each(&mut self, errands: Vec<Errand<J>>) {
         for errand in errands {
             self.send(errand.home(), Message::Errand(errand));
         }
@@ -411,16 +511,23 @@ impl<J: ServeNames, G: Gate, R: Wait> AtWork<'_, '_, J, G, R> {
         let to = self.engine.routing.route(home);
         if to != self.own.number {
             self.push(to, message);
-        } else if self.own.lane.push_back(message).is_err() {
-            self.engine.stop();
+        } else if let Err(failed) = self.own.lane.push_back(message) {
+            self.stop_without(failed.value);
         }
+    }
+
+    // There is no room for a message: so nobody can go on.
+    #[cold]
+    #[inline(never)]
+    fn stop_without(&self, message: Message<J>) {
+        drop(message);
+        self.engine.stop();
     }
 
     // Puts a message into another's inbox, or keeps it where that is full.
     fn push(&mut self, to: u32, message: Message<J>) {
         let Some(outlet) = self.own.outlets.get_mut(to as usize) else {
-            self.engine.stop();
-            return;
+            return self.stop_without(message);
         };
         match outlet.put(self.rt, message) {
             Ok(()) => self.engine.call(to),
@@ -429,6 +536,8 @@ impl<J: ServeNames, G: Gate, R: Wait> AtWork<'_, '_, J, G, R> {
     }
 
     // Keeps a message that found an inbox full.
+    #[cold]
+    #[inline(never)]
     fn keep(&mut self, to: u32, message: Message<J>) {
         if self.own.outbox.push_back((to, message)).is_err() {
             self.engine.stop();

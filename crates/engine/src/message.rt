@@ -16,10 +16,18 @@ pub(crate) enum Message<J: CourseNames> {
     Undo(Undo<J>),
 }
 
-/// The claims of an action, as they go back, and the W_ID of the warehouse that they go to.
-pub(crate) fn going_back<J: CourseNames>(given: GivenBack<J>) -> (u32, Message<J>) {
+/// The claims of an action, as they go back to another executor.
+pub(crate) fn going_back<J: CourseNames>(given: GivenBack<J>) -> Message<J> {
     match given {
-        GivenBack::Settle(settle) => (settle.home(), Message::Settle(settle)),
-        GivenBack::Undo(undo) => (undo.home(), Message::Undo(undo)),
+        GivenBack::Settle(settle) => Message::Settle(settle),
+        GivenBack::Undo(undo) => Message::Undo(undo),
+    }
+}
+
+/// The W_ID of the warehouse to which claims go back.
+pub(crate) fn home_of<J: CourseNames>(given: &GivenBack<J>) -> u32 {
+    match given {
+        GivenBack::Settle(settle) => settle.home(),
+        GivenBack::Undo(undo) => undo.home(),
     }
 }

@@ -159,7 +159,7 @@ impl<'a, J: ServeNames> Place<'a, J> {
                 Ok(None)
             }
             Reported::Met(met) => Ok(Some(met)),
-            Reported::Strange(_, _) => Err(Strange),
+            Reported::Strange(phase, report) => Err(strange_report(phase, report)),
         }
     }
 
@@ -212,4 +212,13 @@ impl<'a, J: ServeNames> Place<'a, J> {
             _ => None,
         }
     }
+}
+
+// A report has come to a phase that doesn't await it.
+#[cold]
+#[inline(never)]
+fn strange_report<J: ServeNames>(phase: Phase<J>, report: Report<J>) -> Strange {
+    drop(phase);
+    drop(report);
+    Strange
 }
