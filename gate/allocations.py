@@ -170,7 +170,8 @@ def main():
         refuser, dataset, script, schedule = library(room), f"{room}/dataset.csv", f"{room}/script.csv", f"{room}/schedule.csv"
         subprocess.run([program, "populate", dataset, *POPULATION], check=True)
         write(script, [*REQUESTS, f"END,{len(REQUESTS)}"])
-        events = [it for number, request in enumerate(REQUESTS) for it in (f"S,0,{number},{request}", "R")]
+        # With each request the warehouse goes to the other executor.
+        events = [it for number, request in enumerate(REQUESTS) for it in (f"S,0,{number},{request}", f"M,1,1,{(number + 1) % 2}", "R")]
         write(schedule, [*events, f"END,{len(events)}"])
         sweeps = [
             Sweep(program, room, refuser, "run", [dataset, script, script], 2 * len(REQUESTS)),

@@ -10,9 +10,9 @@ use Rattle.commit_log.specs.declared.entry.Entry.{Entry}
 use Rattle.commit_log.specs.Log.{requests_of}
 use Rattle.commit_log.proofs.Legal.{legal-append}
 use Rattle.history.specs.declared.event.Event.{Event}
-use Rattle.history.specs.declared.event.Event.TheVariants.{Submit, Take, Send}
+use Rattle.history.specs.declared.event.Event.TheVariants.{Submit, Order, Take, Send}
 use Rattle.history.specs.declared.event.EventAnswer.{EventAnswer}
-use Rattle.history.specs.declared.event.EventAnswer.TheVariants.{Accepted, Took, Sent, Full, Logged, Answered, Nothing}
+use Rattle.history.specs.declared.event.EventAnswer.TheVariants.{Accepted, Ordered, Took, Sent, Full, Logged, Moved, Answered, Nothing}
 use Rattle.history.specs.History.{Step, step, Transaction, Unanswered, noted, noted_all, noted_entry, transactions, with_entry, with_answer, opened}
 use Rattle.history.specs.Fits.{Fits, Recorded, IsLoggedBelow, NamesEntries}
 use Rattle.history.specs.Laws.{EmptyHistoryFits, UnansweredInAnyOrder, IsQuiet, QuietEventFits, AdmissionFits, EntryFits, AnswerFits, with_place}
@@ -53,10 +53,12 @@ noted_all-more log more at (x ∷ history) ts h =
 
 below_more : (n : ℕ) (answer : EventAnswer) → IsLoggedBelow n answer → IsLoggedBelow (n + 1) answer
 below_more n (Accepted age) h = tt
+below_more n Ordered h = tt
 below_more n Took h = tt
 below_more n Sent h = tt
 below_more n Full h = tt
 below_more n (Logged place) h = omega (arith, h)
+below_more n Moved h = tt
 below_more n (Answered session number answer) h = tt
 below_more n Nothing h = tt
 
@@ -107,25 +109,40 @@ one_more opening history log tables admitted admitted' pending pending' s ts is 
 }
 
 quiet_notes : (log : List Entry) (at : ℕ) (event : Event) (answer : EventAnswer) (ts : List Transaction) → IsQuiet event answer → (noted log at event answer ts ≡ ts) × IsLoggedBelow (length log) answer
+quiet_notes log at (Submit session number request) Ordered ts h = (refl, tt)
+quiet_notes log at (Order order) Ordered ts h = (refl, tt)
+quiet_notes log at (Take executor) Ordered ts h = (refl, tt)
+quiet_notes log at (Send executor) Ordered ts h = (refl, tt)
 quiet_notes log at (Submit session number request) Took ts h = (refl, tt)
+quiet_notes log at (Order order) Took ts h = (refl, tt)
 quiet_notes log at (Take executor) Took ts h = (refl, tt)
 quiet_notes log at (Send executor) Took ts h = (refl, tt)
 quiet_notes log at (Submit session number request) Sent ts h = (refl, tt)
+quiet_notes log at (Order order) Sent ts h = (refl, tt)
 quiet_notes log at (Take executor) Sent ts h = (refl, tt)
 quiet_notes log at (Send executor) Sent ts h = (refl, tt)
 quiet_notes log at (Submit session number request) Full ts h = (refl, tt)
+quiet_notes log at (Order order) Full ts h = (refl, tt)
 quiet_notes log at (Take executor) Full ts h = (refl, tt)
 quiet_notes log at (Send executor) Full ts h = (refl, tt)
+quiet_notes log at (Submit session number request) Moved ts h = (refl, tt)
+quiet_notes log at (Order order) Moved ts h = (refl, tt)
+quiet_notes log at (Take executor) Moved ts h = (refl, tt)
+quiet_notes log at (Send executor) Moved ts h = (refl, tt)
 quiet_notes log at (Submit session number request) Nothing ts h = (refl, tt)
+quiet_notes log at (Order order) Nothing ts h = (refl, tt)
 quiet_notes log at (Take executor) Nothing ts h = (refl, tt)
 quiet_notes log at (Send executor) Nothing ts h = (refl, tt)
 quiet_notes log at (Submit session number request) (Answered other n answer) ts h = (refl, tt)
+quiet_notes log at (Order order) (Answered other n answer) ts h = absurd h
 quiet_notes log at (Take executor) (Answered other n answer) ts h = absurd h
 quiet_notes log at (Send executor) (Answered other n answer) ts h = absurd h
 quiet_notes log at (Submit session number request) (Accepted age) ts h = absurd h
+quiet_notes log at (Order order) (Accepted age) ts h = absurd h
 quiet_notes log at (Take executor) (Accepted age) ts h = absurd h
 quiet_notes log at (Send executor) (Accepted age) ts h = absurd h
 quiet_notes log at (Submit session number request) (Logged place) ts h = absurd h
+quiet_notes log at (Order order) (Logged place) ts h = absurd h
 quiet_notes log at (Take executor) (Logged place) ts h = absurd h
 quiet_notes log at (Send executor) (Logged place) ts h = absurd h
 

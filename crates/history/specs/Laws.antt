@@ -11,7 +11,7 @@ use Rattle.commit_log.specs.declared.entry.Entry.{Entry}
 use Rattle.history.specs.declared.event.Event.{Event}
 use Rattle.history.specs.declared.event.Event.TheVariants.{Submit, Send}
 use Rattle.history.specs.declared.event.EventAnswer.{EventAnswer}
-use Rattle.history.specs.declared.event.EventAnswer.TheVariants.{Accepted, Took, Sent, Full, Logged, Answered, Nothing}
+use Rattle.history.specs.declared.event.EventAnswer.TheVariants.{Accepted, Ordered, Took, Sent, Full, Logged, Moved, Answered, Nothing}
 use Rattle.history.specs.History.{Step, step, Unanswered, HasReply, is_of}
 use Rattle.history.specs.Fits.{Fits}
 
@@ -25,12 +25,14 @@ UnansweredInAnyOrder =
     (opening : Database) (history : List Step) (log : List Entry) (tables : Database) (admitted : ℕ) (pending other : List Unanswered)
     → IsPermutation pending other → Fits opening history log tables admitted pending → Fits opening history log tables admitted other
 
--- An event tells nothing of a transaction where it is answered so. An answer to a submission is a refusal of it, which is
--- never admitted.
+-- An event tells nothing of a transaction where it is answered so: moves change nothing of what is told of transactions, and
+-- an answer to a submission is a refusal of it, which is never admitted.
 abbrev pub IsQuiet : Event → EventAnswer → Type 0
+IsQuiet event Ordered = Unit {0}
 IsQuiet event Took = Unit {0}
 IsQuiet event Sent = Unit {0}
 IsQuiet event Full = Unit {0}
+IsQuiet event Moved = Unit {0}
 IsQuiet event Nothing = Unit {0}
 IsQuiet (Submit session number request) (Answered other n answer) = Unit {0}
 IsQuiet event answer = ⊥

@@ -46,7 +46,7 @@ IsIdle r = All IsIdleTurn r
 abbrev pub IsBusy : Round → Type 0
 IsBusy r = ¬ IsIdle r
 
--- of an event in a round it is printed only where a transaction was logged or answered
+-- of an event in a round it is printed only where a transaction was logged or answered, or a move was over
 abbrev pub outputs_in_round : EventAnswer → List Output
 outputs_in_round Took = []
 outputs_in_round Sent = []

@@ -1,3 +1,4 @@
+use range_moves::MoveOrder;
 use requests::{Answer, Request};
 
 /// What happens in the engine, one at a time. Each is one atomic step.
@@ -9,6 +10,8 @@ pub enum Event {
         number: u32,
         request: Request,
     },
+    /// A move of a range of warehouses is ordered, at the executor to which they go.
+    Order(MoveOrder),
     /// An executor takes the first message of its inbox, and works on it.
     Take {
         executor: u32,
@@ -26,6 +29,8 @@ pub enum EventAnswer {
     Accepted {
         age: u64,
     },
+    /// The move is outstanding from here on.
+    Ordered,
     /// A message was taken.
     Took,
     /// An item was sent.
@@ -36,6 +41,8 @@ pub enum EventAnswer {
     Logged {
         place: u32,
     },
+    /// An item was sent: the last report of the move that was outstanding.
+    Moved,
     /// The session's request of this number was answered, at once or by its transaction.
     Answered {
         session: u32,

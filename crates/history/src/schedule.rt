@@ -16,7 +16,8 @@ pub enum Scheduled {
 /// What is printed of a schedule.
 #[derive(Clone, Debug, PartialEq, Eq, Drop)]
 pub enum Output {
-    /// What came of an event. Of rounds it is printed only where a transaction was logged or answered.
+    /// What came of an event. Of rounds it is printed only where a transaction was logged or answered, or a
+    /// move was over.
     Event(EventAnswer),
     /// The rounds ended with one in which nothing could happen.
     Quiet,

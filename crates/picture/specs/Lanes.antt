@@ -24,6 +24,10 @@ abbrev pub sessions_from : List ℕ → List Scheduled → List ℕ
 sessions_from sessions [] = sessions
 sessions_from sessions (item ∷ schedule) = sessions_from (with_submitter sessions (submitter item)) schedule
 
+-- where an order stands, at the left of all lanes
+abbrev pub outside_x : ℕ
+outside_x = 152
+
 -- how many lanes of sessions stand before that of this one
 abbrev pub place_of : List ℕ → ℕ → ℕ
 place_of sessions session = unwrap_or (position (λ other. other == session) sessions) 0

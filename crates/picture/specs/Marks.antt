@@ -7,12 +7,12 @@ use Rattle.picture.specs.declared.marks.Mark.{Mark}
 use Rattle.picture.specs.declared.marks.Mark.TheVariants.{Words, Spot, Square, Across}
 use Rattle.picture.specs.declared.phrase.Phrase.TheVariants as phrase
 use Rattle.picture.specs.declared.row.Deed.{Deed}
-use Rattle.picture.specs.declared.row.Deed.TheVariants.{Submit, Take, Send}
+use Rattle.picture.specs.declared.row.Deed.TheVariants.{Submit, Order, Take, Send}
 use Rattle.picture.specs.declared.row.Told.{Told}
-use Rattle.picture.specs.declared.row.Told.TheVariants.{Accepted, Logged, Done, Refused, Nothing}
+use Rattle.picture.specs.declared.row.Told.TheVariants.{Accepted, Ordered, Logged, Done, Refused, Nothing}
 use Rattle.picture.specs.declared.row.Row.{Row}
 use Rattle.picture.specs.declared.row.Row.TheVariants.{Event, Rounds, InRounds}
-use Rattle.picture.specs.Lanes.{session_x, takes_x, sends_x, log_left, log_x, log_right, told_x, row_top, row_middle, row_words, row_bottom}
+use Rattle.picture.specs.Lanes.{outside_x, session_x, takes_x, sends_x, log_left, log_x, log_right, told_x, row_top, row_middle, row_words, row_bottom}
 use Rattle.picture.specs.Phrases.{phrase_text}
 
 -- ---- the marks of a row
@@ -22,6 +22,11 @@ abbrev pub submission : ℕ → ℕ → Told → Mark
 submission x at (Accepted age) = Spot style.Take x at
 submission x at (Refused session number refusal) = Spot style.Refused x at
 submission x at told = Spot style.Nothing x at
+
+-- an order has a spot at the left of all lanes, full where the move is outstanding from then on
+abbrev pub ordering : ℕ → Told → Mark
+ordering at Ordered = Spot style.Take outside_x at
+ordering at told = Spot style.Nothing outside_x at
 
 -- a take or a send has a spot on its executor's line
 abbrev pub step_spot : Style → ℕ → ℕ → Told → Mark
@@ -51,6 +56,7 @@ told_arrow sessions executors from at told = []
 -- What an event has in its row beside its words: a spot, and what is logged or answered by it.
 abbrev pub event_signs : List ℕ → ℕ → ℕ → Deed → Told → List Mark
 event_signs sessions executors at (Submit session number kind) told = submission (session_x sessions session) at told ∷ []
+event_signs sessions executors at (Order order) told = ordering at told ∷ []
 event_signs sessions executors at (Take executor) told = step_spot style.Take (takes_x (length sessions) executor) at told ∷ []
 event_signs sessions executors at (Send executor) told =
     told_arrow sessions executors (sends_x (length sessions) executor) at told

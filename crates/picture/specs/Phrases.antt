@@ -8,13 +8,13 @@ use Rattle.requests.specs.declared.refusal.Refusal.TheVariants.{Died}
 use Rattle.picture.specs.declared.row.Kind.{Kind}
 use Rattle.picture.specs.declared.row.Kind.TheVariants.{NewOrder, Payment, OrderStatus, Delivery, StockLevel}
 use Rattle.picture.specs.declared.row.Deed.{Deed as AnyDeed}
-use Rattle.picture.specs.declared.row.Deed.TheVariants.{Submit, Take, Send}
+use Rattle.picture.specs.declared.row.Deed.TheVariants.{Submit, Order, Take, Send}
 use Rattle.picture.specs.declared.row.Told.{Told as AnyTold}
 use Rattle.picture.specs.declared.row.Told.TheVariants as told
 use Rattle.picture.specs.declared.phrase.Heading.{Heading as AnyHeading}
 use Rattle.picture.specs.declared.phrase.Heading.TheVariants as heading
 use Rattle.picture.specs.declared.phrase.Phrase.{Phrase}
-use Rattle.picture.specs.declared.phrase.Phrase.TheVariants.{Heading, Number, Deed, Rounds, Told, Place, One, Two, All, Start, Act, Report, Commit, Reply, Settle, Undo, Ended, Unknown, NotShown}
+use Rattle.picture.specs.declared.phrase.Phrase.TheVariants.{Heading, Number, Deed, Rounds, Told, Place, One, Two, All, Start, Act, Report, Commit, Reply, Settle, Undo, Ended, Move, Fetch, Parcel, Arrival, Parked, Unknown, NotShown}
 
 -- what stands over a lane or a column
 abbrev pub heading_text : AnyHeading → List ℕ
@@ -40,6 +40,7 @@ kind_text StockLevel = codes "L"
 -- what was scheduled, as schedules spell it, but of a submission only whose it is and of which kind
 abbrev pub deed_text : AnyDeed → List ℕ
 deed_text (Submit session number kind) = codes "S," ++ (decimal session ++ (codes "," ++ (decimal number ++ (codes "," ++ kind_text kind))))
+deed_text (Order order) = codes "M," ++ (decimal order.lo ++ (codes "," ++ (decimal order.hi ++ (codes "," ++ decimal order.to))))
 deed_text (Take executor) = codes "T," ++ decimal executor
 deed_text (Send executor) = codes "X," ++ decimal executor
 
@@ -55,10 +56,12 @@ refusal_text refusal = decimal (refusal_number refusal)
 -- what is told, as it is printed, but of what was done only its place, and X where it was rolled back
 abbrev pub told_text : AnyTold → List ℕ
 told_text (told.Accepted age) = codes "accepted," ++ decimal age
+told_text told.Ordered = codes "ordered"
 told_text told.Took = codes "took"
 told_text told.Sent = codes "sent"
 told_text told.Full = codes "full"
 told_text (told.Logged place) = codes "logged," ++ decimal place
+told_text told.Moved = codes "moved"
 told_text (told.Done session number place false) = answered_text session number (codes ",done," ++ decimal place)
 told_text (told.Done session number place true) = answered_text session number (codes ",done," ++ (decimal place ++ codes ",X"))
 told_text (told.Refused session number refusal) = answered_text session number (codes ",refused," ++ refusal_text refusal)
@@ -89,5 +92,10 @@ phrase_text (Reply age) = codes "Reply of " ++ decimal age
 phrase_text (Settle place age) = action_text (codes "Settle ") place age
 phrase_text (Undo place age) = action_text (codes "Undo ") place age
 phrase_text (Ended place age) = action_text (codes "End ") place age
+phrase_text (Move lo hi) = codes "Move " ++ (decimal lo ++ (codes " to " ++ decimal hi))
+phrase_text (Fetch w_id) = codes "Fetch warehouse " ++ decimal w_id
+phrase_text (Parcel w_id) = codes "Parcel warehouse " ++ decimal w_id
+phrase_text (Arrival w_id) = codes "Report warehouse " ++ decimal w_id
+phrase_text Parked = codes "parked"
 phrase_text Unknown = codes "not known from here on"
 phrase_text NotShown = codes "rounds, whose events are not shown"

@@ -34,6 +34,7 @@ kind_of (request.StockLevel r) = kind.StockLevel
 -- what an event does
 abbrev pub deed_of : AnyEvent → Deed
 deed_of (event.Submit session number request) = deed.Submit session number (kind_of request)
+deed_of (event.Order order) = deed.Order order
 deed_of (event.Take executor) = deed.Take executor
 deed_of (event.Send executor) = deed.Send executor
 
@@ -50,10 +51,12 @@ told_of_answer session number (answer.Refused refusal) = told.Refused session nu
 -- what is told of an event
 abbrev pub told_of_event : EventAnswer → Told
 told_of_event (came.Accepted age) = told.Accepted age
+told_of_event came.Ordered = told.Ordered
 told_of_event came.Took = told.Took
 told_of_event came.Sent = told.Sent
 told_of_event came.Full = told.Full
 told_of_event (came.Logged place) = told.Logged place
+told_of_event came.Moved = told.Moved
 told_of_event (came.Answered session number a) = told_of_answer session number a
 told_of_event came.Nothing = told.Nothing
 

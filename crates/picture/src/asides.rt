@@ -23,7 +23,7 @@ pub enum Aside {
         x: u128,
         rows: usize,
     },
-    /// What was taken or sent in the row at that place.
+    /// What was taken or sent in the row at that place, and that it is parked.
     Named {
         x: u128,
         at: usize,

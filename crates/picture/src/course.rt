@@ -3,13 +3,14 @@
 //! no memory, nothing is drawn until rounds have ended quiet, after which nothing is under way.
 use crate::asides::Aside;
 use crate::graph::{Action, actions_of};
-use crate::lanes::Lanes;
+use crate::lanes::{Lanes, outside};
 use crate::phrase::Phrase;
 use crate::row::{Deed, Row, Told};
+use crate::slices::Slices;
 use crate::under_way::{Content, Executor, Flow, Item};
 use history::{Event, Scheduled};
+use range_moves::MoveOrder;
 use requests::Request;
-use routing::Routing;
 use schema::NoMemory;
 use std::alloc::Global;
 use std::collections::VecDeque;
@@ -19,7 +20,7 @@ use std::collections::VecDeque;
 pub struct Course<'a> {
     pub alloc: Global,
     pub lanes: &'a Lanes,
-    pub routing: Routing,
+    pub slices: Slices,
     pub executors: Vec<Executor>,
     pub flows: Vec<Flow>,
     /// Whether it is known what is under way.
@@ -34,7 +35,7 @@ pub fn put_course(
     alloc: Global,
     asides: Vec<Aside>,
     lanes: &Lanes,
-    routing: Routing,
+    slices: Slices,
     schedule: &[Scheduled],
     rows: &[Row],
 ) -> Result<Vec<Aside>, NoMemory> {
@@ -43,13 +44,14 @@ pub fn put_course(
         executors.push(Executor {
             inbox: VecDeque::new(alloc),
             outbox: VecDeque::new(alloc),
+            parked: VecDeque::new(alloc),
             slots: [false; 4],
         })?;
     }
     let mut course = Course {
         alloc,
         lanes,
-        routing,
+        slices,
         executors,
         flows: Vec::new(alloc),
         known: true,
@@ -69,7 +71,8 @@ impl<'a> Course<'a> {
     fn follow(&mut self, at: usize, row: Row, schedule: &[Scheduled]) -> Result<(), NoMemory> {
         match row {
             Row::Event { number, deed, told } => {
-                if self.known && !self.happen(at, number, deed, told, schedule)? {
+                let can_be = self.note_order(deed, told);
+                if self.known && !(can_be && self.happen(at, number, deed, told, schedule)?) {
                     self.known = false;
                     self.draw_name(at, Phrase::Unknown)?;
                 }
@@ -78,6 +81,15 @@ impl<'a> Course<'a> {
             Row::InRounds { told } => self.follow_rounds(told)?,
         }
         Ok(())
+    }
+
+    // Whether a move that is told to be outstanding can be. It is noted even where it isn't known what is under way: so it is
+    // known where the slices are once rounds have ended quiet.
+    fn note_order(&mut self, deed: Deed, told: Told) -> bool {
+        match (deed, told) {
+            (Deed::Order(order), Told::Ordered) => self.slices.order(order),
+            _ => true,
+        }
     }
 
     // What is told of rounds. Once they end quiet nothing is under way.
@@ -95,6 +107,7 @@ impl<'a> Course<'a> {
                     self.draw_held(self.rounds)?;
                 }
                 self.known = true;
+                self.slices.settle();
                 self.flows.clear();
                 for executor in self.executors.iter_mut() {
                     executor.clear();
@@ -125,6 +138,8 @@ impl<'a> Course<'a> {
                 }
             }
             (Deed::Submit { .. }, _) => Ok(true),
+            (Deed::Order(order), Told::Ordered) => self.put_order(at, order),
+            (Deed::Order(_), Told::Nothing) => Ok(true),
             (Deed::Take { executor }, Told::Took) => self.take(at, executor),
             (Deed::Take { executor }, Told::Nothing) => Ok(self.has_nothing(executor, true)),
             (Deed::Send { executor }, Told::Nothing) => Ok(self.has_nothing(executor, false)),
@@ -157,7 +172,7 @@ impl<'a> Course<'a> {
         if self.may_wait(actions.as_slice()) {
             return Ok(false);
         }
-        let home = self.routing.route(first.warehouse());
+        let home = self.slices.route(first.warehouse());
         let item = Item {
             content: Content::Start,
             flow: self.flows.len(),
@@ -167,6 +182,17 @@ impl<'a> Course<'a> {
         let flow = Flow::new(self.alloc, age, session, actions)?;
         self.flows.push(flow)?;
         self.put_in(home, item)
+    }
+
+    // A move is ordered: its order comes from outside.
+    fn put_order(&mut self, at: usize, order: MoveOrder) -> Result<bool, NoMemory> {
+        let item = Item {
+            content: Content::Order(order),
+            flow: 0,
+            line: outside(),
+            at,
+        };
+        self.put_in(order.to, item)
     }
 
     // Whether an action may have to wait for another transaction, or die.

@@ -13,9 +13,9 @@ use crate::phrase::{Heading, Phrase};
 use crate::row::rows_of;
 use crate::row_marks::marks_of;
 use crate::sheet::{Ground, Legend, Sheet};
+use crate::slices::Slices;
 use files::{FaultKind, FileError, FileFault};
 use history::{Output, Scheduled};
-use routing::Routing;
 use schema::{NoMemory, Scale};
 use std::alloc::Global;
 use std::fmt::Display;
@@ -39,14 +39,10 @@ pub fn write_picture<W: Write + Drop>(
     let rows = rows_of(alloc, schedule, outputs)?;
     let lanes = lanes_of(alloc, schedule, executors)?;
     let heads = heads_of(alloc, &lanes, rows.len())?;
-    let asides = put_course(
-        alloc,
-        heads,
-        &lanes,
-        Routing::opening(scale, executors),
-        schedule,
-        rows.as_slice(),
-    )?;
+    let asides = match Slices::open(alloc, scale, executors)? {
+        Some(slices) => put_course(alloc, heads, &lanes, slices, schedule, rows.as_slice())?,
+        None => heads,
+    };
     let marks = marks_of(alloc, &lanes, rows.as_slice())?;
     let width = lanes.width();
     let height = height(rows.len());

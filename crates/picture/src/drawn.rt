@@ -2,7 +2,8 @@
 use crate::asides::Aside;
 use crate::course::Course;
 use crate::phrase::Phrase;
-use crate::under_way::{Item, Ran};
+use crate::under_way::{Content, Item, Ran};
+use range_moves::MoveOrder;
 use schema::NoMemory;
 
 impl<'a> Course<'a> {
@@ -87,11 +88,25 @@ impl<'a> Course<'a> {
 
     /// Names what is taken or sent in a row.
     pub fn draw_item(&mut self, at: usize, item: Item) -> Result<(), NoMemory> {
-        let phrase = match self.flows.get(item.flow) {
-            Some(flow) => flow.name(item.content),
-            None => Phrase::Unknown,
+        let phrase = match item.content {
+            Content::Order(MoveOrder { lo, hi, .. }) => Phrase::Move { lo, hi },
+            Content::Fetch { w_id, .. } => Phrase::Fetch { w_id },
+            Content::Parcel { w_id, .. } => Phrase::Parcel { w_id },
+            Content::Arrival { w_id } => Phrase::Arrival { w_id },
+            content => match self.flows.get(item.flow) {
+                Some(flow) => flow.name(content),
+                None => Phrase::Unknown,
+            },
         };
         self.draw_name(at, phrase)
+    }
+
+    /// Says that what an executor takes in a row is parked.
+    pub fn draw_parked(&mut self, at: usize, executor: u32) -> Result<(), NoMemory> {
+        let x = self.lanes.takes(executor) + 10;
+        let phrase = Phrase::Parked;
+        self.asides.push(Aside::Named { x, at, phrase })?;
+        Ok(())
     }
 
     /// Says something of what is taken or sent in a row.

@@ -159,6 +159,13 @@ impl Lanes {
     }
 }
 
+/// Where an order stands, at the left of all lanes.
+pub fn outside() -> u128
+    ensures { result ≡ spec.outside_x }
+{
+    152
+}
+
 /// The upper edge of the row at that place, from 0.
 pub fn row_top(at: usize) -> u128
     ensures { result ≡ spec.row_top at }

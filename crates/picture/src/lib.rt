@@ -17,6 +17,7 @@ mod phrase;
 mod row;
 mod row_marks;
 mod sheet;
+mod slices;
 mod steps;
 mod under_way;
 

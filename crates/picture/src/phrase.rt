@@ -1,5 +1,6 @@
 //! The words of a picture.
 use crate::row::{Deed, Kind, Told};
+use range_moves::MoveOrder;
 use requests::{Group, Refusal};
 use std::fmt;
 
@@ -31,6 +32,14 @@ pub enum Phrase {
     Settle { place: usize, age: u64 },
     Undo { place: usize, age: u64 },
     Ended { place: usize, age: u64 },
+    /// What was taken or sent of a move: its order, and of the slice of a warehouse that it is to be fetched, the slice
+    /// itself, and that it has come.
+    Move { lo: u32, hi: u32 },
+    Fetch { w_id: u32 },
+    Parcel { w_id: u32 },
+    Arrival { w_id: u32 },
+    /// What was taken waits for the slice of its warehouse.
+    Parked,
     /// From here on it isn't known what is taken and sent.
     Unknown,
     /// What happens in rounds is not shown.
@@ -104,6 +113,7 @@ impl fmt::Display for Deed {
                 number,
                 kind,
             } => write!(f, "S,{session},{number},{kind}"),
+            Deed::Order(MoveOrder { lo, hi, to }) => write!(f, "M,{lo},{hi},{to}"),
             Deed::Take { executor } => write!(f, "T,{executor}"),
             Deed::Send { executor } => write!(f, "X,{executor}"),
         }
@@ -119,10 +129,12 @@ impl fmt::Display for Told {
     fn fmt<W: fmt::Write>(&self, f: &mut fmt::Formatter<W>) -> fmt::Result {
         match *self {
             Told::Accepted { age } => write!(f, "accepted,{age}"),
+            Told::Ordered => write!(f, "ordered"),
             Told::Took => write!(f, "took"),
             Told::Sent => write!(f, "sent"),
             Told::Full => write!(f, "full"),
             Told::Logged { place } => write!(f, "logged,{place}"),
+            Told::Moved => write!(f, "moved"),
             Told::Done {
                 session,
                 number,
@@ -181,6 +193,11 @@ impl fmt::Display for Phrase {
             Phrase::Settle { place, age } => write!(f, "Settle {place} of {age}"),
             Phrase::Undo { place, age } => write!(f, "Undo {place} of {age}"),
             Phrase::Ended { place, age } => write!(f, "End {place} of {age}"),
+            Phrase::Move { lo, hi } => write!(f, "Move {lo} to {hi}"),
+            Phrase::Fetch { w_id } => write!(f, "Fetch warehouse {w_id}"),
+            Phrase::Parcel { w_id } => write!(f, "Parcel warehouse {w_id}"),
+            Phrase::Arrival { w_id } => write!(f, "Report warehouse {w_id}"),
+            Phrase::Parked => write!(f, "parked"),
             Phrase::Unknown => write!(f, "not known from here on"),
             Phrase::NotShown => write!(f, "rounds, whose events are not shown"),
         }

@@ -3,6 +3,7 @@ ghost use Rattle.std.specs.Prelude.{◌≡◌, ◌++◌, IfOk, OnOk};
 ghost use Rattle.picture.specs.Rows as spec;
 
 use history::{Event, EventAnswer, Output, Scheduled};
+use range_moves::MoveOrder;
 use requests::{Answer, Refusal, Reply, Request};
 use schema::NoMemory;
 use std::alloc::Global;
@@ -25,6 +26,7 @@ pub enum Deed {
         number: u32,
         kind: Kind,
     },
+    Order(MoveOrder),
     Take {
         executor: u32,
     },
@@ -39,12 +41,14 @@ pub enum Told {
     Accepted {
         age: u64,
     },
+    Ordered,
     Took,
     Sent,
     Full,
     Logged {
         place: u32,
     },
+    Moved,
     Done {
         session: u32,
         number: u32,
@@ -141,6 +145,7 @@ fn deed_of(event: &Event) -> Deed
             number: *number,
             kind: kind_of(request),
         },
+        Event::Order(order) => Deed::Order(*order),
         Event::Take { executor } => Deed::Take {
             executor: *executor,
         },
@@ -177,10 +182,12 @@ fn told_of_event(answer: &EventAnswer) -> Told
 {
     match answer {
         EventAnswer::Accepted { age } => Told::Accepted { age: *age },
+        EventAnswer::Ordered => Told::Ordered,
         EventAnswer::Took => Told::Took,
         EventAnswer::Sent => Told::Sent,
         EventAnswer::Full => Told::Full,
         EventAnswer::Logged { place } => Told::Logged { place: *place },
+        EventAnswer::Moved => Told::Moved,
         EventAnswer::Answered {
             session,
             number,

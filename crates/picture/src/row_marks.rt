@@ -2,7 +2,7 @@
 ghost use Rattle.std.specs.Prelude.{◌≡◌, ◌++◌, [], ◌∷◌, length, OnOk, IfOk};
 ghost use Rattle.picture.specs.Marks as spec;
 
-use crate::lanes::Lanes;
+use crate::lanes::{Lanes, outside};
 use crate::marks::{Mark, Style};
 use crate::phrase::Phrase;
 use crate::row::{Deed, Row, Told};
@@ -87,6 +87,7 @@ fn put_event(
         Deed::Submit { session, .. } => {
             marks.push(submission(lanes.session(session), at, told))?
         }
+        Deed::Order(_) => marks.push(ordering(at, told))?,
         Deed::Take { executor } => {
             marks.push(step_spot(Style::Take, lanes.takes(executor), at, told))?
         }
@@ -107,6 +108,15 @@ fn submission(x: u128, at: usize, told: Told) -> Mark
         Told::Accepted { .. } => spot(Style::Take, x, at),
         Told::Refused { .. } => spot(Style::Refused, x, at),
         _ => spot(Style::Nothing, x, at),
+    }
+}
+
+fn ordering(at: usize, told: Told) -> Mark
+    ensures { result ≡ spec.ordering at told }
+{
+    match told {
+        Told::Ordered => spot(Style::Take, outside(), at),
+        _ => spot(Style::Nothing, outside(), at),
     }
 }
 

@@ -132,7 +132,7 @@ text{fill:#e8e8e8}
 /// What the signs mean.
 pub const LEGEND: &str = "<text class=\"number\" x=\"40\" y=\"4\">signs</text>
 <circle class=\"take\" cx=\"74\" cy=\"0\" r=\"5\"/>
-<text x=\"120\" y=\"4\">a request is admitted, or a message is taken</text>
+<text x=\"120\" y=\"4\">a request is admitted, a move is ordered, or a message is taken</text>
 <circle class=\"send\" cx=\"74\" cy=\"18\" r=\"5\"/>
 <text x=\"120\" y=\"22\">an item is sent</text>
 <circle class=\"nothing\" cx=\"74\" cy=\"36\" r=\"5\"/>

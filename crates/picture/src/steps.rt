@@ -1,7 +1,8 @@
 //! What an executor's step takes or sends, and what it puts.
 use crate::course::Course;
 use crate::row::Told;
-use crate::under_way::{Content, Item, Ran};
+use crate::under_way::{Content, Item, Parked, Ran};
+use range_moves::{Found, MoveOrder};
 use schema::NoMemory;
 
 impl<'a> Course<'a> {
@@ -37,22 +38,144 @@ impl<'a> Course<'a> {
         self.draw_item(at, item)?;
         let put = Item { line, at, ..item };
         match item.content {
-            Content::Start => {
-                let (first, end) = self.begin_phase(item.flow);
-                for place in first..end {
-                    self.put_out(executor, put.with(Content::Act(place)))?;
-                }
-                Ok(first < end)
+            Content::Start => self.take_start(executor, put),
+            Content::Act(place) | Content::GiveBack(place) => {
+                self.take_message(executor, place, put)
             }
-            Content::Act(place) => {
-                self.note_ran(item.flow, place, executor, at);
+            Content::Order(order) => self.take_order(executor, order, put),
+            Content::Fetch { w_id, to, .. } => {
+                let is_here = self.slices.take_out(w_id, executor, to);
+                Ok(is_here && self.put_out(executor, put.with(Content::Parcel { w_id, to }))?)
+            }
+            Content::Parcel { w_id, .. } => self.take_parcel(executor, w_id, put),
+            _ => Ok(false),
+        }
+    }
+
+    // The messages of the first phase are put.
+    fn take_start(&mut self, executor: u32, put: Item) -> Result<bool, NoMemory> {
+        let (first, end) = self.begin_phase(put.flow);
+        self.address(put.flow, first, end);
+        for place in first..end {
+            self.put_out(executor, put.with(Content::Act(place)))?;
+        }
+        Ok(first < end)
+    }
+
+    // A message of an action is worked on where the slice of its warehouse is; else it goes on to where the slice went, or is
+    // parked until it comes.
+    fn take_message(&mut self, executor: u32, place: usize, put: Item) -> Result<bool, NoMemory> {
+        let Some(flow) = self.flows.get_mut(put.flow) else {
+            return Ok(false);
+        };
+        let Some(w_id) = flow.warehouse(place) else {
+            return Ok(false);
+        };
+        match self.slices.find(executor, w_id) {
+            Found::Here => self.work_on(executor, place, put),
+            Found::Went(to) => {
+                flow.address(place, to);
+                self.put_out(executor, put)
+            }
+            Found::Unknown => {
+                self.draw_parked(put.at, executor)?;
+                self.park(executor, w_id, put)
+            }
+        }
+    }
+
+    // An action runs, or its claims go back.
+    fn work_on(&mut self, executor: u32, place: usize, put: Item) -> Result<bool, NoMemory> {
+        match put.content {
+            Content::Act(_) => {
+                self.note_ran(put.flow, place, executor, put.at);
                 self.put_out(executor, put.with(Content::Report(place)))
             }
-            Content::GiveBack(place) => {
-                self.draw_claim(item.flow, place, at)?;
+            _ => {
+                self.draw_claim(put.flow, place, put.at)?;
                 self.put_out(executor, put.with(Content::Ended(place)))
             }
-            _ => Ok(false),
+        }
+    }
+
+    // A message is parked.
+    fn park(&mut self, executor: u32, w_id: u32, item: Item) -> Result<bool, NoMemory> {
+        let Some(one) = self.executors.get_mut(executor as usize) else {
+            return Ok(false);
+        };
+        one.parked.push_back(Parked { w_id, item })?;
+        Ok(true)
+    }
+
+    // A move begins at the executor to which it goes: each slice of its range is there, or is fetched.
+    fn take_order(&mut self, executor: u32, order: MoveOrder, put: Item) -> Result<bool, NoMemory> {
+        for w_id in order.lo..=order.hi {
+            let content = match self.slices.move_to(w_id, executor) {
+                Some(from) => Content::Fetch {
+                    w_id,
+                    from,
+                    to: executor,
+                },
+                None => Content::Arrival { w_id },
+            };
+            self.put_out(executor, put.with(content))?;
+        }
+        Ok(true)
+    }
+
+    // The slice of a warehouse has come: its report is put, and then what is parked for it, in order.
+    fn take_parcel(&mut self, executor: u32, w_id: u32, put: Item) -> Result<bool, NoMemory> {
+        self.slices.install(w_id, executor);
+        self.put_out(executor, put.with(Content::Arrival { w_id }))?;
+        let count = match self.executors.get(executor as usize) {
+            Some(one) => one.parked.len(),
+            None => 0,
+        };
+        for _ in 0..count {
+            self.unpark(executor, w_id, put)?;
+        }
+        Ok(true)
+    }
+
+    // The first message that is parked is put to be sent, if it is for that warehouse; else it is parked as the last.
+    fn unpark(&mut self, executor: u32, w_id: u32, put: Item) -> Result<(), NoMemory> {
+        let Some(one) = self.executors.get_mut(executor as usize) else {
+            return Ok(());
+        };
+        let Some(parked) = one.parked.pop_front() else {
+            return Ok(());
+        };
+        if parked.w_id != w_id {
+            one.parked.push_back(parked)?;
+            return Ok(());
+        }
+        let Item { content, flow, .. } = parked.item;
+        if let (Some(flow), Content::Act(place) | Content::GiveBack(place)) = (
+            self.flows.get_mut(flow),
+            content,
+        ) {
+            flow.address(place, executor);
+        }
+        self.put_out(
+            executor,
+            Item {
+                content,
+                flow,
+                ..put
+            },
+        )?;
+        Ok(())
+    }
+
+    // The messages of these places go to where routing has the warehouses of their actions now.
+    fn address(&mut self, flow: usize, first: usize, end: usize) {
+        let Some(flow) = self.flows.get_mut(flow) else {
+            return;
+        };
+        for place in first..end {
+            if let Some(w_id) = flow.warehouse(place) {
+                flow.address(place, self.slices.route(w_id));
+            }
         }
     }
 
@@ -134,15 +257,22 @@ impl<'a> Course<'a> {
     // What comes of an item that is sent, in the row where it is. It gives whether it is known still what is under way:
     // which actions of a refused transaction hold claims is not told.
     fn sent(&mut self, executor: u32, item: Item, told: Told) -> Result<bool, NoMemory> {
+        match (item.content, told) {
+            (Content::Fetch { from, .. }, Told::Sent) => return self.put_in(from, item),
+            (Content::Parcel { to, .. }, Told::Sent) => return self.put_in(to, item),
+            (Content::Arrival { .. }, Told::Sent) => return Ok(self.slices.report() == Some(false)),
+            (Content::Arrival { .. }, Told::Moved) => return Ok(self.slices.report() == Some(true)),
+            _ => {}
+        }
         let Some(flow) = self.flows.get_mut(item.flow) else {
             return Ok(false);
         };
         match (item.content, told) {
             (Content::Act(place) | Content::GiveBack(place), Told::Sent) => {
-                let Some(action) = flow.actions.get(place) else {
+                let Some(to) = flow.goes_to.get(place) else {
                     return Ok(false);
                 };
-                let to = self.routing.route(action.warehouse());
+                let to = *to;
                 self.put_in(to, item)
             }
             (Content::Report(_), Told::Sent) => {
@@ -150,6 +280,8 @@ impl<'a> Course<'a> {
                 if flow.awaited > 0 {
                     return Ok(true);
                 }
+                let (first, end) = flow.places_of(flow.phase.saturating_add(1));
+                self.address(item.flow, first, end);
                 self.put_out(executor, item.with(Content::Next))
             }
             (Content::Commit, Told::Logged { .. }) => {
@@ -187,6 +319,9 @@ impl<'a> Course<'a> {
         flow.left = 0;
         for place in 0..flow.ran.len() {
             if flow.holds(place) {
+                if let Some(w_id) = flow.warehouse(place) {
+                    flow.address(place, self.slices.route(w_id));
+                }
                 one.outbox.push_back(item.with(Content::GiveBack(place)))?;
                 flow.left = flow.left.saturating_add(1);
             }

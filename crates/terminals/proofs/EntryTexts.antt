@@ -4,7 +4,7 @@ use Rattle.std.specs.Fmt.{decimal}
 use Rattle.std.proofs.lemmas.Fmt.{decimal_injective}
 use Rattle.commit_log.specs.declared.entry.Entry.{Entry}
 use Rattle.history.specs.declared.event.Event.{Event}
-use Rattle.history.specs.declared.event.Event.TheVariants.{Submit, Take, Send}
+use Rattle.history.specs.declared.event.Event.TheVariants.{Submit, Order, Take, Send}
 use Rattle.history.specs.declared.schedule.Scheduled.{Scheduled}
 use Rattle.history.specs.declared.schedule.Scheduled.TheVariants as scheduled
 use Rattle.terminals.specs.LogRecord.{IsLogRecord}
@@ -42,11 +42,13 @@ scripts_differ = listing-tells (λ place. IsRequest) CanBeAsked (λ place. same_
 -- the letter of an item
 abbrev event_letter : Event → ℕ
 event_letter (Submit session number request) = 83
+event_letter (Order order) = 77
 event_letter (Take executor) = 84
 event_letter (Send executor) = 88
 
 event_letter_is : (x : Event) (fields : List (List ℕ)) → IsEventRecord x fields → letter fields ≡ event_letter x
 event_letter_is (Submit session number request) fields is = ap letter is.2
+event_letter_is (Order order) fields is = ap letter is
 event_letter_is (Take executor) fields is = ap letter is
 event_letter_is (Send executor) fields is = ap letter is
 
@@ -61,6 +63,15 @@ same_event (Submit m j a) (Submit n k b) x y fields s r =
     let number = same_word j k x.1 y.1 two in
     let request = same_request a b x.2 y.2 s.0 s.1 (subst Asks (sym asked) r.1) in
     λ i. Submit (session i) (number i) (request i)
+same_event (Order m) (Order n) x y fields s r =
+    let e = sym s ∙ r in
+    let one : decimal m.lo ≡ decimal n.lo = cc in
+    let two : decimal m.hi ≡ decimal n.hi = cc in
+    let three : decimal m.to ≡ decimal n.to = cc in
+    let lo = same_word m.lo n.lo x.0 y.0 one in
+    let hi = same_word m.hi n.hi x.1 y.1 two in
+    let to = same_word m.to n.to x.2 y.2 three in
+    λ i. Order (record { lo = lo i; hi = hi i; to = to i })
 same_event (Take m) (Take n) x y fields s r =
     let e = sym s ∙ r in
     let one : decimal m ≡ decimal n = cc in
@@ -76,6 +87,7 @@ same_event a b x y fields s r =
 -- rounds have a letter of their own
 event_letter_high : (x : Event) → event_letter x ≡ 82 → ⊥
 event_letter_high (Submit session number request) e = absurd (omega arith)
+event_letter_high (Order order) e = absurd (omega arith)
 event_letter_high (Take executor) e = absurd (omega arith)
 event_letter_high (Send executor) e = absurd (omega arith)
 

@@ -8,6 +8,7 @@ pub mod Delivery
 pub mod StockLevel
 pub mod RequestFields
 pub mod ReplyFields
+pub mod MoveOrders
 pub mod Numbered
 pub mod Listing
 pub mod Script

@@ -17,9 +17,10 @@ use Rattle.requests.specs.declared.reply.Shown.{Shown}
 use Rattle.requests.specs.declared.reply.Shown.TheVariants as shown
 use Rattle.commit_log.specs.declared.entry.Entry.{Entry}
 use Rattle.history.specs.declared.event.Event.{Event}
-use Rattle.history.specs.declared.event.Event.TheVariants.{Submit, Take, Send}
+use Rattle.history.specs.declared.event.Event.TheVariants.{Submit, Order, Take, Send}
 use Rattle.history.specs.declared.schedule.Scheduled.{Scheduled}
 use Rattle.history.specs.declared.schedule.Scheduled.TheVariants as scheduled
+use Rattle.range_moves.specs.declared.order.MoveOrder.{MoveOrder}
 use Rattle.terminals.specs.ChoiceLaws.{IsChoice}
 use Rattle.terminals.specs.Script.{IsScript}
 use Rattle.terminals.specs.Schedule.{IsSchedule}
@@ -84,9 +85,14 @@ CanBeReplied (RolledBack fault) = CanBeFault fault
 abbrev pub CanBeLogged : Entry → Type 0
 CanBeLogged entry = IsWord entry.session × IsWord entry.number × CanBeAsked entry.request × CanBeReplied entry.reply
 
+-- a move that can be ordered, if there are such warehouses and such an executor
+abbrev pub IsMoveOrder : MoveOrder → Type 0
+IsMoveOrder order = IsWord order.lo × IsWord order.hi × IsWord order.to
+
 -- an event that can be asked for
 abbrev pub CanBeEvent : Event → Type 0
 CanBeEvent (Submit session number request) = IsWord session × IsWord number × CanBeAsked request
+CanBeEvent (Order order) = IsMoveOrder order
 CanBeEvent (Take executor) = IsWord executor
 CanBeEvent (Send executor) = IsWord executor
 

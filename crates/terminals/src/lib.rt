@@ -29,9 +29,10 @@
 //! or `X,noitem,last,credit,o_id`, with the number that the order would have had, 1 to 10,000,000.
 //!
 //! A schedule has the records `S,session,number` and the fields of a request, which is submitted,
-//! `T,executor` where an executor takes a message, `X,executor` where it sends an item, and `R` for
-//! rounds, and then `END,n`, with the number of records before it. What is told of it has a record for
-//! each output: `accepted,age`, `took`, `sent`, `full`, `logged,place`, `answered` and the fields of
+//! `M,lo,hi,to` where a move of the warehouses from `lo` to `hi` to executor `to` is ordered, `T,executor`
+//! where an executor takes a message, `X,executor` where it sends an item, and `R` for rounds, and then
+//! `END,n`, with the number of records before it. What is told of it has a record for each output:
+//! `accepted,age`, `ordered`, `took`, `sent`, `full`, `logged,place`, `moved`, `answered` and the fields of
 //! the answer, and `nothing`, of an event; and `quiet` or `limit`, of rounds that ended.
 #![tactic(auto)]
 
@@ -41,6 +42,7 @@ mod delivery;
 mod laws;
 mod listing;
 mod log_records;
+mod move_order;
 mod new_order;
 mod order_status;
 mod outputs;

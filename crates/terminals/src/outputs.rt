@@ -49,6 +49,7 @@ fn put_event_answer(row: &mut NewRecord, answer: &EventAnswer) -> Result<(), NoM
             row.push("accepted")?;
             row.push_number(*age)
         }
+        EventAnswer::Ordered => row.push("ordered"),
         EventAnswer::Took => row.push("took"),
         EventAnswer::Sent => row.push("sent"),
         EventAnswer::Full => row.push("full"),
@@ -56,6 +57,7 @@ fn put_event_answer(row: &mut NewRecord, answer: &EventAnswer) -> Result<(), NoM
             row.push("logged")?;
             row.push_number(u64::from(*place))
         }
+        EventAnswer::Moved => row.push("moved"),
         EventAnswer::Answered {
             session,
             number,

@@ -4,6 +4,7 @@ ghost use Rattle.files.specs.Taken.{fault_of, Takes};
 ghost use Rattle.terminals.specs.Schedule.{IsSchedule, IsScheduleRecord};
 
 use crate::listing::Listed;
+use crate::move_order::take_order;
 use crate::{listing, request};
 use files::{FaultKind, Fields, FileError};
 use history::{Event, Scheduled};
@@ -14,8 +15,8 @@ use std::io::Read;
 /// The schedule that `source` gives.
 ///
 /// A fault comes with its record, and nothing else is given then. The first faulty record decides, and
-/// of its faults the least one. Whether there are such sessions and executors, and whether the numbers
-/// fit a scale, is not looked at. Memory is taken record by record.
+/// of its faults the least one. Whether there are such sessions, warehouses and executors, and whether the
+/// numbers fit a scale, is not looked at. Memory is taken record by record.
 pub fn read_schedule<R: Read + Drop>(alloc: Global, source: R) -> Result<Vec<Scheduled>, FileError>
     ensures { IfOk result (λ schedule. (text : List ℕ) → R.remaining source ≡ Some text → (rows : List (List (List ℕ))) × IsCsv text rows × IsSchedule schedule.items rows) }
 {
@@ -41,6 +42,10 @@ fn take(alloc: Global, letter: &str, fields: &mut Fields) -> Result<Option<Sched
 {
     match letter {
         "S" => take_submit(alloc, fields),
+        "M" => {
+            let lo = fields.word();
+            Ok(Some(Scheduled::Event(Event::Order(take_order(lo, fields)))))
+        }
         "T" => Ok(Some(Scheduled::Event(Event::Take {
             executor: fields.whole(0, u32::MAX),
         }))),

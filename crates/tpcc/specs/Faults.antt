@@ -83,7 +83,8 @@ IsOfServing source fault.Unsettled = (tables : Database) × Gives source (AreRec
 IsOfServing source (fault.NoWarehouse warehouse) = ⊥
 IsOfServing source fault.NotIdle = ⊥
 
--- No memory or a fault of a file; or, as tables were asked for, that none were gathered, since a transaction is active.
+-- No memory or a fault of a file; or, as tables were asked for, that none were gathered, since a transaction is
+-- active or a move outstanding.
 abbrev pub IsOfGathering : Bool → Result Database GatherFault → CommandFault → Type 0
 IsOfGathering asked gathered fault.NoMemory = Unit {0}
 IsOfGathering asked gathered (fault.File path of) = Unit {0}
@@ -91,7 +92,7 @@ IsOfGathering asked gathered fault.NotIdle = (asked ≡ true) × (gathered ≡ E
 IsOfGathering asked gathered _ = ⊥
 
 -- No memory or a fault of a file; or, of the tables that `data` gives, that they break this condition first; or, as tables were asked for,
--- that a transaction is active at the end of the simulation.
+-- that a transaction is active or a move outstanding at the end of the simulation.
 abbrev pub IsOfSimulating : Option (List ℕ) → Option (List ℕ) → ℕ → Bool → CommandFault → Type 0
 IsOfSimulating «data» source executors asked fault.NoMemory = Unit {0}
 IsOfSimulating «data» source executors asked (fault.File path of) = Unit {0}

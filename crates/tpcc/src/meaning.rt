@@ -37,7 +37,7 @@ pub fn tell_meaning<R: Files + AllocGlobal, W: Write>(
         ),
         CommandFault::NotIdle => tell(
             sink,
-            "a transaction is active at the end, so there are no tables: end the schedule with R",
+            "a transaction is active or a move outstanding at the end, so there are no tables: end the schedule with R",
         ),
         CommandFault::NotConsistent(_) => tell(
             sink,

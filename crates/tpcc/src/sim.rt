@@ -28,9 +28,9 @@ use world::{GatherFault, OpenFault, simulate};
 /// is written to `log` and is on the disk first; then what is printed of the schedule goes to `told`, one
 /// record for each event; then the log gets its name on `shelf`, then the picture of what was printed is
 /// written to `picture` and gets its name, and so do the tables. There are none while a transaction is
-/// active, or where there is no memory for them, which is no fault where none are asked for. `told` is given
-/// back. Why a simulation ended early is told to `errors`: a fault of a file, tables that are not consistent,
-/// a transaction that is active, or no memory.
+/// active or a move outstanding, or where there is no memory for them, which is no fault where none are asked
+/// for. `told` is given back. Why a simulation ended early is told to `errors`: a fault of a file, tables that
+/// are not consistent, a transaction that is active or a move that is outstanding, or no memory.
 pub fn sim_over<
     D: Read + Drop,
     S: Read + Drop,

@@ -17,7 +17,7 @@ use Rattle.world.specs.declared.flight.Report.{Report}
 use Rattle.world.specs.declared.flight.Flow.{Flow}
 use Rattle.world.specs.declared.world.Parts.{Parts}
 use Rattle.world.specs.Sound.{IsPassOf, IsSessionOf}
-use Rattle.world.specs.Worlds.{Admits, CanAsk}
+use Rattle.world.specs.Happening.{Admits, CanAsk}
 
 -- a pass at the desk is of the session whose seat is there
 own_pass : (pass : Option Passing) (number session : ℕ) → session ≡ number → IsPassOf number pass → IfSome pass (λ p. p.session ≡ session)

@@ -1,8 +1,8 @@
 -- While an action is to run, no claim is out on a group for which it wishes: so it doesn't die.
-use Rattle.std.proofs.Common.{◌≡◌, ℕ, ◌+◌, ◌-◌, ◌<◌, ◌≤◌, ◌==◌, zero, suc, List, [], ◌∷◌, ◌++◌, length, Option, Some, None, refl, sym, ◌∙◌, ap, subst, arith, cond, ◌≢◌, Contains, append-nil, eq-eqb, Vec, Global}
-use Rattle.std.specs.Prelude.{All, map, slice_index_or, slice_set}
+use Rattle.std.proofs.Common.{◌≡◌, ⊎_elim, ℕ, ◌+◌, ◌-◌, ◌<◌, ◌≤◌, ◌==◌, zero, suc, List, [], ◌∷◌, ◌++◌, length, Option, Some, None, refl, sym, ◌∙◌, ap, subst, arith, cond, ◌≢◌, Contains, append-nil, eq-eqb, Vec, Global}
+use Rattle.std.specs.Prelude.{All, map, slice_set}
 use Rattle.std.specs.List.{slice_get, sum_by}
-use Rattle.std.proofs.lemmas.List.{append_cancel_left, get_or-set_same}
+use Rattle.std.proofs.lemmas.List.{append_cancel_left}
 use Rattle.std.proofs.lemmas.List.Elements.{All-contains, All-cons, All-head, All-nil, All-tail, Contains-append_left, Contains-append_right, Contains-get_or}
 use Rattle.std.proofs.lemmas.Option.{get_or_from_slice_get, slice_get_within}
 use Rattle.std.proofs.lemmas.List.Sorted.{Contains-permutation, sum_by-IsPermutation}
@@ -15,7 +15,7 @@ use Rattle.tickets.specs.Claims.{Claiming, all_claims}
 use Rattle.wait_die.specs.declared.deciding.Holder.{Holder}
 use Rattle.commit_log.specs.declared.entry.Entry.{Entry}
 use Rattle.history.specs.declared.event.Event.{Event}
-use Rattle.history.specs.declared.event.Event.TheVariants.{Submit, Take, Send}
+use Rattle.history.specs.declared.event.Event.TheVariants.{Submit, Order, Take, Send}
 use Rattle.history.specs.declared.event.EventAnswer.{EventAnswer}
 use Rattle.history.specs.History.{Step}
 use Rattle.transactions.specs.declared.work.Work.{Work}
@@ -57,13 +57,21 @@ use Rattle.world.specs.declared.flight.Carried.{Carried}
 use Rattle.world.specs.Events.{AllTurns, AtStation, TakesMessage, TurnsFollow, carried_by, holder_of, put_for, report_of}
 use Rattle.world.specs.Following.{acts_from, acts_of}
 use Rattle.world.specs.Stations.{HaveToWait, IsStationOf, act_of, message_of, waiting_at, waiting_in}
-use Rattle.world.specs.Together.{IsSound, all_of, home_of_claims, in_hand, together}
-use Rattle.world.specs.Worlds.{Fits, HasNotDied, Happens, NoneDies, TakesFirst, TellsNoDeath}
+use Rattle.world.specs.Together.{IsSound, together}
+use Rattle.world.specs.Queues.{all_of, queue_of}
+use Rattle.world.specs.Letters.{home_of_claims, items_in, letter, messages_in, messages_of, posted_by}
+use Rattle.world.specs.declared.flight.Letter.{Letter}
+use Rattle.world.specs.declared.flight.Load.TheVariants as load
+use Rattle.world.specs.declared.flight.Posted.{Posted}
+use Rattle.world.specs.Worlds.{Fits, HasNotDied, NoneDies, TellsNoDeath}
+use Rattle.world.specs.Happening.{Happens, TakesFirst, WorksOn}
 use Rattle.world.proofs.Holders.{claim_of, contains_mapped, holder_active, one_of_all}
 use Rattle.world.proofs.Stationed.{holds, stands_among}
 use Rattle.world.proofs.Balances.{in_inbox, in_outbox, in_meeting, message_taken}
-use Rattle.world.proofs.Executing.{fits_first, first_sound, has_queue, taken_from}
-use Rattle.world.proofs.Apart.{others}
+use Rattle.world.proofs.Executing.{beside, message_fits, message_sound, posted_items}
+use Rattle.world.proofs.Posting.{holding, is_own}
+use Rattle.world.proofs.Puttings.{IsPush, PutsPushes, opens_put, pushes_all, put_stands}
+use Rattle.world.proofs.Shuffles.{has_queue}
 use Rattle.world.proofs.OnGroups.{claimed_once, wishes_on, claims_on, one_wish_on, one_claim_on, done_on, claimed, wished}
 use Rattle.world.proofs.Reported.{met_tokens}
 use Rattle.world.proofs.Taking.{message_in_hand}
@@ -419,7 +427,7 @@ module _ {J : Type 0} (shared : Shared) (old : Core J) (h : IsSound shared old) 
           let have : HaveToWait s = All-contains HaveToWait old.parts.stations.items s h.wait is in
           let parked : Contains (map waiting_of s.parked) (waiting_of p) = contains_mapped waiting_of s.parked p there in
           let must = All-contains (StillWaits s.slice.holdings) s.slice.waiters (waiting_of p) have (subst (λ (ws : List Waiting). Contains ws (waiting_of p)) (sym station.waiters) parked) in
-          let seen : Contains all.inbox (message_of p) = Contains-append_left (waiting_in old.parts) (all_of old.inboxes) (message_of p)
+          let seen : Contains all.inbox (message_of p) = Contains-append_left (waiting_in old.parts) (messages_in (all_of old.inboxes) ++ old.parked) (message_of p)
           (contains_joined (λ queue. queue) (map waiting_at old.parts.stations.items) (waiting_at s) (message_of p) (contains_mapped waiting_at old.parts.stations.items s is) (contains_mapped message_of s.parked p there)) in
           absurd (waits_for_none (act_of p) seen s.slice.home
           (subst (λ (hs : List Holding). MustWait hs p.by.age (wants_of p.work)) (sym (stands_among old.parts h.all.slices s is)) must))
@@ -446,18 +454,15 @@ module _ {J : Type 0} where
 
   -- what is put as the message is worked on
   module _ (once : TransactionsClaimEachGroupOnce) (shared : Shared) (old : Core J) (h : IsSound shared old) (alone : count_active old.parts.desk.active ≡ 1)
-      (executor : ℕ) (from_there : executor < length old.outboxes) (to_there : executor < length old.inboxes) (opening : Database) (history : List Step) (fits : Fits opening history (together old)) where
-    abbrev outbox : List (Item J)
-    outbox = slice_index_or old.outboxes executor []
-
+      (executor : ℕ) (opening : Database) (history : List Step) (fits : Fits opening history (together old)) where
     abbrev Puts : Parts J → Type 0
-    Puts new = (put : List (Item J)) × ((new.outbox ≡ outbox ++ put) × All TellsNoDeath put)
+    Puts new = (put : List (Item J)) × ((new.outbox ≡ put) × All TellsNoDeath put)
 
     parked_at : (home : ℕ) (s : Stationed (Carried J)) → slice_get old.parts.stations.items home ≡ Some s → s.parked ≡ []
     parked_at home s is = none_parked shared old h alone s (home, slice_get_within old.parts.stations.items home s is, get_or_from_slice_get old.parts.stations.items home s s is)
 
     -- after what happened at a station, with as few who wait
-    and_no_turns : (home : ℕ) (items : List (Item J)) (of : Stationed (Carried J) → Stationed (Carried J) → Type 0) (left mid new : Parts J) → left.stations ≡ old.parts.stations → left.outbox ≡ outbox
+    and_no_turns : (home : ℕ) (items : List (Item J)) (of : Stationed (Carried J) → Stationed (Carried J) → Type 0) (left mid new : Parts J) → left.stations ≡ old.parts.stations → left.outbox ≡ []
         → (at : AtStation home items of left mid) → at.now.parked ≡ at.was.parked → All TellsNoDeath items → AllTurns home mid new → Puts new
     and_no_turns home items of left mid new stations outbox_is at same tells turns =
         let none : (s : Stationed (Carried J)) → slice_get mid.stations.items (home - 1) ≡ Some s → s.parked ≡ [] = λ s is.
@@ -469,38 +474,42 @@ module _ {J : Type 0} where
         let over = no_turn home turns.turned mid new none turns.follow in
         (items, (over ∙ ap (λ (w : Parts J). w.outbox) at.rest ∙ ap (λ (o : List (Item J)). o ++ items) outbox_is, tells))
 
-    puts_for : (m : Message J) (rest : List (Message J)) → slice_index_or old.inboxes executor [] ≡ m ∷ rest → (new : Parts J) → TakesMessage m (record (in_hand executor executor old) { inbox = rest }) new → Puts new
-    puts_for (Start flow works) rest is new takes = (acts_of flow works.items, (ap (λ (w : Parts J). w.outbox) takes, pushes_tell_none _ _ _ _ works.items))
+    puts_for : (m : Message J) (rest : List (Letter J)) → queue_of executor old.inboxes ≡ letter executor (load.Work m) ∷ rest → (new : Parts J) → TakesMessage m old.parts new → Puts new
+    puts_for (Start flow works) rest is new takes =
+        (acts_of flow works.items, (ap (λ (w : Parts J). w.outbox) takes ∙ ap (λ (o : List (Item J)). o ++ acts_of flow works.items) h.no_outbox, pushes_tell_none _ _ _ _ works.items))
     puts_for (Settle slot claims) rest is new takes =
-        and_no_turns (home_of_claims claims) (item.Ended slot ∷ []) _ _ takes.0 new refl refl takes.1.0 takes.1.0.happened.1 (one_tells (item.Ended slot) tt) takes.1.1
+        and_no_turns (home_of_claims claims) (item.Ended slot ∷ []) _ old.parts takes.0 new refl h.no_outbox takes.1.0 takes.1.0.happened.1 (one_tells (item.Ended slot) tt) takes.1.1
     puts_for (Undo slot claims) rest is new takes =
-        and_no_turns (home_of_claims claims) (item.Ended slot ∷ []) _ _ takes.0 new refl refl takes.1.0 takes.1.0.happened.1 (one_tells (item.Ended slot) tt) takes.1.1
+        and_no_turns (home_of_claims claims) (item.Ended slot ∷ []) _ old.parts takes.0 new refl h.no_outbox takes.1.0 takes.1.0.happened.1 (one_tells (item.Ended slot) tt) takes.1.1
     puts_for (Act act) rest is new takes = by takes.1.0.0 takes.1.0.1
       where
         left : Parts J
-        left = record (in_hand executor executor old) { inbox = rest }
+        left = old.parts
 
         from : Parts J
-        from = taken_from shared old h executor executor from_there to_there (Act act) rest is
+        from = holding (Act act ∷ []) [] (record old { inboxes = slice_set old.inboxes executor rest })
 
         none : (holdings : List Holding) → (joined_in old.parts).holdings (home_of act.work) ≡ holdings → HoldsWished holdings (wishes_of act.work) → ⊥
         none holdings same =
             subst (λ (hs : List Holding). HoldsWished hs (wishes_of act.work) → ⊥) same
-            (none_holds once shared from act (waiting_in old.parts ++ (rest ++ others executor old.inboxes)) refl (first_sound shared old h executor executor from_there to_there (Act act) rest is) alone opening history
-            (home_of act.work) (fits_first shared old h executor executor from_there to_there (Act act) rest is opening history fits))
+            (none_holds once shared from act (waiting_in old.parts ++ beside shared old h executor rest (Act act) is) refl (message_sound shared old h executor rest (Act act) is) alone opening history
+            (home_of act.work) (message_fits shared old h executor rest (Act act) is opening history fits))
 
         there : Contains (together old).inbox (Act act)
         there =
-            let own : Contains (slice_index_or old.inboxes executor []) (Act act) = subst (λ (q : List (Message J)). Contains q (Act act)) (sym is) (contains_here (Act act) rest) in
-            let queue : Contains old.inboxes (slice_index_or old.inboxes executor []) = Contains-get_or old.inboxes executor [] to_there in
-            Contains-append_right (waiting_in old.parts) (all_of old.inboxes) (Act act) (contains_joined (λ q. q) old.inboxes (slice_index_or old.inboxes executor []) (Act act) queue own)
+            let some : 1 ≤ length (queue_of executor old.inboxes) = omega (arith, ap (λ (letters : List (Letter J)). length letters) is) in
+            let own : Contains (queue_of executor old.inboxes) (letter executor (load.Work (Act act))) = subst (λ (q : List (Letter J)). Contains q (letter executor (load.Work (Act act)))) (sym is) (contains_here (letter executor (load.Work (Act act))) rest) in
+            let queue : Contains old.inboxes (queue_of executor old.inboxes) = Contains-get_or old.inboxes executor [] (has_queue old.inboxes executor some) in
+            let stands : Contains (all_of old.inboxes) (letter executor (load.Work (Act act))) = contains_joined (λ q. q) old.inboxes (queue_of executor old.inboxes) (letter executor (load.Work (Act act))) queue own in
+            Contains-append_right (waiting_in old.parts) (messages_in (all_of old.inboxes) ++ old.parked) (Act act)
+            (Contains-append_left (messages_in (all_of old.inboxes)) old.parked (Act act) (contains_joined (λ (l : Letter J). messages_of l.load) (all_of old.inboxes) (letter executor (load.Work (Act act))) (Act act) stands (contains_here (Act act) [])))
 
         by : (a : Acted J (Carried J)) → AtStation (home_of act.work) (put_for act.place a) (λ was now. ActsAs (holder_of act) act.work (carried_by act) was a now) left takes.0 → Puts new
         by (acted.Ran one told) at =
             let Of : Stationed (Carried J) → Stationed (Carried J) → Type 0 = λ was now. ActsAs (holder_of act) act.work (carried_by act) was (acted.Ran one told) now in
             let holds_here = holds left takes.0 h.all.slices (home_of act.work) (put_for act.place (acted.Ran one told)) Of at in
             let lives : HasNotDied one = not_died (holder_of act) at.was.slice at.now.slice act.work one (none at.was.slice.holdings holds_here) at.happened.1 in
-            and_no_turns (home_of act.work) (put_for act.place (acted.Ran one told)) Of left takes.0 new refl refl at at.happened.3 (one_tells (report_of act.place told one) lives) takes.1.1
+            and_no_turns (home_of act.work) (put_for act.place (acted.Ran one told)) Of left takes.0 new refl h.no_outbox at at.happened.3 (one_tells (report_of act.place told one) lives) takes.1.1
         by acted.Waits at =
             let Of : Stationed (Carried J) → Stationed (Carried J) → Type 0 = λ was now. ActsAs {J = J} (holder_of act) act.work (carried_by act) was acted.Waits now in
             let holds_here = holds left takes.0 h.all.slices (home_of act.work) [] Of at in
@@ -511,23 +520,48 @@ module _ {J : Type 0} where
       → (opening : Database) (history : List Step) → Fits opening history (together old) → count_active old.parts.desk.active ≡ 1 → NoneDies event old new
   none_dies once shared (Submit session number asked) old new answer h said opening history fits alone = tt
   none_dies once shared (Send executor) old new answer h said opening history fits alone = tt
-  none_dies once shared (Take executor) old new answer h said opening history fits alone = λ items put. by items put (slice_index_or old.inboxes executor []) refl said
+  none_dies once shared (Order order) old new answer h said opening history fits alone = tt
+  none_dies once shared (Take executor) old new answer h said opening history fits alone = λ posts put. by posts put (queue_of executor old.inboxes) refl said
     where
-      outbox : List (Item J)
-      outbox = slice_index_or old.outboxes executor []
+      outbox : List (Posted J)
+      outbox = queue_of executor old.outboxes
 
-      by : (items : List (Item J)) → slice_index_or new.outboxes executor [] ≡ outbox ++ items → (messages : List (Message J)) → slice_index_or old.inboxes executor [] ≡ messages → TakesFirst executor messages old answer new → All TellsNoDeath items
-      by items put [] is said =
-          let stays : slice_index_or new.outboxes executor [] ≡ outbox = ap (λ (w : Core J). slice_index_or w.outboxes executor []) said.1 in
-          let none : items ≡ [] = append_cancel_left outbox items [] (sym put ∙ stays ∙ sym (append-nil outbox)) in
-          subst (λ (l : List (Item J)). All TellsNoDeath l) (sym none) (All-nil TellsNoDeath)
-      by items put (m ∷ rest) is said =
-          let parts = said.1.0 in
-          let some : 1 ≤ length (slice_index_or old.inboxes executor []) = omega (arith, ap (λ (messages : List (Message J)). length messages) is) in
-          let to_there : executor < length old.inboxes = has_queue old.inboxes executor some in
-          let from_there : executor < length old.outboxes = omega (arith, to_there, h.inboxes, h.outboxes) in
-          let puts = puts_for once shared old h alone executor from_there to_there opening history fits m rest is parts said.1.1.0 in
-          let stands : slice_index_or new.outboxes executor [] ≡ parts.outbox =
-          ap (λ (w : Core J). slice_index_or w.outboxes executor []) said.1.1.1 ∙ get_or-set_same old.outboxes executor parts.outbox [] from_there in
-          let same : items ≡ puts.0 = append_cancel_left outbox items puts.0 (sym put ∙ stands ∙ puts.1.0) in
-          subst (λ (l : List (Item J)). All TellsNoDeath l) (sym same) puts.1.1
+      by : (posts : List (Posted J)) → queue_of executor new.outboxes ≡ outbox ++ posts → (letters : List (Letter J)) → queue_of executor old.inboxes ≡ letters → TakesFirst executor letters old answer new → All TellsNoDeath (items_in posts)
+      by posts put [] is said =
+          let stays : queue_of executor new.outboxes ≡ outbox = ap (λ (w : Core J). queue_of executor w.outboxes) said.1 in
+          let none : posts ≡ [] = append_cancel_left outbox posts [] (sym put ∙ stays ∙ sym (append-nil outbox)) in
+          subst (λ (l : List (Posted J)). All TellsNoDeath (items_in l)) (sym none) (All-nil TellsNoDeath)
+      by posts put (l ∷ rest) is said = ⊎_elim works pushes (opens_put executor l.load left new from_there said.1)
+        where
+          left : Core J
+          left = record old { inboxes = slice_set old.inboxes executor rest }
+
+          some : 1 ≤ length (queue_of executor old.inboxes)
+          some = omega (arith, ap (λ (letters : List (Letter J)). length letters) is)
+
+          to_there : executor < length old.inboxes
+          to_there = has_queue old.inboxes executor some
+
+          from_there : executor < length old.outboxes
+          from_there = omega (arith, to_there, h.inboxes, h.outboxes)
+
+          own : l.to ≡ executor
+          own = is_own shared old h executor l rest is
+
+          pushes : PutsPushes executor left new → All TellsNoDeath (items_in posts)
+          pushes p =
+              let same : p.posts ≡ posts = sym (append_cancel_left outbox posts p.posts (sym put ∙ p.stands)) in
+              pushes_all TellsNoDeath (λ m. tt) (items_in posts) (subst (λ (ps : List (Posted J)). All IsPush (items_in ps)) same p.pushes)
+
+          works : (m : Message J) × ((l.load ≡ load.Work m) × WorksOn executor m left new) → All TellsNoDeath (items_in posts)
+          works one =
+              let m = one.0 in
+              let first : queue_of executor old.inboxes ≡ letter executor (load.Work m) ∷ rest = is ∙ (λ k. letter (own k) (one.1.0 k) ∷ rest) in
+              let parts = one.1.1.0 in
+              let puts = puts_for once shared old h alone executor opening history fits m rest first parts one.1.1.1.0 in
+              let brought = map (posted_by old.houses) parts.outbox in
+              let stands : queue_of executor new.outboxes ≡ outbox ++ brought =
+              ap (λ (w : Core J). queue_of executor w.outboxes) one.1.1.1.1 ∙ put_stands executor brought (record left { parts = record parts { outbox = [] } }) from_there in
+              let same : posts ≡ brought = append_cancel_left outbox posts brought (sym put ∙ stands) in
+              let items : items_in posts ≡ puts.0 = ap (λ (ps : List (Posted J)). items_in ps) same ∙ posted_items old.houses parts.outbox ∙ puts.1.0 in
+              subst (λ (l : List (Item J)). All TellsNoDeath l) (sym items) puts.1.1

@@ -36,7 +36,8 @@ use Rattle.world.specs.declared.world.Parts.{Parts}
 use Rattle.world.specs.Parted.{AreUndoneBy, joined_in}
 use Rattle.world.specs.Flights.{Token, Acting, nothing, join, parts, part_message, part_met, acting_from, unanswered_transaction}
 use Rattle.world.specs.Sound.{Courses, HaveTheirAges, UnderWay, IsSoundWith, IsSoundStart, IsSoundPhase, IsSoundMessage, AreSoundActive, IsBalanced, IsPassOf, flight, is_here}
-use Rattle.world.specs.Worlds.{FitsPart, Fits, Admits, refuses, tables_now, IsAcceptedIn, IsClaimOf}
+use Rattle.world.specs.Worlds.{FitsPart, Fits, tables_now, IsAcceptedIn, IsClaimOf}
+use Rattle.world.specs.Happening.{Admits, refuses}
 use Rattle.world.proofs.Joins.{IsSame, same-refl, same-sym, same-trans, same-join}
 use Rattle.world.proofs.Balances.{message_put, balanced_same, held_same}
 use Rattle.world.proofs.Fitting.{fits_same, fits_admission}

@@ -11,7 +11,7 @@ use Rattle.requests.specs.Check.{check_of}
 use Rattle.requests.proofs.Checked.{refused_by_itself}
 use Rattle.commit_log.specs.Passing.{Passing}
 use Rattle.history.specs.declared.event.Event.{Event}
-use Rattle.history.specs.declared.event.Event.TheVariants.{Submit, Take, Send}
+use Rattle.history.specs.declared.event.Event.TheVariants.{Submit, Order, Take, Send}
 use Rattle.history.specs.declared.event.EventAnswer.{EventAnswer}
 use Rattle.history.specs.declared.event.EventAnswer.TheVariants.{Answered}
 use Rattle.history.specs.History.{is_of}
@@ -20,8 +20,9 @@ use Rattle.world.specs.declared.world.Parts.{Parts}
 use Rattle.world.specs.declared.world.Core.{Core}
 use Rattle.world.specs.Flights.{nothing}
 use Rattle.world.specs.Sound.{IsSoundWith, flight}
-use Rattle.world.specs.Together.{IsSound, in_hand, together}
-use Rattle.world.specs.Worlds.{Happens, begins_at, IsBusyExactly, SubmitsAt, SubmitsUnless, SubmitsInto, can_admit, is_full, refuses}
+use Rattle.world.specs.Together.{IsSound, together}
+use Rattle.world.specs.Happening.{Happens, begins_at, has_room, SubmitsAt, SubmitsUnless, SubmitsInto, can_admit, is_full, refuses}
+use Rattle.world.specs.Worlds.{IsBusyExactly}
 use Rattle.world.proofs.Ready.{stands_at}
 
 -- no check answers that a session is waiting
@@ -30,38 +31,39 @@ never_busy shared asked is = absurd (omega (arith, refused_by_itself shared.scal
 
 module _ {J : Type 0} where
   -- where its pass is at the desk a session isn't told that it waits
-  here_not_busy : (shared : Shared) (asked : Request) (pass : Passing) (active : Bool) (session number : ℕ) (desk : SessionDesk J) (old new : Parts J) (answer : EventAnswer)
-      → SubmitsUnless (refuses (Some pass) (check_of shared.scale asked) active) session number asked desk old answer new → answer ≡ Answered session number (Refused SessionBusy) → ⊥
-  here_not_busy shared asked pass active session number desk old new answer said is = by_check (check_of shared.scale asked) active refl said
+  here_not_busy : (room : Bool) (shared : Shared) (asked : Request) (pass : Passing) (active : Bool) (session number : ℕ) (desk : SessionDesk J) (old new : Parts J) (answer : EventAnswer)
+      → SubmitsUnless room (refuses (Some pass) (check_of shared.scale asked) active) session number asked desk old answer new → answer ≡ Answered session number (Refused SessionBusy) → ⊥
+  here_not_busy room shared asked pass active session number desk old new answer said is = by_check (check_of shared.scale asked) active refl said
     where
       into : (can : Bool) → SubmitsInto can session number asked desk old answer new → ⊥
       into false said = let e = said.0 in absurd (cc)
       into true said = ⊎_elim (λ refused. let e = refused.0 in cc) (λ admitted. let e = admitted.0 in cc) said
 
-      by_check : (checked : Result (Unit {0}) Refusal) (busy : Bool) → check_of shared.scale asked ≡ checked → SubmitsUnless (refuses (Some pass) checked busy) session number asked desk old answer new → ⊥
+      by_check : (checked : Result (Unit {0}) Refusal) (busy : Bool) → check_of shared.scale asked ≡ checked → SubmitsUnless room (refuses (Some pass) checked busy) session number asked desk old answer new → ⊥
       by_check (Err why) busy at said =
           let e = said.0 in
           let same : why ≡ SessionBusy = cc in
           never_busy shared asked (at ∙ ap Err same)
       by_check (Ok u) true at said = let e = said.0 in absurd (cc)
-      by_check (Ok u) false at said = into (can_admit old) said
+      by_check (Ok u) false at said = into (can_admit room old) said
 
-  busy_of : (shared : Shared) (w : Parts J) (h : IsSoundWith shared nothing w) (old new : Parts J) (session number : ℕ) (asked : Request) (answer : EventAnswer) (desk : SessionDesk J) (pass : Option Passing) → desk.pass ≡ pass
+  busy_of : (room : Bool) (shared : Shared) (w : Parts J) (h : IsSoundWith shared nothing w) (old new : Parts J) (session number : ℕ) (asked : Request) (answer : EventAnswer) (desk : SessionDesk J) (pass : Option Passing) → desk.pass ≡ pass
       → slice_get w.desk.sessions.items session ≡ Some desk
-      → SubmitsUnless (refuses pass (check_of old.catalog.scale asked) (is_full old.desk.active)) session number asked desk old answer new
+      → SubmitsUnless room (refuses pass (check_of old.catalog.scale asked) (is_full old.desk.active)) session number asked desk old answer new
       → (answer ≡ Answered session number (Refused SessionBusy)) ↔ (1 ≤ count_by (is_of session) (flight w).pending)
-  busy_of shared w h old new session number asked answer desk None is there said =
+  busy_of room shared w h old new session number asked answer desk None is there said =
       (λ told. omega (arith, h.balance.alone session desk there, ap (λ (o : Option Passing). cond {A = ℕ} (is_some o) 1 0) is), λ some. said.0)
-  busy_of shared w h old new session number asked answer desk (Some pass) is there said = (
-    λ told. absurd (here_not_busy old.catalog asked pass (is_full old.desk.active) session number desk old new answer said told),
+  busy_of room shared w h old new session number asked answer desk (Some pass) is there said = (
+    λ told. absurd (here_not_busy room old.catalog asked pass (is_full old.desk.active) session number desk old new answer said told),
     λ some. absurd (omega (arith, some, h.balance.alone session desk there, ap (λ (o : Option Passing). cond {A = ℕ} (is_some o) 1 0) is)),
   )
 
   pub busy_exactly : (shared : Shared) (event : Event) (old new : Core J) (answer : EventAnswer) → IsSound shared old → Happens event old answer new → IsBusyExactly event old answer
   busy_exactly shared (Submit session number asked) old new answer h said = λ below.
-      let to = begins_at asked old in
+      let room = has_room (begins_at asked old) old in
       let found = stands_at old.parts.desk.sessions.items session (subst (λ n. session < n) (sym h.all.seats) below) in
-      busy_of shared (together old) h.all (in_hand to to old) said.0 session number asked answer found.0 found.0.pass refl found.1
-      (subst (λ o. SubmitsAt o session number asked (in_hand to to old) answer said.0) found.1 said.1.0)
+      busy_of room shared (together old) h.all old.parts said.0 session number asked answer found.0 found.0.pass refl found.1
+      (subst (λ o. SubmitsAt room o session number asked old.parts answer said.0) found.1 said.1.0)
+  busy_exactly shared (Order order) old new answer h said = tt
   busy_exactly shared (Take executor) old new answer h said = tt
   busy_exactly shared (Send executor) old new answer h said = tt

@@ -1,5 +1,5 @@
 -- What is under way stays sound where the transactions that it is of have come as far as they had.
-use Rattle.std.proofs.Common.{◌≡◌, ℕ, ◌+◌, ◌≤◌, ◌==◌, List, [], ◌∷◌, ◌++◌, length, refl, sym, ap, subst, cond, arith}
+use Rattle.std.proofs.Common.{◌≡◌, ℕ, ◌+◌, ◌≤◌, ◌==◌, List, [], ◌∷◌, length, sym, ap, subst, cond, arith}
 use Rattle.std.specs.Prelude.{All}
 use Rattle.std.specs.List.{sum_by}
 use Rattle.std.proofs.lemmas.List.Elements.{All-nil, All-cons, All-head, All-tail}
@@ -12,7 +12,7 @@ use Rattle.world.specs.declared.flight.Message.{Message}
 use Rattle.world.specs.declared.flight.Message.TheVariants.{Start, Act, Settle, Undo}
 use Rattle.world.specs.declared.flight.Item.{Item}
 use Rattle.world.specs.declared.flight.Item.TheVariants as item
-use Rattle.world.specs.Flights.{Token, Acting, Committing, Ending, acting_from, parts, part_message, part_item}
+use Rattle.world.specs.Flights.{Acting, Committing, Ending, acting_from, parts, part_message, part_item}
 use Rattle.world.specs.Sound.{Courses, UnderWay, IsSoundMessage, IsSoundItem, IsSoundStart, IsSoundAct, IsSoundCommit, IsSoundReport}
 use Rattle.world.specs.Parted.{AreSettledBy, AreUndoneBy}
 use Rattle.world.proofs.Tokens.{is_itself, is_other}

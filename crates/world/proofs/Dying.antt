@@ -1,21 +1,21 @@
 -- Of whom actions die as a message is worked on.
-use Rattle.std.proofs.Common.{◌≡◌, ℕ, ◌<◌, ◌≤◌, Bool, true, false, cond, List, [], ◌∷◌, ◌++◌, length, map, refl, sym, ap, subst, ◌∙◌, append-nil, append_assoc, arith}
-use Rattle.std.specs.Prelude.{All, Contains, slice_index_or}
+use Rattle.std.proofs.Common.{◌≡◌, ⊎_elim, slice_set, ℕ, ◌<◌, ◌≤◌, Bool, true, false, cond, List, [], ◌∷◌, ◌++◌, length, map, refl, sym, ap, subst, ◌∙◌, append-nil, append_assoc, arith}
+use Rattle.std.specs.Prelude.{All, Contains}
 use Rattle.std.specs.List.{filter}
-use Rattle.std.proofs.lemmas.List.{append_cancel_left, get_or-set_same, length-set}
-use Rattle.std.proofs.lemmas.List.Elements.{All-append, All-cons, All-contains, All-contains_itself, All-nil, All-weaker, Contains-append_right, Contains-get_or}
+use Rattle.std.proofs.lemmas.List.{append_cancel_left, length-set}
+use Rattle.std.proofs.lemmas.List.Elements.{All-append, All-cons, All-contains, All-contains_itself, All-nil, All-weaker}
 use Rattle.std.proofs.lemmas.List.Sorted.{Contains-permutation, IsPermutation-sym}
 use Rattle.partitions.specs.Parts.{Shared}
 use Rattle.schema.specs.Database.{Database}
 use Rattle.requests.specs.declared.group.Group.{Group}
 use Rattle.tickets.specs.Claims.{Claiming}
 use Rattle.history.specs.declared.event.Event.{Event}
-use Rattle.history.specs.declared.event.Event.TheVariants.{Submit, Take, Send}
+use Rattle.history.specs.declared.event.Event.TheVariants.{Submit, Order, Take, Send}
 use Rattle.history.specs.declared.event.EventAnswer.{EventAnswer}
 use Rattle.history.specs.History.{Step}
 use Rattle.local_locks.specs.Asking.{held_by}
 use Rattle.local_locks.specs.Locking.{Holding}
-use Rattle.local_locks.proofs.Members.{contains_joined, contains_there}
+use Rattle.local_locks.proofs.Members.{contains_there}
 use Rattle.slices.specs.Sliced.{AreAllHeld, IsClaimAt, Joined, Sliced, SlicesKeep, at_home, held_at, joined, with_waiters}
 use Rattle.transactions.specs.declared.acting.Ran.{Ran}
 use Rattle.transactions.specs.declared.acting.Ran.TheVariants as ran
@@ -42,11 +42,19 @@ use Rattle.world.specs.Sound.{IsSoundMessage, IsSoundWith, flight}
 use Rattle.world.specs.Stations.{slices_in}
 use Rattle.world.specs.Events.{AtStation, TakesMessage, TurnsFollow, carried_by, holder_of, put_for, report_of}
 use Rattle.world.specs.Following.{acts_of}
-use Rattle.world.specs.Together.{IsSound, home_of_claims, in_hand, together}
-use Rattle.world.specs.Worlds.{DieOfOlder, Fits, Happens, HasNotDied, TakesFirst, TellsNoDeath, DiedOfOlder, TellsWhom}
+use Rattle.world.specs.Together.{IsSound, together}
+use Rattle.world.specs.Letters.{home_of_claims, items_in, letter, posted_by}
+use Rattle.world.specs.Worlds.{DieOfOlder, Fits, HasNotDied, TellsNoDeath, DiedOfOlder, TellsWhom}
+use Rattle.world.specs.Happening.{Happens, TakesFirst, WorksOn}
+use Rattle.world.specs.Queues.{queue_of}
+use Rattle.world.specs.declared.flight.Letter.{Letter}
+use Rattle.world.specs.declared.flight.Posted.{Posted}
+use Rattle.world.specs.declared.flight.Load.TheVariants as load
 use Rattle.world.proofs.Alone.{pushes_tell_none}
-use Rattle.world.proofs.Apart.{others}
-use Rattle.world.proofs.Executing.{has_queue, in_the_hand}
+use Rattle.world.proofs.Puttings.{IsPush, PutsPushes, among_all, opens_put, pushes_all, put_stands}
+use Rattle.world.proofs.Executing.{beside, message_hand, posted_items}
+use Rattle.world.proofs.Posting.{is_own}
+use Rattle.world.proofs.Shuffles.{has_queue}
 use Rattle.world.proofs.OnGroups.{dies_on}
 use Rattle.world.proofs.Older.{reports_of_older}
 use Rattle.world.proofs.Parted.{ran_at_home}
@@ -247,40 +255,64 @@ module _ {J : Type 0} where
   pub die_of_older : TransactionsClaimEachGroupOnce → (shared : Shared) (event : Event) (old new : Core J) (answer : EventAnswer) → IsSound shared old → IsSound shared new → Happens event old answer new
       → (opening : Database) (history : List Step) → Fits opening history (together new) → DieOfOlder history event old new
   die_of_older once shared (Submit session number asked) old new answer h next said opening history f = tt
+  die_of_older once shared (Order order) old new answer h next said opening history f = tt
   die_of_older once shared (Send executor) old new answer h next said opening history f = tt
   die_of_older once shared (Take executor) old new answer h next said opening history f = (
     subst (λ (s : Shared). IsSoundWith s nothing (together new)) (sym next.all.shared_is) next.all,
-    λ sound items put. by new.parts.catalog sound items put (slice_index_or old.inboxes executor []) refl said,
+    λ sound posts put. by new.parts.catalog sound posts put (queue_of executor old.inboxes) refl said,
   )
     where
-      outbox : List (Item J)
-      outbox = slice_index_or old.outboxes executor []
+      outbox : List (Posted J)
+      outbox = queue_of executor old.outboxes
 
-      by : (known : Shared) (sound : IsSoundWith known nothing (together new)) (items : List (Item J)) → slice_index_or new.outboxes executor [] ≡ outbox ++ items → (messages : List (Message J)) → slice_index_or old.inboxes executor [] ≡ messages
-          → TakesFirst executor messages old answer new → All (TellsWhom history (together new) sound.under_way) items
-      by known sound items put [] is said =
-          let stays : slice_index_or new.outboxes executor [] ≡ outbox = ap (λ (w : Core J). slice_index_or w.outboxes executor []) said.1 in
-          let none : items ≡ [] = append_cancel_left outbox items [] (sym put ∙ stays ∙ sym (append-nil outbox)) in
-          subst (λ (l : List (Item J)). All (TellsWhom history (together new) sound.under_way) l) (sym none) (All-nil (TellsWhom history (together new) sound.under_way))
-      by known sound items put (m ∷ rest) is said =
-          let parts = said.1.0 in
-          let some : 1 ≤ length (slice_index_or old.inboxes executor []) = omega (arith, ap (λ (messages : List (Message J)). length messages) is) in
-          let to_there : executor < length old.inboxes = has_queue old.inboxes executor some in
-          let from_there : executor < length old.outboxes = omega (arith, to_there, h.inboxes, h.outboxes) in
-          let hand = in_the_hand shared old h executor executor from_there to_there m rest is in
-          let left : Parts J = record (in_hand executor executor old) { inbox = rest } in
-          let puts = takes_tell once shared (rest ++ others executor old.inboxes) (others executor old.outboxes) m left parts hand.0 hand.1 said.1.1.0 in
-          let stands : slice_index_or new.outboxes executor [] ≡ parts.outbox =
-          ap (λ (w : Core J). slice_index_or w.outboxes executor []) said.1.1.1 ∙ get_or-set_same old.outboxes executor parts.outbox [] from_there in
-          let same : puts.0 ≡ items = sym (append_cancel_left outbox items puts.0 (sym put ∙ stands ∙ puts.1.0)) in
-          let joined_is : joined_in parts ≡ joined_in (together new) = ap (λ (w : Core J). joined_in (together w)) (sym said.1.1.1) in
-          let all : All (TellsOfHolder (joined_in (together new))) items =
-          subst (λ (l : List (Item J)). All (TellsOfHolder (joined_in (together new))) l) same (subst (λ (j : Joined). All (TellsOfHolder j) puts.0) joined_is puts.1.1) in
-          let there_now : executor < length new.outboxes = omega (arith, from_there, ap (λ (w : Core J). length w.outboxes) said.1.1.1, length-set old.outboxes executor parts.outbox) in
-          let queue : Contains new.outboxes (slice_index_or new.outboxes executor []) = Contains-get_or new.outboxes executor [] there_now in
-          let among : (i : Item J) → Contains items i → Contains (together new).outbox i = λ i own.
-          contains_joined (λ q. q) new.outboxes (slice_index_or new.outboxes executor []) i queue
-          (subst (λ (q : List (Item J)). Contains q i) (sym put) (Contains-append_right outbox items i own)) in
-          All-weaker (Contains items) (TellsWhom history (together new) sound.under_way)
-          (λ i own. told_at opening history known (together new) f sound i (among i own) (All-contains (TellsOfHolder (joined_in (together new))) items i all own))
-          items (All-contains_itself items)
+      by : (known : Shared) (sound : IsSoundWith known nothing (together new)) (posts : List (Posted J)) → queue_of executor new.outboxes ≡ outbox ++ posts → (letters : List (Letter J)) → queue_of executor old.inboxes ≡ letters
+          → TakesFirst executor letters old answer new → All (TellsWhom history (together new) sound.under_way) (items_in posts)
+      by known sound posts put [] is said =
+          let stays : queue_of executor new.outboxes ≡ outbox = ap (λ (w : Core J). queue_of executor w.outboxes) said.1 in
+          let none : posts ≡ [] = append_cancel_left outbox posts [] (sym put ∙ stays ∙ sym (append-nil outbox)) in
+          subst (λ (l : List (Posted J)). All (TellsWhom history (together new) sound.under_way) (items_in l)) (sym none) (All-nil (TellsWhom history (together new) sound.under_way))
+      by known sound posts put (l ∷ rest) is said = ⊎_elim works pushes (opens_put executor l.load left new from_there said.1)
+        where
+          left : Core J
+          left = record old { inboxes = slice_set old.inboxes executor rest }
+
+          Tells : Item J → Type 0
+          Tells i = TellsWhom history (together new) sound.under_way i
+
+          some : 1 ≤ length (queue_of executor old.inboxes)
+          some = omega (arith, ap (λ (letters : List (Letter J)). length letters) is)
+
+          to_there : executor < length old.inboxes
+          to_there = has_queue old.inboxes executor some
+
+          from_there : executor < length old.outboxes
+          from_there = omega (arith, to_there, h.inboxes, h.outboxes)
+
+          own : l.to ≡ executor
+          own = is_own shared old h executor l rest is
+
+          pushes : PutsPushes executor left new → All Tells (items_in posts)
+          pushes p =
+              let same : p.posts ≡ posts = sym (append_cancel_left outbox posts p.posts (sym put ∙ p.stands)) in
+              pushes_all Tells (λ m. tt) (items_in posts) (subst (λ (ps : List (Posted J)). All IsPush (items_in ps)) same p.pushes)
+
+          works : (m : Message J) × ((l.load ≡ load.Work m) × WorksOn executor m left new) → All Tells (items_in posts)
+          works one =
+              let m = one.0 in
+              let first : queue_of executor old.inboxes ≡ letter executor (load.Work m) ∷ rest = is ∙ (λ k. letter (own k) (one.1.0 k) ∷ rest) in
+              let parts = one.1.1.0 in
+              let new_is = one.1.1.1.1 in
+              let hand = message_hand shared old h executor rest m first in
+              let puts = takes_tell once shared (beside shared old h executor rest m first) (together left).outbox m old.parts parts hand.0 hand.1 one.1.1.1.0 in
+              let outbox_is : parts.outbox ≡ puts.0 = puts.1.0 ∙ ap (λ (is : List (Item J)). is ++ puts.0) h.no_outbox in
+              let brought = map (posted_by old.houses) parts.outbox in
+              let stands : queue_of executor new.outboxes ≡ outbox ++ brought = ap (λ (w : Core J). queue_of executor w.outboxes) new_is ∙ put_stands executor brought (record left { parts = record parts { outbox = [] } }) from_there in
+              let same : posts ≡ brought = append_cancel_left outbox posts brought (sym put ∙ stands) in
+              let items : items_in posts ≡ puts.0 = ap (λ (ps : List (Posted J)). items_in ps) same ∙ posted_items old.houses parts.outbox ∙ outbox_is in
+              let joined_is : joined_in parts ≡ joined_in (together new) = ap (λ (w : Core J). joined_in (together w)) (sym new_is) in
+              let all : All (TellsOfHolder (joined_in (together new))) (items_in posts) =
+              subst (λ (l : List (Item J)). All (TellsOfHolder (joined_in (together new))) l) (sym items) (subst (λ (j : Joined). All (TellsOfHolder j) puts.0) joined_is puts.1.1) in
+              let there_now : executor < length new.outboxes = omega (arith, from_there, ap (λ (w : Core J). length w.outboxes) new_is, length-set old.outboxes executor (outbox ++ brought)) in
+              All-weaker (Contains (items_in posts)) Tells
+              (λ i there. told_at opening history known (together new) f sound i (among_all new executor outbox posts there_now put i there) (All-contains (TellsOfHolder (joined_in (together new))) (items_in posts) i all there))
+              (items_in posts) (All-contains_itself (items_in posts))

@@ -1,54 +1,56 @@
--- What an event at one executor does to all.
-use Rattle.world.specs.Parted.{joined_in}
-use Rattle.std.specs.declared.alloc.Global.{Global}
-use Rattle.world.specs.declared.flight.Carried.{Carried}
-use Rattle.transactions.specs.Stations.{Stationed}
-use Rattle.world.specs.Stations.{waiting_in, IsStationOf, HaveToWait, slices_in}
-use Rattle.std.proofs.Common.{◌≡◌, ℕ, ◌+◌, ◌<◌, ◌≤◌, zero, suc, List, [], ◌∷◌, ◌++◌, length, refl, sym, ◌∙◌, ap, subst, arith, length-append, append_assoc}
-use Rattle.std.specs.Prelude.{All, slice_get, slice_index_or, slice_set, Vec}
-use Rattle.std.proofs.lemmas.List.Elements.{All-head, All-tail}
-use Rattle.std.proofs.lemmas.List.{get_or-set_same, length-set, set-set}
-use Rattle.partitions.specs.Parts.{Shared, shared_of}
+-- What an event does to a world: what it keeps, and which history goes on.
+use Rattle.std.proofs.Common.{◌≡◌, ℕ, ◌+◌, ◌<◌, ◌≤◌, Bool, true, false, List, [], ◌∷◌, ◌++◌, length, map, refl, sym, ◌∙◌, ap, subst, append_assoc, append-nil, arith}
+use Rattle.std.specs.Prelude.{All, slice_set}
+use Rattle.std.specs.List.{sum_by}
+use Rattle.std.proofs.lemmas.List.Elements.{All-append, All-cons, All-nil}
+use Rattle.std.proofs.lemmas.Grind.{flat_map-append}
+use Rattle.std.proofs.lemmas.List.{map-append}
+use Rattle.std.proofs.lemmas.List.Sums.{sum_by-cons}
+use Rattle.partitions.specs.Parts.{Shared}
 use Rattle.schema.specs.Database.{Database}
-use Rattle.requests.specs.declared.request.Request.{Request}
 use Rattle.tickets.specs.Claims.{Claiming}
-use Rattle.groups.specs.Groups.{warehouse_of}
-use Rattle.slices.specs.Sliced.{AreOfOneHome, AreSlicesOf}
-use Rattle.transactions.specs.declared.laws.TheConstants.{MOST_ACTIONS}
+use Rattle.slices.specs.Sliced.{AreOfOneHome}
 use Rattle.transactions.specs.Laws.{TransactionsClaimEachGroupOnce}
 use Rattle.history.specs.declared.event.Event.{Event}
-use Rattle.history.specs.declared.event.Event.TheVariants.{Submit, Take, Send}
+use Rattle.history.specs.declared.event.Event.TheVariants.{Take}
 use Rattle.history.specs.declared.event.EventAnswer.{EventAnswer}
 use Rattle.history.specs.declared.event.EventAnswer.TheVariants.{Took}
 use Rattle.history.specs.History.{Step, step}
-use Rattle.world.specs.declared.flight.Message.{Message}
-use Rattle.world.specs.declared.flight.Message.TheVariants as message
+use Rattle.history.specs.Laws.{IsQuiet}
+use Rattle.range_moves.specs.declared.house.Found.{Found}
+use Rattle.range_moves.specs.declared.house.Found.TheVariants.{Here, Went, Unknown}
+use Rattle.range_moves.specs.Housing.{Housing, found_by, route_of}
+use Rattle.range_moves.specs.Traffic.{Dispatch, Going, IsHousedWith, KnowsOf}
+use Rattle.range_moves.proofs.Housed as housed
+use Rattle.range_moves.proofs.Knowing.{routed_knows}
 use Rattle.world.specs.declared.flight.Item.{Item}
 use Rattle.world.specs.declared.flight.Item.TheVariants as item
-use Rattle.world.specs.declared.world.Parts.{Parts}
+use Rattle.world.specs.declared.flight.Letter.{Letter}
+use Rattle.world.specs.declared.flight.Load.TheVariants.{Work}
+use Rattle.world.specs.declared.flight.Message.{Message}
+use Rattle.world.specs.declared.flight.Message.TheVariants as message
+use Rattle.world.specs.declared.flight.Posted.{Posted}
+use Rattle.world.specs.declared.flight.Posted.TheVariants as posted
 use Rattle.world.specs.declared.world.Core.{Core}
-use Rattle.world.specs.Flights.{nothing, part_message, part_item}
-use Rattle.world.specs.Sound.{IsSoundWith, IsSoundMessage, IsSoundItem, Courses, flight}
-use Rattle.world.specs.Events.{CanSend, CanWork, SendsItem, TakesMessage}
-use Rattle.world.specs.Together.{IsOf, HasHome, HasHomeIn, IsSound, all_of, exchanging, goes_to, home_of_claims, in_hand, put_back, together}
-use Rattle.world.specs.Worlds.{Advances, Fits, Happens, SendsFirst, SubmitsAt, TakesFirst, begins_at, TakesItsOwn, FitsPart}
-use Rattle.world.proofs.Framed.{framed, sends_framed, submits_framed}
-use Rattle.world.proofs.Owned.{own_put, sent_own, submitted_own}
-use Rattle.world.proofs.Puts.{fits_in_hand, item_in_hand}
-use Rattle.world.proofs.Apart.{others}
-use Rattle.world.proofs.Ready.{can_send, can_work}
-use Rattle.world.proofs.Reordered.{Reordered, fits_in_order, queued, reordered-append, reordered-cons, reordered-middle, reordered-refl, reordered-swap, reordered-sym, reordered-trans, reordered_now, reordered_own, sound_in_order}
-use Rattle.world.proofs.Rooms.{has_room}
-use Rattle.world.proofs.Standing.{sent_stations, submitted_stations, takes_inbox}
-use Rattle.world.proofs.Balances.{message_taken}
+use Rattle.world.specs.declared.world.Parts.{Parts}
+use Rattle.world.specs.Events.{TakesMessage}
+use Rattle.world.specs.Flights.{nothing, part_message}
+use Rattle.world.specs.Happening.{FindsSlice, WorksIfHere, WorksOn, bringing, posting}
+use Rattle.world.specs.Letters.{HasHome, HasHomeIn, IsPosted, arrived_of, going_in, going_of, goes, home_of_claims, home_of_message, is_for_slice, items_in, letter, letters_out, messages_in, posted_by, sent_in, sent_of}
+use Rattle.world.specs.Parted.{joined_in}
+use Rattle.world.specs.Queues.{all_of, queue_of}
+use Rattle.world.specs.Sound.{Courses, IsSoundItem, IsSoundMessage, IsSoundWith, flight}
+use Rattle.world.specs.Stations.{HaveToWait, IsStationOf, waiting_in}
+use Rattle.world.specs.Together.{IsSound, arrived_in, letters_of_all, together}
+use Rattle.world.specs.Worlds.{Advances, Fits}
 use Rattle.world.proofs.Fitting.{fits_quiet}
-use Rattle.world.proofs.Taking.{message_in_hand, seen, takes_on, takes_wait}
-
--- a queue that has something is an executor's
-pub has_queue : {X : Type 0} (queues : List (List X)) (place : ℕ) → 1 ≤ length (slice_index_or queues place []) → place < length queues
-has_queue [] place some = absurd (omega (arith, some))
-has_queue (queue ∷ queues) zero some = omega arith
-has_queue (queue ∷ queues) (suc place) some = omega (arith, has_queue queues place some)
+use Rattle.world.proofs.Passes.{Passes, passes-is, passes-trans, passes_on, passes_shuffled, passes_work}
+use Rattle.world.proofs.Posting.{Keeps, holding, housed_again, kept_sound, posts_keep, posts_pass, takes_letter, takes_passes, there_in}
+use Rattle.world.proofs.Puts.{GoesOn}
+use Rattle.world.proofs.Reordered.{queued}
+use Rattle.world.proofs.Shuffles.{Shuffle, same, swap}
+use Rattle.world.proofs.Standing.{takes_inbox}
+use Rattle.world.proofs.Taking.{message_in_hand, seen, takes_wait}
 
 -- ---- the warehouse of claims
 
@@ -56,358 +58,312 @@ some_claims : (claims : List Claiming) → AreOfOneHome claims → 1 ≤ length 
 some_claims [] none = absurd none
 some_claims (claim ∷ claims) at = omega arith
 
-pub home_is : (claims : List Claiming) (home : ℕ) → 1 ≤ length claims → ((d : Claiming) → home ≡ warehouse_of (slice_index_or claims 0 d).group) → home ≡ home_of_claims claims
-home_is [] home some is = absurd (omega (arith, some))
-home_is (claim ∷ claims) home some is = is claim
-
 module _ {J : Type 0} where
-  has_home : (shared : Shared) (u : Courses) (m : Message J) → IsSoundMessage shared u m → HasHome m
+  pub has_home : (shared : Shared) (u : Courses) (m : Message J) → IsSoundMessage shared u m → HasHome m
   has_home shared u (message.Start flow works) h = tt
   has_home shared u (message.Act act) h = tt
   has_home shared u (message.Settle slot claims) h = some_claims claims h.0.1
   has_home shared u (message.Undo slot claims) h = some_claims claims h.0.1
 
-  has_home_in : (shared : Shared) (u : Courses) (w : Parts J) (i : Item J) → IsSoundItem shared w.log u i → HasHomeIn i
+  pub has_home_in : (shared : Shared) (u : Courses) (w : Parts J) (i : Item J) → IsSoundItem shared w.log u i → HasHomeIn i
   has_home_in shared u w (item.Push m) h = has_home shared u m h
   has_home_in shared u w (item.Report r) h = tt
   has_home_in shared u w (item.Ended slot) h = tt
   has_home_in shared u w (item.Commit commit) h = tt
   has_home_in shared u w (item.Reply told) h = tt
 
-  -- what is asked of an item names no queue
-  can_framed : (opening : Database) (messages : List (Message J)) (items : List (Item J)) (w : Parts J) (i : Item J) → CanSend opening i (framed messages items w) → CanSend opening i w
-  can_framed opening messages items w (item.Push m) h = h
-  can_framed opening messages items w (item.Report r) h = h
-  can_framed opening messages items w (item.Ended slot) h = h
-  can_framed opening messages items w (item.Commit commit) h = h
-  can_framed opening messages items w (item.Reply told) h = h
+  -- ---- what an event keeps
 
-  -- ---- the queues of one executor come into hand, and go back
+  -- the world is sound, and a history that fitted goes on
+  abbrev pub GoesOnWith : Shared → Core J → Event → EventAnswer → Core J → Type 0
+  GoesOnWith shared old event answer new = IsSound shared new × Advances (together old) (step event answer ∷ []) (together new)
 
-  pub exchanged_back : (from to : ℕ) (w : Core J) (parts : Parts J) → from < length w.outboxes → to < length w.inboxes → w.parts.inbox ≡ [] → w.parts.outbox ≡ []
-      → exchanging from to (record (exchanging from to w) { parts = parts }) ≡ put_back from to parts w
-  exchanged_back from to w parts from_there to_there no_inbox no_outbox = λ i. record {
-    parts = record parts {
-      inbox = (get_or-set_same w.inboxes to w.parts.inbox [] to_there ∙ no_inbox) i;
-      outbox = (get_or-set_same w.outboxes from w.parts.outbox [] from_there ∙ no_outbox) i;
-    };
-    routing = w.routing;
-    inboxes = set-set w.inboxes to w.parts.inbox parts.inbox i;
-    outboxes = set-set w.outboxes from w.parts.outbox parts.outbox i;
+  -- an event that tells nothing of a transaction
+  pub quietly : (shared : Shared) (old new : Core J) (event : Event) (answer : EventAnswer) → IsQuiet event answer → Keeps shared [] [] [] 0 new → GoesOn shared nothing (together old) (together new)
+      → GoesOnWith shared old event answer new
+  quietly shared old new event answer quiet keeps goes = (
+    kept_sound shared new keeps,
+    λ opening history f.
+        let seen = together new in
+        fits_quiet opening history seen.log (joined_in seen) seen.desk.admitted (flight seen) event answer quiet (goes.fits opening history f),
+  )
+
+  -- Nothing changes but where slices are, what is parked, and what is in hand.
+  pub rehoused : (shared : Shared) (w : Core J) (ms : List (Message J)) (is : List (Item J)) (ls : List (Letter J)) (a : ℕ) → Keeps shared ms is ls a w
+      → (houses : Housing) (parked : List (Message J)) → houses.executors ≡ w.houses.executors → length houses.houses ≡ length w.houses.houses
+      → (messages : List (Message J)) (items : List (Item J)) (letters : List (Letter J)) (arrived : ℕ) → IsSoundWith shared nothing (holding messages items (record w { houses = houses; parked = parked }))
+      → IsHousedWith 0 houses (going_in (letters ++ letters_of_all w)) (sent_in (letters ++ letters_of_all w)) (arrived + arrived_in w) (map home_of_message parked)
+      → Keeps shared messages items letters arrived (record w { houses = houses; parked = parked })
+  rehoused shared w ms is ls a k houses parked executors many messages items letters arrived sound kept = record {
+    all = sound;
+    stations = k.stations;
+    wait = k.wait;
+    warehouses = many ∙ k.warehouses;
+    inboxes = k.inboxes ∙ sym executors;
+    outboxes = k.outboxes ∙ sym executors;
+    own = k.own;
+    posted = subst (λ n. All (IsPosted n) (all_of w.outboxes)) (sym executors) k.posted;
+    housed = kept;
+    no_inbox = k.no_inbox;
+    no_outbox = k.no_outbox;
   }
 
-  module _ (shared : Shared) (w : Core J) (h : IsSound shared w) (from to : ℕ) (from_there : from < length w.outboxes) (to_there : to < length w.inboxes) where
-    abbrev messages : List (Message J)
-    messages = others to w.inboxes
+  -- ---- what is posted of items
 
-    abbrev items : List (Item J)
-    items = others from w.outboxes
+  pub posted_items : (h : Housing) (items : List (Item J)) → items_in (map (posted_by h) items) ≡ items
+  posted_items h [] = refl
+  posted_items h (item.Push m ∷ items) = ap (λ (is : List (Item J)). item.Push m ∷ is) (posted_items h items)
+  posted_items h (item.Report r ∷ items) = ap (λ (is : List (Item J)). item.Report r ∷ is) (posted_items h items)
+  posted_items h (item.Ended slot ∷ items) = ap (λ (is : List (Item J)). item.Ended slot ∷ is) (posted_items h items)
+  posted_items h (item.Commit commit ∷ items) = ap (λ (is : List (Item J)). item.Commit commit ∷ is) (posted_items h items)
+  posted_items h (item.Reply told ∷ items) = ap (λ (is : List (Item J)). item.Reply told ∷ is) (posted_items h items)
 
-    abbrev inbox : List (Message J)
-    inbox = slice_index_or w.inboxes to []
+  not_arrived : (h : Housing) (i : Item J) → arrived_of (posted_by h i) ≡ 0
+  not_arrived h (item.Push m) = refl
+  not_arrived h (item.Report r) = refl
+  not_arrived h (item.Ended slot) = refl
+  not_arrived h (item.Commit commit) = refl
+  not_arrived h (item.Reply told) = refl
 
-    abbrev outbox : List (Item J)
-    outbox = slice_index_or w.outboxes from []
+  none_arrived : (h : Housing) (items : List (Item J)) → sum_by arrived_of (map (posted_by h) items) ≡ 0
+  none_arrived h [] = refl
+  none_arrived h (i ∷ items) = omega (arith, sum_by-cons arrived_of (posted_by h i) (map (posted_by h) items), not_arrived h i, none_arrived h items)
 
-    -- who waits at the stations
-    abbrev waiting : List (Message J)
-    waiting = waiting_in w.parts
+  none_sent : (h : Housing) (items : List (Item J)) → sent_in (letters_out (map (posted_by h) items)) ≡ []
+  none_sent h [] = refl
+  none_sent h (item.Push m ∷ items) = none_sent h items
+  none_sent h (item.Report r ∷ items) = none_sent h items
+  none_sent h (item.Ended slot ∷ items) = none_sent h items
+  none_sent h (item.Commit commit ∷ items) = none_sent h items
+  none_sent h (item.Reply told ∷ items) = none_sent h items
 
-    -- who waits and the others come first, or the executor's own
-    others_first : Reordered part_message (waiting ++ all_of w.inboxes) ((waiting ++ messages) ++ inbox)
-    others_first =
-        subst (λ (q : List (Message J)). Reordered part_message (waiting ++ all_of w.inboxes) q) (sym (append_assoc waiting messages inbox))
-        (reordered-append part_message waiting (all_of w.inboxes) (messages ++ inbox)
-        (reordered-trans part_message (all_of w.inboxes) (inbox ++ messages) (messages ++ inbox) (reordered_now part_message w.inboxes to to_there) (reordered-swap part_message inbox messages)))
+  -- a message that is sent where its warehouse's messages go, goes to one who knows of the slice
+  goes_knows : (h : Housing) (m : Message J) → All (KnowsOf h) (goes (route_of h (home_of_message m)) m)
+  goes_knows h (message.Start flow works) = All-nil (KnowsOf h)
+  goes_knows h (message.Act act) = All-cons (KnowsOf h) _ [] (routed_knows h (home_of_message {J = J} (message.Act act))) (All-nil (KnowsOf h))
+  goes_knows h (message.Settle slot claims) = All-cons (KnowsOf h) _ [] (routed_knows h (home_of_claims claims)) (All-nil (KnowsOf h))
+  goes_knows h (message.Undo slot claims) = All-cons (KnowsOf h) _ [] (routed_knows h (home_of_claims claims)) (All-nil (KnowsOf h))
 
-    others_before : Reordered part_item (all_of w.outboxes) (items ++ outbox)
-    others_before =
-        reordered-trans part_item (all_of w.outboxes) (outbox ++ items) (items ++ outbox) (reordered_now part_item w.outboxes from from_there) (reordered-swap part_item outbox items)
+  all_know : (h : Housing) (items : List (Item J)) → All (KnowsOf h) (going_in (letters_out (map (posted_by h) items)))
+  all_know h [] = All-nil (KnowsOf h)
+  all_know h (item.Push m ∷ items) =
+      All-append (KnowsOf h) (goes (route_of h (home_of_message m)) m) (going_in (letters_out (map (posted_by h) items))) (goes_knows h m) (all_know h items)
+  all_know h (item.Report r ∷ items) = all_know h items
+  all_know h (item.Ended slot ∷ items) = all_know h items
+  all_know h (item.Commit commit ∷ items) = all_know h items
+  all_know h (item.Reply told ∷ items) = all_know h items
 
-    -- ---- once they are put back
+  all_posted : (h : Housing) (items : List (Item J)) → ((w_id : ℕ) → route_of h w_id < h.executors) → All (IsPosted h.executors) (map (posted_by h) items)
+  all_posted h [] below = All-nil (IsPosted h.executors)
+  all_posted h (item.Push m ∷ items) below = All-cons (IsPosted h.executors) _ _ (below (home_of_message m)) (all_posted h items below)
+  all_posted h (item.Report r ∷ items) below = All-cons (IsPosted h.executors) _ _ tt (all_posted h items below)
+  all_posted h (item.Ended slot ∷ items) below = All-cons (IsPosted h.executors) _ _ tt (all_posted h items below)
+  all_posted h (item.Commit commit ∷ items) below = All-cons (IsPosted h.executors) _ _ tt (all_posted h items below)
+  all_posted h (item.Reply told ∷ items) below = All-cons (IsPosted h.executors) _ _ tt (all_posted h items below)
 
-    module _ (parts : Parts J) (ms : List (Message J)) (first : Reordered part_message ms (waiting_in parts ++ (parts.inbox ++ messages))) where
-      abbrev inboxes_then : List (Message J)
-      inboxes_then = waiting_in parts ++ all_of (slice_set w.inboxes to parts.inbox)
+  -- ---- an event has brought the parts so far
 
-      all_messages : Reordered part_message ms inboxes_then
-      all_messages =
-          reordered-trans part_message ms (waiting_in parts ++ (parts.inbox ++ messages)) inboxes_then first
-          (reordered-append part_message (waiting_in parts) (parts.inbox ++ messages) (all_of (slice_set w.inboxes to parts.inbox))
-          (reordered-sym part_message (all_of (slice_set w.inboxes to parts.inbox)) (parts.inbox ++ messages) (reordered_own part_message w.inboxes to parts.inbox to_there)))
+  module _ (shared : Shared) (w : Core J) (executor : ℕ) (parts : Parts J) (there : executor < length w.outboxes) (below : (w_id : ℕ) → route_of w.houses w_id < w.houses.executors) where
+    abbrev posts : List (Posted J)
+    posts = map (posted_by w.houses) parts.outbox
 
-      all_items : Reordered part_item (items ++ parts.outbox) (all_of (slice_set w.outboxes from parts.outbox))
-      all_items =
-          reordered-trans part_item (items ++ parts.outbox) (parts.outbox ++ items) (all_of (slice_set w.outboxes from parts.outbox)) (reordered-swap part_item items parts.outbox)
-          (reordered-sym part_item (all_of (slice_set w.outboxes from parts.outbox)) (parts.outbox ++ items) (reordered_own part_item w.outboxes from parts.outbox from_there))
+    -- with what it has put in hand
+    abbrev brought : Core J
+    brought = record w { parts = record parts { outbox = [] } }
 
-      back_sound : IsSoundWith shared nothing (queued parts ms (items ++ parts.outbox)) → All (IsStationOf shared.scale.warehouses) parts.stations.items → All HaveToWait parts.stations.items
-          → All (IsOf w.routing to) parts.inbox → IsSound shared (put_back from to parts w)
-      back_sound s stations wait fine = record {
-        stations = stations;
-        wait = wait;
-        all = sound_in_order parts ms inboxes_then (items ++ parts.outbox) (all_of (slice_set w.outboxes from parts.outbox)) all_messages all_items shared nothing s;
-        routed = h.routed;
-        inboxes = length-set w.inboxes to parts.inbox ∙ h.inboxes;
-        outboxes = length-set w.outboxes from parts.outbox ∙ h.outboxes;
-        own = own_put w.routing w.inboxes to parts.inbox to_there h.own fine;
-        no_inbox = refl;
-        no_outbox = refl;
-      }
+    -- it is posted: nothing but its letters is on its way more
+    pub brings_keep : (ms : List (Message J)) (is : List (Item J)) (letters : List (Letter J)) (arrived : ℕ) → Keeps shared ms is letters arrived w → IsSoundWith shared nothing (holding [] parts.outbox brought) → All (IsStationOf shared.scale.warehouses) parts.stations.items
+        → All HaveToWait parts.stations.items → parts.inbox ≡ [] → IsHousedWith 0 w.houses (going_in (letters_of_all w)) (sent_in (letters_of_all w)) (arrived_in w) (map home_of_message w.parked)
+        → Keeps shared [] [] [] 0 (bringing executor parts w)
+    brings_keep ms is letters arrived k sound stations wait no_inbox kept =
+        let h = w.houses in
+        let old = letters_of_all w in
+        let more = letters_out posts in
+        let going : going_in (more ++ old) ≡ going_in more ++ going_in old = flat_map-append (λ (l : Letter J). going_of l.to l.load) more old in
+        let sent : sent_in (more ++ old) ≡ sent_in old = flat_map-append (λ (l : Letter J). sent_of l.to l.load) more old ∙ ap (λ (ds : List Dispatch). ds ++ sent_in old) (none_sent h parts.outbox) in
+        let hand : Keeps shared [] parts.outbox more 0 brought = record {
+          all = sound;
+          stations = stations;
+          wait = wait;
+          warehouses = k.warehouses;
+          inboxes = k.inboxes;
+          outboxes = k.outboxes;
+          own = k.own;
+          posted = k.posted;
+          housed = subst (λ (gs : List Going). IsHousedWith 0 h gs (sent_in (more ++ old)) (0 + arrived_in w) (map home_of_message w.parked)) (sym going)
+              (subst (λ (ds : List Dispatch). IsHousedWith 0 h (going_in more ++ going_in old) ds (0 + arrived_in w) (map home_of_message w.parked)) (sym sent)
+              (subst (λ n. IsHousedWith 0 h (going_in more ++ going_in old) (sent_in old) n (map home_of_message w.parked)) (omega arith)
+              (housed.going_more 0 h (going_in old) (sent_in old) (arrived_in w) (map home_of_message w.parked) (going_in more) (all_know h parts.outbox) kept)));
+          no_inbox = no_inbox;
+          no_outbox = refl;
+        } in
+        let ready : Keeps shared [] (items_in posts) more (sum_by arrived_of posts) brought =
+        subst (λ (is : List (Item J)). Keeps shared [] is more (sum_by arrived_of posts) brought) (sym (posted_items h parts.outbox))
+        (subst (λ n. Keeps shared [] parts.outbox more n brought) (sym (none_arrived h parts.outbox)) hand) in
+        posts_keep shared brought executor posts [] there ready (all_posted h parts.outbox below)
 
-      back_fits : (opening : Database) (history : List Step) → Fits opening history (queued parts ms (items ++ parts.outbox)) → Fits opening history (together (put_back from to parts w))
-      back_fits opening history f =
-          fits_in_order parts ms inboxes_then (items ++ parts.outbox) (all_of (slice_set w.outboxes from parts.outbox)) all_messages all_items opening history f
+    pub brings_pass : Passes shared (holding [] parts.outbox brought) (together (bringing executor parts w))
+    brings_pass =
+        subst (λ (is : List (Item J)). Passes shared (holding [] is brought) (together (bringing executor parts w))) (posted_items w.houses parts.outbox)
+        (posts_pass shared brought executor posts [] there)
 
-    -- ---- where the stations stay
+  -- ---- a message is worked on
 
-    module _ (parts : Parts J) (same : parts.stations ≡ w.parts.stations) where
-      still_waiting : Reordered part_message ((waiting ++ messages) ++ parts.inbox) (waiting_in parts ++ (parts.inbox ++ messages))
-      still_waiting =
-          subst (λ (s : Vec (Stationed (Carried J)) Global). Reordered part_message ((waiting ++ messages) ++ parts.inbox) (waiting_in (record parts { stations = s }) ++ (parts.inbox ++ messages))) (sym same)
-          (subst (λ (q : List (Message J)). Reordered part_message q (waiting ++ (parts.inbox ++ messages))) (sym (append_assoc waiting messages parts.inbox))
-          (reordered-append part_message waiting (messages ++ parts.inbox) (parts.inbox ++ messages) (reordered-swap part_message messages parts.inbox)))
+  -- none of its own is on its way any more
+  one_less : (w : Core J) (executor : ℕ) (m : Message J) → IsHousedWith 0 w.houses (going_in (letter executor (Work m) ∷ letters_of_all w)) (sent_in (letter executor (Work m) ∷ letters_of_all w)) (0 + arrived_in w) (map home_of_message w.parked)
+      → IsHousedWith 0 w.houses (going_in (letters_of_all w)) (sent_in (letters_of_all w)) (arrived_in w) (map home_of_message w.parked)
+  one_less w executor m h = less m (subst (λ n. IsHousedWith 0 w.houses (goes executor m ++ going_in (letters_of_all w)) (sent_in (letters_of_all w)) n (map home_of_message w.parked)) (omega arith) h)
+    where
+      less : (m : Message J) → IsHousedWith 0 w.houses (goes executor m ++ going_in (letters_of_all w)) (sent_in (letters_of_all w)) (arrived_in w) (map home_of_message w.parked)
+          → IsHousedWith 0 w.houses (going_in (letters_of_all w)) (sent_in (letters_of_all w)) (arrived_in w) (map home_of_message w.parked)
+      less (message.Start flow works) h = h
+      less (message.Act act) h = housed.going_less 0 w.houses (going_in (letters_of_all w)) (sent_in (letters_of_all w)) (arrived_in w) (map home_of_message w.parked) _ h
+      less (message.Settle slot claims) h = housed.going_less 0 w.houses (going_in (letters_of_all w)) (sent_in (letters_of_all w)) (arrived_in w) (map home_of_message w.parked) _ h
+      less (message.Undo slot claims) h = housed.going_less 0 w.houses (going_in (letters_of_all w)) (sent_in (letters_of_all w)) (arrived_in w) (map home_of_message w.parked) _ h
 
-      stations_stay : All (IsStationOf shared.scale.warehouses) parts.stations.items
-      stations_stay = subst (λ (s : Vec (Stationed (Carried J)) Global). All (IsStationOf shared.scale.warehouses) s.items) (sym same) h.stations
+  module _ (shared : Shared) (w : Core J) (h : IsSound shared w) (executor : ℕ) (rest : List (Letter J)) where
+    abbrev left : Core J
+    left = record w { inboxes = slice_set w.inboxes executor rest }
 
-      wait_stays : All HaveToWait parts.stations.items
-      wait_stays = subst (λ (s : Vec (Stationed (Carried J)) Global). All HaveToWait s.items) (sym same) h.wait
+    -- the outbox of an executor that has an inbox
+    both_there : executor < length w.inboxes → executor < length w.outboxes
+    both_there there = omega (arith, there, h.inboxes, h.outboxes)
 
-    -- ---- a submission
+    module _ (m : Message J) (first : queue_of executor w.inboxes ≡ letter executor (Work m) ∷ rest) where
+      abbrev l : Letter J
+      l = letter executor (Work m)
 
-    pub submits_at : (session number : ℕ) (asked : Request) (answer : EventAnswer) (parts : Parts J) → to ≡ begins_at asked w
-        → SubmitsAt (slice_get w.parts.desk.sessions.items session) session number asked (in_hand from to w) answer parts
-        → IsSound shared (put_back from to parts w) × Advances (together w) (step (Submit session number asked) answer ∷ []) (together (put_back from to parts w))
-    submits_at session number asked answer parts begins said =
-        let frame = waiting ++ messages in
-        let sound = sound_in_order w.parts (waiting ++ all_of w.inboxes) (frame ++ inbox) (all_of w.outboxes) (items ++ outbox) others_first others_before shared nothing h.all in
-        let both = submits_framed frame items shared (in_hand from to w) parts sound session number asked answer (slice_get w.parts.desk.sessions.items session) refl said in
-        let ms = frame ++ parts.inbox in
-        let same = submitted_stations (slice_get w.parts.desk.sessions.items session) session number asked (in_hand from to w) parts answer said in
-        let swap = still_waiting parts same in (
-          back_sound parts ms swap both.0 (stations_stay parts same) (wait_stays parts same)
-              (submitted_own w.routing (slice_get w.parts.desk.sessions.items session) to session number asked (in_hand from to w) parts answer begins said (h.own to)),
-          λ opening history f.
-              back_fits parts ms swap opening (history ++ step (Submit session number asked) answer ∷ [])
-              (both.1 opening history (fits_in_order w.parts (waiting ++ all_of w.inboxes) (frame ++ inbox) (all_of w.outboxes) (items ++ outbox) others_first others_before opening history f)),
-        )
+      hand : Keeps shared (m ∷ []) [] (l ∷ []) 0 left
+      hand = takes_letter shared w h executor l rest first
 
-    -- ---- the first message
+      there : executor < length w.outboxes
+      there = both_there (there_in shared w h executor l rest first)
 
-    module _ (m : Message J) (rest : List (Message J)) (is : inbox ≡ m ∷ rest) where
-      own_first : Reordered part_message (waiting ++ all_of w.inboxes) (m ∷ (waiting ++ (rest ++ messages)))
-      own_first =
-          reordered-trans part_message (waiting ++ all_of w.inboxes) (waiting ++ m ∷ (rest ++ messages)) (m ∷ (waiting ++ (rest ++ messages)))
-          (reordered-append part_message waiting (all_of w.inboxes) (m ∷ (rest ++ messages))
-          (subst (λ (q : List (Message J)). Reordered part_message (all_of w.inboxes) (q ++ messages)) is (reordered_now part_message w.inboxes to to_there)))
-          (reordered-middle part_message waiting m (rest ++ messages))
+      in_hand : Passes shared (together w) (holding (m ∷ []) [] left)
+      in_hand = takes_passes shared w h executor l rest first
 
-      abbrev pub taken_from : Parts J
-      taken_from = queued w.parts (m ∷ (waiting ++ (rest ++ messages))) (items ++ outbox)
+      -- it is in hand, with all else as it was
+      pub message_sound : IsSoundWith shared nothing (holding (m ∷ []) [] left)
+      message_sound = (in_hand h.all).sound
 
-      pub first_sound : IsSoundWith shared nothing taken_from
-      first_sound = sound_in_order w.parts (waiting ++ all_of w.inboxes) (m ∷ (waiting ++ (rest ++ messages))) (all_of w.outboxes) (items ++ outbox) own_first others_before shared nothing h.all
+      pub message_fits : (opening : Database) (history : List Step) → Fits opening history (together w) → Fits opening history (holding (m ∷ []) [] left)
+      message_fits opening history f = (in_hand h.all).fits opening history f
 
-      pub fits_first : (opening : Database) (history : List Step) → Fits opening history (together w) → Fits opening history taken_from
-      fits_first opening history f = fits_in_order w.parts (waiting ++ all_of w.inboxes) (m ∷ (waiting ++ (rest ++ messages))) (all_of w.outboxes) (items ++ outbox) own_first others_before opening history f
+      abbrev pub beside : List (Message J)
+      beside = messages_in (all_of left.inboxes) ++ w.parked
 
-      -- what is in hand then
-      abbrev pub left : Parts J
-      left = record (in_hand from to w) { inbox = rest }
+      pub message_hand : (k : IsSoundWith shared (part_message m) (seen w.parts beside (together left).outbox)) × IsSoundMessage shared k.under_way m
+      message_hand =
+          let items = (together left).outbox in
+          let first : Parts J = queued w.parts (m ∷ (waiting_in w.parts ++ beside)) (items ++ w.parts.outbox) in
+          let nothing_more : items ≡ items ++ w.parts.outbox = sym (append-nil items) ∙ ap (λ (is : List (Item J)). items ++ is) (sym h.no_outbox) in
+          message_in_hand shared first m (waiting_in w.parts ++ beside) refl (subst (λ (is : List (Item J)). IsSoundWith shared nothing (queued w.parts (m ∷ (waiting_in w.parts ++ beside)) is)) nothing_more message_sound)
 
-      pub in_the_hand : (k : IsSoundWith shared (part_message m) (seen left (rest ++ messages) items)) × IsSoundMessage shared k.under_way m
-      in_the_hand = message_in_hand shared taken_from m (waiting ++ (rest ++ messages)) refl first_sound
+      -- it is worked on
+      module _ (once : TransactionsClaimEachGroupOnce) (parts : Parts J) (said : TakesMessage m w.parts parts) where
+        abbrev then_brought : Core J
+        then_brought = record left { parts = record parts { outbox = [] } }
 
-      pub can_take : CanWork w.parts.catalog m × (length outbox + MOST_ACTIONS + length waiting < 4096)
-      can_take =
-          let hand = in_the_hand in (
-            subst (λ s. CanWork s m) (sym h.all.shared_is) (can_work shared hand.0.under_way m hand.1),
-            omega (arith, has_room shared (part_message m) (seen left (rest ++ messages) items) hand.0, length-append items outbox, length-append waiting (rest ++ messages)),
-          )
+        abbrev behind : List (Message J)
+        behind = messages_in (all_of left.inboxes) ++ w.parked
 
-      pub takes_at : TransactionsClaimEachGroupOnce → (parts : Parts J) → TakesMessage m left parts → All (IsStationOf shared.scale.warehouses) parts.stations.items → (executor : ℕ)
-          → IsSound shared (put_back from to parts w) × Advances (together w) (step (Take executor) Took ∷ []) (together (put_back from to parts w))
-      takes_at once parts said stations executor =
-          let hand = in_the_hand in
-          let goes = takes_on once shared (rest ++ messages) items m left parts hand.0 hand.1 said in
-          let next : Parts J = seen parts (rest ++ messages) items in
-          let ms = waiting_in parts ++ (rest ++ messages) in
-          let left_is : parts.inbox ≡ rest = takes_inbox m left parts said in
-          let same : Reordered part_message ms (waiting_in parts ++ (parts.inbox ++ messages)) =
-          subst (λ (q : List (Message J)). Reordered part_message ms (waiting_in parts ++ (q ++ messages))) (sym left_is) (reordered-refl part_message ms) in (
-            back_sound parts ms same goes.sound stations (takes_wait m left parts said h.wait)
-                (subst (λ q. All (IsOf w.routing to) q) (sym left_is) (All-tail (IsOf w.routing to) m rest (subst (λ q. All (IsOf w.routing to) q) is (h.own to)))),
-            λ opening history f.
-                let worked = goes.fits opening history
-                (subst (λ q. FitsPart opening history w.parts.log (joined_in w.parts) w.parts.desk.admitted q) (message_taken taken_from m (waiting ++ (rest ++ messages)) refl) (fits_first opening history f)) in
-                back_fits parts ms same opening (history ++ step (Take executor) Took ∷ [])
-                (fits_quiet opening history next.log (joined_in next) next.desk.admitted (flight next) (Take executor) Took tt worked),
-          )
+        abbrev items : List (Item J)
+        items = (together left).outbox
 
-    -- ---- the first item
+        works_pass : Passes shared (together w) (holding [] parts.outbox then_brought)
+        works_pass =
+            let held : Parts J = queued w.parts (m ∷ (waiting_in w.parts ++ behind)) items in
+            let more : Parts J = queued w.parts (m ∷ (waiting_in w.parts ++ behind)) (items ++ w.parts.outbox) in
+            let nothing_more : items ≡ items ++ w.parts.outbox = sym (append-nil items) ∙ ap (λ (is : List (Item J)). items ++ is) (sym h.no_outbox) in
+            let done : Parts J = seen parts behind items in
+            let last : Parts J = holding [] parts.outbox then_brought in
+            passes-trans shared (together w) held last in_hand
+            (passes-trans shared held more last (passes-is shared held more (ap (λ (is : List (Item J)). queued w.parts (m ∷ (waiting_in w.parts ++ behind)) is) nothing_more))
+            (passes-trans shared more done last (passes_work once shared m w.parts parts behind items said)
+            (passes_shuffled shared parts (waiting_in parts ++ behind) (waiting_in parts ++ behind) (items ++ parts.outbox) (parts.outbox ++ items) (same (waiting_in parts ++ behind)) (swap items parts.outbox))))
 
-    module _ (i : Item J) (rest : List (Item J)) (is : outbox ≡ i ∷ rest) where
-      own_item : Reordered part_item (all_of w.outboxes) (i ∷ (items ++ rest))
-      own_item =
-          reordered-trans part_item (all_of w.outboxes) (i ∷ (rest ++ items)) (i ∷ (items ++ rest))
-          (subst (λ (q : List (Item J)). Reordered part_item (all_of w.outboxes) (q ++ items)) is (reordered_now part_item w.outboxes from from_there))
-          (reordered-cons part_item i (rest ++ items) (items ++ rest) (reordered-swap part_item rest items))
+        pub works_sound : IsSoundWith shared nothing (holding [] parts.outbox then_brought)
+        works_sound = (works_pass h.all).sound
 
-      abbrev frame : List (Message J)
-      frame = waiting ++ messages
+        pub works_on : ((w_id : ℕ) → route_of w.houses w_id < w.houses.executors) → (new : Core J) → new ≡ bringing executor parts left → All (IsStationOf shared.scale.warehouses) parts.stations.items → GoesOnWith shared w (Take executor) Took new
+        works_on below new is stations =
+            let next : Core J = bringing executor parts left in
+            let keeps = brings_keep shared left executor parts there below (m ∷ []) [] (l ∷ []) 0 hand works_sound stations (takes_wait m w.parts parts said h.wait) (takes_inbox m w.parts parts said ∙ h.no_inbox) (one_less left executor m hand.housed) in
+            subst (λ (v : Core J). GoesOnWith shared w (Take executor) Took v) (sym is)
+            (quietly shared w next (Take executor) Took tt keeps
+            (passes-trans shared (together w) (holding [] parts.outbox then_brought) (together next) works_pass (brings_pass shared left executor parts there below) h.all))
 
-      abbrev sent_from : Parts J
-      sent_from = queued w.parts (frame ++ inbox) (i ∷ (items ++ rest))
+      -- it is sent on
+      goes_slice : (to : ℕ) → is_for_slice m ≡ true → goes to m ≡ record { to = to; w_id = home_of_message m } ∷ []
+      goes_slice to is = by m is
+        where
+          by : (m : Message J) → is_for_slice m ≡ true → goes to m ≡ record { to = to; w_id = home_of_message m } ∷ []
+          by (message.Start flow works) is = absurd (cc)
+          by (message.Act act) is = refl
+          by (message.Settle slot claims) is = refl
+          by (message.Undo slot claims) is = refl
 
-      sound_item : IsSoundWith shared nothing sent_from
-      sound_item = sound_in_order w.parts (waiting ++ all_of w.inboxes) (frame ++ inbox) (all_of w.outboxes) (i ∷ (items ++ rest)) others_first own_item shared nothing h.all
+      -- what is known of it as a message for a slice
+      housed_slice : is_for_slice m ≡ true → IsHousedWith 0 w.houses (record { to = executor; w_id = home_of_message m } ∷ going_in (letters_of_all left)) (sent_in (letters_of_all left)) (0 + arrived_in left) (map home_of_message w.parked)
+      housed_slice is =
+          subst (λ (gs : List Going). IsHousedWith 0 w.houses (gs ++ going_in (letters_of_all left)) (sent_in (letters_of_all left)) (0 + arrived_in left) (map home_of_message w.parked)) (goes_slice executor is) hand.housed
 
-      abbrev mid : Parts J
-      mid = record (in_hand from to w) { outbox = rest }
+      pub sends_on : (to : ℕ) (new : Core J) → is_for_slice m ≡ true → found_by w.houses executor (home_of_message m) ≡ Went to → new ≡ posting executor (posted.Letter (letter to (Work m)) ∷ []) left
+          → GoesOnWith shared w (Take executor) Took new
+      sends_on to new slice found is =
+          let p : Posted J = posted.Letter (letter to (Work m)) in
+          let next : Core J = posting executor (p ∷ []) left in
+          let inbox = (together left).inbox in
+          let items = (together left).outbox in
+          let forwards = housed.forwarded 0 w.houses (going_in (letters_of_all left)) (sent_in (letters_of_all left)) (0 + arrived_in left) (map home_of_message w.parked) executor (home_of_message m) to found (housed_slice slice) in
+          let pushed : Passes shared (together w) (holding [] (item.Push m ∷ []) left) =
+          passes-trans shared (together w) (holding (m ∷ []) [] left) (holding [] (item.Push m ∷ []) left) in_hand
+          (passes-trans shared (holding (m ∷ []) [] left) (queued w.parts inbox (items ++ item.Push m ∷ [])) (holding [] (item.Push m ∷ []) left) (passes_on shared w.parts m inbox items)
+          (passes_shuffled shared w.parts inbox inbox (items ++ item.Push m ∷ []) (item.Push m ∷ items) (same inbox) (swap items (item.Push m ∷ [])))) in
+          let ready : Keeps shared [] (item.Push m ∷ []) (letter to (Work m) ∷ []) 0 left =
+          rehoused shared left (m ∷ []) [] (l ∷ []) 0 hand w.houses w.parked refl refl [] (item.Push m ∷ []) (letter to (Work m) ∷ []) 0 (pushed h.all).sound
+          (subst (λ (gs : List Going). IsHousedWith 0 w.houses (gs ++ going_in (letters_of_all left)) (sent_in (letters_of_all left)) (0 + arrived_in left) (map home_of_message w.parked)) (sym (goes_slice to slice)) forwards.0) in
+          let counted : Keeps shared [] (item.Push m ∷ []) (letter to (Work m) ∷ []) (sum_by arrived_of (p ∷ [])) left =
+          subst (λ n. Keeps shared [] (item.Push m ∷ []) (letter to (Work m) ∷ []) n left) (omega (arith, sum_by-cons arrived_of p [])) ready in
+          let keeps : Keeps shared [] [] [] 0 next = posts_keep shared left executor (p ∷ []) [] there counted (All-cons (IsPosted w.houses.executors) p [] forwards.1 (All-nil (IsPosted w.houses.executors))) in
+          subst (λ (v : Core J). GoesOnWith shared w (Take executor) Took v) (sym is)
+          (quietly shared w next (Take executor) Took tt keeps
+          (passes-trans shared (together w) (holding [] (item.Push m ∷ []) left) (together next) pushed (posts_pass shared left executor (p ∷ []) [] there) h.all))
 
-      item_taken : (h : IsSoundWith shared (part_item i) (framed frame items mid)) × IsSoundItem shared w.parts.log h.under_way i
-      item_taken = item_in_hand shared sent_from i (items ++ rest) refl sound_item
+      -- it is parked
+      pub parks : (new : Core J) → is_for_slice m ≡ true → found_by w.houses executor (home_of_message m) ≡ Unknown → new ≡ record left { parked = w.parked ++ m ∷ [] } → GoesOnWith shared w (Take executor) Took new
+      parks new slice found is =
+          let next : Core J = record left { parked = w.parked ++ m ∷ [] } in
+          let waiting = waiting_in w.parts in
+          let arrived = messages_in (all_of left.inboxes) in
+          let items = (together left).outbox in
+          let order : Shuffle (m ∷ (waiting ++ (arrived ++ w.parked))) (waiting ++ (arrived ++ (w.parked ++ m ∷ []))) =
+          subst (λ (q : List (Message J)). Shuffle (m ∷ (waiting ++ (arrived ++ w.parked))) q)
+          (append_assoc waiting (arrived ++ w.parked) (m ∷ []) ∙ ap (λ (q : List (Message J)). waiting ++ q) (append_assoc arrived w.parked (m ∷ [])))
+          (swap (m ∷ []) (waiting ++ (arrived ++ w.parked))) in
+          let passes : Passes shared (together w) (together next) =
+          passes-trans shared (together w) (holding (m ∷ []) [] left) (together next) in_hand
+          (passes_shuffled shared w.parts (m ∷ (waiting ++ (arrived ++ w.parked))) (waiting ++ (arrived ++ (w.parked ++ m ∷ []))) items items order (same items)) in
+          let homes : List ℕ = map home_of_message w.parked in
+          let parked = housed.parked_more 0 w.houses (going_in (letters_of_all left)) (sent_in (letters_of_all left)) (0 + arrived_in left) homes executor (home_of_message m) found (housed_slice slice) in
+          let homes_are : homes ++ home_of_message m ∷ [] ≡ map home_of_message (w.parked ++ m ∷ []) = sym (map-append home_of_message w.parked (m ∷ [])) in
+          let behind = housed_again 0 w.houses (letters_of_all left) (letters_of_all left) (0 + arrived_in left) (0 + arrived_in left) (home_of_message m ∷ homes) (map home_of_message (w.parked ++ m ∷ []))
+          (same (letters_of_all left)) refl (subst (λ (q : List ℕ). Shuffle (home_of_message m ∷ homes) q) homes_are (swap (home_of_message m ∷ []) homes)) parked in
+          let keeps : Keeps shared [] [] [] 0 next = rehoused shared left (m ∷ []) [] (l ∷ []) 0 hand w.houses (w.parked ++ m ∷ []) refl refl [] [] [] 0 (passes h.all).sound behind in
+          subst (λ (v : Core J). GoesOnWith shared w (Take executor) Took v) (sym is) (quietly shared w next (Take executor) Took tt keeps (passes h.all))
 
-      pub item_home : HasHomeIn i
-      item_home = has_home_in shared item_taken.0.under_way w.parts i item_taken.1
+      -- whatever it finds
+      pub works_if_here : ((w_id : ℕ) → route_of w.houses w_id < w.houses.executors) → TransactionsClaimEachGroupOnce → (new : Core J) → WorksIfHere (is_for_slice m) executor m left new → All (IsStationOf shared.scale.warehouses) new.parts.stations.items → GoesOnWith shared w (Take executor) Took new
+      works_if_here below once new said stations = by (is_for_slice m) refl said
+        where
+          on : WorksOn executor m left new → GoesOnWith shared w (Take executor) Took new
+          on works = works_on once works.0 works.1.0 below new works.1.1 (subst (λ (v : Core J). All (IsStationOf shared.scale.warehouses) v.parts.stations.items) works.1.1 stations)
 
-      pub item_room : length rest + (MOST_ACTIONS + 1) ≤ 4096
-      item_room = omega (arith, has_room shared (part_item i) (framed frame items mid) item_taken.0, length-append items rest)
+          finds : is_for_slice m ≡ true → (found : Found) → found_by w.houses executor (home_of_message m) ≡ found → FindsSlice found executor m left new → GoesOnWith shared w (Take executor) Took new
+          finds slice Here is works = on works
+          finds slice (Went to) is sent = sends_on to new slice is sent
+          finds slice Unknown is parked = parks new slice is parked
 
-      pub sends_at : (parts : Parts J) (answer : EventAnswer) → to ≡ goes_to w.routing from i → SendsItem i mid answer parts → (executor : ℕ)
-          → IsSound shared (put_back from to parts w) × Advances (together w) (step (Send executor) answer ∷ []) (together (put_back from to parts w))
-      sends_at parts answer goes said executor =
-          let sends = sends_framed frame items shared mid parts i answer item_taken.0 item_taken.1 said in
-          let ms = frame ++ parts.inbox in
-          let same = sent_stations i mid parts answer said in
-          let swap = still_waiting parts same in (
-            back_sound parts ms swap sends.sound (stations_stay parts same) (wait_stays parts same) (sent_own w.routing from to i mid parts answer goes said (h.own to)),
-            λ opening history f.
-                back_fits parts ms swap opening (history ++ step (Send executor) answer ∷ [])
-                (sends.fits opening history executor
-                (fits_in_hand opening history sent_from i (items ++ rest) refl
-                (fits_in_order w.parts (waiting ++ all_of w.inboxes) (frame ++ inbox) (all_of w.outboxes) (i ∷ (items ++ rest)) others_first own_item opening history f))),
-          )
-
-  -- what is asked of an item is so of the first one
-  pub item_can : (opening : Database) (w : Core J) (h : IsSound (shared_of opening) w) (from to : ℕ) (from_there : from < length w.outboxes) (to_there : to < length w.inboxes)
-      (i : Item J) (rest : List (Item J)) (is : slice_index_or w.outboxes from [] ≡ i ∷ rest) → CanSend opening i (record (in_hand from to w) { outbox = rest })
-  item_can opening w h from to from_there to_there i rest is =
-      let taken = item_taken (shared_of opening) w h from to from_there to_there i rest is in
-      let frame = waiting_in w.parts ++ others to w.inboxes in
-      can_framed opening frame (others from w.outboxes) (record (in_hand from to w) { outbox = rest }) i
-      (can_send opening (framed frame (others from w.outboxes) (record (in_hand from to w) { outbox = rest })) i taken.0 taken.1)
-
--- ---- whole events
-
-module _ {J : Type 0} (shared : Shared) (w : Core J) (h : IsSound shared w) where
-  -- both executors have their queues, where one does
-  both_there : (executor : ℕ) → executor < w.routing.executors → (executor < length w.outboxes) × (executor < length w.inboxes)
-  both_there executor below = (omega (arith, below, h.outboxes), omega (arith, below, h.inboxes))
-
-  pub there_of_inbox : (executor : ℕ) → 1 ≤ length (slice_index_or w.inboxes executor []) → executor < w.routing.executors
-  there_of_inbox executor some = omega (arith, has_queue w.inboxes executor some, h.inboxes)
-
-  pub there_of_outbox : (executor : ℕ) → 1 ≤ length (slice_index_or w.outboxes executor []) → executor < w.routing.executors
-  there_of_outbox executor some = omega (arith, has_queue w.outboxes executor some, h.outboxes)
-
-  -- a submission, with the queues of an executor in hand
-  pub submitted : (session number : ℕ) (asked : Request) (to : ℕ) (mid new : Core J) (parts : Parts J) (answer : EventAnswer) → to ≡ begins_at asked w → to < w.routing.executors
-      → mid ≡ exchanging to to w → SubmitsAt (slice_get mid.parts.desk.sessions.items session) session number asked mid.parts answer parts → new ≡ exchanging to to (record mid { parts = parts })
-      → IsSound shared new × (Advances (together w) (step (Submit session number asked) answer ∷ []) (together new) × Happens (Submit session number asked) w answer new)
-  submitted session number asked to mid new parts answer begins below mid_is said new_is =
-      let there = both_there to below in
-      let given = subst (λ (m : Core J). SubmitsAt (slice_get m.parts.desk.sessions.items session) session number asked m.parts answer parts) mid_is said in
-      let is : new ≡ put_back to to parts w = new_is ∙ ap (λ (m : Core J). exchanging to to (record m { parts = parts })) mid_is ∙ exchanged_back to to w parts there.0 there.1 h.no_inbox h.no_outbox in
-      let both = submits_at shared w h to to there.0 there.1 session number asked answer parts begins given in (
-        subst (λ (v : Core J). IsSound shared v) (sym is) both.0,
-        (
-          subst (λ (v : Core J). Advances (together w) (step (Submit session number asked) answer ∷ []) (together v)) (sym is) both.1,
-          subst (λ n. (p : Parts J) × (SubmitsAt (slice_get w.parts.desk.sessions.items session) session number asked (in_hand n n w) answer p × (new ≡ put_back n n p w))) begins (parts, (given, is)),
-        ),
-      )
-
-  -- a message is taken, with the queues of its executor in hand
-  module _ (executor : ℕ) (below : executor < w.routing.executors) (mid : Core J) (mid_is : mid ≡ exchanging executor executor w) (m : Message J) (rest : List (Message J)) (first : mid.parts.inbox ≡ m ∷ rest) where
-    abbrev there : (executor < length w.outboxes) × (executor < length w.inboxes)
-    there = both_there executor below
-
-    waits_first : slice_index_or w.inboxes executor [] ≡ m ∷ rest
-    waits_first = ap (λ (c : Core J). c.parts.inbox) (sym mid_is) ∙ first
-
-    pub can_be_taken : (mid.parts.catalog ≡ shared) × (CanWork mid.parts.catalog m × (length mid.parts.outbox + MOST_ACTIONS + length (waiting_in mid.parts) < 4096))
-    can_be_taken =
-        subst (λ (c : Core J). (c.parts.catalog ≡ shared) × (CanWork c.parts.catalog m × (length c.parts.outbox + MOST_ACTIONS + length (waiting_in c.parts) < 4096))) (sym mid_is)
-        (h.all.shared_is, can_take shared w h executor executor there.0 there.1 m rest waits_first)
-
-    pub slices_are : AreSlicesOf mid.parts.catalog (slices_in mid.parts)
-    slices_are = subst (λ (c : Core J). AreSlicesOf c.parts.catalog (slices_in c.parts)) (sym mid_is) h.all.slices
-
-    pub stations_are : All (IsStationOf shared.scale.warehouses) mid.parts.stations.items
-    stations_are = subst (λ (c : Core J). All (IsStationOf shared.scale.warehouses) c.parts.stations.items) (sym mid_is) h.stations
-
-    pub taken : TransactionsClaimEachGroupOnce → (parts : Parts J) (new : Core J) → TakesMessage m (record mid.parts { inbox = rest }) parts → All (IsStationOf shared.scale.warehouses) parts.stations.items → new ≡ exchanging executor executor (record mid { parts = parts })
-        → IsSound shared new × (Advances (together w) (step (Take executor) Took ∷ []) (together new) × Happens (Take executor) w Took new)
-    taken once parts new said stations new_is =
-        let given = subst (λ (c : Core J). TakesMessage m (record c.parts { inbox = rest }) parts) mid_is said in
-        let is : new ≡ put_back executor executor parts w =
-        new_is ∙ ap (λ (c : Core J). exchanging executor executor (record c { parts = parts })) mid_is ∙ exchanged_back executor executor w parts there.0 there.1 h.no_inbox h.no_outbox in
-        let both = takes_at shared w h executor executor there.0 there.1 m rest waits_first once parts given stations executor in (
-          subst (λ (v : Core J). IsSound shared v) (sym is) both.0,
-          (
-            subst (λ (v : Core J). Advances (together w) (step (Take executor) Took ∷ []) (together v)) (sym is) both.1,
-            subst (λ q. TakesFirst executor q w Took new) (sym waits_first) (refl, (parts, (given, is))),
-          ),
-        )
-
-  -- an item is sent, with the outbox of its executor in hand and the inbox of the one where it goes
-  module _ (executor : ℕ) (below : executor < w.routing.executors) (outbox : List (Item J)) (outbox_is : outbox ≡ slice_index_or w.outboxes executor []) (i : Item J) (rest : List (Item J)) (first : outbox ≡ i ∷ rest) where
-    abbrev from_there : executor < length w.outboxes
-    from_there = (both_there executor below).0
-
-    stands_first : slice_index_or w.outboxes executor [] ≡ i ∷ rest
-    stands_first = sym outbox_is ∙ first
-
-    pub home_first : HasHomeIn i
-    home_first = item_home shared w h executor executor from_there (both_there executor below).1 i rest stands_first
-
-    module _ (to : ℕ) (to_is : to ≡ goes_to w.routing executor i) (to_below : to < w.routing.executors) (inbox : List (Message J)) (inbox_is : inbox ≡ slice_index_or w.inboxes to []) where
-      abbrev to_there : to < length w.inboxes
-      to_there = (both_there to to_below).1
-
-      pub room_left : length rest + (MOST_ACTIONS + 1) ≤ 4096
-      room_left = item_room shared w h executor to from_there to_there i rest stands_first
-
-      pub sent : (inboxes : List (List (Message J))) (outboxes : List (List (Item J))) (parts : Parts J) (answer : EventAnswer) (new : Core J)
-          → outboxes ≡ slice_set w.outboxes executor w.parts.outbox → inboxes ≡ slice_set w.inboxes to w.parts.inbox
-          → SendsItem i (record w.parts { inbox = inbox; outbox = rest }) answer parts
-          → new ≡ exchanging executor to (record { parts = parts; routing = w.routing; inboxes = inboxes; outboxes = outboxes })
-          → IsSound shared new × (Advances (together w) (step (Send executor) answer ∷ []) (together new) × Happens (Send executor) w answer new)
-      sent inboxes outboxes parts answer new outboxes_are inboxes_are said new_is =
-          let given = subst (λ q. SendsItem i (record w.parts { inbox = q; outbox = rest }) answer parts) inbox_is said in
-          let is : new ≡ put_back executor to parts w =
-          new_is ∙ (λ k. exchanging executor to (record { parts = parts; routing = w.routing; inboxes = inboxes_are k; outboxes = outboxes_are k })) ∙ exchanged_back executor to w parts from_there to_there h.no_inbox h.no_outbox in
-          let both = sends_at shared w h executor to from_there to_there i rest stands_first parts answer to_is given executor in (
-            subst (λ (v : Core J). IsSound shared v) (sym is) both.0,
-            (
-              subst (λ (v : Core J). Advances (together w) (step (Send executor) answer ∷ []) (together v)) (sym is) both.1,
-              subst (λ q. SendsFirst executor q w answer new) (sym stands_first)
-                  (subst (λ n. (p : Parts J) × (SendsItem i (record (in_hand executor n w) { outbox = rest }) answer p × (new ≡ put_back executor n p w))) to_is (parts, (given, is))),
-            ),
-          )
-
-module _ {J : Type 0} (opening : Database) (w : Core J) (h : IsSound (shared_of opening) w) (executor : ℕ) (below : executor < w.routing.executors) (outbox : List (Item J))
-    (outbox_is : outbox ≡ slice_index_or w.outboxes executor []) (i : Item J) (rest : List (Item J)) (first : outbox ≡ i ∷ rest) (to : ℕ) (to_below : to < w.routing.executors) (inbox : List (Message J))
-    (inbox_is : inbox ≡ slice_index_or w.inboxes to []) where
-  pub can_be_sent : CanSend opening i (record w.parts { inbox = inbox; outbox = rest })
-  can_be_sent =
-      subst (λ q. CanSend opening i (record w.parts { inbox = q; outbox = rest })) (sym inbox_is)
-      (item_can opening w h executor to (both_there (shared_of opening) w h executor below).0 (both_there (shared_of opening) w h to to_below).1 i rest (sym outbox_is ∙ first))
-
--- an executor works on messages of its own warehouses alone
-pub takes_its_own : {J : Type 0} (shared : Shared) (event : Event) (w : Core J) → IsSound shared w → TakesItsOwn event w
-takes_its_own shared (Submit session number asked) w h = tt
-takes_its_own shared (Take executor) w h = λ first rest is.
-    All-head (IsOf w.routing executor) first rest (subst (λ q. All (IsOf w.routing executor) q) is (h.own executor))
-takes_its_own shared (Send executor) w h = tt
+          by : (slice : Bool) → is_for_slice m ≡ slice → WorksIfHere slice executor m left new → GoesOnWith shared w (Take executor) Took new
+          by false is works = on works
+          by true is found = finds is (found_by w.houses executor (home_of_message m)) refl found

@@ -7,7 +7,7 @@ use Rattle.requests.specs.declared.request.Request.{Request}
 use Rattle.requests.specs.declared.refusal.Refusal.{Refusal}
 use Rattle.history.specs.declared.event.Event.TheVariants.{Submit}
 use Rattle.history.specs.declared.event.EventAnswer.{EventAnswer}
-use Rattle.history.specs.declared.event.EventAnswer.TheVariants.{Accepted, Took, Sent, Full, Logged, Answered, Nothing}
+use Rattle.history.specs.declared.event.EventAnswer.TheVariants.{Accepted, Ordered, Took, Sent, Full, Logged, Moved, Answered, Nothing}
 use Rattle.history.specs.History.{step}
 use Rattle.requests.specs.declared.answer.Answer.TheVariants.{Done, Refused}
 use Rattle.transactions.specs.declared.progress.Gathered.{Gathered}
@@ -32,8 +32,9 @@ use Rattle.commit_log.specs.Passing.{after_item}
 use Rattle.world.specs.declared.sending.Release.{Release}
 use Rattle.world.specs.Following.{is_settled, items_released, putting, refusal_of, release}
 use Rattle.world.specs.Sound.{IsSoundWith, IsSoundItem}
-use Rattle.world.specs.Events.{Commits, GathersInto, MeetsAs, MeetsUnless, Pushes, Reports, ReportsInto, SendsItem, TakesMessage, goes_on, logging}
-use Rattle.world.specs.Worlds.{Admits, Advances, SubmitsAt, SubmitsInto, SubmitsUnless, can_admit, refusal_at}
+use Rattle.world.specs.Events.{Commits, GathersInto, MeetsAs, MeetsUnless, Pushes, Reports, ReportsInto, SendsItem, goes_on, logging}
+use Rattle.world.specs.Happening.{Admits, SubmitsAt, SubmitsInto, SubmitsUnless, can_admit, refusal_at}
+use Rattle.world.specs.Worlds.{Advances}
 use Rattle.world.proofs.Happened.{stays, submits_into}
 use Rattle.world.proofs.ItemsSent.{SendsOn, sends_on, sends_push}
 use Rattle.world.proofs.Reordered.{queued}
@@ -88,6 +89,8 @@ module _ {J : Type 0} (messages : List (Message J)) (items : List (Item J)) wher
   commits_framed commit old new Took said = absurd said
   commits_framed commit old new Full said = absurd said
   commits_framed commit old new (Answered session number told) said = absurd said
+  commits_framed commit old new Ordered said = absurd said
+  commits_framed commit old new Moved said = absurd said
   commits_framed commit old new Nothing said = absurd said
 
   pushes_framed : (room : Bool) (m : Message J) (old new : Parts J) (answer : EventAnswer) → Pushes room m old answer new → Pushes room m (framed old) answer (framed new)
@@ -151,23 +154,23 @@ module _ {J : Type 0} (messages : List (Message J)) (items : List (Item J)) wher
   into_submitted true session number asked desk old new answer said =
       ⊎_elim (λ refused. inl (refused.0, ap framed refused.1)) (λ admitted. inr (admitted.0, admits_framed session number asked desk old new admitted.1)) said
 
-  unless_submitted : (shared : Shared) (old new : Parts J) (h : IsSoundWith shared nothing (framed old)) (session number : ℕ) (asked : Request) (desk : SessionDesk J) (answer : EventAnswer)
-      → slice_get old.desk.sessions.items session ≡ Some desk → (why : Option Refusal) → refusal_at desk asked old ≡ why → SubmitsUnless why session number asked desk old answer new
+  unless_submitted : (room : Bool) (shared : Shared) (old new : Parts J) (h : IsSoundWith shared nothing (framed old)) (session number : ℕ) (asked : Request) (desk : SessionDesk J) (answer : EventAnswer)
+      → slice_get old.desk.sessions.items session ≡ Some desk → (why : Option Refusal) → refusal_at desk asked old ≡ why → SubmitsUnless room why session number asked desk old answer new
       → IsSoundWith shared nothing (framed new) × Advances (framed old) (step (Submit session number asked) answer ∷ []) (framed new)
-  unless_submitted shared old new h session number asked desk answer there (Some why) is said = (
+  unless_submitted room shared old new h session number asked desk answer there (Some why) is said = (
     subst (λ w. IsSoundWith shared nothing (framed w)) (sym said.1) h,
     stays (framed old) (framed new) (Submit session number asked) (Answered session number (Refused why)) answer tt (said.0, ap framed said.1),
   )
-  unless_submitted shared old new h session number asked desk answer there None is said =
-      submits_into shared (framed old) (framed new) h session number asked desk answer there is (can_admit old)
-      (into_submitted (can_admit old) session number asked desk old new answer said)
+  unless_submitted room shared old new h session number asked desk answer there None is said =
+      submits_into shared (framed old) (framed new) h session number asked desk answer there is (can_admit room old)
+      (into_submitted (can_admit room old) session number asked desk old new answer said)
 
-  pub submits_framed : (shared : Shared) (old new : Parts J) (h : IsSoundWith shared nothing (framed old)) (session number : ℕ) (asked : Request) (answer : EventAnswer)
-      → (found : Option (SessionDesk J)) → slice_get old.desk.sessions.items session ≡ found → SubmitsAt found session number asked old answer new
+  pub submits_framed : (room : Bool) (shared : Shared) (old new : Parts J) (h : IsSoundWith shared nothing (framed old)) (session number : ℕ) (asked : Request) (answer : EventAnswer)
+      → (found : Option (SessionDesk J)) → slice_get old.desk.sessions.items session ≡ found → SubmitsAt room found session number asked old answer new
       → IsSoundWith shared nothing (framed new) × Advances (framed old) (step (Submit session number asked) answer ∷ []) (framed new)
-  submits_framed shared old new h session number asked answer None there said = (
+  submits_framed room shared old new h session number asked answer None there said = (
     subst (λ w. IsSoundWith shared nothing (framed w)) (sym said.1) h,
     stays (framed old) (framed new) (Submit session number asked) Nothing answer tt (said.0, ap framed said.1),
   )
-  submits_framed shared old new h session number asked answer (Some desk) there said =
-      unless_submitted shared old new h session number asked desk answer there (refusal_at desk asked old) refl said
+  submits_framed room shared old new h session number asked answer (Some desk) there said =
+      unless_submitted room shared old new h session number asked desk answer there (refusal_at desk asked old) refl said

@@ -15,7 +15,8 @@ use Rattle.world.specs.Parted.{joined_in}
 use Rattle.world.specs.declared.world.Parts.{Parts}
 use Rattle.world.specs.Flights.{nothing}
 use Rattle.world.specs.Sound.{IsSoundWith, flight}
-use Rattle.world.specs.Worlds.{Fits, Advances, SubmitsInto, StaysAt, refusal_at, is_full}
+use Rattle.world.specs.Worlds.{Fits, Advances}
+use Rattle.world.specs.Happening.{SubmitsInto, StaysAt, refusal_at, is_full}
 use Rattle.world.proofs.Fitting.{fits_quiet}
 use Rattle.world.proofs.Asking.{not_refused, admits_sound, admits_fits}
 

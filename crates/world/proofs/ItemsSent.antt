@@ -5,7 +5,7 @@ use Rattle.partitions.specs.Parts.{Shared}
 use Rattle.schema.specs.Database.{Database}
 use Rattle.history.specs.declared.event.Event.TheVariants.{Send}
 use Rattle.history.specs.declared.event.EventAnswer.{EventAnswer}
-use Rattle.history.specs.declared.event.EventAnswer.TheVariants.{Accepted, Took, Sent, Full, Logged, Answered, Nothing}
+use Rattle.history.specs.declared.event.EventAnswer.TheVariants.{Accepted, Ordered, Took, Sent, Full, Logged, Moved, Answered, Nothing}
 use Rattle.history.specs.History.{Step, step}
 use Rattle.world.specs.declared.desk.Active.TheVariants as active
 use Rattle.world.specs.declared.flight.CommitItem.{CommitItem}
@@ -76,6 +76,8 @@ module _ {J : Type 0} where
   sends_commit shared w new commit Took h s said = absurd said
   sends_commit shared w new commit Full h s said = absurd said
   sends_commit shared w new commit (Answered session number told) h s said = absurd said
+  sends_commit shared w new commit Ordered h s said = absurd said
+  sends_commit shared w new commit Moved h s said = absurd said
   sends_commit shared w new commit Nothing h s said = absurd said
 
   -- the phase that is under way where a report comes

@@ -1,41 +1,39 @@
 -- Nobody waits for itself, through any others, and where nothing can be taken or sent nobody waits at all.
-use Rattle.std.proofs.Common.{◌≡◌, ℕ, ◌+◌, ◌<◌, ◌≤◌, zero, suc, List, [], ◌∷◌, ◌++◌, length, map, Option, Some, None, refl, sym, ap, subst, ◌∙◌, cond, append-nil, ⊎_elim, arith, ◌==◌}
+use Rattle.std.proofs.Common.{◌≡◌, ℕ, ◌<◌, ◌≤◌, zero, suc, List, [], ◌∷◌, ◌++◌, map, Some, refl, sym, ap, subst, ◌∙◌, cond, append-nil, arith, ◌==◌}
 use Rattle.std.specs.Prelude.{All, Contains}
-use Rattle.std.specs.List.{flat_map, slice_get, sum_by}
+use Rattle.std.specs.List.{sum_by}
 use Rattle.std.specs.List.Sorted.{IsPermutation}
-use Rattle.std.proofs.lemmas.List.Elements.{All-append, All-contains, All-head, All-nil, All-tail, Contains-append_cases}
-use Rattle.std.proofs.lemmas.List.Sorted.{Contains-permutation, length_permutation}
+use Rattle.std.proofs.lemmas.List.Elements.{All-contains}
+use Rattle.std.proofs.lemmas.List.Sorted.{Contains-permutation}
 use Rattle.std.proofs.lemmas.List.Sums.{sum_by-append, sum_by-cons}
 use Rattle.std.proofs.lemmas.Map.Views.{exact_unsigned_eq}
 use Rattle.partitions.specs.Parts.{Shared}
-use Rattle.tickets.specs.Claims.{Claiming, all_claims}
-use Rattle.local_locks.specs.Asking.{StillWaits, held_by}
+use Rattle.tickets.specs.Claims.{Claiming}
+use Rattle.local_locks.specs.Asking.{StillWaits}
 use Rattle.local_locks.specs.Laws.{Path}
 use Rattle.local_locks.specs.Locking.{Holding, Waiting}
-use Rattle.local_locks.proofs.Members.{contains_cases, contains_here, contains_none, contains_there, joined_contains, contains_joined}
-use Rattle.rendezvous.specs.Awaited.{awaited_from, reported}
-use Rattle.slices.specs.Sliced.{AreAllHeld, Joined, at_home, held_at}
-use Rattle.transactions.specs.declared.acting.Ran.{Ran}
-use Rattle.transactions.specs.declared.acting.Ran.TheVariants as ran
+use Rattle.local_locks.proofs.Members.{contains_here, joined_contains}
+use Rattle.slices.specs.Sliced.{held_at}
 use Rattle.transactions.specs.declared.station.Parked.{Parked}
-use Rattle.transactions.specs.Acting.{claims_of_ran}
 use Rattle.transactions.specs.Stations.{Stationed, waiting_of}
-use Rattle.world.specs.declared.desk.Active.{Active}
-use Rattle.world.specs.declared.desk.Active.TheVariants as active
 use Rattle.world.specs.declared.flight.Carried.{Carried}
-use Rattle.world.specs.declared.flight.Flow.{Flow}
 use Rattle.world.specs.declared.flight.Item.{Item}
 use Rattle.world.specs.declared.flight.Message.{Message}
-use Rattle.world.specs.declared.flight.Report.{Report}
 use Rattle.world.specs.declared.world.Core.{Core}
 use Rattle.world.specs.declared.world.Parts.{Parts}
-use Rattle.world.specs.Flights.{InFlight, Token, Acting, nothing, parts, part_carried, part_item, part_message, part_met}
-use Rattle.world.specs.Parted.{AreUndoneBy, IsAged, joined_in}
-use Rattle.world.specs.Slots.{count_active}
-use Rattle.world.specs.Sound.{AreSoundActive, Courses, IsCarriedAt, IsSoundAct, IsSoundMessage, IsSoundPhase, IsSoundRan, IsSoundReport, IsSoundWith, UnderWay, awaited_by_all, flight, reported_to, reported_to_all, awaited}
-use Rattle.world.specs.Stations.{HaveToWait, IsStationOf, act_of, message_of, slices_in, waiting_at, waiting_in}
-use Rattle.world.specs.Together.{IsSound, all_of, together}
-use Rattle.world.specs.Worlds.{IsAtRest, IsNeverStuck, WaitsFor}
+use Rattle.world.specs.Flights.{Token, Acting, parts, part_item, part_message, part_met}
+use Rattle.world.specs.Parted.{joined_in}
+use Rattle.world.specs.Letters.{arrived_of, going_in, home_of_message, items_in, letters_out, messages_in, sent_in}
+use Rattle.range_moves.specs.Traffic.{IsHousedWith}
+use Rattle.range_moves.proofs.Housed.{at_rest as housed_at_rest}
+use Rattle.world.specs.declared.flight.Letter.{Letter}
+use Rattle.world.specs.declared.flight.Posted.{Posted}
+use Rattle.world.specs.Sound.{Courses, IsSoundAct, IsSoundMessage, awaited_by_all, flight, reported_to_all}
+use Rattle.world.specs.Stations.{HaveToWait, IsStationOf, act_of, message_of, waiting_at, waiting_in}
+use Rattle.world.specs.Together.{IsSound, arrived_in, letters_of_all, together}
+use Rattle.world.specs.Queues.{all_of}
+use Rattle.range_moves.proofs.Parcels.{owned}
+use Rattle.world.specs.Worlds.{IsAtRest, IsIdleAt, IsNeverStuck, IsOwned, WaitsFor, count_busy}
 use Rattle.world.proofs.OneSlot.{awaited_of, of_slot, sound_in, weigh_slots}
 use Rattle.world.proofs.Quiet.{quiet_rests}
 use Rattle.world.proofs.Stationed.{stands_among}
@@ -79,8 +77,26 @@ module _ {J : Type 0} where
     abbrev waiting : List (Message J)
     waiting = waiting_in w.parts
 
+    -- no move is outstanding, and nothing is parked
+    unmoved : (w.houses.awaited ≡ 0) × (map home_of_message w.parked ≡ [])
+    unmoved =
+        let letters : letters_of_all w ≡ [] = ap (λ (ls : List (Letter J)). ls ++ letters_out (all_of w.outboxes)) rest.0 ∙ ap (λ (ps : List (Posted J)). letters_out ps) rest.1 in
+        housed_at_rest w.houses (map home_of_message w.parked)
+        (subst (λ (ls : List (Letter J)). IsHousedWith 0 w.houses (going_in ls) (sent_in ls) 0 (map home_of_message w.parked)) letters
+        (subst (λ (ps : List (Posted J)). IsHousedWith 0 w.houses (going_in (letters_of_all w)) (sent_in (letters_of_all w)) (sum_by arrived_of ps) (map home_of_message w.parked)) rest.1 h.housed))
+
+    none_parked : w.parked ≡ []
+    none_parked = by w.parked unmoved.1
+      where
+        by : (ms : List (Message J)) → map home_of_message ms ≡ [] → ms ≡ []
+        by [] is = refl
+        by (m ∷ ms) is = absurd (cc)
+
     inbox_is : all.inbox ≡ waiting
-    inbox_is = ap (λ (q : List (Message J)). waiting ++ q) rest.0 ∙ append-nil waiting
+    inbox_is = ap (λ (ls : List (Letter J)). waiting ++ (messages_in ls ++ w.parked)) rest.0 ∙ ap (λ (q : List (Message J)). waiting ++ q) none_parked ∙ append-nil waiting
+
+    outbox_is : all.outbox ≡ []
+    outbox_is = ap (λ (ps : List (Posted J)). items_in ps) rest.1
 
     abbrev at : Courses
     at = h.all.under_way
@@ -94,7 +110,7 @@ module _ {J : Type 0} where
           arith,
           h.all.balance.tokens weight,
           ap (λ (q : List (Message J)). sum_by weight (parts part_message q).tokens) inbox_is,
-          ap (λ (is : List (Item J)). sum_by weight (parts part_item is).tokens) rest.1,
+          ap (λ (is : List (Item J)). sum_by weight (parts part_item is).tokens) outbox_is,
           sum_by-append weight (parts part_message all.inbox).tokens (of_outbox.tokens ++ met.tokens),
           sum_by-append weight of_outbox.tokens met.tokens,
           ap (λ (ts : List Token). sum_by weight ts) (met_tokens (reported_to_all all.desk.active)),
@@ -173,14 +189,17 @@ module _ {J : Type 0} where
             let who = who_waits w.parts m (subst (λ (q : List (Message J)). Contains q m) (sym is) (contains_here m ms)) in
             absurd (none_waits who.1.1.0.by.age (who.0, (who.1.0, (who.1.1.0, (who.1.1.1.0, refl)))))
 
-    pub rests : (count_active w.parts.desk.active ≡ 0) × ((flight all).claims ≡ []) × (waiting ≡ []) × ((w_id : ℕ) → (joined_in w.parts).holdings w_id ≡ [])
+    pub rests : IsIdleAt w
     rests =
-        let both = quiet_rests shared all h.all (inbox_is ∙ nobody_waits) rest.1 in (
-          both.0,
-          both.1,
-          nobody_waits,
-          λ w_id. empty_of ((joined_in w.parts).holdings w_id) (subst (λ (cs : List Claiming). IsPermutation ((joined_in w.parts).holdings w_id) (held_at w_id cs)) both.1 (h.all.held w_id)),
-        )
+        let both = quiet_rests shared all h.all (inbox_is ∙ nobody_waits) outbox_is in
+        record {
+          active = both.0;
+          claims = both.1;
+          waiting = nobody_waits;
+          holdings = λ w_id. empty_of ((joined_in w.parts).holdings w_id) (subst (λ (cs : List Claiming). IsPermutation ((joined_in w.parts).holdings w_id) (held_at w_id cs)) both.1 (h.all.held w_id));
+          awaited = unmoved.0;
+          parked = none_parked;
+        }
 
   pub never_stuck : (shared : Shared) (w : Core J) → IsSound shared w → IsNeverStuck w
   never_stuck shared w h = record {
@@ -193,5 +212,13 @@ module _ {J : Type 0} where
   pub never_stuck_seen : (shared : Shared) (w seen : Core J) → w ≡ seen → IsSound shared w → IsNeverStuck seen
   never_stuck_seen shared w seen same h = subst IsNeverStuck same (never_stuck shared w h)
 
-  pub rests_idle : (shared : Shared) (w seen : Core J) → w ≡ seen → IsSound shared w → IsAtRest seen → count_active seen.parts.desk.active ≡ 0
-  rests_idle shared w seen same h rest = ((never_stuck_seen shared w seen same h).idle rest).0
+  pub rests_idle : (shared : Shared) (w seen : Core J) → w ≡ seen → IsSound shared w → IsAtRest seen → count_busy seen ≡ 0
+  rests_idle shared w seen same h rest =
+      let idle = (never_stuck_seen shared w seen same h).idle rest in
+      omega (arith, idle.active, idle.awaited)
+
+  -- each slice stands somewhere
+  pub is_owned : (shared : Shared) (w : Core J) → IsSound shared w → IsOwned w
+  is_owned shared w h =
+      let letters = letters_of_all w in
+      owned 0 w.houses (going_in letters) (sent_in letters) (arrived_in w) (map home_of_message w.parked) h.housed

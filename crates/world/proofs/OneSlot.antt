@@ -1,21 +1,20 @@
 -- What the slots at the desk await and have met, with one of them told apart.
-use Rattle.std.proofs.Common.{◌≡◌, ℕ, ◌+◌, ◌<◌, ◌≤◌, ◌==◌, zero, suc, Bool, true, false, List, [], ◌∷◌, ◌++◌, length, Option, Some, None, refl, sym, ◌∙◌, ap, subst, cond, arith}
+use Rattle.std.proofs.Common.{◌≡◌, ℕ, ◌+◌, ◌<◌, ◌≤◌, ◌==◌, zero, suc, true, List, [], ◌∷◌, ◌++◌, length, Option, Some, None, refl, sym, ap, subst, cond, arith}
 use Rattle.std.specs.Prelude.{map, replicate, slice_set}
 use Rattle.std.specs.List.{slice_get, sum_by}
-use Rattle.std.proofs.lemmas.List.{set-set, length-set}
+use Rattle.std.proofs.lemmas.List.{set-set}
 use Rattle.std.proofs.lemmas.List.Sums.{sum_by-append, sum_by-cons}
 use Rattle.std.proofs.lemmas.Map.Views.{exact_unsigned_eq}
 use Rattle.partitions.specs.Parts.{Shared}
 use Rattle.rendezvous.specs.Awaited.{awaited_from}
 use Rattle.world.specs.declared.desk.Active.{Active}
 use Rattle.world.specs.declared.desk.Active.TheVariants as active
-use Rattle.world.specs.declared.flight.Report.{Report}
 use Rattle.world.specs.declared.flight.Item.{Item}
 use Rattle.world.specs.declared.world.Parts.{Parts}
-use Rattle.world.specs.Flights.{Token, Acting, Committing, Ending, InFlight, nothing, join, parts, part_item, part_met}
+use Rattle.world.specs.Flights.{Token, Acting, Committing, Ending, InFlight, join, parts, part_item, part_met}
 use Rattle.world.specs.Following.{putting, with_active}
 use Rattle.world.specs.Sound.{Courses, IsSoundActive, AreSoundActive, awaited, awaited_by_all, flight, reported_to, reported_to_all}
-use Rattle.world.proofs.Joins.{IsSame, same-refl, same-trans, same-is, same-join, same-middle, join-assoc, parts-append}
+use Rattle.world.proofs.Joins.{IsSame, same-refl, same-trans, same-is, same-join, same-middle, parts-append}
 use Rattle.world.proofs.Balances.{fly, fly_same, fly_last, in_inbox, in_outbox, in_meeting, items_put}
 use Rattle.world.proofs.Tokens.{by_bool}
 

@@ -32,9 +32,15 @@ use Rattle.world.specs.declared.desk.SessionDesk.{SessionDesk}
 use Rattle.world.specs.declared.world.Parts.{Parts}
 use Rattle.world.specs.declared.world.Core.{Core}
 use Rattle.world.specs.declared.flight.Message.{Message}
-use Rattle.world.specs.declared.flight.Item.{Item}
 use Rattle.routing.specs.Routes.{Routes}
-use Rattle.world.specs.Together.{IsOf, IsSound, all_of, together}
+use Rattle.world.specs.Together.{IsSound, arrived_in, letters_of_all, together}
+use Rattle.world.specs.Queues.{all_of}
+use Rattle.world.specs.Letters.{IsPosted, IsTo, arrived_of, going_in, home_of_message, items_in, letters_out, messages_in, sent_in}
+use Rattle.range_moves.specs.Housing.{IsOpenedBy}
+use Rattle.range_moves.specs.Traffic.{IsHousedWith}
+use Rattle.range_moves.proofs.Housed.{opened_housed}
+use Rattle.world.specs.declared.flight.Letter.{Letter}
+use Rattle.world.specs.declared.flight.Posted.{Posted}
 use Rattle.world.specs.Parted.{joined_in}
 use Rattle.world.specs.Flights.{nothing, join, parts, part_message, part_item, part_met, InFlight}
 use Rattle.world.specs.Openings.{AreNewLanes, IsNew, session_with}
@@ -171,14 +177,15 @@ module _ {J : Type 0} where
       }
 
   pub opened_new : (t : Database) (executors : ℕ) (lanes : List (Passing × Seating)) (w : Core J) → AreNewLanes lanes → AreSlicesOf w.parts.catalog (slices_in w.parts) → waiting_in w.parts ≡ [] → joined_in w.parts ≡ all_at_rest t
-      → w.routing ≡ record { warehouses = t.scale.warehouses; executors = executors } → w.inboxes ≡ replicate executors [] → w.outboxes ≡ replicate executors []
+      → IsOpenedBy (record { warehouses = t.scale.warehouses; executors = executors }) w.houses → w.parked ≡ [] → w.inboxes ≡ replicate executors [] → w.outboxes ≡ replicate executors []
       → w.parts.log ≡ [] → w.parts.desk.admitted ≡ 0 → w.parts.desk.active ≡ replicate 64 None
       → w.parts.desk.sessions.items ≡ map session_with lanes → IsNew t executors w
-  opened_new t executors lanes w new slices none_waits rows routing inboxes outboxes log admitted active sessions = record {
+  opened_new t executors lanes w new slices none_waits rows houses parked inboxes outboxes log admitted active sessions = record {
     slices = slices;
     none_waits = none_waits;
     rows = rows;
-    routing = routing;
+    houses = houses;
+    parked = parked;
     inboxes = inboxes;
     outboxes = outboxes;
     log = log;
@@ -203,19 +210,30 @@ module _ {J : Type 0} where
   -- so it is where each executor has empty queues
   pub opened_core : (shared : Shared) (executors : ℕ) (lanes : List (Passing × Seating)) (w : Core J) → AreNewLanes lanes → w.parts.catalog ≡ shared → AreSlicesOf w.parts.catalog (slices_in w.parts)
       → ((w_id : ℕ) → (joined_in w.parts).holdings w_id ≡ []) → waiting_in w.parts ≡ [] → All (IsStationOf shared.scale.warehouses) w.parts.stations.items → All HaveToWait w.parts.stations.items
-      → w.routing ≡ record { warehouses = shared.scale.warehouses; executors = executors } → w.inboxes ≡ replicate executors [] → w.outboxes ≡ replicate executors []
+      → IsOpenedBy (record { warehouses = shared.scale.warehouses; executors = executors }) w.houses → w.parked ≡ [] → w.inboxes ≡ replicate executors [] → w.outboxes ≡ replicate executors []
       → w.parts.inbox ≡ [] → w.parts.outbox ≡ [] → w.parts.desk.active ≡ replicate 64 None → w.parts.desk.sessions.items ≡ map session_with lanes → IsSound shared w
-  opened_core shared executors lanes w new shared_is slices none none_wait stations wait routing inboxes outboxes inbox outbox active sessions = record {
-    stations = stations;
-    wait = wait;
-    all = opened_sound shared lanes (together w) new shared_is slices none (ap (λ (q : List (Message J)). q ++ all_of w.inboxes) none_wait ∙ ap (λ qs. all_of qs) inboxes ∙ none_waits (Message J) executors) (ap (λ qs. all_of qs) outboxes ∙ none_waits (Item J) executors) active sessions;
-    routed = ap (λ (r : Routes). r.warehouses) routing;
-    inboxes = ap (λ qs. length qs) inboxes ∙ length-replicate executors [] ∙ sym (ap (λ (r : Routes). r.executors) routing);
-    outboxes = ap (λ qs. length qs) outboxes ∙ length-replicate executors [] ∙ sym (ap (λ (r : Routes). r.executors) routing);
-    own = λ executor. subst (λ (q : List (Message J)). All (IsOf w.routing executor) q) (sym (ap (λ (qs : List (List (Message J))). slice_index_or qs executor []) inboxes ∙ none_at (Message J) executors executor)) (All-nil (IsOf w.routing executor));
-    no_inbox = inbox;
-    no_outbox = outbox;
-  }
+  opened_core shared executors lanes w new shared_is slices none none_wait stations wait houses parked inboxes outboxes inbox outbox active sessions =
+      let no_letters : all_of w.inboxes ≡ [] = ap (λ qs. all_of qs) inboxes ∙ none_waits (Letter J) executors in
+      let no_posts : all_of w.outboxes ≡ [] = ap (λ qs. all_of qs) outboxes ∙ none_waits (Posted J) executors in
+      let routes : Routes = record { warehouses = shared.scale.warehouses; executors = executors } in
+      let letters : letters_of_all w ≡ [] = ap (λ (ls : List (Letter J)). ls ++ letters_out (all_of w.outboxes)) no_letters ∙ ap (λ (ps : List (Posted J)). letters_out ps) no_posts in
+      record {
+        stations = stations;
+        wait = wait;
+        all = opened_sound shared lanes (together w) new shared_is slices none
+            (ap (λ (q : List (Message J)). q ++ (messages_in (all_of w.inboxes) ++ w.parked)) none_wait ∙ ap (λ (ls : List (Letter J)). messages_in ls ++ w.parked) no_letters ∙ parked)
+            (ap (λ (ps : List (Posted J)). items_in ps) no_posts) active sessions;
+        warehouses = houses.many;
+        inboxes = ap (λ qs. length qs) inboxes ∙ length-replicate executors [] ∙ sym houses.executors;
+        outboxes = ap (λ qs. length qs) outboxes ∙ length-replicate executors [] ∙ sym houses.executors;
+        own = λ executor. subst (λ (q : List (Letter J)). All (IsTo executor) q) (sym (ap (λ (qs : List (List (Letter J))). slice_index_or qs executor []) inboxes ∙ none_at (Letter J) executors executor)) (All-nil (IsTo executor));
+        posted = subst (λ (ps : List (Posted J)). All (IsPosted w.houses.executors) ps) (sym no_posts) (All-nil (IsPosted w.houses.executors));
+        housed = subst (λ (ls : List (Letter J)). IsHousedWith 0 w.houses (going_in ls) (sent_in ls) (arrived_in w) (map home_of_message w.parked)) (sym letters)
+            (subst (λ (ps : List (Posted J)). IsHousedWith 0 w.houses [] [] (sum_by arrived_of ps) (map home_of_message w.parked)) (sym no_posts)
+            (subst (λ (ms : List (Message J)). IsHousedWith 0 w.houses [] [] 0 (map home_of_message ms)) (sym parked) (opened_housed routes w.houses houses)));
+        no_inbox = inbox;
+        no_outbox = outbox;
+      }
 
 -- ---- its history
 
@@ -241,7 +259,9 @@ module _ (t : Database) (consistent : Consistent t) where
       (subst (λ n. FitsPart t [] w.log (joined_in w) n nothing) (sym admitted)
       (subst (λ l. FitsPart t [] l (joined_in w) 0 nothing) (sym empty) (subst (λ s. FitsPart t [] [] s 0 nothing) (sym rest) rest_fits)))
 
-  pub opened_fits : {J : Type 0} (executors : ℕ) (w : Core J) → waiting_in w.parts ≡ [] → joined_in w.parts ≡ all_at_rest t → w.parts.log ≡ [] → w.inboxes ≡ replicate executors [] → w.outboxes ≡ replicate executors []
+  pub opened_fits : {J : Type 0} (executors : ℕ) (w : Core J) → waiting_in w.parts ≡ [] → joined_in w.parts ≡ all_at_rest t → w.parts.log ≡ [] → w.parked ≡ [] → w.inboxes ≡ replicate executors [] → w.outboxes ≡ replicate executors []
       → w.parts.desk.active ≡ replicate 64 None → w.parts.desk.admitted ≡ 0 → Fits t [] (together w)
-  opened_fits {J} executors w none_wait rest empty inboxes outboxes active admitted =
-      opened_parts (together w) rest empty (ap (λ (q : List (Message J)). q ++ all_of w.inboxes) none_wait ∙ ap (λ qs. all_of qs) inboxes ∙ none_waits (Message J) executors) (ap (λ qs. all_of qs) outboxes ∙ none_waits (Item J) executors) active admitted
+  opened_fits {J} executors w none_wait rest empty parked inboxes outboxes active admitted =
+      opened_parts (together w) rest empty
+      (ap (λ (q : List (Message J)). q ++ (messages_in (all_of w.inboxes) ++ w.parked)) none_wait ∙ ap (λ qs. messages_in (all_of qs) ++ w.parked) inboxes ∙ ap (λ (ls : List (Letter J)). messages_in ls ++ w.parked) (none_waits (Letter J) executors) ∙ parked)
+      (ap (λ qs. items_in (all_of qs)) outboxes ∙ ap (λ (ps : List (Posted J)). items_in ps) (none_waits (Posted J) executors)) active admitted

@@ -1,7 +1,7 @@
 -- A station as it is found by its warehouse, and as it is put back.
-use Rattle.std.proofs.Common.{◌≡◌, ℕ, ◌+◌, ◌-◌, ◌<◌, ◌≤◌, List, [], ◌++◌, Some, length, map, sym, ap, subst, ◌∙◌, append-nil, arith, zero, suc, ◌∷◌, length-append}
+use Rattle.std.proofs.Common.{◌≡◌, ℕ, ◌-◌, ◌<◌, ◌≤◌, List, [], ◌++◌, Some, length, map, sym, ap, subst, ◌∙◌, append-nil, arith, zero, suc, ◌∷◌, length-append}
 use Rattle.std.specs.Prelude.{All, Vec, slice_index_or, slice_set}
-use Rattle.std.specs.List.{flat_map, slice_get, sum_by}
+use Rattle.std.specs.List.{flat_map, slice_get}
 use Rattle.std.specs.declared.alloc.Global.{Global}
 use Rattle.std.proofs.lemmas.List.{get_or-map, get_or-set_same, length-map}
 use Rattle.std.proofs.lemmas.List.Elements.{All-set}
@@ -11,11 +11,9 @@ use Rattle.slices.specs.Sliced.{AreSlicesOf, Sliced, part_in}
 use Rattle.transactions.specs.Stations.{Stationed}
 use Rattle.world.specs.declared.flight.Carried.{Carried}
 use Rattle.world.specs.declared.flight.Item.{Item}
-use Rattle.world.specs.declared.flight.Message.{Message}
 use Rattle.world.specs.declared.world.Parts.{Parts}
 use Rattle.world.specs.Events.{AtStation}
 use Rattle.world.specs.Stations.{IsStationOf, slice_of, slices_in, waiting_at, waiting_in, message_of}
-use Rattle.world.proofs.Taking.{put_again}
 
 module _ {J : Type 0} (old : Parts J) (are : AreSlicesOf old.catalog (slices_in old)) (home : ℕ) (first : 1 ≤ home) (last : home ≤ old.catalog.scale.warehouses) where
   pub place_within : home - 1 < length old.stations.items

@@ -25,15 +25,13 @@ use Rattle.world.specs.declared.flight.Message.{Message}
 use Rattle.world.specs.declared.flight.Item.{Item}
 use Rattle.world.specs.declared.flight.Item.TheVariants as item
 use Rattle.world.specs.declared.world.Parts.{Parts}
-use Rattle.world.specs.declared.world.Core.{Core}
 use Rattle.world.specs.Parted.{joined_in}
 use Rattle.world.specs.Flights.{nothing, parts, part_message, part_item, part_met}
 use Rattle.world.specs.declared.flight.Report.{Report}
 use Rattle.world.specs.Slots.{count_active}
 use Rattle.world.specs.Sound.{Courses, UnderWay, IsSoundWith, IsSoundActive, AreSoundActive, IsSoundItem, awaited, awaited_by_all, flight, reported_to_all}
 use Rattle.world.specs.Events.{Pushes, Commits, SendsItem}
-use Rattle.world.specs.Together.{IsSound, together}
-use Rattle.world.specs.Worlds.{Fits, IsAtRest, tables_now}
+use Rattle.world.specs.Worlds.{Fits, tables_now}
 use Rattle.world.proofs.Balances.{in_inbox, in_outbox}
 use Rattle.world.proofs.FreeSlots.{count-none, count-some}
 use Rattle.world.proofs.Asking.{as_many_from, one_each, some_token, no_message}

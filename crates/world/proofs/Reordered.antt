@@ -14,7 +14,7 @@ use Rattle.world.specs.declared.world.Parts.{Parts}
 use Rattle.world.specs.Parted.{joined_in}
 use Rattle.world.specs.Flights.{InFlight, join, parts, part_message, part_item}
 use Rattle.world.specs.Sound.{IsSoundWith, IsSoundMessage, IsSoundItem, flight}
-use Rattle.world.specs.Together.{all_of}
+use Rattle.world.specs.Queues.{all_of}
 use Rattle.world.specs.Worlds.{Fits}
 use Rattle.world.proofs.Joins.{IsSame, same-refl, same-sym, same-trans, same-is, same-join, same-swap, same-middle, parts-append}
 use Rattle.world.proofs.Balances.{fly_same, in_meeting, balanced_same, held_same}

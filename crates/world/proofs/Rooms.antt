@@ -1,9 +1,11 @@
 -- There is always room in the outbox.
 use Rattle.std.proofs.lemmas.List.Elements.{All-head, All-tail}
 use Rattle.world.specs.declared.flight.Message.{Message}
-use Rattle.std.proofs.Common.{◌≡◌, ℕ, ◌+◌, ◌*◌, ◌≤◌, zero, suc, List, [], ◌∷◌, ◌++◌, length, Option, Some, None, replicate, refl, arith, length-append}
-use Rattle.std.specs.Prelude.{map, All}
+use Rattle.std.proofs.Common.{◌≡◌, ap, ℕ, ◌+◌, ◌*◌, ◌<◌, ◌≤◌, zero, suc, List, [], ◌∷◌, ◌++◌, length, Option, Some, None, replicate, refl, arith, length-append}
+use Rattle.std.specs.Prelude.{map, All, slice_set}
 use Rattle.std.specs.List.{sum_by}
+use Rattle.std.proofs.lemmas.Grind.{flat_map-append}
+use Rattle.std.proofs.lemmas.List.Sorted.{length_permutation}
 use Rattle.std.proofs.lemmas.List.Sums.{sum_by-cons, sum_by-append}
 use Rattle.rendezvous.specs.Awaited.{awaited_from}
 use Rattle.rendezvous.proofs.Awaiting.{awaited_at_most}
@@ -15,11 +17,23 @@ use Rattle.world.specs.declared.desk.Active.TheVariants as active
 use Rattle.world.specs.declared.flight.Message.TheVariants.{Start, Act, Settle, Undo}
 use Rattle.world.specs.declared.flight.Item.{Item}
 use Rattle.world.specs.declared.flight.Item.TheVariants as item
+use Rattle.range_moves.specs.Traffic.{Dispatch}
+use Rattle.range_moves.proofs.Housed as housed
+use Rattle.world.specs.declared.flight.Letter.{Letter}
+use Rattle.world.specs.declared.flight.Load.{Load}
+use Rattle.world.specs.declared.flight.Load.TheVariants.{Work, Move}
+use Rattle.world.specs.declared.flight.Posted.{Posted}
+use Rattle.world.specs.declared.flight.Posted.TheVariants as posted
+use Rattle.world.specs.declared.world.Core.{Core}
 use Rattle.world.specs.declared.world.Parts.{Parts}
-use Rattle.world.specs.Flights.{Acting, Ending, InFlight, parts, part_item, part_message}
+use Rattle.world.specs.Letters.{arrived_of, going_in, home_of_message, items_in, items_of, letters_of, letters_out, messages_of, sent_in, sent_of}
+use Rattle.world.specs.Queues.{all_of, queue_of}
+use Rattle.world.specs.Together.{IsSound, arrived_in, letters_of_all, together}
+use Rattle.world.specs.Flights.{Acting, Ending, InFlight, nothing, parts, part_item, part_message}
 use Rattle.world.specs.Sound.{Courses, UnderWay, IsSoundWith, IsSoundActive, AreSoundActive, awaited, awaited_by_all, flight, IsSoundMessage}
 use Rattle.world.proofs.Balances.{in_inbox, in_outbox, in_meeting}
 use Rattle.world.proofs.Asking.{one_each, some_token}
+use Rattle.world.proofs.Shuffles.{own_apart, shuffle-order}
 
 length-more : {X : Type 0} (xs ys : List X) → length (xs ++ ys) ≡ length xs + length ys
 length-more xs ys = length-append xs ys
@@ -33,6 +47,12 @@ as_many slot (n ∷ ns) = omega (arith, sum_by-cons one_each (Acting slot n) (ma
 pub so_many_end : (slot left : ℕ) → sum_by one_each (replicate left (Ending slot)) ≡ left
 so_many_end slot zero = refl
 so_many_end slot (suc left) = omega (arith, sum_by-cons one_each (Ending slot) (replicate left (Ending slot)), so_many_end slot left)
+
+-- what one queue has, all of them have
+few_in_one : {X : Type 0} (queues : List (List X)) (place : ℕ) → place < length queues → length (queue_of place queues) ≤ length (all_of queues)
+few_in_one queues place below =
+    let others = all_of (slice_set queues place []) in
+    omega (arith, length-more (queue_of place queues) others, length_permutation (all_of queues) (queue_of place queues ++ others) (shuffle-order (all_of queues) (queue_of place queues ++ others) (own_apart queues place below)))
 
 module _ {J : Type 0} where
   -- an item has a token, or it has a transaction
@@ -80,9 +100,9 @@ module _ {J : Type 0} where
         sum_by-append one_each (part_message message).tokens (parts part_message messages).tokens,
       )
 
-  -- there is room for some more, and for a report of each who waits
-  pub has_room : (shared : Shared) (hand : InFlight) (w : Parts J) → IsSoundWith shared hand w → length w.inbox + length w.outbox + (MOST_ACTIONS + 1) ≤ 4096
-  has_room shared hand w h =
+  -- there are so many messages and items at most
+  pub few_under_way : (shared : Shared) (hand : InFlight) (w : Parts J) → IsSoundWith shared hand w → length w.inbox + length w.outbox ≤ 1216
+  few_under_way shared hand w h =
       let met = in_meeting w in
       let tokens = h.balance.tokens one_each in
       omega (
@@ -99,4 +119,45 @@ module _ {J : Type 0} where
         length-more hand.pending (flight w).pending,
         length-more (in_inbox w).pending ((in_outbox w).pending ++ met.pending),
         length-more (in_outbox w).pending met.pending,
+      )
+
+  -- ---- what stands in the executors' queues
+
+  one_posted : (p : Posted J) → 1 ≤ length (items_of p) + (length (sent_in (letters_of p)) + arrived_of p)
+  one_posted (posted.Letter l) = by l.load
+    where
+      by : (load : Load J) → 1 ≤ length (map item.Push (messages_of load)) + (length (sent_of l.to load ++ []) + 0)
+      by (Work m) = omega arith
+      by (Move m) = omega arith
+  one_posted (posted.Item i) = omega arith
+  one_posted posted.Arrived = omega arith
+
+  -- each is an item of a transaction, or of a move
+  few_posts : (posts : List (Posted J)) → length posts ≤ length (items_in posts) + (length (sent_in (letters_out posts)) + sum_by arrived_of posts)
+  few_posts [] = omega arith
+  few_posts (p ∷ posts) =
+      omega (
+        arith,
+        one_posted p,
+        few_posts posts,
+        length-more (items_of p) (items_in posts),
+        ap (λ (ds : List Dispatch). length ds) (flat_map-append (λ (l : Letter J). sent_of l.to l.load) (letters_of p) (letters_out posts)),
+        length-more (sent_in (letters_of p)) (sent_in (letters_out posts)),
+        sum_by-cons arrived_of p posts,
+      )
+
+  -- an executor's outbox has room for much more
+  pub room_in : (shared : Shared) (w : Core J) → IsSound shared w → length w.houses.houses ≤ 64 → (executor : ℕ) → executor < length w.outboxes → length (queue_of executor w.outboxes) ≤ 1280
+  room_in shared w h many executor there =
+      let posts = all_of w.outboxes in
+      let letters = letters_of_all w in
+      omega (
+        arith,
+        few_in_one w.outboxes executor there,
+        few_posts posts,
+        few_under_way shared nothing (together w) h.all,
+        housed.few_sent 0 w.houses (going_in letters) (sent_in letters) (arrived_in w) (map home_of_message w.parked) h.housed,
+        ap (λ (ds : List Dispatch). length ds) (flat_map-append (λ (l : Letter J). sent_of l.to l.load) (all_of w.inboxes) (letters_out posts)),
+        length-more (sent_in (all_of w.inboxes)) (sent_in (letters_out posts)),
+        many,
       )

@@ -6,7 +6,8 @@ use Rattle.history.specs.History.{Step, step}
 use Rattle.world.specs.declared.world.Parts.{Parts}
 use Rattle.world.specs.declared.world.Core.{Core}
 use Rattle.world.specs.Together.{together}
-use Rattle.world.specs.Worlds.{AllDieOfOlder, TellsOfOlder, Advances, ComeAbout, Fits, HappenInTurn, Happens, steps_of}
+use Rattle.world.specs.Worlds.{AllDieOfOlder, TellsOfOlder, Advances, ComeAbout, Fits, HappenInTurn, steps_of}
+use Rattle.world.specs.Happening.{Happens}
 
 -- one event and one answer more
 pub steps_of-push : (events : List Event) (answers : List EventAnswer) (event : Event) (answer : EventAnswer) → length events ≡ length answers

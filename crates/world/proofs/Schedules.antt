@@ -1,28 +1,40 @@
 -- Schedules, one item more at a time.
 use Rattle.std.proofs.Common.{◌≡◌, ⊎_elim, ℕ, ◌+◌, ◌<◌, ◌≤◌, zero, suc, List, [], ◌∷◌, ◌++◌, length, refl, sym, ap, subst, ◌∙◌, arith, append_assoc, append-nil, length-append, Result, Ok, Err, OnErr}
-use Rattle.std.specs.Prelude.{replicate, slice_index_or}
+use Rattle.std.specs.Prelude.{Bool, true, false, replicate, slice_index_or, slice_set}
 use Rattle.std.specs.List.{All, flat_map}
 use Rattle.std.proofs.lemmas.Bool.{cases_lt}
 use Rattle.std.proofs.lemmas.Grind.{flat_map-append}
 use Rattle.std.proofs.lemmas.List.Elements.{All-append, All-cons, All-head, All-nil, All-tail}
 use Rattle.std.proofs.lemmas.List.{length-replicate}
 use Rattle.history.specs.declared.event.Event.{Event}
-use Rattle.history.specs.declared.event.Event.TheVariants.{Submit, Take, Send}
+use Rattle.history.specs.declared.event.Event.TheVariants.{Submit, Order, Take, Send}
 use Rattle.history.specs.declared.event.EventAnswer.{EventAnswer}
-use Rattle.history.specs.declared.event.EventAnswer.TheVariants.{Accepted, Answered, Full, Logged, Nothing, Sent, Took}
+use Rattle.history.specs.declared.event.EventAnswer.TheVariants.{Accepted, Answered, Full, Logged, Moved, Nothing, Ordered, Sent, Took}
 use Rattle.history.specs.declared.schedule.Scheduled.{Scheduled}
 use Rattle.history.specs.declared.schedule.Scheduled.TheVariants as scheduled
 use Rattle.history.specs.declared.schedule.Output.{Output}
 use Rattle.history.specs.declared.schedule.Output.TheVariants as output
 use Rattle.history.specs.History.{Step, step}
 use Rattle.history.specs.Schedules.{Begins, EndAs, Follows, IsBusy, IsIdle, IsIdleTurn, IsRoundOf, Plays, Round, Turn, steps_from, steps_of_round, outputs_in_round, outputs_of_round, outputs_of_turn}
-use Rattle.world.specs.declared.flight.Item.{Item}
-use Rattle.world.specs.declared.flight.Message.{Message}
+use Rattle.range_moves.specs.declared.house.Found.{Found}
+use Rattle.range_moves.specs.declared.house.Found.TheVariants.{Here, Went, Unknown}
+use Rattle.range_moves.specs.declared.order.Moving.TheVariants as moving
+use Rattle.range_moves.specs.Housing.{found_by}
+use Rattle.range_moves.specs.Orders.{size_of}
+use Rattle.world.specs.declared.flight.Letter.{Letter}
+use Rattle.world.specs.declared.flight.Load.{Load}
+use Rattle.world.specs.declared.flight.Load.TheVariants.{Work, Move}
+use Rattle.world.specs.declared.flight.Posted.{Posted}
+use Rattle.world.specs.declared.flight.Posted.TheVariants as posted
 use Rattle.partitions.specs.Parts.{Shared}
 use Rattle.world.specs.declared.world.Core.{Core}
-use Rattle.world.specs.Together.{IsSound, all_of, together}
-use Rattle.world.specs.Worlds.{AllDieOfOlder, TellsOfOlder, Advances, ComeAbout, Happens, IsAtRest, SendsFirst, TakesFirst}
-use Rattle.world.proofs.Quiet.{sends_something}
+use Rattle.world.specs.Together.{IsSound, together}
+use Rattle.world.specs.Letters.{home_of_message, is_for_slice}
+use Rattle.world.specs.Queues.{all_of, queue_of}
+use Rattle.world.specs.Worlds.{AllDieOfOlder, TellsOfOlder, Advances, ComeAbout, IsAtRest}
+use Rattle.world.specs.Happening.{Delivers, FindsSlice, Happens, Opens, SendsFirst, SendsPosted, TakesFirst, WorksIfHere, has_room}
+use Rattle.world.proofs.Answered.{posted_something}
+use Rattle.world.proofs.Moves.{begun_executors}
 use Rattle.world.proofs.Runs.{comes_after, happens_once}
 
 -- ---- rounds
@@ -72,6 +84,8 @@ few_outputs Nothing = omega arith
 few_outputs (Accepted age) = omega arith
 few_outputs (Logged place) = omega arith
 few_outputs (Answered session number told) = omega arith
+few_outputs Ordered = omega arith
+few_outputs Moved = omega arith
 
 -- a turn more is idle where all turns before were, and it is
 pub idle_more : (turns : List Turn) (t : Turn) → IsIdle turns → IsIdleTurn t → IsIdle (turns ++ t ∷ [])
@@ -259,13 +273,13 @@ module _ {J : Type 0} where
       (comes_after (flat_map steps_of_round rounds) (steps_of_round r) first old new before more)
 
   -- an event that is answered Nothing changes nothing
-  untaken : (executor : ℕ) (messages : List (Message J)) (old new : Core J) (answer : EventAnswer) → answer ≡ Nothing → TakesFirst executor messages old answer new → (messages ≡ []) × (new ≡ old)
+  untaken : (executor : ℕ) (letters : List (Letter J)) (old new : Core J) (answer : EventAnswer) → answer ≡ Nothing → TakesFirst executor letters old answer new → (letters ≡ []) × (new ≡ old)
   untaken executor [] old new answer is said = (refl, said.1)
-  untaken executor (message ∷ rest) old new answer is said = let e = said.0 in absurd (cc)
+  untaken executor (l ∷ rest) old new answer is said = let e = said.0 in absurd (cc)
 
-  unsent : (executor : ℕ) (items : List (Item J)) (old new : Core J) (answer : EventAnswer) → answer ≡ Nothing → SendsFirst executor items old answer new → (items ≡ []) × (new ≡ old)
+  unsent : (executor : ℕ) (posts : List (Posted J)) (old new : Core J) (answer : EventAnswer) → answer ≡ Nothing → SendsFirst executor posts old answer new → (posts ≡ []) × (new ≡ old)
   unsent executor [] old new answer is said = (refl, said.1)
-  unsent executor (item ∷ rest) old new answer is said = absurd (sends_something item _ said.0 answer said.1.0 is)
+  unsent executor (p ∷ rest) old new answer is said = absurd (posted_something executor p (record old { outboxes = slice_set old.outboxes executor rest }) new answer said is)
 
   -- after a turn in which nothing could happen the executor has nothing, and all is as it was
   pub turn_rests : (executor : ℕ) (t : Turn) (old mid new : Core J) → IsIdleTurn t → Happens (Take executor) old t.took mid → Happens (Send executor) mid t.sent new
@@ -300,26 +314,52 @@ module _ {J : Type 0} where
           (cases_lt place last)
 
   -- after a round in which nothing could happen, nothing can be taken or sent
-  pub round_rests : (shared : Shared) (executors : ℕ) (old new : Core J) → IsSound shared old → executors ≡ old.routing.executors → RestSoFar executors old new → IsAtRest new
+  pub round_rests : (shared : Shared) (executors : ℕ) (old new : Core J) → IsSound shared old → executors ≡ old.houses.executors → RestSoFar executors old new → IsAtRest new
   round_rests shared executors old new h many rest =
       subst IsAtRest (sym rest.same) (
         all_empty old.inboxes (λ place below. rest.inboxes place (omega (arith, below, many, h.inboxes))),
         all_empty old.outboxes (λ place below. rest.outboxes place (omega (arith, below, many, h.outboxes))),
       )
 
-  -- the routing stays
-  pub routing_stays : (event : Event) (old new : Core J) (answer : EventAnswer) → Happens event old answer new → new.routing ≡ old.routing
-  routing_stays (Submit session number asked) old new answer said = ap (λ (w : Core J). w.routing) said.1.1
-  routing_stays (Take executor) old new answer said = took (slice_index_or old.inboxes executor []) said
+  -- there are as many executors as before
+  opens_stay : (executor : ℕ) (load : Load J) (old new : Core J) → Opens executor load old new → new.houses.executors ≡ old.houses.executors
+  opens_stay executor (Move (moving.Order order)) old new said =
+      ap (λ (w : Core J). w.houses.executors) said ∙ begun_executors (size_of order) order.lo order.to old.houses
+  opens_stay executor (Move (moving.Fetch w_id to)) old new said = ap (λ (w : Core J). w.houses.executors) said
+  opens_stay executor (Move (moving.Parcel w_id)) old new said = ap (λ (w : Core J). w.houses.executors) said
+  opens_stay executor (Work m) old new said = by (is_for_slice m) said
     where
-      took : (messages : List (Message J)) → TakesFirst executor messages old answer new → new.routing ≡ old.routing
-      took [] said = ap (λ (w : Core J). w.routing) said.1
-      took (message ∷ rest) said = ap (λ (w : Core J). w.routing) said.1.1.1
-  routing_stays (Send executor) old new answer said = sent (slice_index_or old.outboxes executor []) said
+      finds : (found : Found) → FindsSlice found executor m old new → new.houses.executors ≡ old.houses.executors
+      finds Here works = ap (λ (w : Core J). w.houses.executors) works.1.1
+      finds (Went to) is = ap (λ (w : Core J). w.houses.executors) is
+      finds Unknown is = ap (λ (w : Core J). w.houses.executors) is
+
+      by : (slice : Bool) → WorksIfHere slice executor m old new → new.houses.executors ≡ old.houses.executors
+      by false works = ap (λ (w : Core J). w.houses.executors) works.1.1
+      by true found = finds (found_by old.houses executor (home_of_message m)) found
+
+  sends_stay : (executor : ℕ) (p : Posted J) (old new : Core J) (answer : EventAnswer) → SendsPosted executor p old answer new → new.houses.executors ≡ old.houses.executors
+  sends_stay executor (posted.Letter l) old new answer said = delivered (has_room l.to old) said
     where
-      sent : (items : List (Item J)) → SendsFirst executor items old answer new → new.routing ≡ old.routing
-      sent [] said = ap (λ (w : Core J). w.routing) said.1
-      sent (item ∷ rest) said = ap (λ (w : Core J). w.routing) said.1.1
+      delivered : (room : Bool) → Delivers room executor l old answer new → new.houses.executors ≡ old.houses.executors
+      delivered true said = ap (λ (w : Core J). w.houses.executors) said.1
+      delivered false said = ap (λ (w : Core J). w.houses.executors) said.1
+  sends_stay executor (posted.Item i) old new answer said = ap (λ (w : Core J). w.houses.executors) said.1.1
+  sends_stay executor posted.Arrived old new answer said = ap (λ (w : Core J). w.houses.executors) said.1
+
+  pub executors_stay : (event : Event) (old new : Core J) (answer : EventAnswer) → Happens event old answer new → new.houses.executors ≡ old.houses.executors
+  executors_stay (Submit session number asked) old new answer said = ap (λ (w : Core J). w.houses.executors) said.1.1
+  executors_stay (Order order) old new answer said = ⊎_elim (λ can. ap (λ (w : Core J). w.houses.executors) can.1.1) (λ stays. ap (λ (w : Core J). w.houses.executors) stays.1.1) said
+  executors_stay (Take executor) old new answer said = took (queue_of executor old.inboxes) said
+    where
+      took : (letters : List (Letter J)) → TakesFirst executor letters old answer new → new.houses.executors ≡ old.houses.executors
+      took [] said = ap (λ (w : Core J). w.houses.executors) said.1
+      took (l ∷ rest) said = opens_stay executor l.load (record old { inboxes = slice_set old.inboxes executor rest }) new said.1
+  executors_stay (Send executor) old new answer said = sent (queue_of executor old.outboxes) said
+    where
+      sent : (posts : List (Posted J)) → SendsFirst executor posts old answer new → new.houses.executors ≡ old.houses.executors
+      sent [] said = ap (λ (w : Core J). w.houses.executors) said.1
+      sent (p ∷ rest) said = sends_stay executor p (record old { outboxes = slice_set old.outboxes executor rest }) new answer said
 
 -- whatever came of it
 pub on_err : {X E P : Type 0} (r : Result X E) → P → OnErr r P

@@ -3,7 +3,7 @@ use Rattle.std.proofs.Common.{◌≡◌, inl, inr, ℕ, Bool, true, false, List,
 use Rattle.requests.specs.declared.request.Request.{Request}
 use Rattle.requests.specs.declared.refusal.Refusal.{Refusal}
 use Rattle.history.specs.declared.event.EventAnswer.{EventAnswer}
-use Rattle.history.specs.declared.event.EventAnswer.TheVariants.{Accepted, Took, Sent, Full, Logged, Answered, Nothing}
+use Rattle.history.specs.declared.event.EventAnswer.TheVariants.{Accepted, Ordered, Took, Sent, Full, Logged, Moved, Answered, Nothing}
 use Rattle.transactions.specs.declared.progress.Gathered.{Gathered}
 use Rattle.transactions.specs.declared.progress.Gathered.TheVariants.{Next, Finish, RollBack}
 use Rattle.transactions.specs.declared.station.Turned.{Turned}
@@ -20,7 +20,7 @@ use Rattle.world.specs.declared.flight.Item.TheVariants as item
 use Rattle.world.specs.declared.world.Parts.{Parts}
 use Rattle.world.specs.Following.{refusal_of}
 use Rattle.world.specs.Events.{AllTurns, Commits, MeetsAs, MeetsUnless, Pushes, ReportsInto, SendsItem, TakesMessage, TurnsFollow, goes_on}
-use Rattle.world.specs.Worlds.{SubmitsAt, SubmitsInto, SubmitsUnless, can_admit, refusal_at}
+use Rattle.world.specs.Happening.{SubmitsAt, SubmitsInto, SubmitsUnless, can_admit, refusal_at}
 use Rattle.world.proofs.Sorting.{carried_both}
 
 module _ {J : Type 0} where
@@ -48,6 +48,8 @@ module _ {J : Type 0} where
   commits_stations commit old new Took said = absurd said
   commits_stations commit old new Full said = absurd said
   commits_stations commit old new (Answered session number told) said = absurd said
+  commits_stations commit old new Ordered said = absurd said
+  commits_stations commit old new Moved said = absurd said
   commits_stations commit old new Nothing said = absurd said
 
   into_stations : (slot first : ℕ) (slots : List (Option (Report J))) (old new : Parts J) → ReportsInto slot first slots old new → new.stations ≡ old.stations
@@ -72,13 +74,13 @@ module _ {J : Type 0} where
   into_submitted true session number asked desk old new answer said =
       ⊎_elim (λ refused. ap (λ (w : Parts J). w.stations) refused.1) (λ admitted. admitted.1.stations) said
 
-  unless_submitted : (why : Option Refusal) (session number : ℕ) (asked : Request) (desk : SessionDesk J) (old new : Parts J) (answer : EventAnswer) → SubmitsUnless why session number asked desk old answer new → new.stations ≡ old.stations
-  unless_submitted (Some why) session number asked desk old new answer said = ap (λ (w : Parts J). w.stations) said.1
-  unless_submitted None session number asked desk old new answer said = into_submitted (can_admit old) session number asked desk old new answer said
+  unless_submitted : (room : Bool) (why : Option Refusal) (session number : ℕ) (asked : Request) (desk : SessionDesk J) (old new : Parts J) (answer : EventAnswer) → SubmitsUnless room why session number asked desk old answer new → new.stations ≡ old.stations
+  unless_submitted room (Some why) session number asked desk old new answer said = ap (λ (w : Parts J). w.stations) said.1
+  unless_submitted room None session number asked desk old new answer said = into_submitted (can_admit room old) session number asked desk old new answer said
 
-  pub submitted_stations : (found : Option (SessionDesk J)) (session number : ℕ) (asked : Request) (old new : Parts J) (answer : EventAnswer) → SubmitsAt found session number asked old answer new → new.stations ≡ old.stations
-  submitted_stations None session number asked old new answer said = ap (λ (w : Parts J). w.stations) said.1
-  submitted_stations (Some desk) session number asked old new answer said = unless_submitted (refusal_at desk asked old) session number asked desk old new answer said
+  pub submitted_stations : (room : Bool) (found : Option (SessionDesk J)) (session number : ℕ) (asked : Request) (old new : Parts J) (answer : EventAnswer) → SubmitsAt room found session number asked old answer new → new.stations ≡ old.stations
+  submitted_stations room None session number asked old new answer said = ap (λ (w : Parts J). w.stations) said.1
+  submitted_stations room (Some desk) session number asked old new answer said = unless_submitted room (refusal_at desk asked old) session number asked desk old new answer said
 
   -- ---- a message is taken
 

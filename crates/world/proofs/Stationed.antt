@@ -18,7 +18,7 @@ use Rattle.world.specs.declared.world.Parts.{Parts}
 use Rattle.world.specs.Events.{AtStation}
 use Rattle.world.specs.Parted.{joined_in}
 use Rattle.world.specs.Stations.{part_of, slice_of, slices_in}
-use Rattle.world.proofs.Parted.{all_keep, here, shared_is, there}
+use Rattle.world.proofs.Parted.{all_keep, shared_is, there}
 use Rattle.world.proofs.Tokens.{IsFalse, by_bool}
 
 -- ---- who waits in a slice is nothing to the rows and the claims

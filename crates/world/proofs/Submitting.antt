@@ -13,7 +13,7 @@ use Rattle.schema.specs.declared.scale.Scale.{Scale}
 use Rattle.world.specs.declared.desk.SessionDesk.{SessionDesk}
 use Rattle.world.specs.declared.world.Parts.{Parts}
 use Rattle.world.specs.Slots.{count_active}
-use Rattle.world.specs.Worlds.{CanAsk, SubmitsAt, SubmitsInto, SubmitsUnless, can_admit, is_full, refusal_at, refuses}
+use Rattle.world.specs.Happening.{CanAsk, SubmitsAt, SubmitsInto, SubmitsUnless, can_admit, is_full, refusal_at, refuses}
 
 -- a list has the element that was read of it
 pub found : {X : Type 0} (xs shown : List X) (place : ℕ) (x : X) → shown ≡ xs → place < length shown → x ≡ get_or shown place x → slice_get xs place ≡ Some x
@@ -33,16 +33,16 @@ not_refused (Some pass) checked accepted active there ok idle =
     (subst (λ (b : Bool). refuses (Some pass) (Ok accepted) b ≡ None) (sym idle) refl)
 
 -- there is no room
-pub full : (used room number last : ℕ) → room ≤ used → (nat_lt used room && nat_lt number last) ≡ false
-full used room number last h = ap (λ b. b && nat_lt number last) (le-ltb used room h)
+pub full : (has_room : Bool) (number last : ℕ) → has_room ≡ false → (has_room && nat_lt number last) ≡ false
+full has_room number last h = ap (λ b. b && nat_lt number last) h
 
 -- there is no number left
-pub spent : (used room number last : ℕ) → last ≤ number → (nat_lt used room && nat_lt number last) ≡ false
-spent used room number last h = ap (λ b. nat_lt used room && b) (le-ltb number last h) ∙ and-false (nat_lt used room)
+pub spent : (has_room : Bool) (number last : ℕ) → last ≤ number → (has_room && nat_lt number last) ≡ false
+spent has_room number last h = ap (λ b. has_room && b) (le-ltb number last h) ∙ and-false has_room
 
 -- there are both
-pub has_both : (used room number last : ℕ) → used < room → number < last → (nat_lt used room && nat_lt number last) ≡ true
-has_both used room number last h k = ap (λ b. b && nat_lt number last) (lt-ltb used room h) ∙ lt-ltb number last k
+pub has_both : (has_room : Bool) (number last : ℕ) → has_room ≡ true → number < last → (has_room && nat_lt number last) ≡ true
+has_both has_room number last h k = ap (λ b. b && nat_lt number last) h ∙ lt-ltb number last k
 
 module _ {J : Type 0} where
   -- a session whose pass is there can ask
@@ -58,10 +58,10 @@ module _ {J : Type 0} where
       (ap (λ (s : Scale). check_of s asked) (sym same) ∙ sym checked) (lt-leb 64 (count_active old.desk.active) room)
 
   -- what is done with a request that is not refused
-  pub submits : (at : Option (SessionDesk J)) (desk : SessionDesk J) (session number : ℕ) (asked : Request) (old : Parts J) (answer : EventAnswer) (new : Parts J) (room : Bool)
-      → at ≡ Some desk → refusal_at desk asked old ≡ None → can_admit old ≡ room
-      → SubmitsInto room session number asked desk old answer new → SubmitsAt at session number asked old answer new
-  submits at desk session number asked old answer new room is none has into =
-      subst (λ (o : Option (SessionDesk J)). SubmitsAt o session number asked old answer new) (sym is)
-      (subst (λ (r : Option Refusal). SubmitsUnless r session number asked desk old answer new) (sym none)
+  pub submits : (has_room : Bool) (at : Option (SessionDesk J)) (desk : SessionDesk J) (session number : ℕ) (asked : Request) (old : Parts J) (answer : EventAnswer) (new : Parts J) (room : Bool)
+      → at ≡ Some desk → refusal_at desk asked old ≡ None → can_admit has_room old ≡ room
+      → SubmitsInto room session number asked desk old answer new → SubmitsAt has_room at session number asked old answer new
+  submits has_room at desk session number asked old answer new room is none has into =
+      subst (λ (o : Option (SessionDesk J)). SubmitsAt has_room o session number asked old answer new) (sym is)
+      (subst (λ (r : Option Refusal). SubmitsUnless has_room r session number asked desk old answer new) (sym none)
       (subst (λ (b : Bool). SubmitsInto b session number asked desk old answer new) (sym has) into))

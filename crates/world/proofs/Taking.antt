@@ -38,7 +38,7 @@ use Rattle.world.specs.Following.{acts_of}
 use Rattle.world.specs.Sound.{IsSoundWith, IsSoundMessage, IsSoundItem, IsBalanced, flight}
 use Rattle.world.specs.Stations.{HaveToWait, act_of, message_of, slice_of, slices_in, waiting_at, waiting_in}
 use Rattle.world.specs.Events.{AllTurns, AtStation, GivesBack, TakesMessage, TakesTurn, TurnsFollow, carried_by, holder_of, put_for, report_of}
-use Rattle.world.specs.Together.{home_of_claims}
+use Rattle.world.specs.Letters.{home_of_claims}
 use Rattle.world.specs.Worlds.{FitsPart, Fits, IsClaimOf}
 use Rattle.world.proofs.Apart.{others}
 use Rattle.world.proofs.Joins.{IsSame, same-sym}

@@ -1,6 +1,6 @@
 -- Those who wait at a station have their turns, one after another.
 use Rattle.transactions.specs.Works.{home_of}
-use Rattle.world.specs.Together.{home_of_claims}
+use Rattle.world.specs.Letters.{home_of_claims}
 use Rattle.transactions.specs.declared.station.Parked.{Parked}
 use Rattle.transactions.specs.declared.station.Acted.{Acted}
 use Rattle.world.specs.declared.flight.Act.{Act as AnyAct}

@@ -11,7 +11,6 @@ use Rattle.requests.specs.declared.refusal.Refusal.TheVariants as refusal
 use Rattle.requests.specs.Check.{IsAccepted}
 use Rattle.requests.specs.Replies.{ShowsLines}
 use Rattle.tickets.specs.Claims.{Claiming, all_claims}
-use Rattle.commit_log.specs.declared.entry.Entry.{Entry}
 use Rattle.commit_log.specs.declared.log_book.AppendFault.{AppendFault}
 use Rattle.commit_log.specs.declared.log_book.AppendFault.TheVariants as fault
 use Rattle.commit_log.specs.Claimed.{IsCarriedOut, claims_logged}
@@ -48,7 +47,7 @@ use Rattle.world.specs.declared.flight.ReplyItem.{ReplyItem}
 use Rattle.world.specs.declared.flight.Item.{Item}
 use Rattle.world.specs.declared.flight.Item.TheVariants as item
 use Rattle.world.specs.declared.world.Parts.{Parts}
-use Rattle.world.specs.Together.{home_of_claims}
+use Rattle.world.specs.Letters.{home_of_claims}
 use Rattle.world.specs.Parted.{CanAllBeSettled, CanAllBeUndone}
 use Rattle.world.specs.Stations.{HaveToWait}
 use Rattle.world.specs.Following.{CarriesFirst, acts_of, committing, ending, entry_of, found_in, held_in, holding, is_settled, refusal_of, refused, release, releasing, putting, with_active}

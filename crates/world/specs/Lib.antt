@@ -1,3 +1,5 @@
+pub mod Queues
+pub mod Letters
 pub mod Slots
 pub mod Flights
 pub mod Stations
@@ -6,5 +8,7 @@ pub mod Sound
 pub mod Following
 pub mod Events
 pub mod Together
+pub mod InHand
+pub mod Happening
 pub mod Worlds
 pub mod Openings

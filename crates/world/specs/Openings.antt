@@ -2,6 +2,7 @@
 use Rattle.std.specs.Prelude.{◌≡◌, ◌⊎◌, ◌<◌, ℕ, zero, suc, List, [], Some, None, Result, Ok, Err, replicate, slice_get, length, ◌≤◌}
 use Rattle.schema.specs.Database.{Database}
 use Rattle.consistency.specs.Broken.{BreaksFirst}
+use Rattle.range_moves.specs.Housing.{IsOpenedBy}
 use Rattle.tickets.specs.declared.group_names.GroupNames.{Ghosts as GroupNames}
 use Rattle.tickets.specs.Openings.{AreNamed}
 use Rattle.commit_log.specs.declared.log_names.LogNames.{Ghosts as LogNames}
@@ -22,9 +23,8 @@ use Rattle.world.specs.declared.world.GatherFault.TheVariants as gather
 use Rattle.world.specs.declared.world.Core.{Core}
 use Rattle.world.specs.Parted.{joined_in}
 use Rattle.world.specs.Stations.{slices_in, waiting_in}
-use Rattle.world.specs.Slots.{count_active}
 use Rattle.world.specs.Together.{together}
-use Rattle.world.specs.Worlds.{Fits, HappenInTurn, IsNeverStuck, tables_now}
+use Rattle.world.specs.Worlds.{Fits, HappenInTurn, IsNeverStuck, count_busy, tables_now}
 
 -- A world's names were picked for these tables and this opening: there are agreements for each group of the tables, with what
 -- the group has; and the names of the groups' agreements and of the log's are those that were opened.
@@ -43,11 +43,11 @@ IsFaultOf t NoMemory = Unit {0}
 IsFaultOf t BadExecutors = Unit {0}
 IsFaultOf t (NotConsistent n) = BreaksFirst t n
 
--- What is gathered of a world in which so many transactions are active: these tables where none is, unless there is no memory
--- for them, and else nothing.
+-- What is gathered of a world in which so many transactions are active and so many reports of a move awaited: these tables where none
+-- is, unless there is no memory for them, and else nothing.
 abbrev pub IsGathered : ℕ → Database → Result Database GatherFault → Type 0
 IsGathered zero tables gathered = (gathered ≡ Ok tables) ⊎ (gathered ≡ Err gather.NoMemory)
-IsGathered (suc active) tables gathered = gathered ≡ Err gather.NotIdle
+IsGathered (suc busy) tables gathered = gathered ≡ Err gather.NotIdle
 
 -- the passes and the seats of 64 sessions that have asked, seen and logged nothing, by the sessions' numbers
 pub record AreNewLanes (lanes : List (Passing × Seating)) : Type 0 where
@@ -60,13 +60,14 @@ module _ {J : Type 0} where
   session_with lane = record { seat = lane.1; pass = Some lane.0 }
 
   -- A world of so many executors on these tables in which nothing has happened: it has a slice for each warehouse, all tickets
-  -- are at home, nobody waits, the warehouses are dealt out to the executors, the queues of each and the log are empty, no transaction was
+  -- are at home, nobody waits, the slices of the warehouses are where they are dealt out to, no move is outstanding and nothing parked, the queues of each and the log are empty, no transaction was
   -- admitted, and each of 64 sessions has its pass at the desk and has asked nothing.
   pub record IsNew (tables : Database) (executors : ℕ) (w : Core J) : Type 0 where
     pub slices : AreSlicesOf w.parts.catalog (slices_in w.parts)
     pub none_waits : waiting_in w.parts ≡ []
     pub rows : joined_in w.parts ≡ all_at_rest tables
-    pub routing : w.routing ≡ record { warehouses = tables.scale.warehouses; executors = executors }
+    pub houses : IsOpenedBy (record { warehouses = tables.scale.warehouses; executors = executors }) w.houses
+    pub parked : w.parked ≡ []
     pub inboxes : w.inboxes ≡ replicate executors []
     pub outboxes : w.outboxes ≡ replicate executors []
     pub log : w.parts.log ≡ []
@@ -81,7 +82,7 @@ CanHave executors = (1 ≤ executors) × (executors ≤ 16)
 
 -- A schedule was simulated on tables with so many executors: in a new world on them its events happened in turn; this is what is
 -- printed of them; with their answers they are a history that fits the last world, which is not stuck; the log is that world's; and so are the
--- tables, the machine's last, unless a transaction is active or there is no memory for them.
+-- tables, the machine's last, unless a transaction is active, a move is outstanding, or there is no memory for them.
 pub record Simulates (J : Type 0) (opening : Database) (executors : ℕ) (schedule : List Scheduled) (s : Simulation) : Type 0 where
   pub first : Core J
   pub last : Core J
@@ -92,4 +93,4 @@ pub record Simulates (J : Type 0) (opening : Database) (executors : ℕ) (schedu
   pub fits : Fits opening steps (together last)
   pub never_stuck : IsNeverStuck last
   pub log : s.log.items ≡ last.parts.log
-  pub tables : IsGathered (count_active last.parts.desk.active) (tables_now opening s.log.items) s.tables
+  pub tables : IsGathered (count_busy last) (tables_now opening s.log.items) s.tables

@@ -1,15 +1,15 @@
 //! A session submits a request.
-ghost use Rattle.std.specs.Prelude.{◌≡◌, ◌<◌, length, IfOk, IfSome, OnOk, OnErr, IsTrue, is_some, None, Some, slice_get};
+ghost use Rattle.std.specs.Prelude.{◌≡◌, ◌<◌, [], IfOk, IfSome, OnOk, OnErr, IsTrue, is_some, None, Some, slice_get};
 ghost use Rattle.commit_log.specs.Asks.{asking};
 ghost use Rattle.commit_log.specs.Passing.{seating, with_asks};
 ghost use Rattle.world.specs.declared.desk.SessionDesk.{SessionDesk as AnyDesk};
-ghost use Rattle.world.specs.Worlds.{Admits, CanAsk, CanSubmit, SubmitsAt};
+ghost use Rattle.world.specs.Happening.{Admits, CanAsk, CanSubmit, SubmitsAt};
 
 use crate::beginning::Phase;
 use crate::desk::{Active, SessionDesk};
 use crate::flight::{Flow, Message, Transaction};
 use crate::held::HeldClaims;
-use crate::world::{INBOX, Parts};
+use crate::world::Parts;
 use commit_log::{Names, Pass};
 use history::EventAnswer;
 use requests::{Answer, Refusal, Request, check};
@@ -18,16 +18,18 @@ use std::alloc::Global;
 use transactions::Progress;
 
 impl<J: Names> Parts<J> {
-    // A session submits a request.
+    // A session submits a request. Whether there is room in the inbox where it would begin, its caller tells.
     pub(crate) fn submit(
         &mut self,
         alloc: Global,
+        has_room: bool,
         session: u32,
         number: u32,
         request: &Request,
     ) -> EventAnswer
-        requires { CanSubmit self.old }
-        ensures { SubmitsAt (slice_get self.old.desk.sessions.items session) session number request.now self.old result self.new }
+        requires sessions { CanSubmit self.old }
+        requires hand { self.old.inbox ≡ [] }
+        ensures { SubmitsAt has_room (slice_get self.old.desk.sessions.items session) session number request.now self.old result self.new }
     {
         let Some(desk) = self.desk.sessions.get(session as usize) else {
             return EventAnswer::Nothing;
@@ -41,7 +43,7 @@ impl<J: Names> Parts<J> {
         let Some(slot) = self.desk.active.first_free() else {
             return refused(session, number, Refusal::Busy);
         };
-        if self.inbox.len() >= INBOX || self.desk.admitted == u64::MAX {
+        if !has_room || self.desk.admitted == u64::MAX {
             return EventAnswer::Nothing;
         }
         match self.admit(alloc, slot, session, number, request) {
@@ -50,7 +52,7 @@ impl<J: Names> Parts<J> {
         }
     }
 
-    // Admits a request in a free slot, and its first actions go to the inbox. An error changes nothing.
+    // Admits a request in a free slot, and puts its first actions. An error changes nothing.
     fn admit(
         &mut self,
         alloc: Global,
@@ -61,7 +63,7 @@ impl<J: Names> Parts<J> {
     ) -> Result<u64, NoMemory>
         requires below { slot < 64 }
         requires free { slice_get self.old.desk.active slot ≡ Some None }
-        requires room { length self.old.inbox < 1024 }
+        requires hand { self.old.inbox ≡ [] }
         requires age { self.old.desk.admitted < 18446744073709551615 }
         requires sessions { CanSubmit self.old }
         requires here { CanAsk (slice_get self.old.desk.sessions.items session) }

@@ -1,6 +1,7 @@
 //! What is under way: messages to an executor, and items of its outbox.
 use crate::held::HeldClaims;
 use commit_log::{Names, Pass};
+use range_moves::Moving;
 use requests::{Answer, Reply, Request};
 use tickets::Claims;
 use transactions::{Progress, Ran, Work};
@@ -86,10 +87,10 @@ pub struct ReplyItem<J: Names> {
     pub answer: Answer,
 }
 
-/// An item of the executor's outbox.
+/// What is put as something happens, and is to be sent.
 #[derive(Drop)]
 pub enum Item<J: Names> {
-    /// To the executor's inbox.
+    /// To the inbox of the executor to which messages for its warehouse go.
     Push(Message<J>),
     /// To where the phase meets.
     Report(Report<J>),
@@ -99,4 +100,32 @@ pub enum Item<J: Names> {
     Commit(CommitItem<J>),
     /// To the session.
     Reply(ReplyItem<J>),
+}
+
+/// What comes into an executor's inbox.
+#[derive(Drop)]
+pub struct Letter<J: Names> {
+    /// The executor to which it goes.
+    pub to: u32,
+    pub load: Load<J>,
+}
+
+/// What a letter brings.
+#[derive(Drop)]
+pub enum Load<J: Names> {
+    /// Something to do for a transaction.
+    Work(Message<J>),
+    /// Something to do for a move.
+    Move(Moving),
+}
+
+/// What stands in an executor's outbox.
+#[derive(Drop)]
+pub enum Posted<J: Names> {
+    /// To an executor's inbox. Where it goes was read from the routing as it was made.
+    Letter(Letter<J>),
+    /// Anything but a push.
+    Item(Item<J>),
+    /// The slice of a warehouse has come to where its move takes it.
+    Arrived,
 }

@@ -1,7 +1,7 @@
 //! The warehouse by which a request or a message finds its executor.
 ghost use Rattle.std.specs.Prelude.{◌≡◌};
-ghost use Rattle.world.specs.Together as spec;
-ghost use Rattle.world.specs.Together.{HasHome};
+ghost use Rattle.world.specs.Letters as spec;
+ghost use Rattle.world.specs.Letters.{HasHome};
 
 use crate::flight::Message;
 use commit_log::Names;
@@ -20,7 +20,7 @@ pub(crate) fn home_of_request(request: &Request) -> u32
     }
 }
 
-// The warehouse at whose slice a message is worked on; a transaction starts at its request's.
+// The warehouse by which a message finds its executor: at whose slice it is worked on; a transaction starts at its request's.
 pub(crate) fn home_of_message<J: Names>(message: &Message<J>) -> u32
     requires { HasHome message.now }
     ensures { result ≡ spec.home_of_message message.now }
@@ -31,4 +31,11 @@ pub(crate) fn home_of_message<J: Names>(message: &Message<J>) -> u32
         Message::Settle(_, claims) => claims.home(),
         Message::Undo(_, claims) => claims.home(),
     }
+}
+
+// Whether a message is worked on in the slice of its warehouse, as all are but the start of a transaction.
+pub(crate) fn is_for_slice<J: Names>(message: &Message<J>) -> bool
+    ensures { result ≡ spec.is_for_slice message.now }
+{
+    !matches!(message, Message::Start(..))
 }

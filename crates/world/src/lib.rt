@@ -11,12 +11,14 @@
 mod admitting;
 mod beginning;
 mod committing;
+mod delivering;
 mod desk;
 mod flight;
 mod gathering;
 mod happening;
 mod held;
 mod homes;
+mod moving;
 mod opening;
 mod playing;
 mod queue;
@@ -29,7 +31,10 @@ mod working;
 mod world;
 
 pub use desk::{Active, Desk, SessionDesk};
-pub use flight::{Act, Carried, CommitItem, Flow, Item, Message, ReplyItem, Report, Transaction};
+pub use flight::{
+    Act, Carried, CommitItem, Flow, Item, Letter, Load, Message, Posted, ReplyItem, Report,
+    Transaction,
+};
 pub use held::HeldClaims;
 pub use opening::{OpenFault, Opening};
 pub use queue::Queue;

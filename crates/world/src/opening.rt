@@ -14,6 +14,7 @@ use crate::stations::open_stations;
 use crate::world::{Core, Parts, World};
 use commit_log::{Log, LogBook, Names, Pass, SessionSeat, UnnamedLog};
 use consistency::first_broken;
+use range_moves::Houses;
 use routing::{MOST_EXECUTORS, Routing};
 use schema::{NoMemory, Tables};
 use slices::{cut, open_groups};
@@ -96,19 +97,22 @@ impl<J: Names> World<J> {
         opening: Opening,
     ) -> Result<World<J>, NoMemory>
         requires some { 1 ≤ executors }
+        requires most { executors ≤ 16 }
         requires consistent { Consistent tables }
         requires named { IsNamedFor J.LogNames J.GroupNames tables opening }
         ensures fits { IfOk result (λ world. Fits tables [] (together world)) }
         ensures new { IfOk result (λ world. IsNew tables executors world) }
     {
         let Opening { groups, log } = opening;
-        let routing = Routing::opening(&tables.scale(), executors);
+        let scale = tables.scale();
+        let houses = Houses::open(alloc, &scale, &Routing::opening(&scale, executors))?;
+        let parked = Queue::open(alloc)?;
         let inboxes = Queues::open(alloc, executors as usize)?;
         let outboxes = Queues::open(alloc, executors as usize)?;
         let inbox = Queue::open(alloc)?;
         let outbox = Queue::open(alloc)?;
         let active = Slots::open(alloc)?;
-        let (boxes, seats) = named_all::<J>(alloc, tables.scale().warehouses, groups)?;
+        let (boxes, seats) = named_all::<J>(alloc, scale.warehouses, groups)?;
         let (catalog, slices) = cut(alloc, tables, boxes)?;
         let stations = open_stations(alloc, slices)?;
         let (book, lanes) = LogBook::<J>::open(alloc, log)?;
@@ -128,7 +132,8 @@ impl<J: Names> World<J> {
         Ok(World {
             core: Core {
                 parts,
-                routing,
+                houses,
+                parked,
                 inboxes,
                 outboxes,
             },

@@ -1,12 +1,11 @@
 //! A queue for each executor.
-ghost use Rattle.std.specs.Prelude.{◌≡◌, ◌↔◌, ◌<◌, [], length, replicate, slice_set, slice_index_or, IfOk, IsTrue};
-ghost use Rattle.world.specs.Together.{all_of};
+ghost use Rattle.std.specs.Prelude.{◌≡◌, ◌↔◌, ◌<◌, [], ◌∷◌, ◌++◌, length, replicate, slice_set, slice_index_or, IfOk, IfSome, IfNone, IsTrue};
+ghost use Rattle.world.specs.Queues.{TakesFrom, all_of};
 
 use crate::queue::Queue;
 use schema::NoMemory;
 use std::alloc::Global;
 use std::marker::Model;
-use std::mem;
 
 /// A queue for each executor, with room for N.
 ///
@@ -46,13 +45,21 @@ impl<T: Drop, const N: usize> Queues<T, N> {
         }
     }
 
-    /// The queue of an executor and another exchange what they have.
-    pub fn exchange(&mut self, executor: usize, other: &mut Queue<T, N>)
-        requires { executor < length self.old }
-        ensures here { self.new ≡ slice_set self.old executor other.old }
-        ensures there { other.new ≡ slice_index_or self.old executor [] }
+    /// Puts one at the end of the queue of an executor.
+    pub fn put(&mut self, executor: usize, item: T)
+        requires there { executor < length self.old }
+        requires room { length (slice_index_or self.old executor []) < N }
+        ensures { self.new ≡ slice_set self.old executor (slice_index_or self.old executor [] ++ item ∷ []) }
     {
-        mem::swap(&mut self.queues[executor], other);
+        self.queues[executor].put(item);
+    }
+
+    /// Takes the first from the queue of an executor: `None` where there is none, or no such executor.
+    pub fn take(&mut self, executor: usize) -> Option<T>
+        ensures first { IfSome result (λ item. TakesFrom executor item self.old self.new) }
+        ensures none { IfNone result ((slice_index_or self.old executor [] ≡ []) × (self.new ≡ self.old)) }
+    {
+        self.queues.get_mut(executor)?.take()
     }
 
     /// Whether nothing waits anywhere.

@@ -3,11 +3,12 @@ ghost use Rattle.std.specs.Prelude.{◌≡◌, ◌≤◌, ◌<◌, ◌+◌, leng
 ghost use Rattle.world.specs.Events.{CanSend, Reports, SendsItem};
 ghost use Rattle.world.specs.Following as spec;
 ghost use Rattle.world.specs.Following.{releasing};
+ghost use Rattle.world.specs.Letters.{IsNoPush};
 
 use crate::desk::Active;
 use crate::flight::{Item, Message, ReplyItem, Report, Transaction};
 use crate::held::HeldClaims;
-use crate::world::{INBOX, Parts};
+use crate::world::Parts;
 use commit_log::{Names, Pass};
 use history::EventAnswer;
 use rendezvous::{Meeting, Reported};
@@ -52,14 +53,15 @@ impl<J: Names> Release<J> {
 }
 
 impl<J: Names> Parts<J> {
-    // Sends an item.
+    // Sends an item that is no push.
     pub(crate) fn send_item(&mut self, alloc: Global, item: Item<J>) -> EventAnswer
         requires room { length self.old.outbox + (MOST_ACTIONS + 1) ≤ 4096 }
+        requires no_push { IsNoPush item }
         requires can { CanSend J.opening item self.old }
         ensures sends { SendsItem item self.old result self.new }
     {
         match item {
-            Item::Push(message) => self.push(message),
+            Item::Push(_) => unreachable!(),
             Item::Report(report) => {
                 self.meet(alloc, report);
                 EventAnswer::Sent
@@ -70,20 +72,6 @@ impl<J: Names> Parts<J> {
             }
             Item::Commit(commit) => self.commit(commit),
             Item::Reply(told) => self.reply(told),
-        }
-    }
-
-    // A message goes to the inbox, if there is room.
-    fn push(&mut self, message: Message<J>) -> EventAnswer
-        requires room { length self.old.outbox + (MOST_ACTIONS + 1) ≤ 4096 }
-        ensures sends { SendsItem (Item.Push message) self.old result self.new }
-    {
-        if self.inbox.len() < INBOX {
-            self.inbox.put(message);
-            EventAnswer::Sent
-        } else {
-            self.outbox.put(Item::Push(message));
-            EventAnswer::Full
         }
     }
 

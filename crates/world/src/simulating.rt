@@ -23,7 +23,7 @@ pub struct Simulation {
     pub outputs: Vec<Output>,
     pub log: Vec<Entry>,
     /// The tables as the transactions of the log left them; `NotIdle` where a transaction was active at the
-    /// end.
+    /// end, or a move outstanding.
     pub tables: Result<Tables, GatherFault>,
 }
 

@@ -3,19 +3,20 @@ ghost use Rattle.schema.specs.Database.{Database};
 ghost use Rattle.std.specs.Prelude.{List};
 ghost use Rattle.history.specs.History.{Step, step as one_step};
 ghost use Rattle.world.specs.Openings.{IsGathered};
+ghost use Rattle.world.specs.Happening.{Happens};
 ghost use Rattle.world.specs.Slots.{count_active};
 ghost use Rattle.world.specs.Together.{together};
-ghost use Rattle.world.specs.Worlds.{Advances, AllDieOfOlder, CannotHappen, Fits, HappenInTurn, Happens, IsAtRest, IsBusyExactly, IsNeverStuck, NoneDies, TakesItsOwn, TellsOfOlder, steps_of, tables_now};
+ghost use Rattle.world.specs.Worlds.{Advances, AllDieOfOlder, CannotHappen, Fits, HappenInTurn, IsAtRest, IsBusyExactly, IsNeverStuck, IsOwned, NoneDies, TellsOfOlder, count_busy, steps_of, tables_now};
 
 use crate::desk::Desk;
-use crate::flight::{Carried, Item, Message};
+use crate::flight::{Carried, Item, Letter, Message, Posted};
 use crate::queue::Queue;
 use crate::queues::Queues;
 use crate::stations::{copy_whole, into_slices};
 use commit_log::{Entry, Log, Names};
 use history::{Event, EventAnswer};
 use partitions::Catalog;
-use routing::Routing;
+use range_moves::Houses;
 use schema::{NoMemory, Tables};
 use slices::whole;
 use std::alloc::Global;
@@ -32,9 +33,9 @@ pub struct Parts<J: Names> {
     pub catalog: Catalog,
     /// One for each warehouse, in order: its slice, and the actions that wait there.
     pub stations: Vec<Station<J, Carried<J>>>,
-    /// An executor's, in hand while an event puts a message there or takes one; else it has nothing.
+    /// What a submission puts, until it is handed out; else it has nothing.
     pub inbox: Queue<Message<J>, 1024>,
-    /// An executor's, in hand while an event puts items there or takes one; else it has nothing.
+    /// What an event puts, until it is posted; else it has nothing.
     pub outbox: Queue<Item<J>, 4096>,
     pub desk: Desk<J>,
     pub log: Log<J>,
@@ -44,12 +45,14 @@ pub struct Parts<J: Names> {
 #[derive(Drop)]
 pub struct Core<J: Names> {
     pub parts: Parts<J>,
-    /// Which executor has which warehouse.
-    pub routing: Routing,
+    /// Which executor has the slice of which warehouse, or gets it.
+    pub houses: Houses,
+    /// Messages that wait for a slice that is on its way: at the executor to which it comes, in the order in which they came there.
+    pub parked: Queue<Message<J>, 4096>,
     /// The inbox of each executor, by its number.
-    pub inboxes: Queues<Message<J>, 1024>,
+    pub inboxes: Queues<Letter<J>, 1024>,
     /// The outbox of each executor, by its number.
-    pub outboxes: Queues<Item<J>, 4096>,
+    pub outboxes: Queues<Posted<J>, 4096>,
 }
 
 /// An engine of one to sixteen executors, in which one event happens at a time.
@@ -98,10 +101,19 @@ impl<J: Names> Parts<J> {
     }
 }
 
+impl<J: Names> Core<J> {
+    // Whether no transaction is active, and no move outstanding.
+    fn is_idle(&self) -> bool
+        ensures { IsTrue result ↔ (count_busy self.now ≡ 0) }
+    {
+        self.parts.desk.active.count() == 0 && !self.houses.is_moving()
+    }
+}
+
 /// Why no tables can be gathered.
 #[derive(Clone, Copy, Debug, PartialEq, Eq)]
 pub enum GatherFault {
-    /// A transaction is active.
+    /// A transaction is active, or a move outstanding.
     NotIdle,
     /// There was no memory for them.
     NoMemory,
@@ -114,7 +126,8 @@ impl<J: Names> World<J> {
     /// those of a machine that carries out its requests one at a time, in log order, and the tables that
     /// it leaves are the committed ones; each transaction is whole, and stands behind those that were
     /// answered before it was submitted. What the event changes is told exactly, and what can't happen
-    /// is answered `Nothing` and changes nothing. An executor works on messages of its own warehouses alone.
+    /// is answered `Nothing` and changes nothing. An executor works on messages for a slice where it has the slice: that is
+    /// at one executor, or in one parcel on its way.
     /// Up to 64 transactions are active at a time: `Busy` exactly where they are. Who is in another's way is waited for where it is
     /// younger, and else the other dies: so nobody waits in a circle, and while anything is active something can be taken or sent.
     /// While a transaction is the only one that is active, no action of it dies. Who dies, dies of somebody older, who is active then and
@@ -127,8 +140,8 @@ impl<J: Names> World<J> {
         ensures busy { IsBusyExactly event.now self.old result }
         ensures died { TellsOfOlder self.old result }
         ensures dies { AllDieOfOlder event.now self.old self.new }
-        ensures own { TakesItsOwn event.now self.old }
-        ensures routing { self.new.routing ≡ self.old.routing }
+        ensures executors { self.new.houses.executors ≡ self.old.houses.executors }
+        ensures owned { IsOwned self.new }
         ensures never_stuck { IsNeverStuck self.new }
         ensures alone { (opening : Database) (history : List Step) → Fits opening history (together self.old) → count_active self.old.parts.desk.active ≡ 1 → NoneDies event.now self.old self.new }
     {
@@ -154,18 +167,17 @@ impl<J: Names> World<J> {
         Ok(answers)
     }
 
-    /// The tables as the transactions of the log left them. They can be gathered exactly while no
-    /// transaction is active, unless there is no memory; where no message can be taken and no item be sent, none
-    /// is active.
+    /// The tables as the transactions of the log left them. They can be gathered exactly while no transaction is active and no move
+    /// outstanding, unless there is no memory; where no message can be taken and no item be sent, none is.
     pub fn gather(&self, alloc: Global) -> Result<Tables, GatherFault>
         ensures tables { IfOk result (λ tables. (opening : Database) (history : List Step) → Fits opening history (together self.now) → tables ≡ tables_now opening self.now.parts.log) }
-        ensures idle { IsErrAnd result (λ fault. fault ≡ GatherFault.NotIdle) ↔ (1 ≤ count_active self.now.parts.desk.active) }
-        ensures at_rest { IsAtRest self.now → count_active self.now.parts.desk.active ≡ 0 }
+        ensures idle { IsErrAnd result (λ fault. fault ≡ GatherFault.NotIdle) ↔ (1 ≤ count_busy self.now) }
+        ensures at_rest { IsAtRest self.now → count_busy self.now ≡ 0 }
     {
-        let parts = &self.core.parts;
-        if parts.desk.active.count() > 0 {
+        if !self.core.is_idle() {
             return Err(GatherFault::NotIdle);
         }
+        let parts = &self.core.parts;
         match copy_whole(alloc, &parts.catalog, &parts.stations) {
             Ok(tables) => Ok(tables),
             Err(NoMemory) => Err(GatherFault::NoMemory),
@@ -173,18 +185,18 @@ impl<J: Names> World<J> {
     }
 
     /// Ends the world, and gives its log, and the tables as the transactions of the log left them: `NotIdle`
-    /// exactly where a transaction is active. Entries and rows are moved, and none is copied; where there is
+    /// exactly where a transaction is active or a move outstanding. Entries and rows are moved, and none is copied; where there is
     /// no memory for the tables, the log is given all the same.
     pub fn close(self) -> (Vec<Entry>, Result<Tables, GatherFault>)
         ensures log { result.0.items ≡ self.parts.log }
-        ensures tables { (opening : Database) (history : List Step) → Fits opening history (together self) → IsGathered (count_active self.parts.desk.active) (tables_now opening self.parts.log) result.1 }
-        ensures idle { IsErrAnd result.1 (λ fault. fault ≡ GatherFault.NotIdle) ↔ (1 ≤ count_active self.parts.desk.active) }
-        ensures at_rest { IsAtRest self → count_active self.parts.desk.active ≡ 0 }
+        ensures tables { (opening : Database) (history : List Step) → Fits opening history (together self) → IsGathered (count_busy self) (tables_now opening self.parts.log) result.1 }
+        ensures idle { IsErrAnd result.1 (λ fault. fault ≡ GatherFault.NotIdle) ↔ (1 ≤ count_busy self) }
+        ensures at_rest { IsAtRest self → count_busy self ≡ 0 }
         ensures never_stuck { IsNeverStuck self }
     {
         let World { core } = self;
+        let is_idle = core.is_idle();
         let Core { parts, .. } = core;
-        let is_idle = parts.desk.active.count() == 0;
         let (entries, catalog, stations) = parts.into_log_and_stations();
         if !is_idle {
             return (entries, Err(GatherFault::NotIdle));
@@ -198,7 +210,8 @@ impl<J: Names> World<J> {
         }
     }
 
-    /// Whether no message can be taken and no item be sent. Then no transaction is active, no claim is out, and nobody waits.
+    /// Whether no message can be taken and no item be sent. Then no transaction is active, no claim is out, nobody waits, no move is
+    /// outstanding, and nothing is parked.
     pub fn is_quiet(&self) -> bool
         ensures quiet { IsTrue result ↔ IsAtRest self.now }
         ensures never_stuck { IsNeverStuck self.now }

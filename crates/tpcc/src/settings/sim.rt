@@ -57,7 +57,7 @@ pub fn command<'a>(alloc: Global) -> Result<Command<'a>, AllocError>
     let schedule = argument(
         alloc,
         "SCHEDULE",
-        "What is to happen: submissions, takes, sends and rounds, one after another",
+        "What is to happen: submissions, moves, takes, sends and rounds, one after another",
     );
     let picture = option(
         alloc,
@@ -69,7 +69,7 @@ pub fn command<'a>(alloc: Global) -> Result<Command<'a>, AllocError>
         alloc,
         "tables",
         "FILE",
-        "Where the tables are written, as a dataset, if no transaction is active at the end",
+        "Where the tables are written, as a dataset, if no transaction is active and no move outstanding at the end",
     );
     let command = named(alloc, "sim", about, HELP)
         .arg(data(alloc))?
@@ -86,12 +86,14 @@ pub fn command<'a>(alloc: Global) -> Result<Command<'a>, AllocError>
 const HELP: &str = "\
 Items of a schedule:
   S,session,number,..   the session, 0 to 63, submits the request that follows
+  M,lo,hi,to            a move of the warehouses from lo to hi is ordered, at the executor to, to which they go
   T,executor            the executor, from 0, takes the first message of its inbox
   X,executor            the first item of its outbox is sent
   R                     rounds: each executor takes and sends in turn, until nothing can happen in a round, at most
                         100,000 rounds
-Prints a record for each event: accepted, answered, took, sent, full, logged or nothing; for R only those that
-tell of a transaction, and then quiet or limit.
+Prints a record for each event: accepted, answered, ordered, took, sent, full, logged, moved or nothing; for R
+only those that tell of a transaction or of the end of a move, and then quiet or limit.
 
 Exit statuses: 0 all was played, 1 a fault of a file, or `tpcc: not idle`: --tables was asked for and a
-transaction is active at the end, 2 the words are wrong, 3 the dataset is not consistent, 4 no memory";
+transaction is active or a move outstanding at the end, 2 the words are wrong, 3 the dataset is not consistent,
+4 no memory";

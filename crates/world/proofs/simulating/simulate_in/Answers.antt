@@ -1,10 +1,8 @@
-use Rattle.std.proofs.Common.{ℕ, [], List, ap, sym, subst}
+use Rattle.std.proofs.Common.{ℕ, [], List, sym, subst}
 use Rattle.commit_log.specs.declared.entry.Entry.{Entry}
 use Rattle.history.specs.Schedules.{Plays}
-use Rattle.routing.specs.Routes.{Routes}
 use Rattle.world.specs.Openings.{IsGathered}
-use Rattle.world.specs.Slots.{count_active}
-use Rattle.world.specs.Worlds.{tables_now}
+use Rattle.world.specs.Worlds.{count_busy, tables_now}
 use Rattle.world.proofs.simulating.simulate_in.Goals as goal
 
 pub returns-clause-simulates : goal.returns-clause-simulates
@@ -18,11 +16,11 @@ returns-clause-simulates g c = λ opening executors new fits.
       last = last;
       steps = played.0;
       new = new;
-      plays = subst (λ (n : ℕ). Plays n c.args.schedule.now c.in_ok-outputs.outputs.items played.0) (ap (λ (r : Routes). r.executors) new.routing) played.1.0;
+      plays = subst (λ (n : ℕ). Plays n c.args.schedule.now c.in_ok-outputs.outputs.items played.0) new.houses.executors played.1.0;
       happen = played.1.1.0;
       fits = after;
       never_stuck = c.close-log.ensures.never_stuck;
       log = log;
-      tables = subst (λ (l : List Entry). IsGathered (count_active last.parts.desk.active) (tables_now opening l) c.close-log.result.1) (sym log)
+      tables = subst (λ (l : List Entry). IsGathered (count_busy last) (tables_now opening l) c.close-log.result.1) (sym log)
           (c.close-log.ensures.tables opening played.0 after);
     }

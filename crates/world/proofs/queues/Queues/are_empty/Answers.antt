@@ -1,5 +1,5 @@
 use Rattle.std.proofs.Common.{◌≡◌, [], length, ◌∙◌, ap, arith}
-use Rattle.world.specs.Together.{all_of}
+use Rattle.world.specs.Queues.{all_of}
 use Rattle.world.proofs.Apart.{nothing_at}
 use Rattle.world.proofs.queues.Queues.are_empty.Goals as goal
 

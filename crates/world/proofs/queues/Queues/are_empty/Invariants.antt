@@ -1,5 +1,5 @@
 use Rattle.std.proofs.Common.{◌≡◌, [], take}
-use Rattle.world.specs.Together.{all_of}
+use Rattle.world.specs.Queues.{all_of}
 use Rattle.world.proofs.queues.Queues.are_empty.Given as goal
 
 -- nothing waits in the first queues

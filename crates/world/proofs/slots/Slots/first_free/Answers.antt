@@ -1,4 +1,4 @@
-use Rattle.std.proofs.Common.{◌≡◌, List, Option, length, sym, ◌∙◌, ap}
+use Rattle.std.proofs.Common.{List, Option, length, sym, ◌∙◌, ap}
 use Rattle.world.specs.Slots as spec
 use Rattle.world.proofs.FreeSlots.{found_free, found_room, none_found}
 use Rattle.world.proofs.slots.Slots.first_free.Goals as goal

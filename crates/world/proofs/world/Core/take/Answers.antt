@@ -1,77 +1,44 @@
-use Rattle.std.proofs.Common.{refl, arith, ap, subst, sym, ◌∙◌}
+use Rattle.std.proofs.Common.{List, ◌∷◌, [], refl, sym, subst}
 use Rattle.std.specs.Prelude.{All}
 use Rattle.partitions.specs.Parts.{shared_of}
 use Rattle.history.specs.declared.event.Event.TheVariants.{Take}
-use Rattle.history.specs.declared.event.EventAnswer.TheVariants.{Nothing}
-use Rattle.world.specs.Together.{together}
+use Rattle.history.specs.declared.event.EventAnswer.TheVariants.{Nothing, Took}
+use Rattle.history.specs.History.{step}
+use Rattle.world.specs.declared.flight.Letter.{Letter}
+use Rattle.world.specs.Happening.{Happens}
 use Rattle.world.specs.Stations.{IsStationOf}
-use Rattle.world.proofs.Executing.{can_be_taken, slices_are, stations_are, taken, there_of_inbox}
-use Rattle.world.proofs.Happened.{stays}
+use Rattle.world.specs.Together.{IsSound, together}
+use Rattle.world.specs.Worlds.{Advances}
+use Rattle.world.proofs.Moves.{stays_quiet}
+use Rattle.world.proofs.Steps.{opened, opening}
+use Rattle.world.proofs.world.Core.take.Given as given
 use Rattle.world.proofs.world.Core.take.Goals as goal
+use Rattle.world.proofs.world.Core.take.Goals.{After-open_letter}
 
-pub returns-then-waiting-eq0-clause-advances : goal.returns-then-waiting-eq0-clause-advances
-returns-then-waiting-eq0-clause-advances g c =
-    let old = together c.args.self.now in
-    stays old old (Take c.args.executor) Nothing Nothing tt (refl, refl)
-
-pub work-requires-clause-warehouses : goal.work-requires-clause-warehouses
-work-requires-clause-warehouses g c =
-    let shared = shared_of g.J.LogNames.opening in
+pub returns-in_default-clause-advances : goal.returns-in_default-clause-advances
+returns-in_default-clause-advances g c =
     let old = c.args.self.now in
-    let below = there_of_inbox shared old c.requires.sound c.args.executor (omega (arith, c.waiting.ensures, c.if-waiting-eq0.false)) in
-    c.requires.warehouses ∙ sym (ap (λ s. s.scale.warehouses) (can_be_taken shared old c.requires.sound c.args.executor below c.hand_over.new.self c.hand_over.ensures c.in-Some.message c.take.new.self c.in-Some.ensures.first).0)
+    subst (λ (qs : List (List (Letter g.row.J.Denot))). Advances (together old) (step (Take c.args.executor) Nothing ∷ []) (together (record old { inboxes = qs }))) (sym c.in_default.ensures.none.1)
+    (stays_quiet (shared_of g.J.LogNames.opening) old c.requires.sound (Take c.args.executor) Nothing tt).1
 
-pub work-requires-clause-slices : goal.work-requires-clause-slices
-work-requires-clause-slices g c =
-    let shared = shared_of g.J.LogNames.opening in
+pub open_letter-requires-clause-opening : goal.open_letter-requires-clause-opening
+open_letter-requires-clause-opening g c =
     let old = c.args.self.now in
-    let below = there_of_inbox shared old c.requires.sound c.args.executor (omega (arith, c.waiting.ensures, c.if-waiting-eq0.false)) in
-    slices_are shared old c.requires.sound c.args.executor below c.hand_over.new.self c.hand_over.ensures c.in-Some.message c.take.new.self c.in-Some.ensures.first
+    opening (shared_of g.J.LogNames.opening) old c.requires.sound c.args.executor c.in-Some.letter c.take.new.self c.in-Some.ensures.first c.are_kept.ensures (record old { inboxes = c.take.new.self }) refl
 
-pub work-requires-clause-stations : goal.work-requires-clause-stations
-work-requires-clause-stations g c =
-    let shared = shared_of g.J.LogNames.opening in
+done : (g : given.Over) (c : After-open_letter g) → IsSound (shared_of g.J.LogNames.opening) c.open_letter.new.self
+    × (Advances (together c.args.self.now) (step (Take c.args.executor) Took ∷ []) (together c.open_letter.new.self) × Happens (Take c.args.executor) c.args.self.now Took c.open_letter.new.self)
+done g c =
     let old = c.args.self.now in
-    let below = there_of_inbox shared old c.requires.sound c.args.executor (omega (arith, c.waiting.ensures, c.if-waiting-eq0.false)) in
-    subst (λ n. All (IsStationOf n) c.hand_over.new.self.parts.stations.items) (sym c.requires.warehouses) (stations_are shared old c.requires.sound c.args.executor below c.hand_over.new.self c.hand_over.ensures c.in-Some.message c.take.new.self c.in-Some.ensures.first)
-
-pub work-requires-clause-room : goal.work-requires-clause-room
-work-requires-clause-room g c =
-    let shared = shared_of g.J.LogNames.opening in
-    let old = c.args.self.now in
-    let below = there_of_inbox shared old c.requires.sound c.args.executor (omega (arith, c.waiting.ensures, c.if-waiting-eq0.false)) in
-    (can_be_taken shared old c.requires.sound c.args.executor below c.hand_over.new.self c.hand_over.ensures c.in-Some.message c.take.new.self c.in-Some.ensures.first).1.1
-
-pub work-requires-clause-can : goal.work-requires-clause-can
-work-requires-clause-can g c =
-    let shared = shared_of g.J.LogNames.opening in
-    let old = c.args.self.now in
-    let below = there_of_inbox shared old c.requires.sound c.args.executor (omega (arith, c.waiting.ensures, c.if-waiting-eq0.false)) in
-    (can_be_taken shared old c.requires.sound c.args.executor below c.hand_over.new.self c.hand_over.ensures c.in-Some.message c.take.new.self c.in-Some.ensures.first).1.0
+    let stations = subst (λ n. All (IsStationOf n) c.open_letter.new.self.parts.stations.items) c.requires.warehouses c.open_letter.ensures.stations in
+    opened (shared_of g.J.LogNames.opening) old c.requires.sound c.args.executor c.in-Some.letter c.take.new.self c.in-Some.ensures.first c.claims_are_of_the_footprint.ensures.once c.are_kept.ensures
+    (record old { inboxes = c.take.new.self }) c.open_letter.new.self refl c.open_letter.ensures.opens stations
 
 pub returns-clause-sound : goal.returns-clause-sound
-returns-clause-sound g c =
-    let shared = shared_of g.J.LogNames.opening in
-    let old = c.args.self.now in
-    let below = there_of_inbox shared old c.requires.sound c.args.executor (omega (arith, c.waiting.ensures, c.if-waiting-eq0.false)) in
-    let done = taken shared old c.requires.sound c.args.executor below c.hand_over.new.self c.hand_over.ensures c.in-Some.message c.take.new.self c.in-Some.ensures.first
-    c.claims_are_of_the_footprint.ensures.once c.work.new.self c.hand_over-2.new.self c.work.ensures.takes (subst (λ n. All (IsStationOf n) c.work.new.self.stations.items) c.requires.warehouses c.work.ensures.stations) c.hand_over-2.ensures in
-    done.0
+returns-clause-sound g c = (done g (goal.at.returns-clause-sound g c).After-open_letter).0
 
 pub returns-clause-advances : goal.returns-clause-advances
-returns-clause-advances g c =
-    let shared = shared_of g.J.LogNames.opening in
-    let old = c.args.self.now in
-    let below = there_of_inbox shared old c.requires.sound c.args.executor (omega (arith, c.waiting.ensures, c.if-waiting-eq0.false)) in
-    let done = taken shared old c.requires.sound c.args.executor below c.hand_over.new.self c.hand_over.ensures c.in-Some.message c.take.new.self c.in-Some.ensures.first
-    c.claims_are_of_the_footprint.ensures.once c.work.new.self c.hand_over-2.new.self c.work.ensures.takes (subst (λ n. All (IsStationOf n) c.work.new.self.stations.items) c.requires.warehouses c.work.ensures.stations) c.hand_over-2.ensures in
-    done.1.0
+returns-clause-advances g c = (done g (goal.at.returns-clause-advances g c).After-open_letter).1.0
 
 pub returns-clause-happens : goal.returns-clause-happens
-returns-clause-happens g c =
-    let shared = shared_of g.J.LogNames.opening in
-    let old = c.args.self.now in
-    let below = there_of_inbox shared old c.requires.sound c.args.executor (omega (arith, c.waiting.ensures, c.if-waiting-eq0.false)) in
-    let done = taken shared old c.requires.sound c.args.executor below c.hand_over.new.self c.hand_over.ensures c.in-Some.message c.take.new.self c.in-Some.ensures.first
-    c.claims_are_of_the_footprint.ensures.once c.work.new.self c.hand_over-2.new.self c.work.ensures.takes (subst (λ n. All (IsStationOf n) c.work.new.self.stations.items) c.requires.warehouses c.work.ensures.stations) c.hand_over-2.ensures in
-    done.1.1
+returns-clause-happens g c = (done g (goal.at.returns-clause-happens g c).After-open_letter).1.1

@@ -1,4 +1,4 @@
-use Rattle.std.proofs.Common.{◌≡◌, ◌-◌, ◌≤◌, ℕ, [], ◌∷◌, sym, subst, ap, refl, ◌∙◌, arith}
+use Rattle.std.proofs.Common.{◌-◌, ◌≤◌, sym, subst, refl, ◌∙◌, arith}
 use Rattle.std.specs.Prelude.{All}
 use Rattle.transactions.specs.declared.station.Acted.{Acted}
 use Rattle.transactions.specs.declared.station.Acted.TheVariants as acted

@@ -1,4 +1,4 @@
-use Rattle.std.proofs.Common.{◌≡◌, inr, false, ◌∙◌, ap}
+use Rattle.std.proofs.Common.{inr, false, ◌∙◌, ap}
 use Rattle.commit_log.specs.declared.log_book.AppendFault.TheVariants as fault
 use Rattle.world.specs.Following.{releasing}
 use Rattle.world.proofs.Logging.{logs}

@@ -1,6 +1,5 @@
-use Rattle.std.proofs.Common.{◌≡◌, List, Option, Some, refl, ◌∙◌, ap}
+use Rattle.std.proofs.Common.{List, Option, Some, refl, ◌∙◌, ap}
 use Rattle.world.specs.declared.desk.Active.{Active}
-use Rattle.world.specs.declared.desk.Active.TheVariants.{Ending}
 use Rattle.world.specs.Following.{with_active}
 use Rattle.world.proofs.Sorting.{put_twice}
 use Rattle.world.proofs.world.Parts.end.Goals as goal

@@ -1,5 +1,5 @@
 use Rattle.std.proofs.Common.{◌≡◌, ◌≤◌, ◌-◌, ◌∙◌, ℕ, List, [], ◌∷◌, length, inl, inr, Option, Some, None, refl, sym, ap, subst, arith}
-use Rattle.std.specs.Prelude.{slice_get, slice_set}
+use Rattle.std.specs.Prelude.{slice_set}
 use Rattle.world.specs.declared.desk.Active.{Active}
 use Rattle.world.specs.declared.desk.Active.TheVariants.{Acting}
 use Rattle.world.specs.Events.{MeetsAs}

@@ -1,14 +1,10 @@
-use Rattle.std.proofs.Common.{◌≡◌, ◌≤◌, ◌-◌, ℕ, [], ◌∷◌, sym, subst, ap, refl, ◌∙◌, arith}
+use Rattle.std.proofs.Common.{◌≡◌, ◌≤◌, ◌-◌, [], ◌∷◌, sym, subst, ap, refl, arith}
 use Rattle.std.specs.Prelude.{All}
 use Rattle.std.specs.Vec.{with_item}
 use Rattle.slices.specs.Sliced.{IsClaimAt, SliceKeeps}
-use Rattle.transactions.specs.Stations.{Stationed}
-use Rattle.transactions.specs.Works.{CanDo, home_of}
-use Rattle.world.specs.declared.flight.Carried.{Carried}
+use Rattle.transactions.specs.Works.{CanDo}
 use Rattle.world.specs.declared.flight.Item.TheVariants as item
 use Rattle.world.specs.declared.flight.Message.{Message}
-use Rattle.world.specs.declared.flight.Message.TheVariants.{Act, Settle, Undo}
-use Rattle.world.specs.declared.world.Parts.{Parts}
 use Rattle.world.specs.Events.{AllTurns, CanWork, TakesMessage}
 use Rattle.world.specs.Parted.{CanAllBeSettled, CanAllBeUndone}
 use Rattle.world.specs.Stations.{HasRoomFor}

@@ -1,10 +1,9 @@
-use Rattle.std.proofs.Common.{◌≡◌, ◌∙◌, ◌+◌, ◌++◌, ◌∷◌, [], List, take, drop, ap, refl, sym, subst}
+use Rattle.std.proofs.Common.{◌≡◌, ℕ, ◌∙◌, ◌+◌, ◌++◌, ◌∷◌, [], List, take, drop, ap, refl, sym, subst}
 use Rattle.std.proofs.lemmas.List.{take-append-drop, take_more}
 use Rattle.history.specs.declared.schedule.Scheduled.{Scheduled}
 use Rattle.history.specs.declared.schedule.Output.{Output}
 use Rattle.history.specs.History.{Step}
 use Rattle.history.specs.Schedules.{Begins, Follows, Plays}
-use Rattle.routing.specs.Routes.{Routes}
 use Rattle.world.specs.Together.{together}
 use Rattle.world.specs.Worlds.{ComeAbout}
 use Rattle.world.proofs.Runs.{comes_after, no_events}
@@ -13,7 +12,7 @@ use Rattle.world.proofs.world.World.play.Goals as goal
 
 pub returns-in_err-outputs-clause-err : goal.returns-in_err-outputs-clause-err
 returns-in_err-outputs-clause-err g c =
-    on_err c.from_residual.result ([], (begins_none c.args.self.now.routing.executors c.args.schedule.now, (refl, no_events (together c.args.self.now))))
+    on_err c.from_residual.result ([], (begins_none c.args.self.now.houses.executors c.args.schedule.now, (refl, no_events (together c.args.self.now))))
 
 pub returns-in_err-play_item-clause-err : goal.returns-in_err-play_item-clause-err
 returns-in_err-play_item-clause-err g c =
@@ -22,10 +21,10 @@ returns-in_err-play_item-clause-err g c =
     let item = c.item-item.result in
     let one_more : take (i + 1) schedule ≡ take i schedule ++ item ∷ [] =
     take_more schedule i item c.loop-item-test.true ∙ ap (λ (s : Scheduled). take i schedule ++ s ∷ []) (sym c.item-item.is) in
-    let n = c.args.self.now.routing.executors in
+    let n = c.args.self.now.houses.executors in
     let so_far = c.loop-item.invariant.played in
     let more : (steps : List Step) × (Begins n (item ∷ []) steps × ComeAbout steps c.loop-item.self c.play_item.new.self) =
-    subst (λ (r : Routes). (steps : List Step) × (Begins r.executors (item ∷ []) steps × ComeAbout steps c.loop-item.self c.play_item.new.self)) c.loop-item.invariant.routing c.in_err-play_item.ensures.err in
+    subst (λ (r : ℕ). (steps : List Step) × (Begins r (item ∷ []) steps × ComeAbout steps c.loop-item.self c.play_item.new.self)) c.loop-item.invariant.executors c.in_err-play_item.ensures.err in
     let whole : (take i schedule ++ item ∷ []) ++ drop (i + 1) schedule ≡ schedule =
     ap (λ (some : List Scheduled). some ++ drop (i + 1) schedule) (sym one_more) ∙ take-append-drop (i + 1) schedule in
     on_err c.from_residual-in_err-play_item.result (
@@ -44,12 +43,12 @@ loop-item-preserved g c =
     let item = c.item-item.result in
     let one_more : take (i + 1) schedule ≡ take i schedule ++ item ∷ [] =
     take_more schedule i item c.loop-item-test.true ∙ ap (λ (s : Scheduled). take i schedule ++ s ∷ []) (sym c.item-item.is) in
-    let n = c.args.self.now.routing.executors in
+    let n = c.args.self.now.houses.executors in
     let so_far = c.loop-item.invariant.played in
     let more : (more : List Output) × ((steps : List Step)
     × ((c.play_item.new.outputs.items ≡ c.loop-item.outputs.items ++ more) × (Follows n item more steps × ComeAbout steps c.loop-item.self c.play_item.new.self))) =
-    subst (λ (r : Routes). (more : List Output) × ((steps : List Step)
-    × ((c.play_item.new.outputs.items ≡ c.loop-item.outputs.items ++ more) × (Follows r.executors item more steps × ComeAbout steps c.loop-item.self c.play_item.new.self)))) c.loop-item.invariant.routing
+    subst (λ (r : ℕ). (more : List Output) × ((steps : List Step)
+    × ((c.play_item.new.outputs.items ≡ c.loop-item.outputs.items ++ more) × (Follows r item more steps × ComeAbout steps c.loop-item.self c.play_item.new.self)))) c.loop-item.invariant.executors
     c.in_ok-play_item.ensures.follows in
     let added = more.0 in
     let steps = more.1.0 in
@@ -65,5 +64,5 @@ loop-item-preserved g c =
         ),
       );
       rest = c.in_ok-play_item.ensures.rest;
-      routing = c.play_item.ensures.same ∙ c.loop-item.invariant.routing;
+      executors = c.play_item.ensures.same ∙ c.loop-item.invariant.executors;
     }

@@ -12,11 +12,11 @@ use Rattle.world.proofs.world.World.run_round.Goals as goal
 pub loop-executor-init : goal.loop-executor-init
 loop-executor-init g c =
     let self = c.args.self.now in
-    let many : c.executors-executors.result ≡ self.routing.executors = c.executors-executors.ensures ∙ ap (λ (w : Core g.row.J.Denot). w.routing.executors) c.self.view_is in
+    let many : c.executors-executors.result ≡ self.houses.executors = c.executors-executors.ensures ∙ ap (λ (w : Core g.row.J.Denot). w.houses.executors) c.self.view_is in
     record {
       turns = ([], (refl, (sym (append-nil c.args.outputs.now.items), ((refl, no_events (together self)), (λ is. All-nil IsIdleTurn, λ idle. refl)))));
       rest = λ is. record { same = refl; inboxes = λ place below. absurd (omega (arith, below)); outboxes = λ place below. absurd (omega (arith, below)) };
-      routing = refl;
+      executors = refl;
       room = omega (arith, c.requires.room, many);
     }
 
@@ -51,7 +51,7 @@ loop-executor-preserved g c =
       rest = λ is.
           let both = c.stays_idle-is_idle.ensures.0 is in
           rest_more l.executor t c.args.self.now l.self mid new (inv.rest both.0) both.1 c.step-took.ensures.happens c.step-sent.ensures.happens;
-      routing = c.step-sent.ensures.routing ∙ c.step-took.ensures.routing ∙ inv.routing;
+      executors = c.step-sent.ensures.executors ∙ c.step-took.ensures.executors ∙ inv.executors;
       room = omega (
         arith,
         inv.room,
@@ -70,6 +70,6 @@ loop-executor-preserved g c =
 pub returns-clause-rest : goal.returns-clause-rest
 returns-clause-rest g c is =
     let l = c.loop-executor in
-    let many : c.executors-executors.result ≡ c.args.self.now.routing.executors = c.executors-executors.ensures ∙ ap (λ (w : Core g.row.J.Denot). w.routing.executors) c.self.view_is in
+    let many : c.executors-executors.result ≡ c.args.self.now.houses.executors = c.executors-executors.ensures ∙ ap (λ (w : Core g.row.J.Denot). w.houses.executors) c.self.view_is in
     let sound : IsSound (shared_of g.J.LogNames.opening) c.args.self.now = subst (λ (w : Core g.row.J.Denot). IsSound (shared_of g.J.LogNames.opening) w) c.self.view_is c.self.invariant.0 in
     round_rests (shared_of g.J.LogNames.opening) l.executor c.args.self.now l.self sound (omega (arith, c.loop-executor-test.false, l.auto.executor-end, many)) (l.invariant.rest is)

@@ -5,7 +5,6 @@ use Rattle.history.specs.declared.schedule.Scheduled.TheVariants as scheduled
 use Rattle.history.specs.declared.schedule.Output.TheVariants as output
 use Rattle.history.specs.declared.schedule.Output.{Output}
 use Rattle.history.specs.Schedules.{IsBusy, IsIdle, IsRoundOf, steps_of_round, outputs_of_round}
-use Rattle.routing.specs.Routes.{Routes}
 use Rattle.world.specs.Together.{together}
 use Rattle.world.proofs.Schedules.{begins_all, begins_rounds, end_quiet, on_err, round_comes, round_more, outputs_more, outputs_quiet}
 use Rattle.world.proofs.Runs.{no_events}
@@ -15,13 +14,13 @@ pub loop-init : goal.loop-init
 loop-init g c =
     let self = c.args.self.now in
     record {
-      rounds = ([], (record { busy = All-nil IsBusy; turns = All-nil (IsRoundOf self.routing.executors); many = refl }, (sym (append-nil c.args.outputs.now.items), (refl, no_events (together self)))));
-      routing = refl;
+      rounds = ([], (record { busy = All-nil IsBusy; turns = All-nil (IsRoundOf self.houses.executors); many = refl }, (sym (append-nil c.args.outputs.now.items), (refl, no_events (together self)))));
+      executors = refl;
     }
 
 pub returns-in_err-reserve-clause-err : goal.returns-in_err-reserve-clause-err
 returns-in_err-reserve-clause-err g c =
-    let n = c.args.self.now.routing.executors in
+    let n = c.args.self.now.houses.executors in
     let inv = c.loop.invariant in
     let rounds = inv.rounds.0 in
     let are = inv.rounds.1.0 in
@@ -30,14 +29,14 @@ returns-in_err-reserve-clause-err g c =
 
 pub returns-in_err-push-clause-err : goal.returns-in_err-push-clause-err
 returns-in_err-push-clause-err g c =
-    let n = c.args.self.now.routing.executors in
+    let n = c.args.self.now.houses.executors in
     let inv = c.loop.invariant in
     let rounds = inv.rounds.0 in
     let are = inv.rounds.1.0 in
     let came = inv.rounds.1.1.1 in
     let said = c.run_round.ensures.round in
     let r = said.0 in
-    let of : IsRoundOf n r = said.1.0 ∙ ap (λ (q : Routes). q.executors) inv.routing in
+    let of : IsRoundOf n r = said.1.0 ∙ inv.executors in
     let more = said.1.1.0 ∙ ap (λ (l : List Output). l ++ outputs_of_round r) c.in_ok-reserve.ensures.items in
     let comes = round_comes rounds r c.args.self.now c.loop.self c.run_round.new.self came said.1.1.1.0 in
     let idle : IsIdle r = said.1.1.1.1.0 c.if-run_round.true in
@@ -53,14 +52,14 @@ returns-in_err-push-clause-err g c =
 
 pub returns-then-run_round-clause-follows : goal.returns-then-run_round-clause-follows
 returns-then-run_round-clause-follows g c =
-    let n = c.args.self.now.routing.executors in
+    let n = c.args.self.now.houses.executors in
     let inv = c.loop.invariant in
     let rounds = inv.rounds.0 in
     let are = inv.rounds.1.0 in
     let came = inv.rounds.1.1.1 in
     let said = c.run_round.ensures.round in
     let r = said.0 in
-    let of : IsRoundOf n r = said.1.0 ∙ ap (λ (q : Routes). q.executors) inv.routing in
+    let of : IsRoundOf n r = said.1.0 ∙ inv.executors in
     let more = said.1.1.0 ∙ ap (λ (l : List Output). l ++ outputs_of_round r) c.in_ok-reserve.ensures.items in
     let comes = round_comes rounds r c.args.self.now c.loop.self c.run_round.new.self came said.1.1.1.0 in
     let idle : IsIdle r = said.1.1.1.1.0 c.if-run_round.true in
@@ -77,14 +76,14 @@ returns-then-run_round-clause-follows g c =
 
 pub loop-preserved : goal.loop-preserved
 loop-preserved g c =
-    let n = c.args.self.now.routing.executors in
+    let n = c.args.self.now.houses.executors in
     let inv = c.loop.invariant in
     let rounds = inv.rounds.0 in
     let are = inv.rounds.1.0 in
     let came = inv.rounds.1.1.1 in
     let said = c.run_round.ensures.round in
     let r = said.0 in
-    let of : IsRoundOf n r = said.1.0 ∙ ap (λ (q : Routes). q.executors) inv.routing in
+    let of : IsRoundOf n r = said.1.0 ∙ inv.executors in
     let more = said.1.1.0 ∙ ap (λ (l : List Output). l ++ outputs_of_round r) c.in_ok-reserve.ensures.items in
     let comes = round_comes rounds r c.args.self.now c.loop.self c.run_round.new.self came said.1.1.1.0 in
     let busy : IsBusy r = λ idle. (let is = said.1.1.1.1.1 idle in let isnt = c.if-run_round.false in cc) in
@@ -96,12 +95,12 @@ loop-preserved g c =
           (outputs_more rounds r c.args.outputs.now.items c.loop.outputs.items c.run_round.new.outputs.items inv.rounds.1.1.0 more, comes),
         ),
       );
-      routing = c.run_round.ensures.same ∙ inv.routing;
+      executors = c.run_round.ensures.same ∙ inv.executors;
     }
 
 pub returns-in_err-push-2-clause-err : goal.returns-in_err-push-2-clause-err
 returns-in_err-push-2-clause-err g c =
-    let n = c.args.self.now.routing.executors in
+    let n = c.args.self.now.houses.executors in
     let inv = c.loop.invariant in
     let rounds = inv.rounds.0 in
     let are = inv.rounds.1.0 in

@@ -5,15 +5,15 @@ use Rattle.history.specs.History.{Step, step}
 use Rattle.world.specs.declared.world.Core.{Core}
 use Rattle.world.specs.Slots.{count_active}
 use Rattle.world.specs.Together.{together}
-use Rattle.world.specs.Worlds.{Advances, AllDieOfOlder, Fits, Happens, IsBusyExactly, NoneDies, TakesItsOwn, TellsOfOlder}
+use Rattle.world.specs.Worlds.{Advances, AllDieOfOlder, Fits, IsBusyExactly, NoneDies, TellsOfOlder}
+use Rattle.world.specs.Happening.{Happens}
 use Rattle.world.proofs.Alone.{none_dies}
-use Rattle.world.proofs.Executing.{takes_its_own}
-use Rattle.world.proofs.NeverStuck.{never_stuck}
+use Rattle.world.proofs.NeverStuck.{is_owned, never_stuck}
 use Rattle.world.proofs.Busy.{busy_exactly}
 use Rattle.world.proofs.Deaths.{tells_of_older}
 use Rattle.world.proofs.Dying.{die_of_older}
 use Rattle.world.proofs.Answered.{nothing_exactly}
-use Rattle.world.proofs.Schedules.{routing_stays}
+use Rattle.world.proofs.Schedules.{executors_stay}
 use Rattle.world.proofs.world.World.step.Goals as goal
 
 pub returns-clause-advances : goal.returns-clause-advances
@@ -45,13 +45,13 @@ returns-clause-alone g c =
     subst (λ (old : Core g.row.J.Denot). (opening : Database) (history : List Step) → Fits opening history (together old) → count_active old.parts.desk.active ≡ 1 → NoneDies c.args.event.now old c.happen.new.self) c.self.view_is
     (none_dies c.claims_are_of_the_footprint.ensures.once (shared_of g.J.LogNames.opening) c.args.event.now c.self.inside.core c.happen.new.self c.happen.result c.self.invariant.0 c.happen.ensures.happens)
 
-pub returns-clause-routing : goal.returns-clause-routing
-returns-clause-routing g c =
-    subst (λ (old : Core g.row.J.Denot). c.happen.new.self.routing ≡ old.routing) c.self.view_is
-    (routing_stays c.args.event.now c.self.inside.core c.happen.new.self c.happen.result c.happen.ensures.happens)
-
-pub returns-clause-own : goal.returns-clause-own
-returns-clause-own g c = subst (λ (old : Core g.row.J.Denot). TakesItsOwn c.args.event.now old) c.self.view_is (takes_its_own (shared_of g.J.LogNames.opening) c.args.event.now c.self.inside.core c.self.invariant.0)
+pub returns-clause-executors : goal.returns-clause-executors
+returns-clause-executors g c =
+    subst (λ (old : Core g.row.J.Denot). c.happen.new.self.houses.executors ≡ old.houses.executors) c.self.view_is
+    (executors_stay c.args.event.now c.self.inside.core c.happen.new.self c.happen.result c.happen.ensures.happens)
 
 pub returns-clause-never_stuck : goal.returns-clause-never_stuck
 returns-clause-never_stuck g c = never_stuck (shared_of g.J.LogNames.opening) c.happen.new.self c.happen.ensures.sound
+
+pub returns-clause-owned : goal.returns-clause-owned
+returns-clause-owned g c = is_owned (shared_of g.J.LogNames.opening) c.happen.new.self c.happen.ensures.sound

@@ -1,0 +1,216 @@
+-- Who knows of a slice does from then on, whatever a step of a move changes of it.
+use Rattle.std.proofs.Common.{◌≡◌, ◌≢◌, ◌⊎◌, inl, inr, ⊎_elim, ℕ, ◌-◌, ◌<◌, ◌≤◌, ◌==◌, Bool, true, false, List, length, Option, Some, None, refl, sym, ◌∙◌, ap, subst, cond, arith}
+use Rattle.std.specs.Prelude.{All, IsTrue, nat_le, slice_index_or, slice_set}
+use Rattle.std.proofs.lemmas.Bool.{eq-eqb, eqb-false, le-leb, leb-false, leb-true}
+use Rattle.std.proofs.lemmas.List.{get_or-set_same, get_or-set_other, length-set}
+use Rattle.std.proofs.lemmas.List.Elements.{All-weaker, All-get_or}
+use Rattle.std.proofs.lemmas.Map.Views.{exact_unsigned_eq}
+use Rattle.std.proofs.Math.ListN.{get_or-eq_default}
+use Rattle.range_moves.specs.declared.house.Whereabouts.{Whereabouts}
+use Rattle.range_moves.specs.declared.house.Whereabouts.TheVariants.{Rests, Leaves, Travels}
+use Rattle.range_moves.specs.declared.house.House.{House}
+use Rattle.range_moves.specs.Housing.{Housing, IsHouseOf, IsWarehouse, comes_to, house_installed, house_moved, house_of, house_taken, is_at, is_away, no_house, note_of, place_moved, place_of, route_of, with_house}
+use Rattle.range_moves.specs.Laws.{KnowingStays}
+use Rattle.range_moves.specs.Traffic.{ComesTo, Going, IsAwayFrom, Knows, KnowsOf}
+
+-- by both answers of a test
+pub by_bool : {G : Type 0} (b : Bool) → (b ≡ true → G) → (b ≡ false → G) → G
+by_bool true holds fails = holds refl
+by_bool false holds fails = fails refl
+
+-- a number is the same as itself, and no other
+pub is_itself : (a b : ℕ) → a ≡ b → IsTrue (a == b)
+is_itself a b is = eq-eqb a b is
+
+pub not_both : {G : Type 0} (b : Bool) → IsTrue b → b ≡ false → G
+not_both b holds fails = absurd (cc)
+
+-- ---- of one slice
+
+-- the executor has the slice, or gets it, or noted where it went
+abbrev pub KnowsIn : Whereabouts → List (Option ℕ) → ℕ → Type 0
+KnowsIn place notes executor = IsTrue (is_at place executor) ⊎ (ComesTo place executor ⊎ ((to : ℕ) × (slice_index_or notes executor None ≡ Some to)))
+
+-- by what an executor knows
+pub by_knowing : {G : Type 0} (place : Whereabouts) (notes : List (Option ℕ)) (executor : ℕ) → KnowsIn place notes executor
+    → (IsTrue (is_at place executor) → G) → (ComesTo place executor → G) → ((to : ℕ) → slice_index_or notes executor None ≡ Some to → G) → G
+by_knowing place notes executor knows at comes noted =
+    ⊎_elim at (λ (other : ComesTo place executor ⊎ ((to : ℕ) × (slice_index_or notes executor None ≡ Some to))). ⊎_elim comes (λ (n : (to : ℕ) × (slice_index_or notes executor None ≡ Some to)). noted n.0 n.1) other) knows
+
+-- a slice that is not to go rests where messages for it are sent
+pub rests_there : (place : Whereabouts) → is_away place ≡ false → place ≡ Rests (comes_to place)
+rests_there (Rests here) rests = refl
+rests_there (Leaves here to) rests = absurd (cc)
+rests_there (Travels to) rests = absurd (cc)
+
+-- ---- what each step changes
+
+-- with the note of one executor changed, the others' are the same
+other_note : (notes : List (Option ℕ)) (at executor : ℕ) (note : Option ℕ) → (executor == at) ≡ false → slice_index_or (slice_set notes at note) executor None ≡ slice_index_or notes executor None
+other_note notes at executor note differs = get_or-set_other notes at executor note None (eqb-false executor at differs)
+
+-- a move begins: who knew of the slice has it, or gets it, or still has its note
+moved_either : (stays : Bool) (here to : ℕ) (notes : List (Option ℕ)) (executor : ℕ) → (to == here) ≡ stays → KnowsIn (Rests here) notes executor
+    → KnowsIn (cond stays (Rests here) (Leaves here to)) (slice_set notes to None) executor
+moved_either true here to notes executor is knows =
+    by_knowing (Rests here) notes executor knows (λ at. inl at) (λ comes. let away = comes.0 in absurd (cc))
+    (λ then_to noted. by_bool (executor == to)
+    (λ same. inl (is_itself executor here (exact_unsigned_eq executor to same ∙ exact_unsigned_eq to here is)))
+    (λ differs. inr (inr (then_to, other_note notes to executor None differs ∙ noted))))
+moved_either false here to notes executor is knows =
+    by_knowing (Rests here) notes executor knows (λ at. inl at) (λ comes. let away = comes.0 in absurd (cc))
+    (λ then_to noted. by_bool (executor == to)
+    (λ same. inr (inl (refl, exact_unsigned_eq executor to same)))
+    (λ differs. inr (inr (then_to, other_note notes to executor None differs ∙ noted))))
+
+pub moved_knows : (place : Whereabouts) (to : ℕ) (notes : List (Option ℕ)) → is_away place ≡ false → (executor : ℕ) → KnowsIn place notes executor
+    → KnowsIn (place_moved place to) (slice_set notes to None) executor
+moved_knows (Rests here) to notes rests executor knows = moved_either (to == here) here to notes executor refl knows
+moved_knows (Leaves here to') to notes rests executor knows = absurd (cc)
+moved_knows (Travels to') to notes rests executor knows = absurd (cc)
+
+-- the slice is taken out: who had it noted where it goes
+pub taken_knows : (here to : ℕ) (notes : List (Option ℕ)) → here < length notes → (executor : ℕ) → KnowsIn (Leaves here to) notes executor
+    → KnowsIn (Travels to) (slice_set notes here (Some to)) executor
+taken_knows here to notes below executor knows =
+    by_bool (executor == here)
+    (λ same. inr (inr (
+      to,
+      subst (λ n. slice_index_or (slice_set notes here (Some to)) n None ≡ Some to) (sym (exact_unsigned_eq executor here same)) (get_or-set_same notes here (Some to) None below),
+    )))
+    (λ differs. by_knowing (Leaves here to) notes executor knows (λ at. not_both (executor == here) at differs) (λ comes. inr (inl comes))
+    (λ then_to noted. inr (inr (then_to, other_note notes here executor (Some to) differs ∙ noted))))
+
+-- it is installed: to whom it came has it
+pub installed_knows : (here : ℕ) (notes : List (Option ℕ)) (executor : ℕ) → KnowsIn (Travels here) notes executor → KnowsIn (Rests here) notes executor
+installed_knows here notes executor knows =
+    by_knowing (Travels here) notes executor knows (λ at. absurd (cc)) (λ comes. inl (is_itself executor here comes.1)) (λ then_to noted. inr (inr (then_to, noted)))
+
+-- ---- of one warehouse
+
+pub warehouse_is : (h : Housing) (w_id : ℕ) → 1 ≤ w_id → house_of h w_id ≡ slice_index_or h.houses (w_id - 1) no_house
+warehouse_is h w_id some = ap (λ b. cond b (slice_index_or h.houses (w_id - 1) no_house) no_house) (le-leb 1 w_id some)
+
+-- what is no warehouse
+pub no_warehouse : (h : Housing) (w_id : ℕ) → (IsWarehouse h w_id → ⊥) → house_of h w_id ≡ no_house
+no_warehouse h w_id none =
+    by_bool (nat_le 1 w_id)
+    (λ some. warehouse_is h w_id (leb-true 1 w_id some) ∙ get_or-eq_default h.houses no_house (past (leb-true 1 w_id some)))
+    (λ zero. ap (λ b. cond b (slice_index_or h.houses (w_id - 1) no_house) no_house) zero)
+  where
+    past : 1 ≤ w_id → length h.houses ≤ w_id - 1
+    past some = by_bool (nat_le w_id (length h.houses)) (λ within. absurd (none (some, leb-true w_id (length h.houses) within))) (λ beyond. let less = leb-false w_id (length h.houses) beyond in omega (arith, less))
+
+-- by whether there is such a warehouse
+pub by_warehouse : {G : Type 0} (h : Housing) (w_id : ℕ) → (IsWarehouse h w_id → G) → (house_of h w_id ≡ no_house → G) → G
+by_warehouse h w_id there none =
+    by_bool (nat_le 1 w_id)
+    (λ some. by_bool (nat_le w_id (length h.houses))
+    (λ within. there (leb-true 1 w_id some, leb-true w_id (length h.houses) within))
+    (λ beyond. none (no_warehouse h w_id (λ is. let less = leb-false w_id (length h.houses) beyond in absurd (omega (arith, less, is.1))))))
+    (λ zero. none (no_warehouse h w_id (λ is. let less = leb-false 1 w_id zero in absurd (omega (arith, less, is.0)))))
+
+-- what is kept of each house is so of the warehouse's
+pub kept_house : (h : Housing) (w_id : ℕ) → All (IsHouseOf h.executors) h.houses → IsWarehouse h w_id → IsHouseOf h.executors (house_of h w_id)
+kept_house h w_id kept there =
+    subst (λ house. IsHouseOf h.executors house) (sym (warehouse_is h w_id there.0))
+    (All-get_or (IsHouseOf h.executors) h.houses (w_id - 1) no_house (omega (arith, there.0, there.1)) kept)
+
+-- the executor to which messages for a slice are sent knows of it
+pub routed_knows : (h : Housing) (w_id : ℕ) → Knows h (route_of h w_id) w_id
+routed_knows h w_id = knows (place_of h w_id)
+  where
+    knows : (place : Whereabouts) → KnowsIn place (house_of h w_id).notes (comes_to place)
+    knows (Rests here) = inl (is_itself here here refl)
+    knows (Leaves here to) = inr (inl (refl, refl))
+    knows (Travels to) = inr (inl (refl, refl))
+
+-- ---- one house in the place of a warehouse's
+
+module _ (h : Housing) (w_id : ℕ) (house : House) where
+  pub houses_same : length (slice_set h.houses (w_id - 1) house) ≡ length h.houses
+  houses_same = length-set h.houses (w_id - 1) house
+
+  pub house_same : IsWarehouse h w_id → house_of (with_house h w_id house) w_id ≡ house
+  house_same there = warehouse_is (with_house h w_id house) w_id there.0 ∙ get_or-set_same h.houses (w_id - 1) house no_house (omega (arith, there.0, there.1))
+
+  pub house_other : (v : ℕ) → 1 ≤ w_id → v ≢ w_id → house_of (with_house h w_id house) v ≡ house_of h v
+  house_other v some other =
+      by_bool (nat_le 1 v)
+      (λ is. let one : 1 ≤ v = leb-true 1 v is in
+      warehouse_is (with_house h w_id house) v one
+      ∙ get_or-set_other h.houses (w_id - 1) (v - 1) house no_house (λ same. other (omega (arith, same, one, some)))
+      ∙ sym (warehouse_is h v one))
+      (λ zero. ap (λ b. cond b (slice_index_or (slice_set h.houses (w_id - 1) house) (v - 1) no_house) no_house) zero
+      ∙ sym (ap (λ b. cond b (slice_index_or h.houses (v - 1) no_house) no_house) zero))
+
+  pub warehouse_with : (v : ℕ) → IsWarehouse h v → IsWarehouse (with_house h w_id house) v
+  warehouse_with v there = (there.0, subst (λ n. v ≤ n) (sym houses_same) there.1)
+
+  pub warehouse_before : (v : ℕ) → IsWarehouse (with_house h w_id house) v → IsWarehouse h v
+  warehouse_before v there = (there.0, subst (λ n. v ≤ n) houses_same there.1)
+
+  -- where the other slices are
+  pub place_other : (v : ℕ) → 1 ≤ w_id → v ≢ w_id → place_of (with_house h w_id house) v ≡ place_of h v
+  place_other v some other = ap (λ (x : House). x.place) (house_other v some other)
+
+  pub place_same : IsWarehouse h w_id → place_of (with_house h w_id house) w_id ≡ house.place
+  place_same there = ap (λ (x : House). x.place) (house_same there)
+
+  module _ (there : IsWarehouse h w_id) where
+    -- by whether it is the warehouse
+    pub by_same : {G : Type 0} (v : ℕ) → (v ≡ w_id → G) → (v ≢ w_id → G) → G
+    by_same v same other = by_bool (v == w_id) (λ is. same (exact_unsigned_eq v w_id is)) (λ differs. other (eqb-false v w_id differs))
+
+    module _ (grows : (executor : ℕ) → KnowsIn (place_of h w_id) (house_of h w_id).notes executor → KnowsIn house.place house.notes executor) where
+      -- who knew of a slice knows of it where the house that is changed forgets nobody
+      pub still_knows : (executor v : ℕ) → Knows h executor v → Knows (with_house h w_id house) executor v
+      still_knows executor v knows =
+          by_same v
+          (λ same. subst (λ n. Knows (with_house h w_id house) executor n) (sym same)
+          (subst (λ (x : House). KnowsIn x.place x.notes executor) (sym (house_same there)) (grows executor (subst (λ n. Knows h executor n) same knows))))
+          (λ other. subst (λ (x : House). KnowsIn x.place x.notes executor) (sym (house_other v there.0 other)) knows)
+
+      pub all_know : (going : List Going) → All (KnowsOf h) going → All (KnowsOf (with_house h w_id house)) going
+      all_know going all = All-weaker (KnowsOf h) (KnowsOf (with_house h w_id house)) (λ g. still_knows g.to g.w_id) going all
+
+      -- and so do those to whom executors noted that it went
+      pub still_noted : ((executor v to : ℕ) → note_of h executor v ≡ Some to → Knows h to v × (to < h.executors))
+          → ((executor to : ℕ) → slice_index_or house.notes executor None ≡ Some to → KnowsIn house.place house.notes to × (to < h.executors))
+          → (executor v to : ℕ) → note_of (with_house h w_id house) executor v ≡ Some to → Knows (with_house h w_id house) to v × (to < h.executors)
+      still_noted noted here executor v to is =
+          by_same v
+          (λ same. subst (λ n. Knows (with_house h w_id house) to n × (to < h.executors)) (sym same)
+          (subst (λ (x : House). KnowsIn x.place x.notes to × (to < h.executors)) (sym (house_same there))
+          (here executor to (subst (λ (x : House). slice_index_or x.notes executor None ≡ Some to) (house_same there)
+          (subst (λ n. note_of (with_house h w_id house) executor n ≡ Some to) same is)))))
+          (λ other. let was = noted executor v to (subst (λ (x : House). slice_index_or x.notes executor None ≡ Some to) (house_other v there.0 other) is) in
+          (still_knows to v was.0, was.1))
+
+    -- what is parked is parked for slices that are away
+    pub still_away : (parked : List ℕ) → (IsTrue (is_away (place_of h w_id)) → IsTrue (is_away house.place)) → All (IsAwayFrom h) parked → All (IsAwayFrom (with_house h w_id house)) parked
+    still_away parked stays all =
+        All-weaker (IsAwayFrom h) (IsAwayFrom (with_house h w_id house))
+        (λ v away. by_same v
+        (λ same. subst (λ n. IsAwayFrom (with_house h w_id house) n) (sym same)
+        (subst (λ p. IsTrue (is_away p)) (sym (place_same there)) (stays (subst (λ n. IsAwayFrom h n) same away))))
+        (λ other. subst (λ p. IsTrue (is_away p)) (sym (place_other v there.0 other)) away)) parked all
+
+-- ---- so it is at each step
+
+module _ (h : Housing) (w_id : ℕ) (there : IsWarehouse h w_id) (executor v : ℕ) (knows : Knows h executor v) where
+  pub moved_still : (to : ℕ) → is_away (place_of h w_id) ≡ false → Knows (with_house h w_id (house_moved (house_of h w_id) to)) executor v
+  moved_still to rests = still_knows h w_id (house_moved (house_of h w_id) to) there (moved_knows (place_of h w_id) to (house_of h w_id).notes rests) executor v knows
+
+  pub taken_still : (here to : ℕ) → place_of h w_id ≡ Leaves here to → here < length (house_of h w_id).notes → Knows (with_house h w_id (house_taken (house_of h w_id) here to)) executor v
+  taken_still here to is below =
+      still_knows h w_id (house_taken (house_of h w_id) here to) there
+      (λ e known. taken_knows here to (house_of h w_id).notes below e (subst (λ p. KnowsIn p (house_of h w_id).notes e) is known)) executor v knows
+
+  pub installed_still : (here : ℕ) → place_of h w_id ≡ Travels here → Knows (with_house h w_id (house_installed (house_of h w_id) here)) executor v
+  installed_still here is =
+      still_knows h w_id (house_installed (house_of h w_id) here) there
+      (λ e known. installed_knows here (house_of h w_id).notes e (subst (λ p. KnowsIn p (house_of h w_id).notes e) is known)) executor v knows
+
+pub knowing_stays : KnowingStays
+knowing_stays h w_id there executor v knows = (moved_still h w_id there executor v knows, taken_still h w_id there executor v knows, installed_still h w_id there executor v knows)

@@ -1,0 +1,4 @@
+pub mod Knowing
+pub mod Sendings
+pub mod Housed
+pub mod Parcels

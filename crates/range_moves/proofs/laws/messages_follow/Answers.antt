@@ -1,0 +1,5 @@
+use Rattle.range_moves.proofs.Housed.{forwarded}
+use Rattle.range_moves.proofs.laws.messages_follow.Goals as goal
+
+pub returns : goal.returns
+returns c = forwarded

@@ -1,0 +1,4 @@
+pub mod Housing
+pub mod Laws
+pub mod Orders
+pub mod Traffic

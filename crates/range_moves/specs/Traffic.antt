@@ -1,0 +1,86 @@
+-- What is under way of moves, and of messages for slices; and what is kept of it.
+use Rattle.std.specs.Prelude.{◌≡◌, ◌⊎◌, ℕ, ◌+◌, ◌<◌, ◌≤◌, ◌==◌, Bool, true, false, if◌then◌else◌, All, List, length, Some, count_by, IsTrue}
+use Rattle.std.specs.List.{sum_by}
+use Rattle.range_moves.specs.declared.order.Moving.{Moving}
+use Rattle.range_moves.specs.declared.order.Moving.TheVariants.{Order, Fetch, Parcel}
+use Rattle.range_moves.specs.declared.house.Whereabouts.{Whereabouts}
+use Rattle.range_moves.specs.declared.house.Whereabouts.TheVariants.{Leaves, Rests, Travels}
+use Rattle.range_moves.specs.Orders.{IsWithin, size_of}
+use Rattle.range_moves.specs.Housing.{Housing, IsWarehouse, comes_to, is_at, is_away, note_of, place_of}
+
+-- a message for the slice of a warehouse, on its way to an executor
+pub record Going : Type 0 where
+  pub to : ℕ
+  pub w_id : ℕ
+
+-- what a move sends, on its way to an executor
+pub record Dispatch : Type 0 where
+  pub to : ℕ
+  pub what : Moving
+
+-- the slice comes to this executor
+abbrev pub ComesTo : Whereabouts → ℕ → Type 0
+ComesTo place executor = IsTrue (is_away place) × (executor ≡ comes_to place)
+
+-- The executor has the slice, or gets it, or noted where it went: and so it is from then on.
+abbrev pub Knows : Housing → ℕ → ℕ → Type 0
+Knows h executor w_id = IsTrue (is_at (place_of h w_id) executor) ⊎ (ComesTo (place_of h w_id) executor ⊎ ((to : ℕ) × (note_of h executor w_id ≡ Some to)))
+
+-- what is sent brings the slice of this warehouse on its way
+abbrev pub brings : ℕ → Moving → Bool
+brings w_id (Order order) = false
+brings w_id (Fetch at to) = at == w_id
+brings w_id (Parcel at) = at == w_id
+
+-- how many reports are to come of it
+abbrev pub reports_of : Moving → ℕ
+reports_of (Order order) = size_of order
+reports_of (Fetch at to) = 1
+reports_of (Parcel at) = 1
+
+-- A move that is to begin is all of the move that is outstanding; a fetch is at the executor that has the slice, and a parcel on
+-- its way to where it is to go.
+abbrev pub IsRight : Housing → ℕ → Moving → Type 0
+IsRight h to (Order order) = (to ≡ order.to) × (IsWithin (length h.houses) h.executors order × (h.awaited ≡ size_of order))
+IsRight h to (Fetch w_id then_to) = IsWarehouse h w_id × (place_of h w_id ≡ Leaves to then_to)
+IsRight h to (Parcel w_id) = IsWarehouse h w_id × (place_of h w_id ≡ Travels to)
+
+abbrev pub IsSentRight : Housing → Dispatch → Type 0
+IsSentRight h d = IsRight h d.to d.what
+
+-- a message for a slice is on its way to one who knows of it
+abbrev pub KnowsOf : Housing → Going → Type 0
+KnowsOf h g = Knows h g.to g.w_id
+
+abbrev pub IsAwayFrom : Housing → ℕ → Type 0
+IsAwayFrom h w_id = IsTrue (is_away (place_of h w_id))
+
+-- Messages for slices go to executors that know of them, and are parked only while the slice is on its way; so do notes; what a move
+-- has sent is as it should be; of each slice that is away just one thing is on its way, and of each that rests none; and the move
+-- that is outstanding lacks the reports that stand there, `moved`, those that are to come of what it has sent, and so many more.
+pub record IsHousedWith (more : ℕ) (h : Housing) (going : List Going) (sent : List Dispatch) (moved : ℕ) (parked : List ℕ) : Type 0 where
+  pub knows : All (KnowsOf h) going
+  pub noted : (executor w_id to : ℕ) → note_of h executor w_id ≡ Some to → Knows h to w_id × (to < h.executors)
+  pub right : All (IsSentRight h) sent
+  pub once : (w_id : ℕ) → IsWarehouse h w_id → count_by (λ d. brings w_id d.what) sent ≡ (if is_away (place_of h w_id) then 1 else 0)
+  pub awaited : h.awaited ≡ more + (moved + sum_by (λ d. reports_of d.what) sent)
+  pub few : h.awaited ≤ length h.houses
+  pub away : All (IsAwayFrom h) parked
+
+-- ---- parcels
+
+-- it is the parcel of this warehouse's slice
+abbrev pub is_parcel_of : ℕ → Moving → Bool
+is_parcel_of w_id (Order order) = false
+is_parcel_of w_id (Fetch at to) = false
+is_parcel_of w_id (Parcel at) = at == w_id
+
+-- the slice is at no executor, but on its way
+abbrev pub is_travelling : Whereabouts → Bool
+is_travelling (Rests here) = false
+is_travelling (Leaves here to) = false
+is_travelling (Travels to) = true
+
+-- The slice of each warehouse is at one executor, and no parcel of it is on its way; or it is in just one parcel.
+abbrev pub AreOwned : Housing → List Dispatch → Type 0
+AreOwned h sent = (w_id : ℕ) → IsWarehouse h w_id → count_by (λ d. is_parcel_of w_id d.what) sent ≡ (if is_travelling (place_of h w_id) then 1 else 0)

@@ -1,0 +1,118 @@
+//! Where the slice of a warehouse is, and what executors noted of it.
+ghost use Rattle.std.specs.Prelude.{◌≡◌, ◌<◌, ◌↔◌, IsTrue, length};
+ghost use Rattle.range_moves.specs.Housing.{comes_to, fetched_from, found_in, house_installed, house_moved, house_taken, is_at};
+
+/// Where the slice of a warehouse is.
+#[derive(Clone, Copy, Debug, PartialEq, Eq)]
+pub enum Whereabouts {
+    /// At this executor.
+    Rests(u32),
+    /// At executor `here`, to which a fetch is on its way; it goes to executor `to` then.
+    Leaves { here: u32, to: u32 },
+    /// In a parcel on its way to this executor.
+    Travels(u32),
+}
+
+impl Whereabouts {
+    /// The executor that has the slice, or to which it comes if it is to go.
+    pub fn comes_to(&self) -> u32
+        ensures { result ≡ comes_to self.now }
+    {
+        match self {
+            Whereabouts::Rests(here) => *here,
+            Whereabouts::Leaves { to, .. } | Whereabouts::Travels(to) => *to,
+        }
+    }
+
+    /// Whether the executor has the slice.
+    pub fn is_at(&self, executor: u32) -> bool
+        ensures { result ≡ is_at self.now executor }
+    {
+        match self {
+            Whereabouts::Rests(here) | Whereabouts::Leaves { here, .. } => executor == *here,
+            Whereabouts::Travels(_) => false,
+        }
+    }
+
+    /// From whom it has to be fetched if it is to go to this executor: `None` where it is there.
+    pub fn fetched_from(&self, to: u32) -> Option<u32>
+        ensures { result ≡ fetched_from self.now to }
+    {
+        if self.is_at(to) {
+            None
+        } else {
+            Some(self.comes_to())
+        }
+    }
+}
+
+/// The slice of a warehouse.
+#[derive(Clone, Copy, Debug, PartialEq, Eq)]
+pub struct House {
+    pub place: Whereabouts,
+    /// By the executors' numbers: to whom the executor has sent the slice last, since a move last brought it there.
+    pub notes: [Option<u32>; 16],
+}
+
+impl House {
+    /// What an executor finds of it.
+    pub fn find(&self, executor: u32) -> Found
+        ensures { result ≡ found_in self.now executor }
+    {
+        if self.place.is_at(executor) {
+            return Found::Here;
+        }
+        match self.notes.get(executor as usize) {
+            Some(Some(to)) => Found::Went(*to),
+            _ => Found::Unknown,
+        }
+    }
+
+    /// What it is where it is to go to an executor, which forgets where it went: it stays where it is there.
+    pub fn moved(&self, to: u32) -> House
+        requires { to < 16 }
+        ensures { result ≡ house_moved self.now to }
+    {
+        let place = match self.place.fetched_from(to) {
+            None => self.place,
+            Some(here) => Whereabouts::Leaves { here, to },
+        };
+        let mut notes = self.notes;
+        notes[to as usize] = None;
+        House { place, notes }
+    }
+
+    /// What it is where an executor took it out, and noted where it goes.
+    pub fn taken(&self, here: u32, to: u32) -> House
+        requires { here < 16 }
+        ensures { result ≡ house_taken self.now here to }
+    {
+        let mut notes = self.notes;
+        notes[here as usize] = Some(to);
+        House {
+            place: Whereabouts::Travels(to),
+            notes,
+        }
+    }
+
+    /// What it is where an executor installed it.
+    pub fn installed(&self, here: u32) -> House
+        ensures { result ≡ house_installed self.now here }
+    {
+        House {
+            place: Whereabouts::Rests(here),
+            notes: self.notes,
+        }
+    }
+}
+
+/// What an executor finds of a slice.
+#[derive(Clone, Copy, Debug, PartialEq, Eq)]
+pub enum Found {
+    /// It has the slice.
+    Here,
+    /// It noted that the slice went to this executor.
+    Went(u32),
+    /// Neither: the slice is on its way here.
+    Unknown,
+}

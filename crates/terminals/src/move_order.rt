@@ -1,0 +1,34 @@
+//! The fields of a move's order.
+ghost use Rattle.std.specs.Prelude.{◌≡◌, ◌∷◌, None};
+ghost use Rattle.std.specs.Fmt.{decimal};
+ghost use Rattle.files.specs.Taken.{fields_left, fault_of, Takes};
+ghost use Rattle.terminals.specs.MoveOrders.{order_fields};
+
+use files::{Fields, parse_whole};
+use range_moves::MoveOrder;
+
+/// Takes the fields of a move's order that come after its first one, which is `lo`. Each is a number from 0
+/// to 4,294,967,295; whether there are such warehouses and such an executor is not looked at.
+pub fn take_order(lo: &str, fields: &mut Fields) -> MoveOrder
+    ensures { Takes fields.old fields.new (λ said. lo.now ∷ said ≡ order_fields result) }
+{
+    MoveOrder {
+        lo: read_number(lo, fields),
+        hi: fields.whole(0, u32::MAX),
+        to: fields.whole(0, u32::MAX),
+    }
+}
+
+// The number that a field spells which was taken; 0 after a fault, which is noted.
+fn read_number(field: &str, fields: &mut Fields) -> u32
+    ensures read { fault_of fields.new ≡ None → (fault_of fields.old ≡ None) × (field.now ≡ decimal result) }
+    ensures left { fields_left fields.new ≡ fields_left fields.old }
+{
+    match parse_whole(field, 0, u64::from(u32::MAX)) {
+        Ok(number) => number as u32,
+        Err(kind) => {
+            fields.note(kind);
+            0
+        }
+    }
+}
