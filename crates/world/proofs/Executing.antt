@@ -285,7 +285,7 @@ module _ {J : Type 0} where
         pub works_sound : IsSoundWith shared nothing (holding [] parts.outbox then_brought)
         works_sound = (works_pass h.all).sound
 
-        pub works_on : ((w_id : ℕ) → route_of w.houses w_id < w.houses.executors) → (new : Core J) → new ≡ bringing executor parts left → All (IsStationOf shared.scale.warehouses) parts.stations.items → GoesOnWith shared w (Take executor) Took new
+        works_on : ((w_id : ℕ) → route_of w.houses w_id < w.houses.executors) → (new : Core J) → new ≡ bringing executor parts left → All (IsStationOf shared.scale.warehouses) parts.stations.items → GoesOnWith shared w (Take executor) Took new
         works_on below new is stations =
             let next : Core J = bringing executor parts left in
             let keeps = brings_keep shared left executor parts there below (m ∷ []) [] (l ∷ []) 0 hand works_sound stations (takes_wait m w.parts parts said h.wait) (takes_inbox m w.parts parts said ∙ h.no_inbox) (one_less left executor m hand.housed) in
@@ -331,7 +331,7 @@ module _ {J : Type 0} where
           (passes-trans shared (together w) (holding [] (item.Push m ∷ []) left) (together next) pushed (posts_pass shared left executor (p ∷ []) [] there) h.all))
 
       -- it is parked
-      pub parks : (new : Core J) → is_for_slice m ≡ true → found_by w.houses executor (home_of_message m) ≡ Unknown → new ≡ record left { parked = w.parked ++ m ∷ [] } → GoesOnWith shared w (Take executor) Took new
+      parks : (new : Core J) → is_for_slice m ≡ true → found_by w.houses executor (home_of_message m) ≡ Unknown → new ≡ record left { parked = w.parked ++ m ∷ [] } → GoesOnWith shared w (Take executor) Took new
       parks new slice found is =
           let next : Core J = record left { parked = w.parked ++ m ∷ [] } in
           let waiting = waiting_in w.parts in

@@ -50,7 +50,7 @@ pub begun_executors : (n w_id to : ℕ) (h : Housing) → (houses_begun n w_id t
 begun_executors zero w_id to h = refl
 begun_executors (suc n) w_id to h = begun_executors n (w_id + 1) to (with_house h w_id (house_moved (house_of h w_id) to))
 
-pub begun_houses : (n w_id to : ℕ) (h : Housing) → length (houses_begun n w_id to h).houses ≡ length h.houses
+begun_houses : (n w_id to : ℕ) (h : Housing) → length (houses_begun n w_id to h).houses ≡ length h.houses
 begun_houses zero w_id to h = refl
 begun_houses (suc n) w_id to h =
     begun_houses n (w_id + 1) to (with_house h w_id (house_moved (house_of h w_id) to)) ∙ houses_same h w_id (house_moved (house_of h w_id) to)
@@ -81,13 +81,13 @@ module _ (J : Type 0) where
   going_more None w_id to more is = is
   going_more (Some from) w_id to more is = is
 
-  pub begun_going : (n w_id to : ℕ) (h : Housing) → going_in {J = J} (letters_out (posts_begun n w_id to h)) ≡ []
+  begun_going : (n w_id to : ℕ) (h : Housing) → going_in {J = J} (letters_out (posts_begun n w_id to h)) ≡ []
   begun_going zero w_id to h = refl
   begun_going (suc n) w_id to h =
       let next : Housing = with_house h w_id (house_moved (house_of h w_id) to) in
       going_more (fetched_from (place_of h w_id) to) w_id to (posts_begun n (w_id + 1) to next) (begun_going n (w_id + 1) to next)
 
-  pub begun_posts : (n w_id to : ℕ) (h : Housing) → length (posts_begun {J = J} n w_id to h) ≡ n
+  begun_posts : (n w_id to : ℕ) (h : Housing) → length (posts_begun {J = J} n w_id to h) ≡ n
   begun_posts zero w_id to h = refl
   begun_posts (suc n) w_id to h = omega (arith, begun_posts n (w_id + 1) to (with_house h w_id (house_moved (house_of h w_id) to)))
 
@@ -108,7 +108,7 @@ module _ (J : Type 0) where
       (subst (λ m. IsHousedWith 0 h going (S ++ d ∷ sent) m parked) (omega (arith, sum_by-cons arrived_of p posts)) (fetched from refl))
 
   -- each step keeps what is kept
-  pub begun_keep : (n w_id to : ℕ) (h : Housing) (going : List Going) (sent : List Dispatch) (arrived : ℕ) (parked : List ℕ) → 1 ≤ w_id → w_id + n ≤ length h.houses + 1
+  begun_keep : (n w_id to : ℕ) (h : Housing) (going : List Going) (sent : List Dispatch) (arrived : ℕ) (parked : List ℕ) → 1 ≤ w_id → w_id + n ≤ length h.houses + 1
       → ((v : ℕ) → w_id ≤ v → is_away (place_of h v) ≡ false) → IsHousedWith n h going sent arrived parked
       → IsHousedWith 0 (houses_begun n w_id to h) going (sent_in {J = J} (letters_out (posts_begun n w_id to h)) ++ sent) (sum_by arrived_of (posts_begun {J = J} n w_id to h) + arrived) parked
   begun_keep zero w_id to h going sent arrived parked first last rests kept = subst (λ n. IsHousedWith 0 h going sent n parked) (omega arith) kept
@@ -141,7 +141,7 @@ module _ {J : Type 0} where
   posted_more executors None w_id to more below rest = All-cons (IsPosted executors) _ more tt rest
   posted_more executors (Some from) w_id to more below rest = All-cons (IsPosted executors) _ more (below from refl) rest
 
-  pub begun_posted : (executors n w_id to : ℕ) (h : Housing) → 1 ≤ w_id → ((v : ℕ) → w_id ≤ v → route_of h v < executors) → All (IsPosted {J = J} executors) (posts_begun n w_id to h)
+  begun_posted : (executors n w_id to : ℕ) (h : Housing) → 1 ≤ w_id → ((v : ℕ) → w_id ≤ v → route_of h v < executors) → All (IsPosted {J = J} executors) (posts_begun n w_id to h)
   begun_posted executors zero w_id to h first below = All-nil (IsPosted executors)
   begun_posted executors (suc n) w_id to h first below =
       let next : Housing = with_house h w_id (house_moved (house_of h w_id) to) in
@@ -297,7 +297,7 @@ module _ {J : Type 0} where
         abbrev mid : Core J
         mid = record left { houses = houses; parked = parked }
 
-        pub posts_on : (new : Core J) → new ≡ posting executor posts mid → Passes shared (together left) (holding [] (items_in posts) mid)
+        posts_on : (new : Core J) → new ≡ posting executor posts mid → Passes shared (together left) (holding [] (items_in posts) mid)
             → IsHousedWith 0 houses (going_in (letters_out posts) ++ going_in L) (sent_in (letters_out posts) ++ sent_in L) (sum_by arrived_of posts + arrived_in left) (map home_of_message parked)
             → All (IsPosted houses.executors) posts → GoesOnWith shared w (Take executor) Took new
         posts_on new is passes kept fine =

@@ -20,7 +20,7 @@ use Rattle.world.proofs.Shuffles.{Shuffle, same, swap, both, then}
 use Rattle.world.proofs.Taking.{message_in_hand, seen, takes_on}
 
 -- the same in another order has the same with it
-pub reordered : {X : Type 0} (f : X → InFlight) (xs ys : List X) → Shuffle xs ys → Reordered f xs ys
+reordered : {X : Type 0} (f : X → InFlight) (xs ys : List X) → Shuffle xs ys → Reordered f xs ys
 reordered f _ _ (same xs) = reordered-refl f xs
 reordered f _ _ (swap xs ys) = reordered-swap f xs ys
 reordered f _ _ (both xs ys us vs a b) =

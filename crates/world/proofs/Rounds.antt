@@ -1,9 +1,8 @@
 -- How the queues are as what is in hand, or parked, is gone through one by one.
 use Rattle.std.proofs.Common.{◌≡◌, ℕ, ◌+◌, ◌<◌, ◌≤◌, zero, suc, Bool, true, false, cond, List, [], ◌∷◌, ◌++◌, length, map, refl, sym, ◌∙◌, ap, subst, append_assoc, append-nil, arith, length-append}
 use Rattle.std.specs.Prelude.{All, slice_set}
-use Rattle.std.proofs.lemmas.List.{get_or-set_same, map-append, set-get_or}
+use Rattle.std.proofs.lemmas.List.{get_or-set_same, map-append}
 use Rattle.std.proofs.lemmas.List.Elements.{All-head, filter-append}
-use Rattle.range_moves.specs.declared.order.Moving.TheVariants as moving
 use Rattle.range_moves.specs.Housing.{fetched_from, house_installed, house_moved, house_of, place_of, with_house}
 use Rattle.world.specs.declared.flight.Item.{Item}
 use Rattle.world.specs.declared.flight.Load.TheVariants.{Work}
@@ -11,7 +10,7 @@ use Rattle.world.specs.declared.flight.Message.{Message}
 use Rattle.world.specs.declared.flight.Posted.{Posted}
 use Rattle.world.specs.declared.flight.Posted.TheVariants as posted
 use Rattle.world.specs.declared.world.Core.{Core}
-use Rattle.world.specs.Happening.{bringing, houses_begun, moves, posted_for, posting, posts_begun}
+use Rattle.world.specs.Happening.{bringing, houses_begun, posted_for, posting, posts_begun}
 use Rattle.world.specs.Letters.{is_at_home, letter, posted_by, parked_else, parked_for, to_itself}
 use Rattle.world.specs.Queues.{put_into, queue_of}
 use Rattle.world.proofs.Steps.{back}
@@ -28,11 +27,6 @@ put_twice place some more queues there =
     ∙ ap (λ q. slice_set queues place (q ++ more)) (get_or-set_same queues place (queue_of place queues ++ some) [] there)
     ∙ ap (λ q. slice_set queues place q) (append_assoc (queue_of place queues) some more)
 
--- where as many are done as there are, none are left
-all_done : {X : Type 0} (done left all : List X) → done ++ left ≡ all → length all ≤ length done → (left ≡ []) × (done ≡ all)
-all_done done [] all is most = (refl, sym (append-nil done) ∙ is)
-all_done done (x ∷ left) all is most = absurd (omega (arith, most, length-append done (x ∷ left), ap length is))
-
 -- the first of those that are left, which stand in front
 first_left : {X : Type 0} (left others : List X) (m : X) (rest : List X) → 1 ≤ length left → left ++ others ≡ m ∷ rest → (more : List X) × ((left ≡ m ∷ more) × (more ++ others ≡ rest))
 first_left [] others m rest some is = absurd (omega (arith, some))
@@ -43,7 +37,7 @@ first_left (x ∷ left) others m rest some is =
 
 module _ {J : Type 0} where
   -- what is posted, and then more, is posted together
-  pub posted_twice : (executor : ℕ) (some more : List (Posted J)) (w : Core J) → executor < length w.outboxes → posting executor more (posting executor some w) ≡ posting executor (some ++ more) w
+  posted_twice : (executor : ℕ) (some more : List (Posted J)) (w : Core J) → executor < length w.outboxes → posting executor more (posting executor some w) ≡ posting executor (some ++ more) w
   posted_twice executor some more w there = ap (λ (qs : List (List (Posted J))). record w { outboxes = qs }) (put_twice executor some more w.outboxes there)
 
   -- ---- those that were parked for a slice that has come
@@ -67,7 +61,7 @@ module _ {J : Type 0} where
       by false = refl
 
   -- one that is for the slice goes to its executor
-  pub round_for : (executor w_id : ℕ) (done left : List (Message J)) (m : Message J) (w : Core J) → executor < length w.outboxes → is_at_home w_id m ≡ true
+  round_for : (executor w_id : ℕ) (done left : List (Message J)) (m : Message J) (w : Core J) → executor < length w.outboxes → is_at_home w_id m ≡ true
       → posting executor (posted.Letter (letter executor (Work m)) ∷ []) (record (installing executor w_id done (m ∷ left) w) { parked = left ++ parked_else w_id done }) ≡ installing executor w_id (done ++ m ∷ []) left w
   round_for executor w_id done left m w there is =
       let some : List (Posted J) = posted.Arrived ∷ to_itself executor (parked_for w_id done) in
@@ -81,7 +75,7 @@ module _ {J : Type 0} where
       ∙ (λ k. posting executor (posts k) (record w { houses = houses; parked = left ++ others k }))
 
   -- another goes behind those that are parked
-  pub round_else : (executor w_id : ℕ) (done left : List (Message J)) (m : Message J) (w : Core J) → is_at_home w_id m ≡ false
+  round_else : (executor w_id : ℕ) (done left : List (Message J)) (m : Message J) (w : Core J) → is_at_home w_id m ≡ false
       → record (installing executor w_id done (m ∷ left) w) { parked = (left ++ parked_else w_id done) ++ m ∷ [] } ≡ installing executor w_id (done ++ m ∷ []) left w
   round_else executor w_id done left m w is =
       let houses = with_house w.houses w_id (house_installed (house_of w.houses w_id) executor) in
@@ -92,24 +86,12 @@ module _ {J : Type 0} where
 
   -- ---- what is in hand
 
-  -- nothing is posted
-  pub post_none : (executor : ℕ) (w : Core J) → posting executor [] w ≡ w
-  post_none executor w =
-      ap (λ (qs : List (List (Posted J))). record w { outboxes = qs })
-      (ap (λ (q : List (Posted J)). slice_set w.outboxes executor q) (append-nil (queue_of executor w.outboxes)) ∙ set-get_or w.outboxes executor [])
-
   -- what is in hand stands in the outbox, one after another
   pub bring_one : (executor : ℕ) (i : Item J) (rest : List (Item J)) (w : Core J) → executor < length w.outboxes → w.parts.outbox ≡ i ∷ rest
       → bringing executor (record w.parts { outbox = rest }) (posting executor (posted_by w.houses i ∷ []) (record w { parts = record w.parts { outbox = rest } })) ≡ bringing executor w.parts w
   bring_one executor i rest w there is =
       posted_twice executor (posted_by w.houses i ∷ []) (map (posted_by w.houses) rest) (record w { parts = record w.parts { outbox = [] } }) there
       ∙ ap (λ (items : List (Item J)). posting executor (map (posted_by w.houses) items) (record w { parts = record w.parts { outbox = [] } })) (sym is)
-
-  pub bring_none : (executor : ℕ) (w : Core J) → w.parts.outbox ≡ [] → bringing executor w.parts w ≡ w
-  bring_none executor w is =
-      ap (λ (items : List (Item J)). posting executor (map (posted_by w.houses) items) (record w { parts = record w.parts { outbox = [] } })) is
-      ∙ post_none executor (record w { parts = record w.parts { outbox = [] } })
-      ∙ ap (λ (items : List (Item J)). record w { parts = record w.parts { outbox = items } }) (sym is)
 
   -- ---- a move begins
 
@@ -193,9 +175,3 @@ module _ {J : Type 0} where
         done ++ m ∷ [],
         (at.0, (next.0, (next.1, is ∙ (λ k. record (was k) { parked = sym at.1.1 k ++ m ∷ [] }) ∙ round_else executor w_id done at.0 m w home))),
       )
-
-  -- all of them have been
-  pub round_ends : (executor w_id count : ℕ) (w now : Core J) → Round executor w_id count w now → length w.parked ≤ count → now ≡ moves executor (moving.Parcel w_id) w
-  round_ends executor w_id count w now round most =
-      let ends = all_done round.0 round.1.0 w.parked round.1.1.0 (omega (arith, most, round.1.1.1.0)) in
-      round.1.1.1.1 ∙ (λ k. installing executor w_id (ends.1 k) (ends.0 k) w)

@@ -196,14 +196,14 @@ module _ {J : Type 0} where
   unless_cases room (Some why) session number asked desk old new answer said = inl said.1
   unless_cases room None session number asked desk old new answer said = into_cases (can_admit room old) session number asked desk old new answer said
 
-  pub submit_cases : (room : Bool) (found : Option (SessionDesk J)) (session number : ℕ) (asked : Request) (old new : Parts J) (answer : EventAnswer) → SubmitsAt room found session number asked old answer new
+  submit_cases : (room : Bool) (found : Option (SessionDesk J)) (session number : ℕ) (asked : Request) (old new : Parts J) (answer : EventAnswer) → SubmitsAt room found session number asked old answer new
       → (new ≡ old) ⊎ ((can_admit room old ≡ true) × ((desk : SessionDesk J) × Admits session number asked desk old new))
   submit_cases room None session number asked old new answer said = inl said.1
   submit_cases room (Some desk) session number asked old new answer said =
       ⊎_elim (λ same. inl same) (λ admitted. inr (admitted.0, (desk, admitted.1))) (unless_cases room (refusal_at desk asked old) session number asked desk old new answer said)
 
   -- there was room then
-  pub admitted_room : (room : Bool) (old : Parts J) → can_admit room old ≡ true → room ≡ true
+  admitted_room : (room : Bool) (old : Parts J) → can_admit room old ≡ true → room ≡ true
   admitted_room room old can = first_of_both room (nat_lt old.desk.admitted 18446744073709551615) can
 
   -- at most one is put, and one only where there was room

@@ -1,9 +1,8 @@
 -- What a submission is answered.
-use Rattle.std.proofs.Common.{◌≡◌, ◌≤◌, ◌<◌, ℕ, List, length, get_or, refl, sym, ap, ◌∙◌, subst, Ok, Some, None}
+use Rattle.std.proofs.Common.{◌≡◌, ◌<◌, ℕ, List, length, get_or, refl, sym, ap, ◌∙◌, subst, Ok, Some, None}
 use Rattle.std.specs.Prelude.{Bool, true, false, ◌&&◌, not, nat_lt, Option, Result, is_some, slice_get}
-use Rattle.std.proofs.lemmas.Bool.{le-ltb, lt-leb, lt-ltb}
+use Rattle.std.proofs.lemmas.Bool.{lt-leb, lt-ltb}
 use Rattle.std.proofs.lemmas.Option.{slice_get_read}
-use Rattle.std.proofs.Math.Bool.{and-false}
 use Rattle.commit_log.specs.Passing.{Passing}
 use Rattle.history.specs.declared.event.EventAnswer.{EventAnswer}
 use Rattle.requests.specs.Check.{check_of}
@@ -35,10 +34,6 @@ not_refused (Some pass) checked accepted active there ok idle =
 -- there is no room
 pub full : (has_room : Bool) (number last : ℕ) → has_room ≡ false → (has_room && nat_lt number last) ≡ false
 full has_room number last h = ap (λ b. b && nat_lt number last) h
-
--- there is no number left
-pub spent : (has_room : Bool) (number last : ℕ) → last ≤ number → (has_room && nat_lt number last) ≡ false
-spent has_room number last h = ap (λ b. has_room && b) (le-ltb number last h) ∙ and-false has_room
 
 -- there are both
 pub has_both : (has_room : Bool) (number last : ℕ) → has_room ≡ true → number < last → (has_room && nat_lt number last) ≡ true
