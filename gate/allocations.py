@@ -1,6 +1,7 @@
 """Refuses each allocation of the program in turn: gate/allocations.py PROGRAM
 
-`tpcc run` and `tpcc sim` serve a few requests on a small set, once for each of their allocations, with that one refused.
+`tpcc run` and `tpcc sim` serve a few requests on a small set, `run` while the warehouse moves, once for each of their
+allocations, with that one refused.
 Each must end with status 4 and `tpcc: no memory`, or with answers that are all done or refused for want of memory (12) or as
 died (11); then `replay` and `check` of what was written must agree with it. A log is there whole or not at all. Where it is
 there all answers are printed, also where there is no memory for the tables, which has to be among the runs; where it is not no
@@ -173,8 +174,10 @@ def main():
         # With each request the warehouse goes to the other executor.
         events = [it for number, request in enumerate(REQUESTS) for it in (f"S,0,{number},{request}", f"M,1,1,{(number + 1) % 2}", "R")]
         write(schedule, [*events, f"END,{len(events)}"])
+        moves = f"{room}/moves.csv"
+        write(moves, ["1,1,1", "1,1,0", "1,1,1", "END,3"])
         sweeps = [
-            Sweep(program, room, refuser, "run", [dataset, script, script], 2 * len(REQUESTS)),
+            Sweep(program, room, refuser, "run", [dataset, script, script, "--moves", moves], 2 * len(REQUESTS)),
             Sweep(program, room, refuser, "sim", [dataset, schedule], len(REQUESTS)),
         ]
         return 0 if all([it.whole() for it in sweeps]) else 1

@@ -1,18 +1,16 @@
--- Executors may go to another thread, and an engine may be shared by threads, where the names and the gate may.
-use mathlib.Core.List.{[], ◌∷◌}
-use mir.Syntax.{Sym}
+-- Executors may go to another thread, and what they have in common may be shared by threads, where the names and the gate may.
 use denote.RattleType.{RattleType}
 use denote.Ref.{NamedLft}
-use denote.Struct.Field.{row_field}
-use denote.Struct.Tuple.{TupleAt, type_at}
 use denote.Param.Send.{IsSend, IsSync, sendable, view_send}
-use denote.Param.SendFields.{as_row_send, declared_send, declared_sync, variants_send}
-use Rattle.std.proofs.Crossing.{crosses, Vec-send, Vec-sync, Deque-send}
+use denote.Param.SendFields.{declared_send, declared_sync, variants_send}
+use Rattle.std.proofs.Crossing.{crosses, Box-send, Vec-send, Vec-sync, Deque-send}
 use Rattle.queues.specs.contracts.sender.Sender as Sender
 use Rattle.queues.proofs.Sendable.{Taker-send, Sender-send}
+use Rattle.routing.proofs.Sendable.{SharedRouting-sync}
 use Rattle.requests.proofs.Sendable.{Answer-send, Script-sync}
 use Rattle.commit_log.proofs.Sendable.{Log-send, Pass-send, SessionSeat-send}
 use Rattle.executor.proofs.Sendable.{Errand-send, Settle-send, Undo-send, Phase-send, Keeper-send, Post-send}
+use Rattle.executor.specs.contracts.post.Post as Post
 use Rattle.tickets.specs.declared.group_names.GroupNames.{Ghosts as GroupNames}
 use Rattle.commit_log.specs.declared.log_names.LogNames.{Ghosts as LogNames}
 use Rattle.executor.specs.declared.names.CourseNames.{Ghosts as CourseNames}
@@ -21,14 +19,31 @@ use Rattle.engine.specs.contracts.asking.Ready as Ready
 use Rattle.engine.specs.contracts.asking.Asked as Asked
 use Rattle.engine.specs.contracts.bed.Bed as Bed
 use Rattle.engine.specs.contracts.engine.Engine as Engine
-use Rattle.engine.specs.contracts.executing.AtWork as AtWork
-use Rattle.engine.specs.contracts.executing.Executor as Executor
+use Rattle.engine.specs.contracts.serving.Crew as Crew
+use Rattle.engine.specs.contracts.belongings.Executor as Executor
+use Rattle.engine.specs.contracts.belongings.Turn as Turn
 use Rattle.engine.specs.contracts.message.Message as Message
+use Rattle.engine.specs.contracts.moves.Moves as Moves
 use Rattle.engine.specs.contracts.place.Place as Place
 use Rattle.engine.specs.contracts.place.Session as Session
 
 Bed-sync : IsSync Bed.the_row
 Bed-sync = declared_sync Bed.the_type (search (crosses, sendable) depth 20, (search (crosses, sendable) depth 20, tt))
+
+Turn-send : IsSend Turn.the_row
+Turn-send = declared_send Turn.the_type (search sendable depth 20, (search sendable depth 20, tt))
+
+Moves-sync : (a : NamedLft) → IsSync (Moves.the_row a)
+Moves-sync a = declared_sync (Moves.the_type a) (
+  search sendable depth 20,
+  (
+    search (crosses, sendable) depth 20,
+    (
+      search (crosses, sendable) depth 20,
+      tt,
+    ),
+  ),
+)
 
 module _ (J : RattleType) (course : CourseNames J.Denot) (log : LogNames J.Denot) (groups : GroupNames J.Denot) (s : IsSend J) where
   Message-send : IsSend (Message.the_row J course log groups)
@@ -42,7 +57,16 @@ module _ (J : RattleType) (course : CourseNames J.Denot) (log : LogNames J.Denot
           (Settle-send J course log groups s, tt),
           (
             (Undo-send J course log groups s, tt),
-            tt,
+            (
+              (search sendable depth 20, tt),
+              (
+                (search sendable depth 20, (search sendable depth 20, tt)),
+                (
+                  (Box-send (Post.the_row J course log groups) (Post-send J course log groups s), tt),
+                  tt,
+                ),
+              ),
+            ),
           ),
         ),
       ),
@@ -56,26 +80,35 @@ module _ (J : RattleType) (course : CourseNames J.Denot) (log : LogNames J.Denot
   Executor-send = declared_send (Executor.the_type J course log groups) (
     search sendable depth 20,
     (
-      search (Post-send, Vec-send, sendable) depth 20,
+      search (Post-send, Box-send, Vec-send, sendable) depth 20,
       (
-        Taker-send (Message.the_row J course log groups) Message-send,
+        search (Vec-send, sendable) depth 20,
         (
-          search (Outlet-send, Vec-send, sendable) depth 20,
+          Taker-send (Message.the_row J course log groups) Message-send,
           (
-            search (Message-send, Deque-send, sendable) depth 20,
+            search (Outlet-send, Vec-send, sendable) depth 20,
             (
-              search (Errand-send, Vec-send, Deque-send, sendable) depth 20,
+              search (Message-send, Deque-send, sendable) depth 20,
               (
-                search (Settle-send, Deque-send, sendable) depth 20,
+                search (Errand-send, Vec-send, Deque-send, sendable) depth 20,
                 (
-                  search (Undo-send, Deque-send, sendable) depth 20,
+                  search (Settle-send, Deque-send, sendable) depth 20,
                   (
-                    search (Message-send, Deque-send, sendable) depth 20,
+                    search (Undo-send, Deque-send, sendable) depth 20,
                     (
-                      search (Deque-send, sendable) depth 20,
+                      search (Message-send, Deque-send, sendable) depth 20,
                       (
-                        search sendable depth 20,
-                        tt,
+                        search (Message-send, Deque-send, sendable) depth 20,
+                        (
+                          search (Turn-send, Deque-send, sendable) depth 20,
+                          (
+                            search sendable depth 20,
+                            (
+                              search sendable depth 20,
+                              tt,
+                            ),
+                          ),
+                        ),
                       ),
                     ),
                   ),
@@ -164,22 +197,25 @@ module _ (J : RattleType) (course : CourseNames J.Denot) (log : LogNames J.Denot
           (
             search sendable depth 20,
             (
-              search sendable depth 40,
+              SharedRouting-sync,
               (
-                search sendable depth 20,
+                Moves-sync a,
                 (
-                  search (Log-send, crosses, sendable) depth 20,
+                  search sendable depth 20,
                   (
-                    search (Place-send, crosses, sendable) depth 20,
+                    search (Log-send, crosses, sendable) depth 20,
                     (
-                      search (Bed-sync, Vec-sync, sendable) depth 20,
+                      search (Place-send, crosses, sendable) depth 20,
                       (
-                        search (crosses, sendable) depth 20,
+                        search (Bed-sync, Vec-sync, sendable) depth 20,
                         (
                           search (crosses, sendable) depth 20,
                           (
                             search (crosses, sendable) depth 20,
-                            tt,
+                            (
+                              search (crosses, sendable) depth 20,
+                              tt,
+                            ),
                           ),
                         ),
                       ),
@@ -193,21 +229,14 @@ module _ (J : RattleType) (course : CourseNames J.Denot) (log : LogNames J.Denot
       )
 
       module _ (e : NamedLft) (R : RattleType) (r : IsSync R) where
-        AtWork-send : IsSend (AtWork.the_row e a J G R serve course log groups)
-        AtWork-send = declared_send (AtWork.the_type e a J G R serve course log groups) (
+        pub Crew-sync : IsSync (Crew.the_row e a J G R serve course log groups)
+        Crew-sync = declared_sync (Crew.the_type e a J G R serve course log groups) (
           search (r, sendable) depth 10,
           (
             search sendable depth 20,
             (
               search (Engine-sync, sendable) depth 10,
-              (
-                search (Executor-send, sendable) depth 10,
-                tt,
-              ),
+              tt,
             ),
           ),
         )
-
-        -- so may a closure that has taken it and nothing else
-        pub taken_send : (ν : Sym) → IsSend (TupleAt ν (AtWork.the_row e a J G R serve course log groups ∷ []))
-        taken_send ν = declared_send (type_at ν (AtWork.the_row e a J G R serve course log groups ∷ [])) (as_row_send (row_field (AtWork.the_row e a J G R serve course log groups)) AtWork-send, tt)

@@ -193,9 +193,9 @@ impl<'a, J: ServeNames> Ready<'a, J> {
         Some(home_of(request))
     }
 
-    /// Whether its next request was not asked yet.
-    pub(crate) fn is_fresh(&self, tries: u32) -> bool {
-        self.tries_left == tries
+    /// How often its next request was asked, of so many times that it may be, and died or found no memory.
+    pub(crate) fn deaths(&self, tries: u32) -> u32 {
+        tries.saturating_sub(self.tries_left)
     }
 
     /// The answers to the whole script, once they are compared with the log: the session has logged just what stands there of
@@ -286,8 +286,8 @@ fn says_full(answer: &Answer) -> bool
     matches!(answer, Answer::Refused(Refusal::LogFull))
 }
 
-// The W_ID of the warehouse whose terminal asks.
-fn home_of(request: &Request) -> u32 {
+/// The W_ID of the warehouse whose terminal asks.
+pub(crate) fn home_of(request: &Request) -> u32 {
     match request {
         Request::NewOrder(order) => order.home.w_id,
         Request::Payment(payment) => payment.home.w_id,

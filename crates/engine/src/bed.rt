@@ -2,6 +2,7 @@
 use std::sync::Wait;
 use std::sync::atomic::{AtomicBool, Ordering};
 use std::thread::Parker;
+use std::time::Duration;
 
 /// Where an executor rests while no message comes. Whoever has put one into its inbox calls it.
 #[derive(Drop)]
@@ -26,9 +27,12 @@ impl Bed {
         self.is_taken.store(true, Ordering::SeqCst);
     }
 
-    /// The executor rests until it is called, or woken.
-    pub(crate) fn rest(&self, rt: &impl Wait) {
-        self.parker.park(rt);
+    /// The executor rests until it is called, or woken; or no longer than this.
+    pub(crate) fn rest(&self, rt: &impl Wait, longest: Option<Duration>) {
+        match longest {
+            Some(longest) => self.parker.park_timeout(rt, longest),
+            None => self.parker.park(rt),
+        }
     }
 
     /// The executor has something to do.

@@ -11,16 +11,16 @@ ghost use Rattle.engine.specs.Outcome.{IsOutcome};
 ghost use Rattle.engine.specs.Served.{ServedEach};
 ghost use Rattle.engine.specs.Sessions.{AreNewFrom};
 
+use crate::belongings::Executor;
 use crate::engine::Engine;
-use crate::executing::Executor;
 use crate::place::Place;
 use crate::{Answers, CloseFault, Gate, MOST_SESSIONS, Outcome, ServeNames};
 use commit_log::{Log, Pass, SessionSeat};
+use executor::Post;
 use groups::{Extent, Kind, Mode, Prefix, Want};
 use local_locks::Asked;
 use partitions::Catalog;
 use requests::Script;
-use routing::Routing;
 use schema::NoMemory;
 use slices::{Slice, whole};
 use std::alloc::Global;
@@ -49,7 +49,6 @@ pub fn close<J: ServeNames, G: Gate + Drop>(
 {
     let Engine {
         scale,
-        routing,
         log,
         places,
         ..
@@ -57,7 +56,7 @@ pub fn close<J: ServeNames, G: Gate + Drop>(
     let mut log = log.into_inner();
     let answers = audit_served(alloc, &mut log, places, scripts)?;
     audit_idle(&mut log, idle, scripts.len());
-    let slices = settle_all(alloc, &mut log, &routing, scale.warehouses, executors)?;
+    let slices = settle_all(alloc, &mut log, scale.warehouses, executors)?;
     let tables = whole(catalog, slices)?;
     let _ = tables.scale();
     let _ = log.entries();
@@ -131,7 +130,6 @@ fn audit_idle<J: ServeNames>(
 fn settle_all<J: ServeNames>(
     alloc: Global,
     log: &mut Log<J>,
-    routing: &Routing,
     warehouses: u32,
     executors: Vec<Executor<J>>,
 ) -> Result<Vec<Slice<J>>, CloseFault>
@@ -143,8 +141,7 @@ fn settle_all<J: ServeNames>(
     let mut slices = Vec::with_capacity(alloc, warehouses as usize)?;
     for place in 0..warehouses {
         let home = place + 1;
-        let to = routing.route(home) as usize;
-        let Some(slice) = slice_at(&mut executors, to, home) else {
+        let Some(slice) = slice_of(&mut executors, home) else {
             return Err(CloseFault::Unsettled);
         };
         let Some(slice) = settle(alloc, log, slice)? else {
@@ -155,21 +152,27 @@ fn settle_all<J: ServeNames>(
     Ok(slices)
 }
 
-// The slice of a warehouse, if this executor has its post.
-fn slice_at<J: ServeNames>(
-    executors: &mut Vec<Executor<J>>,
-    executor: usize,
-    home: u32,
-) -> Option<Slice<J>>
+// The slice of a warehouse, if an executor has its post.
+fn slice_of<J: ServeNames>(executors: &mut Vec<Executor<J>>, home: u32) -> Option<Slice<J>>
     ensures { IfSome result (IsBackAt J.opening home) }
 {
-    let post = executors.get_mut(executor)?.take_post(home)?;
+    let post = post_of(executors, home)?;
     if post.home() != home {
         return None;
     }
-    let slice = post.into_slice();
+    let slice = Box::into_inner(post).into_slice();
     let _ = slice.partition();
     Some(slice)
+}
+
+// The post of a warehouse, at whichever executor it is.
+fn post_of<J: ServeNames>(executors: &mut Vec<Executor<J>>, home: u32) -> Option<Box<Post<J>>> {
+    for executor in executors.iter_mut() {
+        if let Some(post) = executor.take_post(home) {
+            return Some(post);
+        }
+    }
+    None
 }
 
 // The slice, once all its groups were claimed and the log has looked at the claims: each has what the log's transactions have

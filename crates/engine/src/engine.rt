@@ -2,16 +2,26 @@
 ghost use Rattle.std.specs.Prelude.{◌≡◌};
 
 use crate::bed::Bed;
+use crate::moves::Moves;
 use crate::place::{Advanced, Ended, Place, Strange};
 use crate::{Gate, ServeNames};
 use commit_log::Log;
 use executor::{Keeper, Met, Phase, Report, Told};
 use requests::{Request, Script};
-use routing::Routing;
+use routing::SharedRouting;
 use schema::Scale;
 use std::alloc::Global;
 use std::sync::atomic::{AtomicBool, AtomicU64, AtomicUsize, Ordering};
 use std::sync::{Mutex, Wait};
+
+/// The request that a session asks next.
+#[derive(Drop)]
+pub(crate) struct Upcoming {
+    /// Which executor has the warehouse whose terminal asks it.
+    pub(crate) executor: u32,
+    /// How often it was asked before, and died or found no memory.
+    pub(crate) deaths: u32,
+}
 
 /// What all executors share: the log under its lock, the place of each session under a lock of its own, and what needs no
 /// lock. No lock is common to all executors but the log's, and nobody takes one while it has another.
@@ -21,7 +31,8 @@ pub struct Engine<'a, J: ServeNames, G: Gate> {
     pub(crate) scripts: &'a [Script],
     /// How often a request is asked at most.
     pub(crate) tries: u32,
-    pub(crate) routing: Routing,
+    pub(crate) routing: SharedRouting,
+    pub(crate) moves: Moves<'a>,
     pub(crate) gate: G,
     pub(crate) log: Mutex<Log<J>>,
     /// By the sessions' numbers.
@@ -38,9 +49,14 @@ pub struct Engine<'a, J: ServeNames, G: Gate> {
 }
 
 impl<J: ServeNames, G: Gate> Engine<'_, J, G> {
-    /// Whether all scripts are served, or the executors are to end without.
+    /// Whether all scripts are served and all moves are over, or the executors are to end without.
     pub fn is_over(&self) -> bool {
-        self.unserved.load(Ordering::SeqCst) == 0 || self.is_stopped.load(Ordering::SeqCst)
+        self.is_done() || self.is_stopped.load(Ordering::SeqCst)
+    }
+
+    // Whether all scripts are served and all moves are over.
+    fn is_done(&self) -> bool {
+        self.unserved.load(Ordering::SeqCst) == 0 && self.moves.are_over()
     }
 
     /// The executors are to end.
@@ -49,14 +65,15 @@ impl<J: ServeNames, G: Gate> Engine<'_, J, G> {
         self.wake_all();
     }
 
-    /// A session is at the end of its script. With the last one the executors end.
+    /// A session is at the end of its script. With the last one, and the last move, the executors end.
     pub(crate) fn end_session(&self) {
         if self.unserved.fetch_sub(1, Ordering::SeqCst) == 1 {
             self.wake_all();
         }
     }
 
-    fn wake_all(&self) {
+    /// All executors look whether they are to end.
+    pub(crate) fn wake_all(&self) {
         for bed in self.beds.iter() {
             bed.wake();
         }
@@ -120,10 +137,13 @@ impl<J: ServeNames, G: Gate> Engine<'_, J, G> {
         self.places.get(slot)?.lock(rt).give_back()
     }
 
-    /// The executor at whose warehouse the session of this slot asks its next request.
-    pub(crate) fn next_executor(&self, rt: &impl Wait, slot: usize) -> Option<u32> {
-        let home = self.places.get(slot)?.lock(rt).next_home()?;
-        Some(self.routing.route(home))
+    /// What the session of this slot asks next.
+    pub(crate) fn upcoming(&self, rt: &impl Wait, slot: usize) -> Option<Upcoming> {
+        let (home, deaths) = self.places.get(slot)?.lock(rt).next_home(self.tries)?;
+        Some(Upcoming {
+            executor: self.routing.route(home),
+            deaths,
+        })
     }
 
     /// The session of this slot goes on with its script, at this executor.

@@ -1,22 +1,14 @@
-//! An executor, and its work.
-ghost use Rattle.std.specs.Prelude.{◌≡◌, IfSome};
-
+//! The work of an executor.
+use crate::belongings::{Executor, STEP};
 use crate::engine::Engine;
 use crate::message::{Message, going_back, home_of};
 use crate::place::{Advanced, Ended, Strange};
-use crate::{Gate, MOST_SESSIONS, ServeNames};
+use crate::{Gate, ServeNames};
 use crossbeam_utils::Backoff;
-use executor::{
-    Commit, CourseNames, Errand, Following, GivenBack, Post, Release, Report, Settle, Undo,
-};
-use queues::{Sender, Taker};
-use schema::NoMemory;
+use executor::{Commit, Errand, Following, GivenBack, Release, Report, Settle, Undo};
 use std::alloc::Global;
-use std::collections::VecDeque;
 use std::sync::Wait;
-
-/// The most messages that an executor has to itself, or that found an inbox full: 64 transactions have no more.
-const ROOM: usize = 4096;
+use std::time::Duration;
 
 /// How many transactions an executor has begun at a time, at most, that are not over. Those of one warehouse are in each other's way
 /// from their first action on, and all but the oldest die: so one more would cost more than it brings (docs/COSTS.md).
@@ -24,96 +16,6 @@ const MOST_BEGUN: usize = 1;
 
 /// How many messages to itself an executor takes at most before it looks at its inbox.
 const MOST_OWN: u32 = 16;
-
-/// An executor: the posts of its warehouses, and the messages that it has still to take or to send.
-#[derive(Drop)]
-pub struct Executor<J: CourseNames> {
-    number: u32,
-    /// Each at its warehouse's W_ID less one; the others are elsewhere.
-    pub(crate) posts: Vec<Option<Post<J>>>,
-    /// From the others.
-    inbox: Taker<Message<J>>,
-    /// Into the inboxes of all, by the executors' numbers.
-    outlets: Vec<Sender<Message<J>>>,
-    /// To itself, beside what follows.
-    lane: VecDeque<Message<J>>,
-    /// The actions of each phase that are all at its own warehouses, and what goes back to these: no message is made of them.
-    phases: VecDeque<Vec<Errand<J>>>,
-    settles: VecDeque<Settle<J>>,
-    undos: VecDeque<Undo<J>>,
-    /// To others whose inbox was full.
-    outbox: VecDeque<(u32, Message<J>)>,
-    /// The sessions that are to begin their next request here.
-    ready: VecDeque<usize>,
-    /// How many transactions it has begun that are not over.
-    begun: usize,
-}
-
-impl<J: CourseNames> Executor<J> {
-    /// An executor without posts, with room for those of so many warehouses, which takes from this
-    /// inbox and puts into those.
-    pub(crate) fn open(
-        alloc: Global,
-        number: u32,
-        warehouses: u32,
-        inbox: Taker<Message<J>>,
-        outlets: Vec<Sender<Message<J>>>,
-    ) -> Result<Executor<J>, NoMemory> {
-        let mut posts = Vec::with_capacity(alloc, warehouses as usize)?;
-        for _ in 0..warehouses {
-            posts.push(None)?;
-        }
-        let lane = VecDeque::with_capacity(alloc, ROOM)?;
-        let phases = VecDeque::with_capacity(alloc, MOST_SESSIONS)?;
-        let settles = VecDeque::with_capacity(alloc, ROOM)?;
-        let undos = VecDeque::with_capacity(alloc, ROOM)?;
-        let outbox = VecDeque::with_capacity(alloc, ROOM)?;
-        let ready = VecDeque::with_capacity(alloc, MOST_SESSIONS)?;
-        Ok(Executor {
-            number,
-            posts,
-            inbox,
-            outlets,
-            lane,
-            phases,
-            settles,
-            undos,
-            outbox,
-            ready,
-            begun: 0,
-        })
-    }
-
-    /// Has this post, in the place of what it had of the warehouse.
-    pub(crate) fn put_post(&mut self, post: Post<J>) {
-        if let Some(place) = self.posts.get_mut(place_of(post.home())) {
-            *place = Some(post);
-        }
-    }
-
-    // The post of a warehouse, if it has it.
-    fn post_mut(&mut self, home: u32) -> Option<&mut Post<J>>
-        ensures { IfSome result (λ post. post.now.slice.home ≡ home) }
-    {
-        let Some(Some(post)) = self.posts.get_mut(place_of(home)) else {
-            return None;
-        };
-        if post.home() != home {
-            return None;
-        }
-        Some(post)
-    }
-
-    /// Gives the post of a warehouse, if it has it.
-    pub(crate) fn take_post(&mut self, home: u32) -> Option<Post<J>> {
-        self.posts.get_mut(place_of(home))?.take()
-    }
-}
-
-// The place of a warehouse among all.
-fn place_of(home: u32) -> usize {
-    home.wrapping_sub(1) as usize
-}
 
 /// An executor at work in its thread.
 #[derive(Drop)]
@@ -125,33 +27,25 @@ pub struct AtWork<'e, 'a, J: ServeNames, G: Gate, R: Wait> {
 }
 
 impl<J: ServeNames, G: Gate, R: Wait> AtWork<'_, '_, J, G, R> {
-    /// Works on messages, and begins the requests of sessions, until all scripts are served.
+    /// Works on messages, and begins the requests of sessions, until all scripts are served and all moves are over.
     pub fn run(mut self) -> Executor<J> {
         let rt = self.rt;
-        self.take_sessions();
         let backoff = Backoff::new();
         for _ in rt.forever() {
             if self.work() {
+                self.own.go(1);
                 backoff.reset();
             } else if self.engine.is_over() {
                 return self.own;
+            } else if let Some(steps) = self.steps_to_next() {
+                self.pause(steps);
             } else if backoff.is_completed() && self.own.outbox.is_empty() {
-                self.rest();
+                self.rest(None);
             } else {
                 backoff.snooze();
             }
         }
         unreachable!()
-    }
-
-    // The sessions whose first request is asked at its warehouses are to begin here.
-    fn take_sessions(&mut self) {
-        for slot in 0..self.engine.places.len() {
-            let to = self.engine.next_executor(self.rt, slot).unwrap_or(0);
-            if to == self.own.number {
-                self.get_ready(slot);
-            }
-        }
     }
 
     // Works on what it has to itself and on the next message of others, and begins a request. Whether there was any.
@@ -186,8 +80,7 @@ impl<J: ServeNames, G: Gate, R: Wait> AtWork<'_, '_, J, G, R> {
         let Some(settle) = self.own.settles.pop_front() else {
             return false;
         };
-        let settled = self.settle(settle);
-        self.stop_if(settled.is_err());
+        self.settle(settle);
         true
     }
 
@@ -196,8 +89,7 @@ impl<J: ServeNames, G: Gate, R: Wait> AtWork<'_, '_, J, G, R> {
         let Some(undo) = self.own.undos.pop_front() else {
             return false;
         };
-        let undone = self.undo(undo);
-        self.stop_if(undone.is_err());
+        self.undo(undo);
         true
     }
 
@@ -207,10 +99,7 @@ impl<J: ServeNames, G: Gate, R: Wait> AtWork<'_, '_, J, G, R> {
             return false;
         };
         match errands.pop() {
-            Some(errand) => {
-                let acted = self.act(errand);
-                self.stop_if(acted.is_err());
-            }
+            Some(errand) => self.act(errand),
             None => drop(self.own.phases.pop_front()),
         }
         true
@@ -231,23 +120,41 @@ impl<J: ServeNames, G: Gate, R: Wait> AtWork<'_, '_, J, G, R> {
         }
     }
 
-    // Rests until a message comes. One that came while it lay down is taken at once.
-    fn rest(&mut self) {
+    // In how many steps it may begin the next request; `None` where that needs a message.
+    fn steps_to_next(&self) -> Option<u64> {
+        if self.own.begun >= MOST_BEGUN {
+            return None;
+        }
+        self.own.steps_to_next()
+    }
+
+    // Rests for so many steps, or until a message comes.
+    fn pause(&mut self, steps: u64) {
+        if !self.rest(Some(Duration::from_micros(steps.saturating_mul(STEP)))) {
+            self.own.go(steps);
+        }
+    }
+
+    // Rests until a message comes, which it takes, or no longer than this. Whether one came.
+    fn rest(&mut self, longest: Option<Duration>) -> bool {
         let Some(bed) = self.engine.beds.get(self.own.number as usize) else {
-            return;
+            return false;
         };
         bed.lie_down();
-        if !self.take_theirs() {
-            bed.rest(self.rt);
+        // (one that came before is one of which nobody calls)
+        let came = self.take_theirs();
+        if !came {
+            bed.rest(self.rt, longest);
         }
         bed.get_up();
+        came || self.take_theirs()
     }
 
     // ---- sessions
 
-    // A session is to begin its next request here.
-    fn get_ready(&mut self, slot: usize) {
-        if self.own.ready.push_back(slot).is_err() {
+    // A session is to begin its next request here, which has died so often.
+    fn get_ready(&mut self, slot: usize, deaths: u32) {
+        if self.own.get_ready(slot, deaths).is_err() {
             self.engine.stop();
         }
     }
@@ -257,7 +164,7 @@ impl<J: ServeNames, G: Gate, R: Wait> AtWork<'_, '_, J, G, R> {
         if self.own.begun >= MOST_BEGUN {
             return false;
         }
-        let Some(slot) = self.own.ready.pop_front() else {
+        let Some(slot) = self.own.next_ready() else {
             return false;
         };
         self.advance(slot);
@@ -303,70 +210,69 @@ impl<J: ServeNames, G: Gate, R: Wait> AtWork<'_, '_, J, G, R> {
     // A transaction that was begun here is over: its session goes to where it asks its next request.
     fn over(&mut self, slot: usize) {
         self.own.begun = self.own.begun.saturating_sub(1);
-        match self.engine.next_executor(self.rt, slot) {
-            Some(to) if to != self.own.number => self.push(to, Message::Begin(slot)),
-            _ => self.get_ready(slot),
+        match self.engine.upcoming(self.rt, slot) {
+            Some(next) if next.executor != self.own.number => {
+                self.push(next.executor, Message::Begin(slot));
+            }
+            Some(next) => {
+                self.get_ready(slot, next.deaths);
+            }
+            None => self.get_ready(slot, 0),
         }
     }
 
     // ---- messages
 
     fn take(&mut self, message: Message<J>) {
-        let taken = match message {
-            Message::Begin(slot) => {
-                self.get_ready(slot);
-                Ok(())
-            }
-            Message::Over(slot) => {
-                self.over(slot);
-                Ok(())
-            }
+        match message {
+            Message::Begin(slot) => self.get_ready(slot, 0),
+            Message::Over(slot) => self.over(slot),
             Message::Errand(errand) => self.act(errand),
             Message::Settle(settle) => self.settle(settle),
             Message::Undo(undo) => self.undo(undo),
-        };
-        if taken.is_err() {
-            self.engine.stop();
+            Message::Move(order) => self.move_here(order),
+            Message::Fetch { home, to } => self.send_post(home, to),
+            Message::Parcel(post) => self.install(post),
         }
     }
 
     // An action asks at its post, and reports unless it waits there.
-    fn act(&mut self, errand: Errand<J>) -> Result<(), Strange> {
+    fn act(&mut self, errand: Errand<J>) {
         let home = errand.home();
         let Some(post) = self.own.post_mut(home) else {
-            return Err(Strange);
+            self.pass_on(home, Message::Errand(errand));
+            return;
         };
         if let Some(report) = post.work(self.alloc, errand) {
             self.report(report);
         }
         self.take_turns(home);
-        Ok(())
     }
 
     // Claims come back to their post.
-    fn settle(&mut self, settle: Settle<J>) -> Result<(), Strange> {
+    fn settle(&mut self, settle: Settle<J>) {
         let home = settle.home();
         let slot = settle.slot();
         let Some(post) = self.own.post_mut(home) else {
-            return Err(Strange);
+            self.pass_on(home, Message::Settle(settle));
+            return;
         };
         post.settle(settle);
         self.give_back(slot);
         self.take_turns(home);
-        Ok(())
     }
 
     // What was done under claims is taken back, and they come back to their post.
-    fn undo(&mut self, undo: Undo<J>) -> Result<(), Strange> {
+    fn undo(&mut self, undo: Undo<J>) {
         let home = undo.home();
         let slot = undo.slot();
         let Some(post) = self.own.post_mut(home) else {
-            return Err(Strange);
+            self.pass_on(home, Message::Undo(undo));
+            return;
         };
         post.undo(undo);
         self.give_back(slot);
         self.take_turns(home);
-        Ok(())
     }
 
     // Each of those who wait at a post and need not any more has its turn, and reports. Mostly nobody waits.
@@ -509,6 +415,11 @@ impl<J: ServeNames, G: Gate, R: Wait> AtWork<'_, '_, J, G, R> {
     // Sends a message to who has this warehouse.
     fn send(&mut self, home: u32, message: Message<J>) {
         let to = self.engine.routing.route(home);
+        self.send_to(to, message);
+    }
+
+    // Sends a message to an executor, which may be this one.
+    pub(crate) fn send_to(&mut self, to: u32, message: Message<J>) {
         if to != self.own.number {
             self.push(to, message);
         } else if let Err(failed) = self.own.lane.push_back(message) {

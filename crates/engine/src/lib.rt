@@ -6,25 +6,31 @@
 mod answers;
 mod asking;
 mod bed;
+mod belongings;
 mod closing;
 mod engine;
 mod executing;
 mod gate;
 mod message;
+mod moves;
+mod moving;
 mod names;
 mod opening;
 mod outcome;
 mod place;
 mod serving;
+mod threads;
 
 pub use answers::Answers;
+pub use belongings::Executor;
 pub use closing::close;
 pub use engine::Engine;
-pub use executing::{AtWork, Executor};
+pub use executing::AtWork;
 pub use gate::{Gate, OpenGate};
 pub use names::ServeNames;
 pub use opening::{Opened, Opening, open};
 pub use outcome::{CloseFault, Outcome, ServeFault};
+pub use range_moves::MoveOrder;
 pub use routing::MOST_EXECUTORS;
 pub use serving::serve;
 

@@ -1,5 +1,6 @@
 //! What goes from executor to executor.
-use executor::{CourseNames, Errand, GivenBack, Settle, Undo};
+use executor::{CourseNames, Errand, GivenBack, Post, Settle, Undo};
+use range_moves::MoveOrder;
 
 /// A message to an executor. What is known of it is kept by its own type.
 #[derive(Drop)]
@@ -14,6 +15,12 @@ pub(crate) enum Message<J: CourseNames> {
     Settle(Settle<J>),
     /// What an action did is taken back at its post, and its claims come back.
     Undo(Undo<J>),
+    /// A move of warehouses to here begins.
+    Move(MoveOrder),
+    /// The post of this warehouse is to go to executor `to`.
+    Fetch { home: u32, to: u32 },
+    /// The post of a warehouse, which is to be here from now on.
+    Parcel(Box<Post<J>>),
 }
 
 /// The claims of an action, as they go back to another executor.

@@ -6,19 +6,21 @@ ghost use Rattle.slices.specs.Openings.{AreOpenedFor};
 ghost use Rattle.engine.specs.Opening.{AreCoursesFrom, IsNamedFor, IsToOpen};
 ghost use Rattle.engine.specs.Sessions.{AreNewFrom};
 
-use crate::asking::Ready;
+use crate::asking::{Ready, home_of};
 use crate::bed::Bed;
+use crate::belongings::Executor;
 use crate::engine::Engine;
-use crate::executing::Executor;
 use crate::message::Message;
+use crate::moves::Moves;
 use crate::place::Place;
 use crate::{Gate, ServeNames};
 use commit_log::{Log, LogBook, Pass, SessionSeat, UnnamedLog};
 use executor::{OpenedCourse, Post};
 use partitions::Catalog;
 use queues::Sender;
+use range_moves::MoveOrder;
 use requests::Script;
-use routing::Routing;
+use routing::{Routing, SharedRouting};
 use schema::{NoMemory, Tables};
 use slices::{Slice, cut, open_groups};
 use std::alloc::Global;
@@ -78,7 +80,8 @@ pub struct Opened<'a, J: ServeNames, G: Gate> {
     pub idle: IntoIter<(Pass<J>, SessionSeat<J>)>,
 }
 
-/// An engine over these tables, with so many executors, for these scripts. Nothing is left after an error.
+/// An engine over these tables, with so many executors, for these scripts and moves. There has to be a way to make each move
+/// (`MoveOrder::is_within`), else its executors may never end. Nothing is left after an error.
 pub fn open<'a, J: ServeNames, G: Gate + Drop>(
     alloc: Global,
     opening: Opening,
@@ -86,6 +89,7 @@ pub fn open<'a, J: ServeNames, G: Gate + Drop>(
     scripts: &'a [Script],
     executors: u32,
     tries: u32,
+    moves: &'a [MoveOrder],
     gate: G,
 ) -> Result<Opened<'a, J, G>, NoMemory>
     requires named { IsNamedFor J.LogNames J.GroupNames J.course J.scripts tables scripts.now opening }
@@ -104,7 +108,12 @@ pub fn open<'a, J: ServeNames, G: Gate + Drop>(
     let routing = Routing::opening(&scale, executors);
     let (boxes, seats) = named_all::<J>(alloc, scale.warehouses, groups)?;
     let (catalog, slices) = cut(alloc, tables, boxes)?;
-    let executors = open_executors(alloc, &routing, scale.warehouses, slices)?;
+    let mut executors = open_executors(alloc, &routing, scale.warehouses, slices)?;
+    begin_sessions(&mut executors, &routing, scripts)?;
+    let moves = Moves::new(moves);
+    if let Some(order) = moves.begin_next() {
+        begin_move(&mut executors, order)?;
+    }
     let beds = beds_for(alloc, executors.len())?;
     let (book, lanes) = LogBook::<J>::open(alloc, log)?;
     let mut log = Log::new(book, seats);
@@ -114,7 +123,8 @@ pub fn open<'a, J: ServeNames, G: Gate + Drop>(
         scale,
         scripts,
         tries,
-        routing,
+        routing: SharedRouting::open(alloc, &routing)?,
+        moves,
         gate,
         log: Mutex::new(log),
         places,
@@ -151,7 +161,7 @@ fn open_executors<J: ServeNames>(
 {
     let mut executors = open_idle(alloc, routing.executors(), warehouses)?;
     for slice in slices {
-        let post = Post::new(alloc, slice);
+        let post = Box::new(alloc, Post::new(alloc, slice))?;
         let to = routing.route(post.home()) as usize;
         put_post(&mut executors, to, post);
     }
@@ -159,9 +169,38 @@ fn open_executors<J: ServeNames>(
 }
 
 // An executor has this post. One that nobody has would be missed at the end.
-fn put_post<J: ServeNames>(executors: &mut Vec<Executor<J>>, to: usize, post: Post<J>) {
+fn put_post<J: ServeNames>(executors: &mut Vec<Executor<J>>, to: usize, post: Box<Post<J>>) {
     if let Some(executor) = executors.get_mut(to) {
         executor.put_post(post);
+    }
+}
+
+// Each session is to begin its first request at the executor of the warehouse whose terminal asks it.
+fn begin_sessions<J: ServeNames>(
+    executors: &mut Vec<Executor<J>>,
+    routing: &Routing,
+    scripts: &[Script],
+) -> Result<(), NoMemory> {
+    for (slot, script) in scripts.iter().enumerate() {
+        let to = match script.requests().first() {
+            Some(request) => routing.route(home_of(request)),
+            None => 0,
+        };
+        if let Some(executor) = executors.get_mut(to as usize) {
+            executor.get_ready(slot, 0)?;
+        }
+    }
+    Ok(())
+}
+
+// The first move begins at the executor to which it goes.
+fn begin_move<J: ServeNames>(
+    executors: &mut Vec<Executor<J>>,
+    order: MoveOrder,
+) -> Result<(), NoMemory> {
+    match executors.get_mut(order.to as usize) {
+        Some(executor) => Ok(executor.lane.push_back(Message::Move(order))?),
+        None => Ok(()),
     }
 }
 

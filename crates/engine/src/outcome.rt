@@ -43,6 +43,9 @@ pub enum ServeFault {
     /// The opening tables break the consistency condition of this number, and none of a lower one: 1 to 10, or 12
     /// (TPC-C 5.11, clause 3.3.2).
     NotConsistent(u8),
+    /// There can't be the move of this place, from 0, and it is the first: its range ends before it begins, or a number of it is out of
+    /// range.
+    BadMove(usize),
     /// A thread could not be started.
     NoThread,
     /// A session, a slice or a claim was not back when all executors had ended.

@@ -182,7 +182,7 @@ impl<'a, J: ServeNames> Place<'a, J> {
         let Some(ready) = asked.tell(told, tries) else {
             return Err(Strange);
         };
-        let is_answered = ready.is_fresh(tries);
+        let is_answered = ready.deaths(tries) == 0;
         self.session = Some(Session::Ready(ready));
         self.keeper = Some(keeper);
         self.ending = ending;
@@ -205,10 +205,11 @@ impl<'a, J: ServeNames> Place<'a, J> {
         }
     }
 
-    /// The W_ID of the warehouse whose terminal asks the session's next request, if no request of it is under way.
-    pub(crate) fn next_home(&self) -> Option<u32> {
+    /// The W_ID of the warehouse whose terminal asks the session's next request, if no request of it is under way; and how often
+    /// that has died.
+    pub(crate) fn next_home(&self, tries: u32) -> Option<(u32, u32)> {
         match &self.session {
-            Some(Session::Ready(ready)) => ready.next_home(),
+            Some(Session::Ready(ready)) => Some((ready.next_home()?, ready.deaths(tries))),
             _ => None,
         }
     }

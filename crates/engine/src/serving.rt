@@ -1,30 +1,36 @@
 //! Scripts are served by executors, each in a thread of its own.
-ghost use Rattle.std.specs.Prelude.{◌≡◌, ◌≤◌, length, IfOk, OnOk, IfErr};
+ghost use Rattle.std.specs.Prelude.{◌≡◌, ◌≤◌, length, All, IfOk, OnOk, IfErr, IfSome, IfNone};
 ghost use Rattle.schema.specs.Consistency.{Consistent};
-ghost use Rattle.engine.specs.Faults.{IsFaultOf, IsOfServing};
+ghost use Rattle.range_moves.specs.Orders.{IsWithin};
+ghost use Rattle.engine.specs.Faults.{AreWithin, IsFaultOf, IsFirstBad, IsOfServing};
 ghost use Rattle.engine.specs.Opening.{IsNamedFor};
 ghost use Rattle.engine.specs.Outcome.{IsOutcome};
 
+use crate::belongings::Executor;
 use crate::closing::close;
 use crate::engine::Engine;
-use crate::executing::{AtWork, Executor};
+use crate::executing::AtWork;
 use crate::opening::{Opened, Opening, open};
+use crate::threads::{Work, work_on_each};
 use crate::{CloseFault, Gate, MOST_SESSIONS, Outcome, ServeFault, ServeNames};
 use consistency::first_broken;
+use range_moves::MoveOrder;
 use requests::Script;
 use schema::Tables;
 use std::alloc::Global;
 use std::marker::Brand;
 use std::sync::Wait;
-use std::thread::{self, JoinHandle, Scope, Threads};
+use std::thread::Threads;
 
 /// Serves the scripts from the opening tables: script s is session s, which asks its requests one after the other. So many
 /// executors have the tables' warehouses between them, each in a thread of its own: warehouse w is at executor
 /// `(w-1) * executors / warehouses`. A request that died or found no memory is asked again, as long as it was asked less than
-/// `tries` times. A request that its check accepts passes the gate.
+/// `tries` times. A request that its check accepts passes the gate. Meanwhile the moves are made, one after the other, all of them: the
+/// warehouses of a move's range go to its executor, and requests go on.
 ///
-/// `NotConsistent` tells the least of the consistency conditions 1 to 10 and 12 that the opening tables break (TPC-C 5.11,
-/// clause 3.3.2): it is asked before a thread starts. `NoThread` is answered where a thread could not be started, when all that
+/// `BadMove` tells the first move that there can't be, from 0: its range ends before it begins, or a number of it is out of range. It
+/// is asked before anything else. `NotConsistent` tells the least of the consistency conditions 1 to 10 and 12 that the opening tables
+/// break (TPC-C 5.11, clause 3.3.2): it is asked before a thread starts. `NoThread` is answered where a thread could not be started, when all that
 /// were started have ended; `NoMemory` where there was none to check the opening tables, to open the engine or for what came of
 /// it; `Unsettled` where something was not back once all executors had ended.
 pub fn serve<R: Threads + Wait + Sync, G: Gate + Send + Sync + Drop>(
@@ -34,6 +40,7 @@ pub fn serve<R: Threads + Wait + Sync, G: Gate + Send + Sync + Drop>(
     scripts: &[Script],
     executors: u32,
     tries: u32,
+    moves: &[MoveOrder],
     gate: G,
 ) -> Result<Outcome, ServeFault>
     requires some { 1 ≤ length scripts.now }
@@ -41,13 +48,32 @@ pub fn serve<R: Threads + Wait + Sync, G: Gate + Send + Sync + Drop>(
     requires executors { 1 ≤ executors }
     ensures outcome { IfOk result (λ outcome. IsOutcome opening scripts.now outcome.log.items outcome.tables outcome.answers.items) }
     ensures consistent { OnOk result (Consistent opening) }
-    ensures fault { IfErr result (λ fault. IsFaultOf opening fault) }
+    ensures within { OnOk result (AreWithin opening executors moves.now) }
+    ensures fault { IfErr result (λ fault. IsFaultOf opening executors moves.now fault) }
 {
+    if let Some(place) = first_bad(moves, opening.scale().warehouses, executors) {
+        return Err(ServeFault::BadMove(place));
+    }
     if let Some(condition) = first_broken(alloc, &opening)? {
         return Err(ServeFault::NotConsistent(condition));
     }
     let opened = Opening::open(alloc, &opening, scripts.len())?;
-    serve_from::<Brand, R, G>(rt, alloc, opened, opening, scripts, executors, tries, gate)
+    serve_from::<Brand, R, G>(
+        rt, alloc, opened, opening, scripts, executors, tries, moves, gate,
+    )
+}
+
+// The place of the first move that there can't be.
+fn first_bad(moves: &[MoveOrder], warehouses: u32, executors: u32) -> Option<usize>
+    ensures bad { IfSome result (IsFirstBad warehouses executors moves.now) }
+    ensures none { IfNone result (All (IsWithin warehouses executors) moves.now) }
+{
+    for (place, order) in moves.iter().enumerate() {
+        if !order.is_within(warehouses, executors) {
+            return Some(place);
+        }
+    }
+    None
 }
 
 // Serves the scripts by an engine whose names are `J`.
@@ -59,6 +85,7 @@ fn serve_from<J: ServeNames + Send + Sync, R: Threads + Wait + Sync, G: Gate + S
     scripts: &[Script],
     executors: u32,
     tries: u32,
+    moves: &[MoveOrder],
     gate: G,
 ) -> Result<Outcome, ServeFault>
     requires named { IsNamedFor J.LogNames J.GroupNames J.course J.scripts tables scripts.now opening }
@@ -72,7 +99,9 @@ fn serve_from<J: ServeNames + Send + Sync, R: Threads + Wait + Sync, G: Gate + S
         executors,
         catalog,
         idle,
-    } = open::<J, G>(alloc, opening, tables, scripts, executors, tries, gate)?;
+    } = open::<J, G>(
+        alloc, opening, tables, scripts, executors, tries, moves, gate,
+    )?;
     let executors = work_all(rt, alloc, &engine, executors)?;
     match close(alloc, engine, executors, catalog, idle, scripts) {
         Ok(outcome) => Ok(outcome),
@@ -80,9 +109,6 @@ fn serve_from<J: ServeNames + Send + Sync, R: Threads + Wait + Sync, G: Gate + S
         Err(CloseFault::Unsettled) => Err(ServeFault::Unsettled),
     }
 }
-
-/// A thread in which an executor works.
-type Working<J> = JoinHandle<Executor<J>>;
 
 // All executors work, each in a thread of its own, and are given back once all have ended, also where a thread could not be
 // started.
@@ -94,65 +120,31 @@ fn work_all<J: ServeNames + Send + Sync, G: Gate + Send + Sync, R: Threads + Wai
 ) -> Result<Vec<Executor<J>>, ServeFault>
     ensures fault { IfErr result (λ fault. IsOfServing fault) }
 {
-    thread::scope(
-        thread::scope_env(),
-        rt,
-        |scope| -> Result<Vec<Executor<J>>, ServeFault>
-            ensures fault { IfErr result (λ fault. IsOfServing fault) }
-        {
-            let threads = start_all(scope, rt, alloc, engine, executors)?;
-            join_all(rt, alloc, threads)
-        },
-    )
+    let crew = Crew { rt, alloc, engine };
+    work_on_each(rt, alloc, &crew, executors)
 }
 
-// Starts a thread for each executor. Where one can't be started, those that were are told to end.
-fn start_all<'s, E, J: ServeNames + Send + Sync, G: Gate + Send + Sync, R: Threads + Wait + Sync>(
-    scope: &Scope<'s, E>,
-    rt: &'s R,
+/// What executors have in common as they work.
+#[derive(Drop)]
+struct Crew<'e, 'a, J: ServeNames, G: Gate, R: Wait> {
+    rt: &'e R,
     alloc: Global,
-    engine: &'s Engine<'_, J, G>,
-    executors: Vec<Executor<J>>,
-) -> Result<Vec<Working<J>>, ServeFault>
-    ensures fault { IfErr result (λ fault. IsOfServing fault) }
-{
-    let Ok(mut threads) = Vec::with_capacity(alloc, executors.len()) else {
-        return Err(ServeFault::NoMemory);
-    };
-    for own in executors {
-        let work = AtWork {
+    engine: &'e Engine<'a, J, G>,
+}
+
+impl<J: ServeNames, G: Gate, R: Wait> Work<Executor<J>> for Crew<'_, '_, J, G, R> {
+    fn work(&self, own: Executor<J>) -> Executor<J> {
+        let Crew { rt, alloc, engine } = *self;
+        AtWork {
             rt,
             alloc,
             engine,
             own,
-        };
-        let Ok(thread) = scope.spawn(move || work.run()) else {
-            engine.stop();
-            return Err(ServeFault::NoThread);
-        };
-        let Ok(()) = threads.push(thread) else {
-            engine.stop();
-            return Err(ServeFault::NoMemory);
-        };
+        }
+        .run()
     }
-    Ok(threads)
-}
 
-// Waits for the threads, and gives the executors back, in the order of their numbers.
-fn join_all<J: ServeNames + Send + Sync, R: Threads>(
-    rt: &R,
-    alloc: Global,
-    threads: Vec<Working<J>>,
-) -> Result<Vec<Executor<J>>, ServeFault>
-    ensures fault { IfErr result (λ fault. IsOfServing fault) }
-{
-    let Ok(mut executors) = Vec::with_capacity(alloc, threads.len()) else {
-        return Err(ServeFault::NoMemory);
-    };
-    for thread in threads {
-        let Ok(()) = executors.push(thread.join(rt)) else {
-            return Err(ServeFault::NoMemory);
-        };
+    fn stop(&self) {
+        self.engine.stop();
     }
-    Ok(executors)
 }

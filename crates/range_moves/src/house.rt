@@ -15,7 +15,7 @@ pub enum Whereabouts {
 
 impl Whereabouts {
     /// The executor that has the slice, or to which it comes if it is to go.
-    pub fn comes_to(&self) -> u32
+    pub(crate) fn comes_to(&self) -> u32
         ensures { result ≡ comes_to self.now }
     {
         match self {
@@ -25,7 +25,7 @@ impl Whereabouts {
     }
 
     /// Whether the executor has the slice.
-    pub fn is_at(&self, executor: u32) -> bool
+    pub(crate) fn is_at(&self, executor: u32) -> bool
         ensures { result ≡ is_at self.now executor }
     {
         match self {
@@ -35,7 +35,7 @@ impl Whereabouts {
     }
 
     /// From whom it has to be fetched if it is to go to this executor: `None` where it is there.
-    pub fn fetched_from(&self, to: u32) -> Option<u32>
+    pub(crate) fn fetched_from(&self, to: u32) -> Option<u32>
         ensures { result ≡ fetched_from self.now to }
     {
         if self.is_at(to) {
@@ -56,7 +56,7 @@ pub struct House {
 
 impl House {
     /// What an executor finds of it.
-    pub fn find(&self, executor: u32) -> Found
+    pub(crate) fn find(&self, executor: u32) -> Found
         ensures { result ≡ found_in self.now executor }
     {
         if self.place.is_at(executor) {
@@ -69,7 +69,7 @@ impl House {
     }
 
     /// What it is where it is to go to an executor, which forgets where it went: it stays where it is there.
-    pub fn moved(&self, to: u32) -> House
+    pub(crate) fn moved(&self, to: u32) -> House
         requires { to < 16 }
         ensures { result ≡ house_moved self.now to }
     {
@@ -83,7 +83,7 @@ impl House {
     }
 
     /// What it is where an executor took it out, and noted where it goes.
-    pub fn taken(&self, here: u32, to: u32) -> House
+    pub(crate) fn taken(&self, here: u32, to: u32) -> House
         requires { here < 16 }
         ensures { result ≡ house_taken self.now here to }
     {
@@ -96,7 +96,7 @@ impl House {
     }
 
     /// What it is where an executor installed it.
-    pub fn installed(&self, here: u32) -> House
+    pub(crate) fn installed(&self, here: u32) -> House
         ensures { result ≡ house_installed self.now here }
     {
         House {

@@ -12,8 +12,8 @@ pub const MOST_EXECUTORS: u32 = 16;
 /// Contracts see how many warehouses and executors there are.
 #[derive(Drop)]
 pub struct Routing {
-    warehouses: u32,
-    executors: u32,
+    pub(crate) warehouses: u32,
+    pub(crate) executors: u32,
 }
 
 impl Model for Routing {

@@ -1,4 +1,4 @@
--- The records of a log's entry and of a schedule's item tell it.
+-- The records of a log's entry, of a move and of a schedule's item tell it.
 use Rattle.std.proofs.Common.{◌≡◌, ℕ, List, ◌++◌, length, refl, sym, ap, subst, ◌∙◌, arith}
 use Rattle.std.specs.Fmt.{decimal}
 use Rattle.std.proofs.lemmas.Fmt.{decimal_injective}
@@ -7,11 +7,13 @@ use Rattle.history.specs.declared.event.Event.{Event}
 use Rattle.history.specs.declared.event.Event.TheVariants.{Submit, Order, Take, Send}
 use Rattle.history.specs.declared.schedule.Scheduled.{Scheduled}
 use Rattle.history.specs.declared.schedule.Scheduled.TheVariants as scheduled
+use Rattle.range_moves.specs.declared.order.MoveOrder.{MoveOrder}
 use Rattle.terminals.specs.LogRecord.{IsLogRecord}
+use Rattle.terminals.specs.Moves.{IsMoveRecord}
 use Rattle.terminals.specs.RequestFields.{IsRequest}
 use Rattle.terminals.specs.ReplyFields.{IsReply}
 use Rattle.terminals.specs.Schedule.{IsEventRecord, IsScheduleRecord}
-use Rattle.terminals.specs.RecordLaws.{CanBeAsked, CanBeEvent, CanBeLogged, CanBeScheduled, LogsDiffer, SchedulesDiffer, ScriptsDiffer}
+use Rattle.terminals.specs.RecordLaws.{CanBeAsked, CanBeEvent, CanBeLogged, CanBeOrdered, CanBeScheduled, LogsDiffer, MovesDiffer, SchedulesDiffer, ScriptsDiffer}
 use Rattle.terminals.proofs.ListedTexts.{listing-tells, same_parts}
 use Rattle.terminals.proofs.RequestTexts.{few_fields, letter, same_request, same_word}
 use Rattle.terminals.proofs.ReplyTexts.{same_reply}
@@ -32,6 +34,20 @@ same_entry place a b x y fields s r =
     let request = same_request a.request b.request x.2 y.2 s.0 s.1 (subst Asks (sym parts.0) r.1) in
     let reply = same_reply a.reply b.reply x.3 y.3 s.2 s.3 (subst Tells (sym parts.1) r.3) in
     λ i. record { session = session i; number = number i; request = request i; reply = reply i }
+
+same_move : (place : ℕ) (a b : MoveOrder) → CanBeOrdered a → CanBeOrdered b → (fields : List (List ℕ)) → IsMoveRecord a fields → IsMoveRecord b fields → a ≡ b
+same_move place a b x y fields s r =
+    let e = sym s ∙ r in
+    let one : decimal a.lo ≡ decimal b.lo = cc in
+    let two : decimal a.hi ≡ decimal b.hi = cc in
+    let three : decimal a.to ≡ decimal b.to = cc in
+    let lo = same_word a.lo b.lo x.0 y.0 one in
+    let hi = same_word a.hi b.hi x.1 y.1 two in
+    let to = same_word a.to b.to x.2 y.2 three in
+    λ i. record { lo = lo i; hi = hi i; to = to i }
+
+pub moves_differ : MovesDiffer
+moves_differ = listing-tells (λ place. IsMoveRecord) CanBeOrdered same_move
 
 pub logs_differ : LogsDiffer
 logs_differ = listing-tells IsLogRecord CanBeLogged same_entry

@@ -17,3 +17,4 @@ pub mod Answers
 pub mod LogRecord
 pub mod Outputs
 pub mod RecordLaws
+pub mod Moves

@@ -1,4 +1,4 @@
--- What the records of scripts, schedules and logs tell.
+-- What the records of scripts, moves, schedules and logs tell.
 use Rattle.std.specs.Prelude.{◌≡◌, ◌<◌, ◌^◌, ℕ, List, length, IfSome}
 use Rattle.std.specs.List.{AllByRecursion}
 use Rattle.amounts.specs.Money.{IsMoney}
@@ -22,6 +22,7 @@ use Rattle.history.specs.declared.schedule.Scheduled.{Scheduled}
 use Rattle.history.specs.declared.schedule.Scheduled.TheVariants as scheduled
 use Rattle.range_moves.specs.declared.order.MoveOrder.{MoveOrder}
 use Rattle.terminals.specs.ChoiceLaws.{IsChoice}
+use Rattle.terminals.specs.Moves.{AreMoves}
 use Rattle.terminals.specs.Script.{IsScript}
 use Rattle.terminals.specs.Schedule.{IsSchedule}
 use Rattle.terminals.specs.LogRecord.{IsLog}
@@ -85,14 +86,14 @@ CanBeReplied (RolledBack fault) = CanBeFault fault
 abbrev pub CanBeLogged : Entry → Type 0
 CanBeLogged entry = IsWord entry.session × IsWord entry.number × CanBeAsked entry.request × CanBeReplied entry.reply
 
--- a move that can be ordered, if there are such warehouses and such an executor
-abbrev pub IsMoveOrder : MoveOrder → Type 0
-IsMoveOrder order = IsWord order.lo × IsWord order.hi × IsWord order.to
+-- a move that can be ordered
+abbrev pub CanBeOrdered : MoveOrder → Type 0
+CanBeOrdered order = IsWord order.lo × IsWord order.hi × IsWord order.to
 
 -- an event that can be asked for
 abbrev pub CanBeEvent : Event → Type 0
 CanBeEvent (Submit session number request) = IsWord session × IsWord number × CanBeAsked request
-CanBeEvent (Order order) = IsMoveOrder order
+CanBeEvent (Order order) = CanBeOrdered order
 CanBeEvent (Take executor) = IsWord executor
 CanBeEvent (Send executor) = IsWord executor
 
@@ -108,6 +109,12 @@ abbrev pub ScriptsDiffer : Type 0
 ScriptsDiffer =
     (one other : List Request) → AllByRecursion CanBeAsked one → AllByRecursion CanBeAsked other
     → (rows : List (List (List ℕ))) → IsScript one rows → IsScript other rows → one ≡ other
+
+-- different moves have different records
+abbrev pub MovesDiffer : Type 0
+MovesDiffer =
+    (one other : List MoveOrder) → AllByRecursion CanBeOrdered one → AllByRecursion CanBeOrdered other
+    → (rows : List (List (List ℕ))) → AreMoves one rows → AreMoves other rows → one ≡ other
 
 -- different schedules have different records
 abbrev pub SchedulesDiffer : Type 0

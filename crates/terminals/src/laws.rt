@@ -1,6 +1,6 @@
 //! Laws of the texts: functions that do nothing, and are proved.
 ghost use Rattle.terminals.specs.ChoiceLaws.{ChoiceTextsDiffer};
-ghost use Rattle.terminals.specs.RecordLaws.{LogsDiffer, SchedulesDiffer, ScriptsDiffer};
+ghost use Rattle.terminals.specs.RecordLaws.{LogsDiffer, MovesDiffer, SchedulesDiffer, ScriptsDiffer};
 
 /// Different choices of a customer have different texts.
 pub fn choice_texts_differ()
@@ -10,6 +10,11 @@ pub fn choice_texts_differ()
 /// Different scripts have different records, where their values are such as the types keep.
 pub fn scripts_differ()
     ensures { ScriptsDiffer }
+{}
+
+/// Different moves have different records, where their numbers are such as the types keep.
+pub fn moves_differ()
+    ensures { MovesDiffer }
 {}
 
 /// Different schedules have different records, where their values are such as the types keep.

@@ -1,5 +1,5 @@
 //! The files of terminals: scripts, which say what a session asks for, records of answers, the log of
-//! what was carried out, schedules of events, and what is told of them.
+//! what was carried out, moves of warehouses, schedules of events, and what is told of them.
 //!
 //! All of them are CSV without a header row, each record ended by one line feed. Numbers are decimal
 //! digits without leading zeros, with `-` before a negative one.
@@ -28,6 +28,9 @@
 //! or the empty field, and that to a Stock-Level `L,count`. What was rolled back is `X,nocustomer`, `X,range`,
 //! or `X,noitem,last,credit,o_id`, with the number that the order would have had, 1 to 10,000,000.
 //!
+//! A file of moves has one record for each, `lo,hi,to`: the warehouses from number `lo` to number `hi` go
+//! to executor `to`; and then `END,n`, with the number of moves.
+//!
 //! A schedule has the records `S,session,number` and the fields of a request, which is submitted,
 //! `M,lo,hi,to` where a move of the warehouses from `lo` to `hi` to executor `to` is ordered, `T,executor`
 //! where an executor takes a message, `X,executor` where it sends an item, and `R` for rounds, and then
@@ -43,6 +46,7 @@ mod laws;
 mod listing;
 mod log_records;
 mod move_order;
+mod moves;
 mod new_order;
 mod order_status;
 mod outputs;
@@ -55,8 +59,9 @@ mod stock_level;
 
 pub use answers::{answer_record, write_answers};
 pub use files::{FaultKind, FileError, FileFault};
-pub use laws::{choice_texts_differ, logs_differ, schedules_differ, scripts_differ};
+pub use laws::{choice_texts_differ, logs_differ, moves_differ, schedules_differ, scripts_differ};
 pub use log_records::{log_record, read_log, write_log};
+pub use moves::read_moves;
 pub use outputs::write_outputs;
 pub use schedules::read_schedule;
 pub use scripts::{read_script, write_script};

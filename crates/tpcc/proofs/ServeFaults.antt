@@ -1,15 +1,19 @@
--- Why scripts were not served, of the tables that a source gives.
+-- Why scripts were not served, of the tables and the moves that sources give.
 use Rattle.std.proofs.Common.{ℕ, List, Option}
 use Rattle.schema.specs.Database.{Database}
+use Rattle.range_moves.specs.declared.order.MoveOrder.{MoveOrder}
 use Rattle.engine.specs.declared.outcome.ServeFault.{ServeFault}
-use Rattle.engine.specs.declared.outcome.ServeFault.TheVariants.{NoMemory, NotConsistent, NoThread, Unsettled}
+use Rattle.engine.specs.declared.outcome.ServeFault.TheVariants.{BadMove, NoMemory, NotConsistent, NoThread, Unsettled}
 use Rattle.engine.specs.Faults.{IsFaultOf}
 use Rattle.dataset.specs.Records.{AreRecords}
 use Rattle.tpcc.specs.Edges.{Gives}
 use Rattle.tpcc.specs.Faults.{fault_of_serving, IsOfServing}
+use Rattle.tpcc.specs.Run.{GivesMoves}
 
-pub of_tables : (source : Option (List ℕ)) (tables : Database) (fault : ServeFault) → Gives source (AreRecords tables) → IsFaultOf tables fault → IsOfServing source (fault_of_serving fault)
-of_tables source tables NoMemory gives is = tt
-of_tables source tables (NotConsistent condition) gives is = (tables, gives, is)
-of_tables source tables NoThread gives is = (tables, gives, is)
-of_tables source tables Unsettled gives is = (tables, gives, is)
+pub of_tables : (source : Option (List ℕ)) (executors : ℕ) (moving : Option (Option (List ℕ))) (tables : Database) (moves : List MoveOrder) (fault : ServeFault)
+    → Gives source (AreRecords tables) → GivesMoves moving moves → IsFaultOf tables executors moves fault → IsOfServing source executors moving (fault_of_serving fault)
+of_tables source executors moving tables moves NoMemory gives given is = tt
+of_tables source executors moving tables moves (BadMove place) gives given is = (tables, moves, gives, given, is)
+of_tables source executors moving tables moves (NotConsistent condition) gives given is = (tables, moves, gives, given, is)
+of_tables source executors moving tables moves NoThread gives given is = (tables, moves, gives, given, is)
+of_tables source executors moving tables moves Unsettled gives given is = (tables, moves, gives, given, is)

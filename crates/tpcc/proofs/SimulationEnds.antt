@@ -3,7 +3,7 @@ use Rattle.std.proofs.Common.{ℕ, Bool, List, Option}
 use Rattle.history.specs.declared.schedule.Scheduled.{Scheduled}
 use Rattle.world.specs.declared.simulating.Simulation.{Simulation}
 use Rattle.tpcc.specs.declared.command_fault.CommandFault.{CommandFault}
-use Rattle.tpcc.specs.declared.command_fault.CommandFault.TheVariants.{NoMemory, File, NotConsistent, NoWarehouse, NoThread, Unsettled, NotIdle}
+use Rattle.tpcc.specs.declared.command_fault.CommandFault.TheVariants.{NoMemory, File, NotConsistent, BadMove, NoWarehouse, NoThread, Unsettled, NotIdle}
 use Rattle.tpcc.specs.Faults.{IsOfGathering, IsOfSimulating}
 use Rattle.tpcc.specs.Sim.{IsSimulation}
 
@@ -13,6 +13,7 @@ module _ («data» source : Option (List ℕ)) (executors : ℕ) (asked : Bool) 
   of_gathering NoMemory of = tt
   of_gathering (File path fault) of = tt
   of_gathering (NotConsistent condition) of = absurd of
+  of_gathering (BadMove place) of = absurd of
   of_gathering (NoWarehouse warehouse) of = absurd of
   of_gathering NoThread of = absurd of
   of_gathering Unsettled of = absurd of

@@ -51,8 +51,8 @@ check_command = command (codes "check") (argument (codes "DATA") ∷ flag (codes
 
 abbrev pub run_command : Shape
 run_command = command (codes "run") (
-    argument (codes "DATA") ∷ arguments (codes "SCRIPT") ∷ option (codes "executors") ∷ option (codes "tries") ∷ option (codes "log")
-    ∷ option (codes "tables") ∷ flag (codes "summary") ∷ flag (codes "quiet") ∷ [])
+    argument (codes "DATA") ∷ arguments (codes "SCRIPT") ∷ option (codes "executors") ∷ option (codes "tries") ∷ option (codes "moves")
+    ∷ option (codes "log") ∷ option (codes "tables") ∷ flag (codes "summary") ∷ flag (codes "quiet") ∷ [])
 
 abbrev pub replay_command : Shape
 replay_command = command (codes "replay") (

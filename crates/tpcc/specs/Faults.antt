@@ -10,6 +10,8 @@ use Rattle.consistency.specs.Broken.{BreaksFirst}
 use Rattle.dataset.specs.Records.{AreRecords}
 use Rattle.engine.specs.declared.outcome.ServeFault.{ServeFault}
 use Rattle.engine.specs.declared.outcome.ServeFault.TheVariants as serve
+use Rattle.engine.specs.Faults.{AreWithin, IsFirstBad}
+use Rattle.range_moves.specs.declared.order.MoveOrder.{MoveOrder}
 use Rattle.files.specs.declared.fault.FileError.{FileError}
 use Rattle.files.specs.declared.fault.FileError.TheVariants as read
 use Rattle.history.specs.declared.schedule.Scheduled.{Scheduled}
@@ -23,6 +25,7 @@ use Rattle.tpcc.specs.declared.usage.UsageFault.TheVariants as usage
 use Rattle.tpcc.specs.declared.status.Status.{Status}
 use Rattle.tpcc.specs.declared.status.Status.TheVariants as status
 use Rattle.tpcc.specs.Edges.{Gives}
+use Rattle.tpcc.specs.Run.{GivesMoves}
 use Rattle.tpcc.specs.Sim.{IsSimulation}
 
 -- the status after each fault of a command
@@ -30,6 +33,7 @@ abbrev pub status_of : CommandFault → Status
 status_of fault.NoMemory = status.NoMemory
 status_of (fault.File path of) = status.Failed
 status_of (fault.NotConsistent condition) = status.NotConsistent
+status_of (fault.BadMove place) = status.Failed
 status_of (fault.NoWarehouse warehouse) = status.Usage
 status_of fault.NoThread = status.Failed
 status_of fault.Unsettled = status.Failed
@@ -63,6 +67,7 @@ fault_of_file path (read.File of) = fault.File path of
 abbrev pub fault_of_serving : ServeFault → CommandFault
 fault_of_serving serve.NoMemory = fault.NoMemory
 fault_of_serving (serve.NotConsistent condition) = fault.NotConsistent condition
+fault_of_serving (serve.BadMove place) = fault.BadMove place
 fault_of_serving serve.NoThread = fault.NoThread
 fault_of_serving serve.Unsettled = fault.Unsettled
 
@@ -72,16 +77,23 @@ IsOfFile fault.NoMemory = Unit {0}
 IsOfFile (fault.File path of) = Unit {0}
 IsOfFile _ = ⊥
 
--- The same, or of the tables that the source gives: that they break this condition first; or, as they are consistent, that a
--- thread could not be started, or something was not back when all executors had ended.
-abbrev pub IsOfServing : Option (List ℕ) → CommandFault → Type 0
-IsOfServing source fault.NoMemory = Unit {0}
-IsOfServing source (fault.File path of) = Unit {0}
-IsOfServing source (fault.NotConsistent condition) = (tables : Database) × Gives source (AreRecords tables) × BreaksFirst tables condition
-IsOfServing source fault.NoThread = (tables : Database) × Gives source (AreRecords tables) × Consistent tables
-IsOfServing source fault.Unsettled = (tables : Database) × Gives source (AreRecords tables) × Consistent tables
-IsOfServing source (fault.NoWarehouse warehouse) = ⊥
-IsOfServing source fault.NotIdle = ⊥
+-- The tables and the moves that these sources give are such.
+abbrev pub OfServed : Option (List ℕ) → Option (Option (List ℕ)) → (Database → List MoveOrder → Type 0) → Type 0
+OfServed source moving Are =
+    (tables : Database) × (moves : List MoveOrder) × Gives source (AreRecords tables) × GivesMoves moving moves × Are tables moves
+
+-- The same, or of the tables that the source gives, of the moves and of so many executors: that there can't be the move of this place, and it is
+-- the first; or, as there can be each, that the tables break this condition first; or, as they are consistent, that a thread could
+-- not be started, or something was not back when all executors had ended.
+abbrev pub IsOfServing : Option (List ℕ) → ℕ → Option (Option (List ℕ)) → CommandFault → Type 0
+IsOfServing source executors moving fault.NoMemory = Unit {0}
+IsOfServing source executors moving (fault.File path of) = Unit {0}
+IsOfServing source executors moving (fault.BadMove place) = OfServed source moving (λ tables moves. IsFirstBad tables.scale.warehouses executors moves place)
+IsOfServing source executors moving (fault.NotConsistent condition) = OfServed source moving (λ tables moves. AreWithin tables executors moves × BreaksFirst tables condition)
+IsOfServing source executors moving fault.NoThread = OfServed source moving (λ tables moves. AreWithin tables executors moves × Consistent tables)
+IsOfServing source executors moving fault.Unsettled = OfServed source moving (λ tables moves. AreWithin tables executors moves × Consistent tables)
+IsOfServing source executors moving (fault.NoWarehouse warehouse) = ⊥
+IsOfServing source executors moving fault.NotIdle = ⊥
 
 -- No memory or a fault of a file; or, as tables were asked for, that none were gathered, since a transaction is
 -- active or a move outstanding.

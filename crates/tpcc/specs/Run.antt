@@ -1,14 +1,17 @@
 -- How `tpcc run` ends well, and what has its name where it ends early.
-use Rattle.std.specs.Prelude.{◌≡◌, ◌⊎◌, ℕ, ◌+◌, true, List, [], ◌∷◌, ◌++◌, Option, is_some}
+use Rattle.std.specs.Prelude.{◌≡◌, ◌⊎◌, ℕ, ◌+◌, true, List, [], ◌∷◌, ◌++◌, Option, None, Some, is_some}
 use Rattle.std.specs.List.{AllZip}
 use Rattle.schema.specs.Database.{Database}
 use Rattle.schema.specs.Consistency.{Consistent}
 use Rattle.requests.specs.declared.request.Request.{Request}
 use Rattle.requests.specs.declared.answer.Answer.{Answer}
 use Rattle.commit_log.specs.declared.entry.Entry.{Entry}
+use Rattle.range_moves.specs.declared.order.MoveOrder.{MoveOrder}
+use Rattle.engine.specs.Faults.{AreWithin}
 use Rattle.engine.specs.Outcome.{IsOutcome}
 use Rattle.dataset.specs.Records.{AreRecords}
 use Rattle.terminals.specs.LogRecord.{IsLog}
+use Rattle.terminals.specs.Moves.{AreMoves}
 use Rattle.terminals.specs.Script.{IsScript}
 use Rattle.terminals.specs.Answers.{AreAnswers}
 use Rattle.tpcc.specs.declared.command_fault.CommandFault.{CommandFault}
@@ -20,22 +23,31 @@ AreAllAnswers session [] rows = rows ≡ []
 AreAllAnswers session (told ∷ others) rows =
     (these : List (List (List ℕ))) × (rest : List (List (List ℕ))) × AreAnswers session told these × AreAllAnswers (session + 1) others rest × (rows ≡ these ++ rest)
 
--- the scripts that the sources give were served from the tables that `data` gives, with this log, these last tables and these answers
-pub record AreServed («data» : Option (List ℕ)) (sources : List (Option (List ℕ))) (log : List Entry) (last : Database) (answers : List (List Answer)) : Type 0 where
+-- these are the moves that the source gives; if there is none, there are none
+abbrev pub GivesMoves : Option (Option (List ℕ)) → List MoveOrder → Type 0
+GivesMoves None moves = moves ≡ []
+GivesMoves (Some source) moves = Gives source (AreMoves moves)
+
+-- The scripts that the sources give were served by so many executors from the tables that `data` gives, with this log, these last tables and
+-- these answers; and there can be each of the moves.
+pub record AreServed («data» : Option (List ℕ)) (sources : List (Option (List ℕ))) (executors : ℕ) (moving : Option (Option (List ℕ))) (log : List Entry) (last : Database) (answers : List (List Answer)) : Type 0 where
   pub opening : Database
   pub is_dataset : Gives «data» (AreRecords opening)
   pub consistent : Consistent opening
+  pub moves : List MoveOrder
+  pub are_moves : GivesMoves moving moves
+  pub within : AreWithin opening executors moves
   pub scripts : List (List Request)
   pub are_scripts : AllZip (λ source script. Gives source (IsScript script)) sources scripts
   pub outcome : IsOutcome opening scripts log last answers
 
-module _ {F : Type 0} (contents : F → Option (List ℕ)) («data» : Option (List ℕ)) (sources : List (Option (List ℕ))) (file tables : Option F) where
+module _ {F : Type 0} (contents : F → Option (List ℕ)) («data» : Option (List ℕ)) (sources : List (Option (List ℕ))) (executors : ℕ) (moving : Option (Option (List ℕ))) (file tables : Option F) where
   -- no file has got its name; or, where tables are asked for, the log may have, with what is in it where all went well
   abbrev pub ServesSome : Option (List (Option (List ℕ))) → Option (List (Option (List ℕ))) → Type 0
   ServesSome named named' =
       (named' ≡ named)
       ⊎ ((is_some tables ≡ true)
-      × ((log : List Entry) × (last : Database) × (answers : List (List Answer)) × AreServed «data» sources log last answers × NamesFile contents file named named' (IsLog log)))
+      × ((log : List Entry) × (last : Database) × (answers : List (List Answer)) × AreServed «data» sources executors moving log last answers × NamesFile contents file named named' (IsLog log)))
 
   module _ (before after : Option (List ℕ)) (named named' : Option (List (Option (List ℕ)))) (told told' : Option (List CommandFault)) where
     -- The scripts that the sources give were served from the tables that `data` gives; the records of all answers were printed; and
@@ -45,7 +57,7 @@ module _ {F : Type 0} (contents : F → Option (List ℕ)) («data» : Option (L
       pub log : List Entry
       pub last : Database
       pub answers : List (List Answer)
-      pub are_served : AreServed «data» sources log last answers
+      pub are_served : AreServed «data» sources executors moving log last answers
       pub printed : Writes before after (AreAllAnswers 0 answers)
       pub with_log : Option (List (Option (List ℕ)))
       pub logged : NamesFile contents file named with_log (IsLog log)

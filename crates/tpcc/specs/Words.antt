@@ -62,6 +62,7 @@ module _ (found : Found) where
     pub scripts : map (λ path. path.now) s.scripts.items ≡ all_words (codes "SCRIPT")
     pub executors : IsNumber (first_value found (codes "executors")) 2 s.executors
     pub tries : IsNumber (first_value found (codes "tries")) 100 s.tries
+    pub moves : option_map (λ path. path.now) s.moves ≡ first_value found (codes "moves")
     pub log : option_map (λ path. path.now) s.log ≡ first_value found (codes "log")
     pub tables : option_map (λ path. path.now) s.tables ≡ first_value found (codes "tables")
     pub summary : IsFlag (codes "summary") s.summary

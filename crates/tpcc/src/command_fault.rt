@@ -16,6 +16,9 @@ pub enum CommandFault<'a> {
     File { path: &'a str, fault: FileFault },
     /// The tables of the dataset break this condition of consistency, the least of those that they break.
     NotConsistent(u8),
+    /// There can't be the move of this place, from 0, and it is the first: its range ends before it begins, or a
+    /// number of it is out of range.
+    BadMove(usize),
     /// The dataset has no warehouse of this number.
     NoWarehouse(u32),
     /// A thread could not be started.
@@ -58,6 +61,7 @@ impl<'a> CommandFault<'a> {
         match fault {
             ServeFault::NoMemory => CommandFault::NoMemory,
             ServeFault::NotConsistent(number) => CommandFault::NotConsistent(number),
+            ServeFault::BadMove(place) => CommandFault::BadMove(place),
             ServeFault::NoThread => CommandFault::NoThread,
             ServeFault::Unsettled => CommandFault::Unsettled,
         }
@@ -70,6 +74,7 @@ impl<'a> CommandFault<'a> {
         match self {
             CommandFault::NoMemory => Status::NoMemory,
             CommandFault::File { .. }
+            | CommandFault::BadMove(_)
             | CommandFault::NoThread
             | CommandFault::Unsettled
             | CommandFault::NotIdle => Status::Failed,
@@ -88,6 +93,7 @@ impl fmt::Display for CommandFault<'_> {
                 write!(f, "{path}: {fault}")
             }
             CommandFault::NotConsistent(number) => write!(f, "not consistent: {number}"),
+            CommandFault::BadMove(place) => write!(f, "bad move: {place}"),
             CommandFault::NoWarehouse(number) => write!(f, "no warehouse: {number}"),
             CommandFault::NoThread => f.write_str("no thread"),
             CommandFault::Unsettled => f.write_str("unsettled"),

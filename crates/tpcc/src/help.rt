@@ -1,5 +1,5 @@
 // The date of the newest changes, and the toolchain. No build can know the commit that it is of.
-pub const VERSION: &str = "2026-11-27, made by rattle-kit-13b logic dac8208d650f15bf";
+pub const VERSION: &str = "2026-11-27, made by rattle-kit-13f logic dac8208d650f15bf";
 
 // What is told after the list of commands by `tpcc --help`.
 pub const PROGRAM: &str = "\
@@ -16,7 +16,7 @@ Files are CSV without a header row, as docs/FORMATS.md tells. Units and ranges:
 Exit statuses, with what is told on the standard error:
   0  all went well
   1  `tpcc: PATH: row R: fault N`: a file has a fault, or can't be opened, made, read or written
-     `tpcc: no thread`, `tpcc: unsettled`, `tpcc: not idle`
+     `tpcc: bad move: N`, `tpcc: no thread`, `tpcc: unsettled`, `tpcc: not idle`
   2  the words of the command line are wrong, or --help asks for help
      `tpcc: no warehouse: W`: `script --home` names one that the dataset has not
   3  `tpcc: not consistent: N`: the dataset breaks condition N

@@ -43,6 +43,10 @@ pub fn tell_meaning<R: Files + AllocGlobal, W: Write>(
             sink,
             "the condition of TPC-C 5.11, clause 3.3.2: `tpcc check` tells of all that are broken",
         ),
+        CommandFault::BadMove(_) => tell(
+            sink,
+            "moves count from 0; each is lo,hi,to: from warehouse lo, 1 or more, to hi, and an executor from 0",
+        ),
         CommandFault::NoWarehouse(_) => tell(
             sink,
             "the dataset's first record tells how many warehouses there are: its third field",

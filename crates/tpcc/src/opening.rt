@@ -43,6 +43,19 @@ impl<'a, R: Files + AllocGlobal> Opener<'a, R> {
         Ok(ProgressReader::new(file, meter, self.trouble))
     }
 
+    /// Opens the file that is read, if there is to be one.
+    pub fn open_some(
+        &self,
+        path: Option<&'a str>,
+    ) -> Result<Option<Watched<'a, R::File>>, CommandFault<'a>>
+        ensures { IfOk result (λ file. is_some file ≡ is_some path.entry) }
+    {
+        match path {
+            Some(path) => Ok(Some(self.open(path)?)),
+            None => Ok(None),
+        }
+    }
+
     /// Makes the file that is written, if there is to be one.
     pub fn make(&self, path: Option<&'a str>) -> Result<Option<NewFile<'a, R>>, CommandFault<'a>>
         ensures { IfOk result (λ file. is_some file ≡ is_some path.entry) }

@@ -1,10 +1,11 @@
 ghost use Rattle.std.specs.Prelude.{◌≡◌, ◌≤◌, length, map, is_some, IfOk, IfErr, OnErr};
 ghost use Rattle.std.specs.List.{AllZip};
+ghost use Rattle.std.specs.Option.{option_map};
 ghost use Rattle.terminals.specs.Answers.{AreAnswers};
 ghost use Rattle.terminals.specs.Script.{IsScript};
 ghost use Rattle.tpcc.specs.Edges.{Gives, Writes};
 ghost use Rattle.tpcc.specs.Faults.{IsOfFile, IsOfServing, EndsEarly};
-ghost use Rattle.tpcc.specs.Run.{AreAllAnswers, Serves, ServesSome};
+ghost use Rattle.tpcc.specs.Run.{AreAllAnswers, GivesMoves, Serves, ServesSome};
 ghost use Rattle.tpcc.specs.Settings.{IsRunnable};
 
 use crate::command_fault::CommandFault;
@@ -17,6 +18,7 @@ use crate::summary::Summary;
 use crate::tally::Tally;
 use crate::watch::Watch;
 use engine::{Answers, serve};
+use range_moves::MoveOrder;
 use requests::Script;
 use schema::NoMemory;
 use std::alloc::Global;
@@ -24,16 +26,17 @@ use std::io::{Read, Write};
 use std::rt::Clock;
 use std::sync::Wait;
 use std::thread::Threads;
-use terminals::{read_script, write_answers};
+use terminals::{read_moves, read_script, write_answers};
 
 /// Serves the scripts from the dataset, by as many executors as are asked for. An error is the exit status.
 ///
-/// `data` is read first, and then the scripts in turn; the first fault decides, and then nothing was run.
+/// `data` is read first, then the scripts in turn, and then the moves; the first fault decides, and then
+/// nothing was run.
 /// The log is written to `log` and is on the disk first; then the answers go to `answers`, by session and
 /// number; then the log gets its name on `shelf`, and then the tables as they are left are written to `tables`
 /// and get theirs. `watch` looks on while they are served, and what it all came to is summed up to `errors`,
-/// if that sums up. Why a run ended early is told to `errors`: a fault of a file, tables that are not
-/// consistent, no thread, something that was not back at the end, or no memory.
+/// if that sums up. Why a run ended early is told to `errors`: a fault of a file, a move that there can't be,
+/// tables that are not consistent, no thread, something that was not back at the end, or no memory.
 pub fn run_over<
     R: Clock + Threads + Wait + Sync,
     D: Read + Drop,
@@ -48,6 +51,7 @@ pub fn run_over<
     settings: &RunSettings,
     data: D,
     scripts: &mut [S],
+    moves: Option<S>,
     answers: A,
     log: Option<F>,
     tables: Option<F>,
@@ -57,14 +61,15 @@ pub fn run_over<
 ) -> Result<A, Status>
     requires limits { IsRunnable settings.now }
     requires sources { length scripts.old ≡ length settings.now.scripts.items }
+    requires moves { is_some moves ≡ is_some settings.now.moves }
     requires log { is_some log ≡ is_some settings.now.log }
     requires tables { is_some tables ≡ is_some settings.now.tables }
-    ensures serves { IfOk result (λ full. Serves F.contents (D.remaining «data») (map S.remaining scripts.old) log tables (A.contents answers) (A.contents full) (N.named shelf.old) (N.named shelf.new) (E.told errors.old) (E.told errors.new)) }
-    ensures some { OnErr result (ServesSome F.contents (D.remaining «data») (map S.remaining scripts.old) log tables (N.named shelf.old) (N.named shelf.new)) }
-    ensures early { IfErr result (EndsEarly (IsOfServing (D.remaining «data»)) (E.told errors.old) (E.told errors.new)) }
+    ensures serves { IfOk result (λ full. Serves F.contents (D.remaining «data») (map S.remaining scripts.old) settings.now.executors (option_map S.remaining moves) log tables (A.contents answers) (A.contents full) (N.named shelf.old) (N.named shelf.new) (E.told errors.old) (E.told errors.new)) }
+    ensures some { OnErr result (ServesSome F.contents (D.remaining «data») (map S.remaining scripts.old) settings.now.executors (option_map S.remaining moves) log tables (N.named shelf.old) (N.named shelf.new)) }
+    ensures early { IfErr result (EndsEarly (IsOfServing (D.remaining «data») settings.now.executors (option_map S.remaining moves)) (E.told errors.old) (E.told errors.new)) }
 {
     match run(
-        rt, alloc, settings, data, scripts, answers, log, tables, shelf, watch, errors,
+        rt, alloc, settings, data, scripts, moves, answers, log, tables, shelf, watch, errors,
     ) {
         Ok(full) => Ok(full),
         Err(fault) => Err(errors.report(fault)),
@@ -86,6 +91,7 @@ fn run<
     settings: &RunSettings<'a>,
     data: D,
     scripts: &mut [S],
+    moves: Option<S>,
     answers: A,
     log: Option<F>,
     tables: Option<F>,
@@ -95,15 +101,17 @@ fn run<
 ) -> Result<A, CommandFault<'a>>
     requires limits { IsRunnable settings.now }
     requires sources { length scripts.old ≡ length settings.now.scripts.items }
+    requires moves { is_some moves ≡ is_some settings.now.moves }
     requires log { is_some log ≡ is_some settings.now.log }
     requires tables { is_some tables ≡ is_some settings.now.tables }
-    ensures serves { IfOk result (λ full. Serves F.contents (D.remaining «data») (map S.remaining scripts.old) log tables (A.contents answers) (A.contents full) (N.named shelf.old) (N.named shelf.new) (E.told errors.old) (E.told errors.new)) }
-    ensures some { OnErr result (ServesSome F.contents (D.remaining «data») (map S.remaining scripts.old) log tables (N.named shelf.old) (N.named shelf.new)) }
+    ensures serves { IfOk result (λ full. Serves F.contents (D.remaining «data») (map S.remaining scripts.old) settings.now.executors (option_map S.remaining moves) log tables (A.contents answers) (A.contents full) (N.named shelf.old) (N.named shelf.new) (E.told errors.old) (E.told errors.new)) }
+    ensures some { OnErr result (ServesSome F.contents (D.remaining «data») (map S.remaining scripts.old) settings.now.executors (option_map S.remaining moves) log tables (N.named shelf.old) (N.named shelf.new)) }
     ensures told { OnErr result (E.told errors.new ≡ E.told errors.old) }
-    ensures fault { IfErr result (IsOfServing (D.remaining «data»)) }
+    ensures fault { IfErr result (IsOfServing (D.remaining «data») settings.now.executors (option_map S.remaining moves)) }
 {
     let opening = read_tables(alloc, settings.data, data)?;
     let scripts = read_scripts(alloc, &settings.scripts, scripts)?;
+    let moves = read_orders(alloc, settings.moves, moves)?;
     let _ = watch.prepare(alloc, scripts.as_slice());
     let outcome = match serve(
         rt,
@@ -112,6 +120,7 @@ fn run<
         scripts.as_slice(),
         settings.executors,
         settings.tries,
+        moves.as_slice(),
         &watch,
     ) {
         Ok(outcome) => outcome,
@@ -151,6 +160,26 @@ fn read_scripts<'a, S: Read + Drop>(
         }
     }
     Ok(scripts)
+}
+
+// The moves of this path, if there is one.
+fn read_orders<'a, S: Read + Drop>(
+    alloc: Global,
+    path: Option<&'a str>,
+    source: Option<S>,
+) -> Result<Vec<MoveOrder>, CommandFault<'a>>
+    requires { is_some source ≡ is_some path }
+    ensures moves { IfOk result (λ moves. GivesMoves (option_map S.remaining source) moves.items) }
+    ensures fault { IfErr result IsOfFile }
+{
+    let Some(source) = source else {
+        return Ok(Vec::new(alloc));
+    };
+    let Some(path) = path else { unreachable!() };
+    match read_moves(alloc, source) {
+        Ok(moves) => Ok(moves),
+        Err(fault) => Err(CommandFault::of_file(path, fault)),
+    }
 }
 
 // Prints the records of all answers, and gives the sink back.

@@ -1,5 +1,5 @@
 use super::*;
-use engine::{Gate, Outcome, serve};
+use engine::{Gate, MoveOrder, Outcome, ServeFault, serve};
 use requests::{Answer, Script};
 use std::alloc::Global;
 use std::process::Abort;
@@ -92,7 +92,16 @@ fn executors_serve_at_the_same_time(rt: HostRuntime) -> Result<(), Fail> {
         script(alloc, 1, 99)?,
     ];
     let gate = BothEnter::new();
-    let outcome = serve(&rt, alloc, warehouses(alloc, 2)?, &scripts, 2, 100, &gate)?;
+    let outcome = serve(
+        &rt,
+        alloc,
+        warehouses(alloc, 2)?,
+        &scripts,
+        2,
+        100,
+        &[],
+        &gate,
+    )?;
     assert_eq!(rt; outcome.log.len(), 2);
     assert_eq!(rt; gate.entered.load(Ordering::SeqCst), 2);
     assert_eq!(rt; gate.met.load(Ordering::SeqCst), 2);
@@ -136,7 +145,16 @@ fn one_waits<R: Threads + Wait + Abort + Sync>(
         answered: AtomicU64::new(0),
         met: AtomicU64::new(0),
     };
-    let outcome = serve(rt, alloc, warehouses(alloc, 2)?, &scripts, 2, 100, &gate)?;
+    let outcome = serve(
+        rt,
+        alloc,
+        warehouses(alloc, 2)?,
+        &scripts,
+        2,
+        100,
+        &[],
+        &gate,
+    )?;
     assert_eq!(rt; outcome.log.len(), 2);
     assert_eq!(rt; gate.met.load(Ordering::SeqCst), 1);
     let first = outcome.log.first().ok_or("an entry")?;
@@ -177,10 +195,67 @@ fn all_that_is_asked_is_carried_out(rt: HostRuntime) -> Result<(), Fail> {
             &scripts,
             executors,
             100,
+            &[],
             engine::OpenGate,
         )?;
         assert_eq!(rt; done_in(&outcome), 200);
         assert_eq!(rt; outcome.log.len(), 200);
     }
     Ok(())
+}
+
+// Four sessions at two warehouses that go back and forth between two executors: each payment is carried out.
+#[test]
+fn all_that_is_asked_is_carried_out_while_warehouses_move(rt: HostRuntime) -> Result<(), Fail> {
+    let alloc = rt.alloc();
+    let scripts = [
+        scripted(alloc, 1, 100, 25)?,
+        scripted(alloc, 2, 100, 25)?,
+        scripted(alloc, 1, 100, 25)?,
+        scripted(alloc, 2, 100, 25)?,
+    ];
+    let moves = [
+        order(1, 1, 1),
+        order(1, 2, 0),
+        order(2, 2, 1),
+        order(1, 2, 1),
+    ];
+    let tables = warehouses(alloc, 2)?;
+    let outcome = serve(
+        &rt,
+        alloc,
+        tables,
+        &scripts,
+        2,
+        100,
+        &moves,
+        engine::OpenGate,
+    )?;
+    assert_eq!(rt; done_in(&outcome), 100);
+    assert_eq!(rt; outcome.log.len(), 100);
+    Ok(())
+}
+
+// The first move that there can't be is told, before a thread starts.
+#[test]
+fn a_bad_move_is_told(rt: HostRuntime) -> Result<(), Fail> {
+    let alloc = rt.alloc();
+    let scripts = [script(alloc, 1, 100)?];
+    let moves = [order(1, 1, 1), order(2, 1, 1), order(1, 3, 1)];
+    let served = serve(
+        &rt,
+        alloc,
+        warehouses(alloc, 2)?,
+        &scripts,
+        2,
+        100,
+        &moves,
+        engine::OpenGate,
+    );
+    assert!(rt; matches!(served, Err(ServeFault::BadMove(1))));
+    Ok(())
+}
+
+fn order(lo: u32, hi: u32, to: u32) -> MoveOrder {
+    MoveOrder { lo, hi, to }
 }

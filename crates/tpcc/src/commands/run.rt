@@ -34,6 +34,7 @@ pub fn carry_out<R: Files + AllocGlobal + Clock + Threads + Wait + Sync>(
             RunFiles {
                 data,
                 mut scripts,
+                moves,
                 log,
                 tables,
             },
@@ -43,6 +44,7 @@ pub fn carry_out<R: Files + AllocGlobal + Clock + Threads + Wait + Sync>(
             settings,
             data,
             scripts.as_mut_slice(),
+            moves,
             NotingWriter::new(stdout, &trouble),
             log,
             tables,
@@ -58,6 +60,7 @@ pub fn carry_out<R: Files + AllocGlobal + Clock + Threads + Wait + Sync>(
 struct RunFiles<'a, R: Files> {
     data: Watched<'a, R::File>,
     scripts: Vec<Watched<'a, R::File>>,
+    moves: Option<Watched<'a, R::File>>,
     log: Option<NewFile<'a, R>>,
     tables: Option<NewFile<'a, R>>,
 }
@@ -68,6 +71,7 @@ impl<'a, R: Files + AllocGlobal> RunFiles<'a, R> {
         settings: &'a RunSettings<'a>,
     ) -> Result<RunFiles<'a, R>, CommandFault<'a>>
         ensures scripts { IfOk result (λ files. length files.scripts.items ≡ length settings.now.scripts.items) }
+        ensures moves { IfOk result (λ files. is_some files.moves ≡ is_some settings.now.moves) }
         ensures log { IfOk result (λ files. is_some files.log ≡ is_some settings.now.log) }
         ensures tables { IfOk result (λ files. is_some files.tables ≡ is_some settings.now.tables) }
     {
@@ -76,11 +80,13 @@ impl<'a, R: Files + AllocGlobal> RunFiles<'a, R> {
         for path in &settings.scripts {
             scripts.push(opener.open(path)?)?;
         }
+        let moves = opener.open_some(settings.moves)?;
         let log = opener.make(settings.log)?;
         let tables = opener.make(settings.tables)?;
         Ok(RunFiles {
             data,
             scripts,
+            moves,
             log,
             tables,
         })

@@ -27,6 +27,8 @@ pub struct RunSettings<'a> {
     pub executors: u32,
     /// How often a request is asked at most that died or found no memory: 1 to 10,000.
     pub tries: u32,
+    /// Where the moves are read that are ordered while the scripts are served.
+    pub moves: Option<&'a str>,
     pub log: Option<&'a str>,
     pub tables: Option<&'a str>,
     /// Whether it is to be summed up what was done.
@@ -63,6 +65,7 @@ pub fn read<'a>(alloc: Global, matches: &ArgMatches<'a>) -> Result<RunSettings<'
         scripts: scripts.to_vec(alloc)?,
         executors,
         tries,
+        moves: matches.get_str("moves"),
         log,
         tables,
         summary: matches.get_flag("summary"),
@@ -85,6 +88,12 @@ pub fn command<'a>(alloc: Global) -> Result<Command<'a>, AllocError>
         "tries",
         "How often a request is tried that died or found no memory, 1 to 10,000; 100 by default",
     );
+    let moves = option(
+        alloc,
+        "moves",
+        "FILE",
+        "Moves of warehouses to other executors, made while the scripts are served",
+    );
     let tables = option(
         alloc,
         "tables",
@@ -96,6 +105,7 @@ pub fn command<'a>(alloc: Global) -> Result<Command<'a>, AllocError>
         .arg(scripts)?
         .arg(executors(alloc))?
         .arg(tries)?
+        .arg(moves)?
         .arg(log(alloc))?
         .arg(tables)?
         .arg(summary(alloc))?
@@ -107,7 +117,9 @@ pub fn command<'a>(alloc: Global) -> Result<Command<'a>, AllocError>
 const HELP: &str = "\
 The first SCRIPT is session 0, the next session 1, and so on. They are served at the same time by executors,
 each in the order of its requests, numbered from 0. An executor has the warehouses between it and the next:
-warehouse w is at executor (w-1)*executors/warehouses, from 0. Prints a record for each request:
+warehouse w is at executor (w-1)*executors/warehouses, from 0. A move `lo,hi,to` takes the warehouses from
+number lo to number hi to executor to, while requests go on; moves are made one after the other, all of them.
+Prints a record for each request:
   session,number,done,place,..     it stands in the log at this place, from 0; then the reply
   session,number,refused,code,..   it is not in the log, and changed nothing: 1 to 8 what is wrong with it,
                                    11 it died each time it was tried, 12 no memory, 14 the log is full
@@ -117,5 +129,6 @@ it is a last name, and where nobody has it the request is rolled back, as X,nocu
 The log gets its name once all answers are printed, and then the tables get theirs. What had the name stays
 as it was until then.
 
-Exit statuses: 0 all were answered, 1 a fault of a file, no thread, or `tpcc: unsettled`: not all was back when
-the executors had ended, 2 the words are wrong, 3 the dataset is not consistent, 4 no memory";
+Exit statuses: 0 all were answered, 1 a fault of a file, no thread, `tpcc: bad move: N`: there can't be the move
+of this place, from 0, or `tpcc: unsettled`: not all was back when the executors had ended, 2 the words are
+wrong, 3 the dataset is not consistent, 4 no memory";

@@ -1,7 +1,10 @@
 use Rattle.std.proofs.Common.{◌≡◌, ◌≤◌, ℕ, List, Option, inr, length, map, ap, sym, subst, ◌∙◌, arith}
+use Rattle.std.specs.Option.{option_map}
 use Rattle.requests.specs.declared.request.Request.{Request}
 use Rattle.requests.specs.declared.answer.Answer.{Answer}
 use Rattle.commit_log.specs.declared.entry.Entry.{Entry}
+use Rattle.range_moves.specs.declared.order.MoveOrder.{MoveOrder}
+use Rattle.engine.specs.Faults.{AreWithin, IsFaultOf}
 use Rattle.engine.specs.Outcome.{IsOutcome}
 use Rattle.terminals.specs.LogRecord.{IsLog}
 use Rattle.tpcc.specs.Edges.{Writes, HasWritten, NamesFile}
@@ -16,12 +19,19 @@ use Rattle.tpcc.proofs.run.run.Goals as goal
 pub returns-in-Err-clause-fault : goal.returns-in-Err-clause-fault
 returns-in-Err-clause-fault g c =
     let source = g.D.Read.remaining c.args.data in
-    subst (IsOfServing source) (sym c.of_serving.ensures) (of_tables source c.in_ok-opening.opening c.in-Err.fault c.in_ok-opening.ensures.tables c.in-Err.ensures.fault)
+    let executors = c.args.settings.now.executors in
+    let moving = option_map g.S.Read.remaining c.args.moves in
+    let opening = c.in_ok-opening.opening in
+    let moves = c.in_ok-moves.moves.items in
+    let IsFault : List MoveOrder → Type 0 = λ l. IsFaultOf opening executors l c.in-Err.fault in
+    let is = subst IsFault c.as_slice-3.ensures.value c.in-Err.ensures.fault in
+    subst (IsOfServing source executors moving) (sym c.of_serving.ensures)
+    (of_tables source executors moving opening moves c.in-Err.fault c.in_ok-opening.ensures.tables c.in_ok-moves.ensures.moves is)
 
 pub print_answers-printed-requires : goal.print_answers-printed-requires
 print_answers-printed-requires g c =
     let answers = c.in-Ok.outcome.answers.items in
-    let printed : length c.as_slice-4.result.now ≡ length answers = ap length c.as_slice-4.ensures.value in
+    let printed : length c.as_slice-5.result.now ≡ length answers = ap length c.as_slice-5.ensures.value in
     let asked : length answers ≡ length c.as_slice-2.result.now = same_count answers c.as_slice-2.result.now c.in-Ok.ensures.outcome.answered in
     let scripts : length c.as_slice-2.result.now ≡ length c.in_ok-scripts.scripts.items = ap length c.as_slice-2.ensures.value in
     let paths : length c.in_ok-scripts.scripts.items ≡ length c.args.settings.now.scripts.items = c.in_ok-scripts.ensures.count ∙ ap length c.deref.ensures.value in
@@ -37,10 +47,14 @@ returns-in_err-write_tables-clause-some g c =
     let answers = c.in-Ok.outcome.answers.items in
     let sources = map g.S.Read.remaining c.args.scripts.now in
     let Serves : List (List Request) → Type 0 = λ l. IsOutcome opening l log last answers in
-    let are : AreServed (g.D.Read.remaining c.args.data) sources log last answers = record {
+    let Within : List MoveOrder → Type 0 = AreWithin opening c.args.settings.now.executors in
+    let are : AreServed (g.D.Read.remaining c.args.data) sources c.args.settings.now.executors (option_map g.S.Read.remaining c.args.moves) log last answers = record {
       opening = opening;
       is_dataset = c.in_ok-opening.ensures.tables;
       consistent = c.in-Ok.ensures.consistent;
+      moves = c.in_ok-moves.moves.items;
+      are_moves = c.in_ok-moves.ensures.moves;
+      within = subst Within c.as_slice-3.ensures.value c.in-Ok.ensures.within;
       scripts = c.in_ok-scripts.scripts.items;
       are_scripts = c.in_ok-scripts.ensures.scripts;
       outcome = subst Serves c.as_slice-2.ensures.value c.in-Ok.ensures.outcome;
@@ -49,7 +63,7 @@ returns-in_err-write_tables-clause-some g c =
     let Logs : List Entry → Type 0 = λ l. HasWritten g.F.Write.contents c.args.log (IsLog l) c.in_ok-log.log in
     let logged : NamesFile g.F.Write.contents c.args.log (names c.args.shelf.now) with_log (IsLog log) =
     names_written g.F.Write.contents c.args.log (IsLog log) c.in_ok-log.log (names c.args.shelf.now) (names c.write_entries.new.shelf) with_log
-    c.in_ok-log.ensures.same (subst Logs c.as_slice-3.ensures.value c.in_ok-log.ensures.written) c.in_ok-full.ensures.named in
+    c.in_ok-log.ensures.same (subst Logs c.as_slice-4.ensures.value c.in_ok-log.ensures.written) c.in_ok-full.ensures.named in
     let now = names c.write_tables.new.shelf in
     let Named : Option (List (Option (List ℕ))) → Type 0 = λ named. NamesFile g.F.Write.contents c.args.log (names c.args.shelf.now) named (IsLog log) in
     let same : now ≡ with_log = c.in_err-write_tables.ensures.err in
@@ -64,10 +78,14 @@ returns-clause-serves g c =
     let answers = c.in-Ok.outcome.answers.items in
     let sources = map g.S.Read.remaining c.args.scripts.now in
     let Serves : List (List Request) → Type 0 = λ l. IsOutcome opening l log last answers in
-    let are : AreServed (g.D.Read.remaining c.args.data) sources log last answers = record {
+    let Within : List MoveOrder → Type 0 = AreWithin opening c.args.settings.now.executors in
+    let are : AreServed (g.D.Read.remaining c.args.data) sources c.args.settings.now.executors (option_map g.S.Read.remaining c.args.moves) log last answers = record {
       opening = opening;
       is_dataset = c.in_ok-opening.ensures.tables;
       consistent = c.in-Ok.ensures.consistent;
+      moves = c.in_ok-moves.moves.items;
+      are_moves = c.in_ok-moves.ensures.moves;
+      within = subst Within c.as_slice-3.ensures.value c.in-Ok.ensures.within;
       scripts = c.in_ok-scripts.scripts.items;
       are_scripts = c.in_ok-scripts.ensures.scripts;
       outcome = subst Serves c.as_slice-2.ensures.value c.in-Ok.ensures.outcome;
@@ -76,7 +94,7 @@ returns-clause-serves g c =
     let Logs : List Entry → Type 0 = λ l. HasWritten g.F.Write.contents c.args.log (IsLog l) c.in_ok-log.log in
     let logged : NamesFile g.F.Write.contents c.args.log (names c.args.shelf.now) with_log (IsLog log) =
     names_written g.F.Write.contents c.args.log (IsLog log) c.in_ok-log.log (names c.args.shelf.now) (names c.write_entries.new.shelf) with_log
-    c.in_ok-log.ensures.same (subst Logs c.as_slice-3.ensures.value c.in_ok-log.ensures.written) c.in_ok-full.ensures.named in
+    c.in_ok-log.ensures.same (subst Logs c.as_slice-4.ensures.value c.in_ok-log.ensures.written) c.in_ok-full.ensures.named in
     let contents = g.A.Write.contents in
     let full = c.in_ok-full.full in
     let Prints : List (List Answer) → Type 0 = λ l. Writes (contents c.args.answers) (contents full) (AreAllAnswers 0 l) in
@@ -85,8 +103,8 @@ returns-clause-serves g c =
       last = last;
       answers = answers;
       are_served = are;
-      printed = subst Prints c.as_slice-4.ensures.value
-          (printed_well (λ (kept : g.row.A.Denot). Writes (contents c.args.answers) (contents kept) (AreAllAnswers 0 c.as_slice-4.result.now)) c.print_answers-printed.result full c.in_ok-full.ensures.printed c.print_answers-printed.ensures.printed);
+      printed = subst Prints c.as_slice-5.ensures.value
+          (printed_well (λ (kept : g.row.A.Denot). Writes (contents c.args.answers) (contents kept) (AreAllAnswers 0 c.as_slice-5.result.now)) c.print_answers-printed.result full c.in_ok-full.ensures.printed c.print_answers-printed.ensures.printed);
       with_log = with_log;
       logged = logged;
       left = c.in_ok-write_tables.ensures.named;

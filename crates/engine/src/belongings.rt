@@ -1,0 +1,223 @@
+//! What an executor has to itself.
+ghost use Rattle.std.specs.Prelude.{◌≡◌, IfSome};
+
+use crate::MOST_SESSIONS;
+use crate::message::Message;
+use executor::{CourseNames, Errand, Post, Settle, Undo};
+use queues::{Sender, Taker};
+use schema::NoMemory;
+use std::alloc::Global;
+use std::collections::VecDeque;
+
+/// The most messages that an executor has to itself, that found an inbox full, or that are parked: 64 transactions have no more, with
+/// a fetch or a parcel for each warehouse.
+const ROOM: usize = 4096;
+
+/// How often a request may die and be asked again at once.
+const MOST_AT_ONCE: u32 = 3;
+
+/// With how many deaths a request waits the longest before it is asked again: 2,500 steps.
+const MOST_DEATHS: u32 = 100;
+
+/// How many microseconds of rest are a step.
+pub(crate) const STEP: u64 = 20;
+
+/// A session that is to ask its next request here.
+#[derive(Clone, Copy, Drop)]
+pub(crate) struct Turn {
+    slot: usize,
+    /// The step from which on it may.
+    from: u64,
+}
+
+/// An executor: the posts of its warehouses, and the messages that it has still to take or to send.
+#[derive(Drop)]
+pub struct Executor<J: CourseNames> {
+    pub(crate) number: u32,
+    /// Each at its warehouse's W_ID less one; the others are elsewhere.
+    posts: Vec<Option<Box<Post<J>>>>,
+    /// To whom the post of a warehouse has gone, since a move last brought it here; by the warehouse's W_ID less one.
+    notes: Vec<Option<u32>>,
+    /// From the others.
+    pub(crate) inbox: Taker<Message<J>>,
+    /// Into the inboxes of all, by the executors' numbers.
+    pub(crate) outlets: Vec<Sender<Message<J>>>,
+    /// To itself, beside what follows.
+    pub(crate) lane: VecDeque<Message<J>>,
+    /// The actions of each phase that are all at its own warehouses, and what goes back to these: no message is made of them.
+    pub(crate) phases: VecDeque<Vec<Errand<J>>>,
+    pub(crate) settles: VecDeque<Settle<J>>,
+    pub(crate) undos: VecDeque<Undo<J>>,
+    /// To others whose inbox was full.
+    pub(crate) outbox: VecDeque<(u32, Message<J>)>,
+    /// For posts that are on their way here, each with the W_ID of its warehouse.
+    parked: VecDeque<(u32, Message<J>)>,
+    /// The sessions that are to begin their next request here.
+    ready: VecDeque<Turn>,
+    /// How many transactions it has begun that are not over.
+    pub(crate) begun: usize,
+    /// How many steps it has gone: rounds in which it had something to do, and so many microseconds of rest.
+    steps: u64,
+}
+
+impl<J: CourseNames> Executor<J> {
+    /// An executor without posts, with room for those of so many warehouses, which takes from this
+    /// inbox and puts into those.
+    pub(crate) fn open(
+        alloc: Global,
+        number: u32,
+        warehouses: u32,
+        inbox: Taker<Message<J>>,
+        outlets: Vec<Sender<Message<J>>>,
+    ) -> Result<Executor<J>, NoMemory> {
+        let mut posts = Vec::with_capacity(alloc, warehouses as usize)?;
+        let mut notes = Vec::with_capacity(alloc, warehouses as usize)?;
+        for _ in 0..warehouses {
+            posts.push(None)?;
+            notes.push(None)?;
+        }
+        let lane = VecDeque::with_capacity(alloc, ROOM)?;
+        let phases = VecDeque::with_capacity(alloc, MOST_SESSIONS)?;
+        let settles = VecDeque::with_capacity(alloc, ROOM)?;
+        let undos = VecDeque::with_capacity(alloc, ROOM)?;
+        let outbox = VecDeque::with_capacity(alloc, ROOM)?;
+        let parked = VecDeque::with_capacity(alloc, ROOM)?;
+        let ready = VecDeque::with_capacity(alloc, MOST_SESSIONS)?;
+        Ok(Executor {
+            number,
+            posts,
+            notes,
+            inbox,
+            outlets,
+            lane,
+            phases,
+            settles,
+            undos,
+            outbox,
+            parked,
+            ready,
+            begun: 0,
+            steps: 0,
+        })
+    }
+
+    // ---- sessions
+
+    /// A session is to begin its next request here, which has died so often. What it died of may be in the hands of an executor whose
+    /// thread has no processor: so it is given time, the more the more often it has died.
+    pub(crate) fn get_ready(&mut self, slot: usize, deaths: u32) -> Result<(), NoMemory> {
+        let from = self.steps.saturating_add(steps_after(deaths));
+        Ok(self.ready.push_back(Turn { slot, from })?)
+    }
+
+    /// The session that is to begin its next request: of those that may, the one that has waited longest.
+    pub(crate) fn next_ready(&mut self) -> Option<usize> {
+        let mut first = None;
+        for (place, turn) in self.ready.iter().enumerate() {
+            if turn.from <= self.steps {
+                first = Some(place);
+                break;
+            }
+        }
+        Some(self.ready.remove(first?)?.slot)
+    }
+
+    /// It has gone so many steps more.
+    pub(crate) fn go(&mut self, steps: u64) {
+        self.steps = self.steps.saturating_add(steps);
+    }
+
+    /// In how many steps the first session may begin; `None` where there is none.
+    pub(crate) fn steps_to_next(&self) -> Option<u64> {
+        let mut from = self.ready.front()?.from;
+        for turn in self.ready.iter() {
+            from = from.min(turn.from);
+        }
+        Some(from.saturating_sub(self.steps))
+    }
+
+    // ---- posts
+
+    /// Whether there is such a warehouse, here or elsewhere.
+    pub(crate) fn is_warehouse(&self, home: u32) -> bool {
+        place_of(home) < self.posts.len()
+    }
+
+    /// Has this post, in the place of what it had of the warehouse.
+    pub(crate) fn put_post(&mut self, post: Box<Post<J>>) {
+        if let Some(place) = self.posts.get_mut(place_of(post.home())) {
+            *place = Some(post);
+        }
+    }
+
+    /// Whether it has the post of a warehouse.
+    pub(crate) fn has_post(&self, home: u32) -> bool {
+        matches!(self.posts.get(place_of(home)), Some(Some(_)))
+    }
+
+    /// The post of a warehouse, if it has it.
+    pub(crate) fn post_mut(&mut self, home: u32) -> Option<&mut Post<J>>
+        ensures { IfSome result (λ post. post.now.slice.home ≡ home) }
+    {
+        let Some(Some(post)) = self.posts.get_mut(place_of(home)) else {
+            return None;
+        };
+        if post.home() != home {
+            return None;
+        }
+        Some(post)
+    }
+
+    /// Gives the post of a warehouse, if it has it.
+    pub(crate) fn take_post(&mut self, home: u32) -> Option<Box<Post<J>>> {
+        self.posts.get_mut(place_of(home))?.take()
+    }
+
+    /// Notes to whom the post of a warehouse goes; with `None`, forgets it.
+    pub(crate) fn note(&mut self, home: u32, to: Option<u32>) {
+        if let Some(note) = self.notes.get_mut(place_of(home)) {
+            *note = to;
+        }
+    }
+
+    /// To whom the post of a warehouse has gone, if that is noted.
+    pub(crate) fn noted(&self, home: u32) -> Option<u32> {
+        *self.notes.get(place_of(home))?
+    }
+
+    // ---- parked messages
+
+    /// Parks a message until the post of a warehouse comes.
+    pub(crate) fn park(&mut self, home: u32, message: Message<J>) -> Result<(), NoMemory> {
+        Ok(self.parked.push_back((home, message))?)
+    }
+
+    /// Sends itself each message that is parked for the post of a warehouse, in order.
+    pub(crate) fn unpark(&mut self, home: u32) -> Result<(), NoMemory> {
+        for _ in 0..self.parked.len() {
+            let Some((parked_for, message)) = self.parked.pop_front() else {
+                break;
+            };
+            if parked_for == home {
+                self.lane.push_back(message)?;
+            } else {
+                self.parked.push_back((parked_for, message))?;
+            }
+        }
+        Ok(())
+    }
+}
+
+// How many steps a request waits that has died so often: none at first.
+fn steps_after(deaths: u32) -> u64 {
+    if deaths <= MOST_AT_ONCE {
+        return 0;
+    }
+    let deaths = u64::from(deaths.min(MOST_DEATHS));
+    deaths.saturating_mul(deaths) / 4
+}
+
+// The place of a warehouse among all.
+fn place_of(home: u32) -> usize {
+    home.wrapping_sub(1) as usize
+}

@@ -1,0 +1,86 @@
+//! Threads that work on what is handed to them.
+ghost use Rattle.std.specs.Prelude.{IfErr};
+ghost use Rattle.engine.specs.Faults.{IsOfServing};
+
+use crate::ServeFault;
+use std::alloc::Global;
+use std::sync::Wait;
+use std::thread::{self, JoinHandle, Scope, Threads};
+
+/// What threads do.
+pub(crate) trait Work<X> {
+    /// Works on what a thread was handed, and gives it back.
+    fn work(&self, own: X) -> X;
+
+    /// Has all that work end soon.
+    fn stop(&self);
+}
+
+/// Has each worked on in a thread of its own, and gives all back, in order, once all threads have ended. Where a thread can't be
+/// started, those that were are stopped, and what they worked on is gone.
+pub(crate) fn work_on_each<X: Send + Drop, W: Work<X> + Sync, R: Threads + Wait + Sync>(
+    rt: &R,
+    alloc: Global,
+    work: &W,
+    each: Vec<X>,
+) -> Result<Vec<X>, ServeFault>
+    ensures fault { IfErr result (λ fault. IsOfServing fault) }
+{
+    thread::scope(
+        thread::scope_env(),
+        rt,
+        |scope| -> Result<Vec<X>, ServeFault>
+            ensures fault { IfErr result (λ fault. IsOfServing fault) }
+        {
+            match start_all(scope, alloc, work, each) {
+                Ok(threads) => join_all(rt, alloc, threads),
+                Err(fault) => {
+                    work.stop();
+                    Err(fault)
+                }
+            }
+        },
+    )
+}
+
+// Starts a thread for each.
+fn start_all<'s, E, X: Send + Drop + 's, W: Work<X> + Sync>(
+    scope: &Scope<'s, E>,
+    alloc: Global,
+    work: &'s W,
+    each: Vec<X>,
+) -> Result<Vec<JoinHandle<X>>, ServeFault>
+    ensures fault { IfErr result (λ fault. IsOfServing fault) }
+{
+    let Ok(mut threads) = Vec::with_capacity(alloc, each.len()) else {
+        return Err(ServeFault::NoMemory);
+    };
+    for own in each {
+        let Ok(thread) = scope.spawn(move || work.work(own)) else {
+            return Err(ServeFault::NoThread);
+        };
+        let Ok(()) = threads.push(thread) else {
+            return Err(ServeFault::NoMemory);
+        };
+    }
+    Ok(threads)
+}
+
+// Waits for the threads, and gives back what they worked on.
+fn join_all<X: Drop, R: Threads>(
+    rt: &R,
+    alloc: Global,
+    threads: Vec<JoinHandle<X>>,
+) -> Result<Vec<X>, ServeFault>
+    ensures fault { IfErr result (λ fault. IsOfServing fault) }
+{
+    let Ok(mut each) = Vec::with_capacity(alloc, threads.len()) else {
+        return Err(ServeFault::NoMemory);
+    };
+    for thread in threads {
+        let Ok(()) = each.push(thread.join(rt)) else {
+            return Err(ServeFault::NoMemory);
+        };
+    }
+    Ok(each)
+}

@@ -1,0 +1,36 @@
+ghost use Rattle.std.specs.Prelude.{◌≡◌, ℕ, List, Some, IfOk};
+ghost use Rattle.files.specs.Place.{IsCsv};
+ghost use Rattle.terminals.specs.Moves.{AreMoves, IsMoveRecord};
+
+use crate::listing;
+use crate::listing::Listed;
+use crate::move_order::take_order;
+use files::{Fields, FileError};
+use range_moves::MoveOrder;
+use schema::NoMemory;
+use std::alloc::Global;
+use std::io::Read;
+
+/// The moves that `source` gives.
+///
+/// A fault comes with its record, and nothing else is given then. The first faulty record decides, and
+/// of its faults the least one. Whether there are such warehouses and executors, and whether a range ends
+/// before it begins, is not looked at. Memory is taken record by record.
+pub fn read_moves<R: Read + Drop>(alloc: Global, source: R) -> Result<Vec<MoveOrder>, FileError>
+    ensures { IfOk result (λ moves. (text : List ℕ) → R.remaining source ≡ Some text → (rows : List (List (List ℕ))) × IsCsv text rows × AreMoves moves.items rows) }
+{
+    listing::read(alloc, source)
+}
+
+impl Listed for MoveOrder {
+    ghost is_record = { λ place. IsMoveRecord };
+
+    fn take(
+        _alloc: Global,
+        _place: u64,
+        first: &str,
+        fields: &mut Fields,
+    ) -> Result<Option<MoveOrder>, NoMemory> {
+        Ok(Some(take_order(first, fields)))
+    }
+}
