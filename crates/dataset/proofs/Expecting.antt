@@ -110,15 +110,6 @@ true_false e = cc
 
 -- ---- what is left to read
 
-pub next_row : {R : Type 0} (remaining : R → Option (List ℕ)) (rows : List (List (List ℕ))) (found : Bool) (r : Records R) → found ≡ true → HasLeftAfter remaining rows found r
-    → (rest : List (List (List ℕ))) × (rows ≡ record_fields r ∷ rest) × HasLeft remaining rest r
-next_row remaining [] found r e h = let clash : true ≡ false = sym e ∙ h in absurd (true_false clash)
-next_row remaining (row ∷ rows) found r e h = (rows, ap (λ f. f ∷ rows) (sym h.1), h.2)
-
-pub no_row : {R : Type 0} (remaining : R → Option (List ℕ)) (rows : List (List (List ℕ))) (found : Bool) (r : Records R) → found ≡ false → HasLeftAfter remaining rows found r → rows ≡ []
-no_row remaining [] found r e h = refl
-no_row remaining (row ∷ rows) found r e h = let clash : true ≡ false = sym h.0 ∙ e in absurd (true_false clash)
-
 pub none_some : {X : Type 0} (x : X) → None ≡ Some x → ⊥
 none_some x e = let clash : true ≡ false = ap is_none e in true_false clash
 

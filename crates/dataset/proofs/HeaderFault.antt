@@ -25,12 +25,15 @@ use Rattle.dataset.specs.declared.place.Place.TheVariants as at
 use Rattle.dataset.specs.Expecting.{IsFault}
 use Rattle.dataset.specs.Loading.{HasLoaded}
 use Rattle.dataset.specs.Order.{place_numbers}
-use Rattle.dataset.specs.Columns.{kind_of, at_end, columns_fault, sizes, take_columns}
-use Rattle.dataset.specs.FirstFault.{HasNoTables, Tells, kind_place, behind_end, fault_at, first_fault, header_columns, header_fault, header_sizes, is_header, rows_fault, told_header}
+use Rattle.dataset.specs.Columns.{kind_of, sizes}
+use Rattle.files.specs.Columns.{at_end, columns_fault, take_columns}
+use Rattle.dataset.specs.FirstFault.{HasNoTables, Tells, kind_place, first_fault, header_columns, header_fault, header_sizes, is_header, rows_fault, told_header}
+use Rattle.files.specs.FirstFault.{behind_end, fault_at}
 use Rattle.dataset.specs.Records.{AreSpelt, header_fields}
-use Rattle.dataset.specs.TakenAs.{IsAt, IsHeaderAs, TellsEnd, TellsFault}
+use Rattle.dataset.specs.TakenAs.{IsAt, IsHeaderAs, TellsEnd}
+use Rattle.files.specs.FirstFault.{TellsFault}
 use Rattle.dataset.proofs.LetterFault.{other, some_word}
-use Rattle.dataset.proofs.RowsFault.{not_advanced}
+use Rattle.files.proofs.RecordsLeft.{not_advanced}
 
 pub no_header : (fields : List (List ℕ)) → is_header fields ≡ false → told_header fields ≡ Some fault.NoHeader
 no_header fields e = rw e refl

@@ -14,7 +14,8 @@ use Rattle.files.proofs.Ascii.{utf8_words}
 use Rattle.files.proofs.KindsRead.{word_is, no_word}
 use Rattle.dataset.specs.declared.loader.Loader.{Loader}
 use Rattle.dataset.specs.declared.loader.Taken.TheVariants.{Row, End}
-use Rattle.dataset.specs.Columns.{Column, Count, Of, Table, Items, Warehouses, Districts, Stocks, Customers, Histories, Orders, NewOrders, Lines, at_end, fields_fault, kind_fault, kind_of, letter, sizes, take_columns}
+use Rattle.files.specs.Columns.{Column, Count, at_end, take_columns}
+use Rattle.dataset.specs.Columns.{Of, Table, Items, Warehouses, Districts, Stocks, Customers, Histories, Orders, NewOrders, Lines, fields_fault, kind_fault, kind_of, letter, sizes}
 use Rattle.dataset.specs.FirstFault.{is_end, kind_place, record_place}
 use Rattle.dataset.specs.Order.{place_numbers}
 use Rattle.dataset.specs.TakenAs.{IsRowOf, IsTakenAs}

@@ -24,7 +24,6 @@ pub mod Counted
 pub mod Expecting
 pub mod Completed
 pub mod Short
-pub mod ColumnsRead
 pub mod RowFault
 pub mod LetterFault
 pub mod RowsFault

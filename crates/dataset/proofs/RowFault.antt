@@ -24,19 +24,20 @@ use Rattle.files.specs.declared.fault.FaultKind.TheVariants as fault
 use Rattle.files.specs.declared.fields.Fields.{Fields}
 use Rattle.files.specs.Fault.{fault_number, least_fault}
 use Rattle.files.specs.FieldRead.{Taking, taking, field_read, is_within, next_read, noted, value_or, whole_read}
-use Rattle.files.specs.KindsRead.{count_read, credit_read, in_range, moment_read, money_read, optional_read, read_as, signed_value}
+use Rattle.files.specs.KindsRead.{count_read, credit_read, in_range, moment_read, money_read, optional_read, read_as, signed_value, word_read}
 use Rattle.files.specs.Number.{is_number}
 use Rattle.files.proofs.KindsRead.{moment_fault}
 use Rattle.files.specs.Taken.{Takes, fault_of, fields_left, with_fault}
 use Rattle.files.specs.Word.{credit_text, text_read}
 use Rattle.dataset.specs.declared.loader.Loader.{Loader}
 use Rattle.dataset.specs.declared.place.Place.{Place}
-use Rattle.dataset.specs.Columns.{Column, Whole, Words, Cents, Moment, Credit, MaybeWhole, MaybeMoment, Count, Table, Items, Warehouses, Districts, Stocks, Customers, Histories, Orders, NewOrders, Lines, Sizes, sizes, at_end, columns_end, columns_fault, comes_after, key_columns, or_order, other_columns, place_in, table_number, take_column, take_columns}
+use Rattle.files.specs.Columns.{Column, Whole, Words, Cents, Moment, Credit, MaybeWhole, MaybeMoment, Count, Spelt, at_end, columns_end, columns_fault, found, take_column, take_columns, take_word}
+use Rattle.dataset.specs.Columns.{Table, Items, Warehouses, Districts, Stocks, Customers, Histories, Orders, NewOrders, Lines, Sizes, sizes, comes_after, key_columns, or_order, other_columns, place_in, table_number}
 use Rattle.dataset.specs.Order.{follows, place_numbers}
 use Rattle.dataset.specs.Records.{Number, IsSpelt, AreSpelt}
 use Rattle.dataset.specs.TakenAs.{IsRowOf}
 use Rattle.dataset.proofs.Bounds.{bounds, both}
-use Rattle.dataset.proofs.ColumnsRead.{take-append}
+use Rattle.files.proofs.ColumnsRead.{take-append}
 
 -- ---- faults of fields come before a record out of order
 
@@ -144,6 +145,7 @@ module _ {X : Type 0} (read : List ℕ → Result X FaultKind) (other : X) (low 
 -- no count, which is told after a record out of order
 abbrev pub is_low : Column → Bool
 is_low (Count count) = false
+is_low (Spelt fault) = false
 is_low (Whole low high) = true
 is_low (Words width) = true
 is_low Cents = true
@@ -161,6 +163,7 @@ column_low Credit e = keeps_low credit_read Good credit_low
 column_low (MaybeWhole low high) e = keeps_low (optional_read (whole_read low high)) None (optional_low (whole_read low high) (whole_low low high))
 column_low MaybeMoment e = keeps_low (optional_read moment_read) None (optional_low moment_read moment_low)
 column_low (Count count) e = absurd cc
+column_low (Spelt fault) e = absurd cc
 
 columns_low : (columns : List Column) → list_all is_low columns ≡ true → KeepsLow (take_columns columns)
 columns_low [] e = (λ t h. h, λ t u h. h)
@@ -196,6 +199,10 @@ module _ {X : Type 0} (read : List ℕ → Result X FaultKind) (other : X) where
   next_stays [] known h = tt
   next_stays (field ∷ rest) known h = or_stays (read field) rest known h
 
+found_stays : (kind : Option FaultKind) (t : Taking) → IsSomeFault t.fault → IsSomeFault (found kind t).fault
+found_stays None t h = h
+found_stays (Some kind) t h = tt
+
 column_stays : (column : Column) (t : Taking) → IsSomeFault t.fault → IsSomeFault (take_column column t).fault
 column_stays (Whole low high) t h = next_stays (whole_read low high) low t.left t.fault h
 column_stays (Words width) t h = next_stays (text_read width) [] t.left t.fault h
@@ -205,6 +212,7 @@ column_stays Credit t h = next_stays credit_read Good t.left t.fault h
 column_stays (MaybeWhole low high) t h = next_stays (optional_read (whole_read low high)) None t.left t.fault h
 column_stays MaybeMoment t h = next_stays (optional_read moment_read) None t.left t.fault h
 column_stays (Count count) t h = next_stays (count_read count) count t.left t.fault h
+column_stays (Spelt fault) t h = found_stays (fault (take_word t).0) (take_word t).1 (next_stays word_read [] t.left t.fault h)
 
 columns_stay : (columns : List Column) (t : Taking) → IsSomeFault t.fault → IsSomeFault (take_columns columns t).fault
 columns_stay [] t h = h

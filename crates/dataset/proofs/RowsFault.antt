@@ -18,14 +18,17 @@ use Rattle.files.specs.Span.{record_size}
 use Rattle.dataset.specs.declared.loader.Loader.{Loader}
 use Rattle.dataset.specs.declared.loader.Taken.TheVariants.{Row, End}
 use Rattle.dataset.specs.Columns.{Sizes, Table, Items, Warehouses, Districts, Stocks, Customers, Histories, Orders, NewOrders, Lines, fields_fault, letter, record_fault, sizes}
-use Rattle.dataset.specs.FirstFault.{behind_end, counts, fault_at, is_end, is_of, last_place, number_of, record_place, rows_fault}
+use Rattle.files.specs.FirstFault.{behind_end, fault_at}
+use Rattle.dataset.specs.FirstFault.{counts, is_end, is_of, last_place, number_of, record_place, rows_fault}
 use Rattle.dataset.specs.Loading.{Entries, HasLoaded, entry_records}
 use Rattle.dataset.specs.Order.{place_numbers}
 use Rattle.dataset.specs.Records.{Field, Words, AreSpelt, header_fields, row_records, payment_records, history_fields, item_fields, warehouse_fields, district_fields, stock_fields, customer_fields, order_fields, new_order_fields, line_fields}
-use Rattle.dataset.specs.TakenAs.{IsAt, IsReadWell, ReachesEnd, TellsFault, TellsKind}
+use Rattle.dataset.specs.TakenAs.{IsAt, IsReadWell, ReachesEnd}
+use Rattle.files.specs.FirstFault.{TellsKind}
+use Rattle.files.specs.FirstFault.{TellsFault}
 use Rattle.dataset.specs.Writing.{table_counts}
 use Rattle.dataset.proofs.Counted.{count_rows, count_entries, payments_counted}
-use Rattle.dataset.proofs.Expecting.{next_row, no_row}
+use Rattle.files.proofs.RecordsLeft.{long_record, next_row, no_row, not_advanced, short_record}
 use Rattle.dataset.proofs.Keys.{all-append}
 
 -- ---- how many records of each table were read
@@ -179,15 +182,9 @@ last-push scale (first ∷ next ∷ read) row = last-push scale (next ∷ read) 
 
 -- ---- one record more
 
-short_record : (scale : Sizes) (last counts : List ℕ) (row : List (List ℕ)) → record_size row ≤ 65536 → record_fault scale last counts row ≡ fields_fault scale last counts row
-short_record scale last counts row short = let no : nat_lt 65536 (record_size row) ≡ false = grind (arith, nat_tests) in rw no refl
-
-long_record : (scale : Sizes) (last counts : List ℕ) (row : List (List ℕ)) → 65536 < record_size row → record_fault scale last counts row ≡ Some fault.WrongShape
-long_record scale last counts row long = let yes : nat_lt 65536 (record_size row) ≡ true = grind (arith, nat_tests) in rw yes refl
-
 module _ (l : Loader) (read : List (List (List ℕ))) (at : IsAt l read) (row : List (List ℕ)) (rest : List (List (List ℕ))) (short : record_size row ≤ 65536) where
   known : record_fault (sizes l.scale) (last_place (sizes l.scale) read) (counts read) row ≡ fields_fault (sizes l.scale) (place_numbers l.last) (table_counts l.rows) row
-  known = short_record (sizes l.scale) (last_place (sizes l.scale) read) (counts read) row short
+  known = short_record row (fields_fault (sizes l.scale) (last_place (sizes l.scale) read) (counts read) row) short
       ∙ (λ i. fields_fault (sizes l.scale) (sym at.last i) (sym (counts_loaded l read at.loaded) i) row)
 
   -- a row's record without a fault
@@ -212,18 +209,11 @@ module _ (l : Loader) (read : List (List (List ℕ))) (at : IsAt l read) (row : 
 pub long_found : (scale : Sizes) (read rows : List (List (List ℕ))) → FirstIsTooLong rows → rows_fault scale read rows ≡ Some (fault_at fault.WrongShape (length read + 1))
 unfolding rows_fault
 long_found scale read [] long = absurd long
-long_found scale read (row ∷ rows) long = rw (long_record scale (last_place scale read) (counts read) row long) refl
+long_found scale read (row ∷ rows) long = rw (long_record row (fields_fault scale (last_place scale read) (counts read) row) long) refl
 
 pub no_end : (scale : Sizes) (read : List (List (List ℕ))) → rows_fault scale read [] ≡ Some (fault_at fault.NoEnd (length read + 1))
 unfolding rows_fault
 no_end scale read = refl
-
--- a reader that failed, or a record that is too long
-pub not_advanced : (error : FileError) (number : ℕ) (first : Option FileFault) → (error ≡ NoMemory) ⊎ (error ≡ file_fault fault.Io number) ⊎ (error ≡ file_fault fault.WrongShape number)
-    → (error ≡ file_fault fault.WrongShape number → first ≡ Some (fault_at fault.WrongShape number)) → TellsFault error first
-not_advanced error number first (inl e) long = subst (λ x. TellsFault x first) (sym e) tt
-not_advanced error number first (inr (inl e)) long = subst (λ x. TellsFault x first) (sym e) (inl refl)
-not_advanced error number first (inr (inr e)) long = subst (λ x. TellsFault x first) (sym e) (inr (long e))
 
 -- ---- in the midst of the records
 

@@ -1,17 +1,14 @@
 -- The columns of a dataset's records, and what is faulty in a record.
-use Rattle.std.specs.Prelude.{ℕ, pos, List, [], ◌∷◌, ◌++◌, map, take, length, Bool, true, false, nat_lt, codes, Option, Some, None, if◌then◌else◌}
+use Rattle.std.specs.Prelude.{ℕ, List, [], ◌∷◌, ◌++◌, map, take, length, Bool, true, false, codes, Option, Some, None, if◌then◌else◌}
 use Rattle.std.specs.Ordering.{nat_cmp, is_le, is_lt}
 use Rattle.std.specs.Cmp.Lexicographic.{slice_cmp}
 use Rattle.std.specs.Str.{bytes_eq}
 use Rattle.std.specs.Str.Parse.{digits_value}
-use Rattle.rows.specs.declared.records.Credit.TheVariants.{Good}
 use Rattle.schema.specs.declared.scale.Scale.{Scale}
 use Rattle.files.specs.declared.fault.FaultKind.{FaultKind}
 use Rattle.files.specs.declared.fault.FaultKind.TheVariants.{WrongShape, OutOfOrder}
-use Rattle.files.specs.FieldRead.{Taking, field_read, noted, whole_read}
-use Rattle.files.specs.KindsRead.{count_read, credit_read, moment_read, money_read, optional_read}
-use Rattle.files.specs.Span.{record_size}
-use Rattle.files.specs.Word.{text_read}
+use Rattle.files.specs.Columns.{Column, Whole, Words, Cents, Moment, Credit, MaybeWhole, MaybeMoment, Count, columns_fault}
+use Rattle.files.specs.FirstFault.{unless_long}
 
 -- ---- the tables and their columns
 
@@ -35,18 +32,6 @@ pub data Table : Type 0 where
   Orders : Table
   NewOrders : Table
   Lines : Table
-
--- a column: a number from low to high, a text of at most so many bytes, money, a moment, GC or BC, a number or a
--- moment that may be null, and a count that is known before
-pub data Column : Type 0 where
-  Whole : ℕ → ℕ → Column
-  Words : ℕ → Column
-  Cents : Column
-  Moment : Column
-  Credit : Column
-  MaybeWhole : ℕ → ℕ → Column
-  MaybeMoment : Column
-  Count : ℕ → Column
 
 -- the letter with which a table's records begin
 abbrev pub letter : Table → List ℕ
@@ -124,37 +109,6 @@ other_columns scale NewOrders = []
 other_columns scale Lines =
     Whole 1 scale.items ∷ Whole 1 scale.warehouses ∷ MaybeMoment ∷ Whole 1 10 ∷ Whole 0 999999 ∷ Words 24 ∷ []
 
--- ---- the fault of fields
-
--- the next field is read as one of the column: the least fault so far, and the fields that are left
-abbrev pub take_column : Column → Taking → Taking
-take_column (Whole low high) t = (field_read (whole_read low high) low t).1
-take_column (Words width) t = (field_read (text_read width) [] t).1
-take_column Cents t = (field_read money_read (pos 0) t).1
-take_column Moment t = (field_read moment_read 0 t).1
-take_column Credit t = (field_read credit_read Good t).1
-take_column (MaybeWhole low high) t = (field_read (optional_read (whole_read low high)) None t).1
-take_column MaybeMoment t = (field_read (optional_read moment_read) None t).1
-take_column (Count count) t = (field_read (count_read count) count t).1
-
--- the same of several, from left to right
-abbrev pub take_columns : List Column → Taking → Taking
-take_columns [] t = t
-take_columns (column ∷ columns) t = take_columns columns (take_column column t)
-
--- fields that are left over are too many
-abbrev pub at_end : List (List ℕ) → Option FaultKind → Option FaultKind
-at_end [] fault = fault
-at_end (field ∷ fields) fault = noted fault WrongShape
-
--- the least fault, where these are all columns that are left
-abbrev pub columns_end : List Column → Taking → Option FaultKind
-columns_end columns t = let u : Taking = take_columns columns t in at_end u.left u.fault
-
--- the least fault of a record's fields, where these are its columns
-abbrev pub columns_fault : List Column → List (List ℕ) → Option FaultKind
-columns_fault columns fields = columns_end columns (record { left = fields; fault = None })
-
 -- ---- the fault of a record
 
 -- what a record's first field says that it is: a table's, or the end
@@ -203,7 +157,6 @@ abbrev pub fields_fault : Sizes → List ℕ → List ℕ → List (List ℕ) �
 fields_fault scale last counts [] = Some WrongShape
 fields_fault scale last counts (word ∷ fields) = kind_fault scale last counts (kind_of word) fields
 
--- a record may have 65,536 bytes, with one for the end of each field
+-- the fault of a record, which may be too long
 abbrev pub record_fault : Sizes → List ℕ → List ℕ → List (List ℕ) → Option FaultKind
-record_fault scale last counts fields =
-    if nat_lt 65536 (record_size fields) then Some WrongShape else fields_fault scale last counts fields
+record_fault scale last counts fields = unless_long fields (fields_fault scale last counts fields)

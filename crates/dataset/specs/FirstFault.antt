@@ -1,15 +1,16 @@
 -- The first fault of a dataset, by its record and its kind.
-use Rattle.std.specs.Prelude.{◌≡◌, ◌+◌, ◌⊎◌, ℕ, List, [], ◌∷◌, ◌++◌, length, drop, get_or, Bool, false, ◌&&◌, ◌==◌, nat_lt, codes, Option, Some, None, MatchOption, if◌then◌else◌}
+use Rattle.std.specs.Prelude.{◌≡◌, ◌+◌, ◌⊎◌, ℕ, List, [], ◌∷◌, ◌++◌, length, drop, get_or, Bool, false, ◌&&◌, ◌==◌, codes, Option, Some, None, MatchOption, if◌then◌else◌}
 use Rattle.std.specs.Str.{bytes_eq}
 use Rattle.std.specs.Str.Parse.{digits_value}
 use Rattle.schema.specs.Database.{Database, IsWithinScale}
 use Rattle.files.specs.declared.fault.FaultKind.{FaultKind}
-use Rattle.files.specs.declared.fault.FaultKind.TheVariants.{NoHeader, WrongShape, NoEnd, AfterEnd, ScaleBroken, Io}
+use Rattle.files.specs.declared.fault.FaultKind.TheVariants.{NoHeader, NoEnd, ScaleBroken, Io}
 use Rattle.files.specs.declared.fault.FileFault.{FileFault}
 use Rattle.files.specs.declared.fault.FileError.{FileError}
 use Rattle.files.specs.declared.fault.FileError.TheVariants.{NoMemory, File}
-use Rattle.files.specs.Span.{record_size}
-use Rattle.dataset.specs.Columns.{Sizes, Column, Table, Kind, Of, Ending, Whole, Items, Warehouses, Districts, Stocks, Customers, Histories, Orders, NewOrders, Lines, columns_fault, kind_of, letter, place_in, record_fault}
+use Rattle.files.specs.FirstFault.{behind_end, fault_at, fault_or, unless_long}
+use Rattle.dataset.specs.Columns.{Sizes, Table, Kind, Of, Ending, Items, Warehouses, Districts, Stocks, Customers, Histories, Orders, NewOrders, Lines, kind_of, letter, place_in, record_fault}
+use Rattle.files.specs.Columns.{Column, Whole, columns_fault}
 use Rattle.dataset.specs.Ranges.{InRange}
 use Rattle.dataset.specs.Records.{AreRecords}
 
@@ -55,20 +56,6 @@ is_end (word ∷ fields) = bytes_eq word (codes "END")
 
 -- ---- the first fault
 
--- of that kind, at that record
-abbrev pub fault_at : FaultKind → ℕ → FileFault
-fault_at kind number = record { kind = kind; «record» = number }
-
--- records that come after the end record, which has that number
-abbrev pub behind_end : ℕ → List (List (List ℕ)) → Option FileFault
-behind_end number [] = None
-behind_end number (row ∷ rows) = Some (fault_at AfterEnd (number + 1))
-
--- a record's fault, or what is found from the next one on
-abbrev pub fault_or : Option FaultKind → ℕ → Option FileFault → Option FileFault
-fault_or (Some kind) number next = Some (fault_at kind number)
-fault_or None number next = next
-
 -- The first fault of the records that come after those before, the first of which is the header. Each record is seen
 -- beside those before it: it comes after the last of them, and the end record counts them.
 unfoldable pub rows_fault : Sizes → List (List (List ℕ)) → List (List (List ℕ)) → Option FileFault
@@ -97,7 +84,7 @@ abbrev pub told_header : List (List ℕ) → Option FaultKind
 told_header fields = if is_header fields then columns_fault header_columns (drop 2 fields) else Some NoHeader
 
 abbrev pub header_fault : List (List ℕ) → Option FaultKind
-header_fault fields = if nat_lt 65536 (record_size fields) then Some WrongShape else told_header fields
+header_fault fields = unless_long fields (told_header fields)
 
 -- the first fault of a text with these records, but for a rule of the scale that its rows break
 unfoldable pub first_fault : List (List (List ℕ)) → Option FileFault

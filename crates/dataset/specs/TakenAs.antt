@@ -14,7 +14,8 @@ use Rattle.dataset.specs.declared.loader.Loader.{Loader}
 use Rattle.dataset.specs.declared.loader.Taken.{Taken}
 use Rattle.dataset.specs.declared.loader.Taken.TheVariants.{Row, End}
 use Rattle.dataset.specs.Columns.{Sizes, Table, Of, fields_fault, kind_fault, place_in, sizes}
-use Rattle.dataset.specs.FirstFault.{behind_end, fault_at, first_fault, is_end, last_place, record_place, rows_fault, told_header}
+use Rattle.files.specs.FirstFault.{TellsKind, behind_end, fault_at}
+use Rattle.dataset.specs.FirstFault.{first_fault, is_end, last_place, record_place, rows_fault, told_header}
 use Rattle.dataset.specs.Loading.{HasLoaded}
 use Rattle.dataset.specs.Order.{place_numbers}
 use Rattle.dataset.specs.Records.{AreSpelt, header_fields}
@@ -38,16 +39,6 @@ pub record IsTakenAs (taken : Taken) (l m : Loader) (old new : Fields) : Type 0 
 abbrev pub IsHeaderAs : Result Scale FaultKind → List (List ℕ) → Type 0
 IsHeaderAs (Ok scale) fields = told_header fields ≡ None
 IsHeaderAs (Err kind) fields = told_header fields ≡ Some kind
-
--- an error is that fault of the text, beside want of memory and a reader that failed
-abbrev pub TellsFault : FileError → Option FileFault → Type 0
-TellsFault NoMemory first = Unit {0}
-TellsFault (File fault) first = (fault.kind ≡ Io) ⊎ (first ≡ Some fault)
-
--- an error is that fault of the record of that number, beside want of memory
-abbrev pub TellsKind : FileError → Option FaultKind → ℕ → Type 0
-TellsKind NoMemory kind number = Unit {0}
-TellsKind (File fault) kind number = (kind ≡ Some fault.kind) × (fault.record ≡ number)
 
 -- a record without a fault was taken
 pub record IsReadWell (taken : Taken) (l m : Loader) (fields : List (List ℕ)) : Type 0 where

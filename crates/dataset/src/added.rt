@@ -1,7 +1,7 @@
 ghost use Rattle.std.specs.Prelude.{◌≡◌, [], ◌∷◌, ◌++◌, None, OnOk};
 ghost use Rattle.std.specs.BTreeMap.{insert_entry};
 ghost use Rattle.files.specs.Taken.{fields_left, fault_of};
-ghost use Rattle.dataset.specs.Columns.{at_end};
+ghost use Rattle.files.specs.Columns.{at_end};
 ghost use Rattle.dataset.specs.Taking.{Awaits};
 
 use files::Fields;

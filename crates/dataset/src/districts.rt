@@ -5,7 +5,8 @@ ghost use Rattle.dataset.specs.Records.{AreSpelt, district_key_fields, district_
 ghost use Rattle.dataset.specs.Taking.{Added, Reads, ReadsRow};
 ghost use Rattle.dataset.specs.Writing.{Adds};
 ghost use Rattle.dataset.specs.Ranges.{DistrictInRange};
-ghost use Rattle.dataset.specs.Columns.{Sizes, take_columns, columns_end, sizes, key_columns, other_columns, Districts};
+ghost use Rattle.dataset.specs.Columns.{Sizes, sizes, key_columns, other_columns, Districts};
+ghost use Rattle.files.specs.Columns.{take_columns, columns_end};
 ghost use Rattle.files.specs.FieldRead.{taking};
 
 use crate::added;

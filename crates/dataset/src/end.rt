@@ -3,7 +3,7 @@ ghost use Rattle.files.specs.Taken.{Takes};
 ghost use Rattle.dataset.specs.Records.{AreSpelt, Field, Number};
 ghost use Rattle.dataset.specs.Taking.{Awaits};
 ghost use Rattle.dataset.specs.Writing.{Adds, count_fields, row_counts, table_counts};
-ghost use Rattle.dataset.specs.Columns.{take_columns, Count};
+ghost use Rattle.files.specs.Columns.{take_columns, Count};
 ghost use Rattle.files.specs.FieldRead.{taking};
 
 use crate::histories;

@@ -8,7 +8,8 @@ ghost use Rattle.dataset.specs.Records.{AreSpelt, history_columns, history_field
 ghost use Rattle.dataset.specs.Taking.{Added, Reads, ReadsRow};
 ghost use Rattle.dataset.specs.Writing.{Writes};
 ghost use Rattle.dataset.specs.Ranges.{IsPayment};
-ghost use Rattle.dataset.specs.Columns.{take_columns, columns_end, sizes, other_columns, Histories};
+ghost use Rattle.files.specs.Columns.{take_columns, columns_end};
+ghost use Rattle.dataset.specs.Columns.{sizes, other_columns, Histories};
 ghost use Rattle.files.specs.FieldRead.{taking};
 
 use crate::moments::put_moment;

@@ -4,7 +4,8 @@ ghost use Rattle.files.specs.Taken.{fault_of, Takes};
 ghost use Rattle.dataset.specs.Records.{AreSpelt, Number, item_columns, item_fields};
 ghost use Rattle.dataset.specs.Taking.{Added, Reads, ReadsRow};
 ghost use Rattle.dataset.specs.Ranges.{ItemInRange};
-ghost use Rattle.dataset.specs.Columns.{Sizes, take_columns, columns_end, sizes, key_columns, other_columns, Items};
+ghost use Rattle.dataset.specs.Columns.{Sizes, sizes, key_columns, other_columns, Items};
+ghost use Rattle.files.specs.Columns.{take_columns, columns_end};
 ghost use Rattle.files.specs.FieldRead.{taking};
 
 use crate::added;

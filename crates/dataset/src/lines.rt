@@ -8,7 +8,8 @@ ghost use Rattle.dataset.specs.Records.{AreSpelt, Number, delivery_field, line_c
 ghost use Rattle.dataset.specs.Taking.{Added, Reads, ReadsRow};
 ghost use Rattle.dataset.specs.Writing.{Adds};
 ghost use Rattle.dataset.specs.Ranges.{IsMoment, IsLine, IsLineKey};
-ghost use Rattle.dataset.specs.Columns.{take_columns, columns_end, sizes, key_columns, other_columns, Lines, MaybeMoment};
+ghost use Rattle.files.specs.Columns.{take_columns, columns_end, MaybeMoment};
+ghost use Rattle.dataset.specs.Columns.{sizes, key_columns, other_columns, Lines};
 ghost use Rattle.files.specs.FieldRead.{taking};
 
 use crate::moments::put_moment;

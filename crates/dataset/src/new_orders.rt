@@ -4,7 +4,7 @@ ghost use Rattle.rows.specs.Keys.{order_cmp};
 ghost use Rattle.files.specs.Taken.{fault_of};
 ghost use Rattle.dataset.specs.Records.{new_order_fields};
 ghost use Rattle.dataset.specs.Taking.{Added, ReadsRow};
-ghost use Rattle.dataset.specs.Columns.{columns_end};
+ghost use Rattle.files.specs.Columns.{columns_end};
 ghost use Rattle.files.specs.FieldRead.{taking};
 
 use crate::recorded::Recorded;

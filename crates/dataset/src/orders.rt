@@ -8,7 +8,8 @@ ghost use Rattle.dataset.specs.Records.{AreSpelt, Number, carrier_field, order_k
 ghost use Rattle.dataset.specs.Taking.{Added, Reads, ReadsRow};
 ghost use Rattle.dataset.specs.Writing.{Adds};
 ghost use Rattle.dataset.specs.Ranges.{IsFrom, IsOrder, IsOrderKey};
-ghost use Rattle.dataset.specs.Columns.{take_columns, columns_end, sizes, key_columns, other_columns, Orders, Whole, MaybeWhole};
+ghost use Rattle.files.specs.Columns.{take_columns, columns_end, Whole, MaybeWhole};
+ghost use Rattle.dataset.specs.Columns.{sizes, key_columns, other_columns, Orders};
 ghost use Rattle.files.specs.FieldRead.{taking};
 
 use crate::moments::put_moment;

@@ -5,7 +5,8 @@ ghost use Rattle.dataset.specs.Records.{AreSpelt, Words, Number, stock_columns, 
 ghost use Rattle.dataset.specs.Taking.{Added, Reads, ReadsRow};
 ghost use Rattle.dataset.specs.Writing.{Adds};
 ghost use Rattle.dataset.specs.Ranges.{StockInRange, AreDistrictInfos};
-ghost use Rattle.dataset.specs.Columns.{Sizes, take_columns, columns_end, sizes, key_columns, other_columns, Stocks, info_columns};
+ghost use Rattle.dataset.specs.Columns.{Sizes, sizes, key_columns, other_columns, Stocks, info_columns};
+ghost use Rattle.files.specs.Columns.{take_columns, columns_end};
 ghost use Rattle.files.specs.FieldRead.{taking};
 
 use crate::added;

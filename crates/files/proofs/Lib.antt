@@ -14,3 +14,5 @@ pub mod Parts
 pub mod ShortNumbers
 pub mod FieldsRead
 pub mod KindsRead
+pub mod ColumnsRead
+pub mod RecordsLeft

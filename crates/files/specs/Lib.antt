@@ -13,3 +13,5 @@ pub mod ByteOrder
 pub mod Unquoted
 pub mod FieldRead
 pub mod KindsRead
+pub mod Columns
+pub mod FirstFault

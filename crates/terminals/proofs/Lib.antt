@@ -9,3 +9,9 @@ pub mod OrderedLines
 pub mod ReplyTexts
 pub mod RequestTexts
 pub mod StatusLines
+pub mod ColumnsTaken
+pub mod FirstFaults
+pub mod ColumnsReadBack
+pub mod RequestsReadBack
+pub mod RepliesReadBack
+pub mod ReadBack

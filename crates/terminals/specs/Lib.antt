@@ -18,3 +18,7 @@ pub mod LogRecord
 pub mod Outputs
 pub mod RecordLaws
 pub mod Moves
+pub mod RequestColumns
+pub mod ReplyColumns
+pub mod FirstFault
+pub mod ReadLaws

@@ -1,8 +1,12 @@
 ghost use Rattle.std.specs.Prelude.{◌≡◌, ◌⊎◌, ◌≤◌, ◌++◌, ◌∷◌, [], ℕ, List, drop, false, OnOk, IfOk, IfErr};
+ghost use Rattle.files.specs.Columns.{take_column};
+ghost use Rattle.files.specs.FieldRead.{taking};
 ghost use Rattle.files.specs.Taken.{fields_left, TakesWell};
+ghost use Rattle.files.specs.Word.{text_read};
 ghost use Rattle.requests.specs.LastName.{begins_with_hash};
 ghost use Rattle.rows.specs.Text.{IsText};
 ghost use Rattle.terminals.specs.ChoiceText.{choice_text};
+ghost use Rattle.terminals.specs.RequestColumns.{choice, choice_fault, fault_in};
 
 use arrayvec::ArrayString;
 use files::{FaultKind, Fields, NewRecord, parse_text, parse_whole};
@@ -16,6 +20,7 @@ use schema::NoMemory;
 pub fn take(fields: &mut Fields) -> Choice
     ensures left { fields_left fields.new ≡ drop 1 (fields_left fields.old) }
     ensures taken { TakesWell fields.old fields.new (choice_text result) }
+    ensures column { taking fields.new ≡ take_column choice (taking fields.old) }
 {
     match parse(fields.word()) {
         Ok(choice) => choice,
@@ -47,6 +52,7 @@ fn parse(field: &str) -> Result<Choice, FaultKind>
     ensures number { (number : ℕ) → number ≤ 4294967295 → choice_text (Choice.Number number) ≡ field.now → result ≡ Ok (Choice.Number number) }
     ensures name { (name : List ℕ) → IsText 16 name → begins_with_hash name ≡ false → choice_text (Choice.LastName name) ≡ field.now → result ≡ Ok (Choice.LastName name) }
     ensures faults { IfErr result (λ kind. (kind ≡ FaultKind.NotOfKind) ⊎ (kind ≡ FaultKind.OutOfRange)) }
+    ensures fault { fault_in result ≡ choice_fault field.now }
 {
     let Some(digits) = field.strip_prefix("#") else {
         return parse_name(field);
@@ -61,6 +67,7 @@ fn parse_name(field: &str) -> Result<Choice, FaultKind>
     ensures value { IfOk result (λ choice. choice_text choice ≡ field.now) }
     ensures name { (name : List ℕ) → IsText 16 name → begins_with_hash name ≡ false → name ≡ field.now → result ≡ Ok (Choice.LastName name) }
     ensures faults { IfErr result (λ kind. (kind ≡ FaultKind.NotOfKind) ⊎ (kind ≡ FaultKind.OutOfRange)) }
+    ensures fault { begins_with_hash field.now ≡ false → fault_in result ≡ fault_in (text_read 16 field.now) }
 {
     match LastName::checked_new(parse_text(field)?) {
         Some(name) => Ok(Choice::LastName(name)),

@@ -59,7 +59,10 @@ mod stock_level;
 
 pub use answers::{answer_record, write_answers};
 pub use files::{FaultKind, FileError, FileFault};
-pub use laws::{choice_texts_differ, logs_differ, moves_differ, schedules_differ, scripts_differ};
+pub use laws::{
+    choice_texts_differ, logs_are_read, logs_differ, moves_are_read, moves_differ,
+    schedules_are_read, schedules_differ, scripts_are_read, scripts_differ,
+};
 pub use log_records::{log_record, read_log, write_log};
 pub use moves::read_moves;
 pub use outputs::write_outputs;

@@ -1,8 +1,11 @@
-ghost use Rattle.std.specs.Prelude.{◌≡◌, ◌≢◌, ℕ, List, [], ◌∷◌, ◌++◌, Some, None, IfOk, IfSome, IfNone, OnOk};
+ghost use Rattle.std.specs.Prelude.{◌≡◌, ◌≢◌, ◌<◌, ◌-◌, ◌^◌, ℕ, List, [], ◌∷◌, ◌++◌, length, Some, None, IfOk, IfSome, IfNone, OnOk, MatchResult};
 ghost use Rattle.std.specs.Io.KnownBytes.{Appends};
-ghost use Rattle.files.specs.Place.{HasRead, IsCsv, record_fields};
+ghost use Rattle.files.specs.FieldRead.{Taking, taking};
+ghost use Rattle.files.specs.FirstFault.{TellsFault};
+ghost use Rattle.files.specs.Place.{HasLeft, HasRead, IsCsv, record_fields, record_number};
 ghost use Rattle.files.specs.Taken.{fault_of, Takes};
 ghost use Rattle.files.specs.Written.{csv_text};
+ghost use Rattle.terminals.specs.FirstFault.{IsReadAs, ReachesEnd, listing_fault};
 ghost use Rattle.terminals.specs.Listing.{IsListing, end_fields};
 
 use files::{FaultKind, Fields, FileError, NewRecord, RecordWriter, Records};
@@ -15,6 +18,9 @@ pub trait Listed: Drop {
     // The record of the item at that place, from 0, has these fields.
     ghost is_record: { ℕ → Self → List (List ℕ) → Type 0 };
 
+    // What is known of the record at that place once its fields are taken, of which the first one is that word.
+    ghost after: { ℕ → List ℕ → Taking → Taking };
+
     /// Takes the fields of the record at that place, from 0, that come after the first one. `None` where
     /// it can't be told what they are, which is noted as a fault.
     fn take(
@@ -24,7 +30,8 @@ pub trait Listed: Drop {
         fields: &mut Fields,
     ) -> Result<Option<Self>, NoMemory>
         ensures taken { IfOk result (λ taken. IfSome taken (λ item. Takes fields.old fields.new (λ said. is_record place item (first.now ∷ said)))) }
-        ensures unknown { IfOk result (λ taken. IfNone taken (fault_of fields.new ≢ None)) };
+        ensures unknown { IfOk result (λ taken. IfNone taken (fault_of fields.new ≢ None)) }
+        ensures columns { OnOk result (taking fields.new ≡ after place first.now (taking fields.old)) };
 }
 
 /// The items that `source` lists, each in its record, before the end record.
@@ -32,7 +39,9 @@ pub trait Listed: Drop {
 /// A fault comes with its record, and nothing else is given then. The first faulty record decides, and
 /// of its faults the least one. Memory is taken item by item.
 pub fn read<T: Listed, R: Read + Drop>(alloc: Global, source: R) -> Result<Vec<T>, FileError>
-    ensures { IfOk result (λ listed. (text : List ℕ) → R.remaining source ≡ Some text → (rows : List (List (List ℕ))) × IsCsv text rows × IsListing T.is_record listed.items rows) }
+    ensures listed { IfOk result (λ listed. (text : List ℕ) → R.remaining source ≡ Some text → (rows : List (List (List ℕ))) × IsCsv text rows × IsListing T.is_record listed.items rows) }
+    ensures first { (text : List ℕ) (rows : List (List (List ℕ))) → R.remaining source ≡ Some text → IsCsv text rows → length rows < 2 ^ 64 - 1
+        → MatchResult result (λ _. listing_fault T.after 0 rows ≡ None) (λ error. TellsFault error (listing_fault T.after 0 rows)) }
 {
     let mut records = Records::new(alloc, source);
     let items = read_items(alloc, &mut records)?;
@@ -45,8 +54,10 @@ fn read_items<T: Listed, R: Read + Drop>(
     alloc: Global,
     records: &mut Records<R>,
 ) -> Result<Vec<T>, FileError>
-    ensures { IfOk result (λ listed. (text : List ℕ) → HasRead R.remaining text [] records.old
+    ensures listed { IfOk result (λ listed. (text : List ℕ) → HasRead R.remaining text [] records.old
         → (rows : List (List (List ℕ))) × HasRead R.remaining text rows records.new × IsListing T.is_record listed.items rows) }
+    ensures first { (rows : List (List (List ℕ))) → length rows < 2 ^ 64 - 1 → record_number records.old ≡ 0 → HasLeft R.remaining rows records.old
+        → MatchResult result (λ _. ReachesEnd R.remaining T.after rows records.new) (λ error. TellsFault error (listing_fault T.after 0 rows)) }
 {
     let mut items = Vec::new(alloc);
     for _ in 0..u64::MAX {
@@ -73,6 +84,7 @@ fn parse<T: Listed, R: Read + Drop>(
 ) -> Result<Option<T>, FileError>
     ensures item { IfOk result (λ said. IfSome said (λ item. T.is_record count item (record_fields records.now))) }
     ensures end { IfOk result (λ said. IfNone said (record_fields records.now ≡ end_fields count)) }
+    ensures exact { IsReadAs T.after count (record_fields records.now) (record_number records.now) result }
 {
     let mut fields = records.fields();
     let item = match fields.word() {

@@ -1,10 +1,14 @@
-ghost use Rattle.std.specs.Prelude.{◌≡◌, ◌≢◌, ℕ, List, ◌∷◌, ◌++◌, length, Some, None, IfOk, IfSome, IfNone, OnOk};
+ghost use Rattle.std.specs.Prelude.{◌≡◌, ◌≢◌, ◌<◌, ◌-◌, ◌+◌, ◌^◌, ◌==◌, ℕ, List, ◌∷◌, ◌++◌, length, Some, None, IfOk, IfSome, IfNone, OnOk, MatchResult, if◌then◌else◌};
 ghost use Rattle.std.specs.Fmt.{decimal};
 ghost use Rattle.std.specs.Io.KnownBytes.{Appends};
 ghost use Rattle.csv.specs.Records.{fields_of};
+ghost use Rattle.files.specs.Columns.{found, take_word};
+ghost use Rattle.files.specs.FieldRead.{taking, whole_read};
+ghost use Rattle.files.specs.FirstFault.{TellsFault};
 ghost use Rattle.files.specs.Place.{IsCsv};
 ghost use Rattle.files.specs.Taken.{fields_left, fault_of, TakesWell, Takes};
 ghost use Rattle.files.specs.Written.{csv_text};
+ghost use Rattle.terminals.specs.FirstFault.{after_entry, log_fault, other_place, pass_over, IsCounted, IsAsked};
 ghost use Rattle.terminals.specs.LogRecord.{IsLog, IsLogRecord};
 ghost use Rattle.terminals.specs.RequestFields.{IsRequest};
 
@@ -25,13 +29,17 @@ use std::io::{Read, Write};
 /// request fields than the kind has is `WrongShape`. Whether a session is one of 64 and the numbers fit a
 /// scale is not looked at, nor whether a reply is of its request's kind. Memory is taken entry by entry.
 pub fn read_log<R: Read + Drop>(alloc: Global, source: R) -> Result<Vec<Entry>, FileError>
-    ensures { IfOk result (λ entries. (text : List ℕ) → R.remaining source ≡ Some text → (rows : List (List (List ℕ))) × IsCsv text rows × IsLog entries.items rows) }
+    ensures log { IfOk result (λ entries. (text : List ℕ) → R.remaining source ≡ Some text → (rows : List (List (List ℕ))) × IsCsv text rows × IsLog entries.items rows) }
+    ensures first { (text : List ℕ) (rows : List (List (List ℕ))) → R.remaining source ≡ Some text → IsCsv text rows → length rows < 2 ^ 64 - 1
+        → MatchResult result (λ _. log_fault rows ≡ None) (λ error. TellsFault error (log_fault rows)) }
 {
     listing::read(alloc, source)
 }
 
 impl Listed for Entry {
     ghost is_record = { IsLogRecord };
+
+    ghost after = { after_entry };
 
     fn take(
         alloc: Global,
@@ -66,6 +74,7 @@ impl Listed for Entry {
 fn expect_place(place: u64, field: &str, fields: &mut Fields)
     ensures place { fault_of fields.new ≡ None → (fault_of fields.old ≡ None) × (field.now ≡ decimal place) }
     ensures left { fields_left fields.new ≡ fields_left fields.old }
+    ensures fault { taking fields.new ≡ found (other_place place (whole_read 0 4294967295 field.now)) (taking fields.old) }
 {
     match parse_whole(field, 0, u64::from(u32::MAX)) {
         Ok(number) => {
@@ -82,6 +91,7 @@ fn expect_place(place: u64, field: &str, fields: &mut Fields)
 fn take_count(fields: &mut Fields) -> Option<u64>
     ensures taken { IfSome result (λ count. TakesWell fields.old fields.new (decimal count)) }
     ensures unknown { IfNone result (fault_of fields.new ≢ None) }
+    ensures counted { IsCounted result (taking fields.old) (taking fields.new) }
 {
     match parse_whole(fields.word(), 0, u64::MAX) {
         Ok(count) => Some(count),
@@ -98,7 +108,8 @@ fn take_count(fields: &mut Fields) -> Option<u64>
 
 // Passes over the fields after the count, where it isn't known which of them are the request's.
 fn pass_over_rest(fields: &mut Fields)
-    ensures { fault_of fields.old ≢ None → fault_of fields.new ≢ None }
+    ensures stays { fault_of fields.old ≢ None → fault_of fields.new ≢ None }
+    ensures columns { taking fields.new ≡ pass_over (taking fields.old) }
 {
     for _ in 0..fields.left() {
         fields.word();
@@ -110,6 +121,7 @@ fn pass_over_rest(fields: &mut Fields)
 fn take_request(alloc: Global, count: u64, fields: &mut Fields) -> Result<Option<Request>, NoMemory>
     ensures taken { IfOk result (λ taken. IfSome taken (λ request. Takes fields.old fields.new (λ asked. IsRequest request asked × (length asked ≡ count)))) }
     ensures unknown { IfOk result (λ taken. IfNone taken (fault_of fields.new ≢ None)) }
+    ensures asked { IfOk result (λ taken. IsAsked taken count (taking fields.old) (taking fields.new)) }
 {
     let letter = fields.word();
     let Some(request) = request::take(alloc, count, letter, fields)? else {

@@ -1,8 +1,12 @@
 //! The fields of a move's order.
 ghost use Rattle.std.specs.Prelude.{◌≡◌, ◌∷◌, None};
 ghost use Rattle.std.specs.Fmt.{decimal};
+ghost use Rattle.files.specs.Columns.{found};
+ghost use Rattle.files.specs.FieldRead.{taking, whole_read};
 ghost use Rattle.files.specs.Taken.{fields_left, fault_of, Takes};
+ghost use Rattle.terminals.specs.FirstFault.{after_move};
 ghost use Rattle.terminals.specs.MoveOrders.{order_fields};
+ghost use Rattle.terminals.specs.RequestColumns.{fault_in};
 
 use files::{Fields, parse_whole};
 use range_moves::MoveOrder;
@@ -10,7 +14,8 @@ use range_moves::MoveOrder;
 /// Takes the fields of a move's order that come after its first one, which is `lo`. Each is a number from 0
 /// to 4,294,967,295; whether there are such warehouses and such an executor is not looked at.
 pub fn take_order(lo: &str, fields: &mut Fields) -> MoveOrder
-    ensures { Takes fields.old fields.new (λ said. lo.now ∷ said ≡ order_fields result) }
+    ensures taken { Takes fields.old fields.new (λ said. lo.now ∷ said ≡ order_fields result) }
+    ensures columns { taking fields.new ≡ after_move lo.now (taking fields.old) }
 {
     MoveOrder {
         lo: read_number(lo, fields),
@@ -23,6 +28,7 @@ pub fn take_order(lo: &str, fields: &mut Fields) -> MoveOrder
 fn read_number(field: &str, fields: &mut Fields) -> u32
     ensures read { fault_of fields.new ≡ None → (fault_of fields.old ≡ None) × (field.now ≡ decimal result) }
     ensures left { fields_left fields.new ≡ fields_left fields.old }
+    ensures fault { taking fields.new ≡ found (fault_in (whole_read 0 4294967295 field.now)) (taking fields.old) }
 {
     match parse_whole(field, 0, u64::from(u32::MAX)) {
         Ok(number) => number as u32,

@@ -1,5 +1,7 @@
-ghost use Rattle.std.specs.Prelude.{◌≡◌, ℕ, List, Some, IfOk};
+ghost use Rattle.std.specs.Prelude.{◌≡◌, ◌<◌, ◌-◌, ◌^◌, ℕ, List, length, Some, None, IfOk, MatchResult};
+ghost use Rattle.files.specs.FirstFault.{TellsFault};
 ghost use Rattle.files.specs.Place.{IsCsv};
+ghost use Rattle.terminals.specs.FirstFault.{after_move, moves_fault};
 ghost use Rattle.terminals.specs.Moves.{AreMoves, IsMoveRecord};
 
 use crate::listing;
@@ -17,13 +19,17 @@ use std::io::Read;
 /// of its faults the least one. Whether there are such warehouses and executors, and whether a range ends
 /// before it begins, is not looked at. Memory is taken record by record.
 pub fn read_moves<R: Read + Drop>(alloc: Global, source: R) -> Result<Vec<MoveOrder>, FileError>
-    ensures { IfOk result (λ moves. (text : List ℕ) → R.remaining source ≡ Some text → (rows : List (List (List ℕ))) × IsCsv text rows × AreMoves moves.items rows) }
+    ensures moves { IfOk result (λ moves. (text : List ℕ) → R.remaining source ≡ Some text → (rows : List (List (List ℕ))) × IsCsv text rows × AreMoves moves.items rows) }
+    ensures first { (text : List ℕ) (rows : List (List (List ℕ))) → R.remaining source ≡ Some text → IsCsv text rows → length rows < 2 ^ 64 - 1
+        → MatchResult result (λ _. moves_fault rows ≡ None) (λ error. TellsFault error (moves_fault rows)) }
 {
     listing::read(alloc, source)
 }
 
 impl Listed for MoveOrder {
     ghost is_record = { λ place. IsMoveRecord };
+
+    ghost after = { λ place. after_move };
 
     fn take(
         _alloc: Global,

@@ -1,6 +1,10 @@
 //! The fields of a New-Order, and of its reply.
-ghost use Rattle.std.specs.Prelude.{◌≡◌, ℕ, List, ◌∷◌, ◌++◌, length, OnOk, IfOk, codes, flat_map};
-ghost use Rattle.files.specs.Taken.{TakesWell, Takes};
+ghost use Rattle.std.specs.Prelude.{◌≡◌, ◌-◌, ◌/◌, ◌+◌, ◌*◌, min, ℕ, List, ◌∷◌, ◌++◌, length, OnOk, IfOk, codes, flat_map};
+ghost use Rattle.files.specs.Columns.{Spelt, take_column, take_columns};
+ghost use Rattle.files.specs.FieldRead.{taking};
+ghost use Rattle.files.specs.Taken.{fields_left, TakesWell, Takes};
+ghost use Rattle.terminals.specs.ReplyColumns.{brand_fault, new_order_shown, shown_columns, shown_in};
+ghost use Rattle.terminals.specs.RequestColumns.{line_columns, lines_in, new_order_columns, repeated};
 ghost use Rattle.terminals.specs.NewOrder.{IsNewOrder, IsNewOrderReply, brand_text, new_order_line_fields, order_shown_fields, ordered_line_fields};
 
 use crate::request::{put_district, take_district};
@@ -23,7 +27,9 @@ const SHOWN_FIELDS: u64 = 8;
 /// Takes the fields of a New-Order that come after its letter, of `count` fields with the letter. Those of
 /// them that make no line, or come after 64 lines, are left.
 pub fn take(alloc: Global, count: u64, fields: &mut Fields) -> Result<NewOrder, NoMemory>
-    ensures { IfOk result (λ order. Takes fields.old fields.new (λ said. IsNewOrder order (codes "N" ∷ said))) }
+    ensures taken { IfOk result (λ order. Takes fields.old fields.new (λ said. IsNewOrder order (codes "N" ∷ said))) }
+    ensures columns { OnOk result (taking fields.new ≡ take_columns (new_order_columns count (length (fields_left fields.old))) (taking fields.old)) }
+    ensures lines { IfOk result (λ order. length order.lines ≡ lines_in count (length (fields_left fields.old) - 4)) }
 {
     Ok(NewOrder {
         home: take_district(fields),
@@ -39,7 +45,9 @@ fn take_lines(
     count: u64,
     fields: &mut Fields,
 ) -> Result<Lines<OrderedLine>, NoMemory>
-    ensures { IfOk result (λ lines. Takes fields.old fields.new (λ said. said ≡ flat_map ordered_line_fields lines)) }
+    ensures taken { IfOk result (λ lines. Takes fields.old fields.new (λ said. said ≡ flat_map ordered_line_fields lines)) }
+    ensures columns { IfOk result (λ lines. taking fields.new ≡ take_columns (repeated (length lines) line_columns) (taking fields.old)) }
+    ensures many { IfOk result (λ lines. length lines ≡ min (min count (length (fields_left fields.old) / 3)) 64) }
 {
     let mut lines = Vec::new(alloc);
     let there = fields.left() as u64 / ORDERED_FIELDS;
@@ -51,7 +59,8 @@ fn take_lines(
 }
 
 fn take_line(fields: &mut Fields) -> OrderedLine
-    ensures { Takes fields.old fields.new (λ said. said ≡ ordered_line_fields result) }
+    ensures taken { Takes fields.old fields.new (λ said. said ≡ ordered_line_fields result) }
+    ensures columns { taking fields.new ≡ take_columns line_columns (taking fields.old) }
 {
     OrderedLine {
         i_id: fields.whole(0, u32::MAX),
@@ -62,7 +71,8 @@ fn take_line(fields: &mut Fields) -> OrderedLine
 
 /// How many fields the New-Order has, with its letter.
 pub fn field_count(asked: &NewOrder) -> u64
-    ensures { (fields : List (List ℕ)) → IsNewOrder asked.now fields → length fields ≡ result }
+    ensures fields { (fields : List (List ℕ)) → IsNewOrder asked.now fields → length fields ≡ result }
+    ensures size { result ≡ 5 + 3 * length asked.now.lines }
 {
     FIELDS + ORDERED_FIELDS * asked.lines.as_slice().len() as u64
 }
@@ -97,7 +107,8 @@ fn put_line(row: &mut NewRecord, line: &OrderedLine) -> Result<(), NoMemory>
 
 /// Takes the fields of a reply of New-Order that come after its letter, to the end of the record.
 pub fn take_reply(alloc: Global, fields: &mut Fields) -> Result<NewOrderReply, NoMemory>
-    ensures { IfOk result (λ shown. Takes fields.old fields.new (λ said. IsNewOrderReply shown (codes "N" ∷ said))) }
+    ensures taken { IfOk result (λ shown. Takes fields.old fields.new (λ said. IsNewOrderReply shown (codes "N" ∷ said))) }
+    ensures columns { OnOk result (taking fields.new ≡ take_columns (new_order_shown (length (fields_left fields.old))) (taking fields.old)) }
 {
     Ok(NewOrderReply {
         last: fields.text(),
@@ -113,7 +124,8 @@ pub fn take_reply(alloc: Global, fields: &mut Fields) -> Result<NewOrderReply, N
 }
 
 fn take_shown_lines(alloc: Global, fields: &mut Fields) -> Result<Lines<NewOrderLine>, NoMemory>
-    ensures { IfOk result (λ lines. Takes fields.old fields.new (λ said. said ≡ flat_map new_order_line_fields lines)) }
+    ensures taken { IfOk result (λ lines. Takes fields.old fields.new (λ said. said ≡ flat_map new_order_line_fields lines)) }
+    ensures columns { OnOk result (taking fields.new ≡ take_columns (repeated (shown_in (length (fields_left fields.old))) shown_columns) (taking fields.old)) }
 {
     let mut lines = Vec::new(alloc);
     for _ in 0..(fields.left() as u64 / SHOWN_FIELDS).min(MOST_LINES) {
@@ -124,7 +136,8 @@ fn take_shown_lines(alloc: Global, fields: &mut Fields) -> Result<Lines<NewOrder
 }
 
 fn take_shown_line(fields: &mut Fields) -> NewOrderLine
-    ensures { Takes fields.old fields.new (λ said. said ≡ new_order_line_fields result) }
+    ensures taken { Takes fields.old fields.new (λ said. said ≡ new_order_line_fields result) }
+    ensures columns { taking fields.new ≡ take_columns shown_columns (taking fields.old) }
 {
     NewOrderLine {
         supply_w_id: fields.whole(0, u32::MAX),
@@ -140,7 +153,8 @@ fn take_shown_line(fields: &mut Fields) -> NewOrderLine
 
 // Takes `B` or `G`; another word is noted as `OutOfRange`.
 fn take_brand(fields: &mut Fields) -> BrandGeneric
-    ensures { TakesWell fields.old fields.new (brand_text result) }
+    ensures taken { TakesWell fields.old fields.new (brand_text result) }
+    ensures column { taking fields.new ≡ take_column (Spelt brand_fault) (taking fields.old) }
 {
     match fields.word() {
         "B" => BrandGeneric::Brand,

@@ -1,6 +1,10 @@
 //! The fields of an Order-Status, and of its reply.
 ghost use Rattle.std.specs.Prelude.{◌≡◌, ℕ, List, [], ◌∷◌, ◌++◌, None, OnOk, IfOk, codes};
-ghost use Rattle.files.specs.Taken.{TakesWell, Takes};
+ghost use Rattle.files.specs.Columns.{take_column, take_columns};
+ghost use Rattle.files.specs.FieldRead.{taking};
+ghost use Rattle.files.specs.Taken.{fields_left, TakesWell, Takes};
+ghost use Rattle.terminals.specs.ReplyColumns.{null, order_status_shown, status_columns, status_order};
+ghost use Rattle.terminals.specs.RequestColumns.{order_status_columns};
 ghost use Rattle.terminals.specs.Nullable.{IsNullableMoment, nullable_text};
 ghost use Rattle.terminals.specs.OrderStatus.{IsOrderStatus, IsOrderStatusReply, IsStatusLine, IsStatusOrder, AreStatusLines};
 
@@ -19,7 +23,8 @@ const LINE_FIELDS: usize = 5;
 
 /// Takes the fields of an Order-Status that come after its letter.
 pub fn take(fields: &mut Fields) -> OrderStatus
-    ensures { Takes fields.old fields.new (λ said. IsOrderStatus result (codes "O" ∷ said)) }
+    ensures taken { Takes fields.old fields.new (λ said. IsOrderStatus result (codes "O" ∷ said)) }
+    ensures columns { taking fields.new ≡ take_columns order_status_columns (taking fields.old) }
 {
     OrderStatus {
         home: take_district(fields),
@@ -38,7 +43,8 @@ pub fn put(row: &mut NewRecord, asked: &OrderStatus) -> Result<(), NoMemory>
 
 /// Takes the fields of a reply of Order-Status that come after its letter, to the end of the record.
 pub fn take_reply(alloc: Global, fields: &mut Fields) -> Result<OrderStatusReply, NoMemory>
-    ensures { IfOk result (λ shown. Takes fields.old fields.new (λ said. IsOrderStatusReply shown (codes "O" ∷ said))) }
+    ensures taken { IfOk result (λ shown. Takes fields.old fields.new (λ said. IsOrderStatusReply shown (codes "O" ∷ said))) }
+    ensures columns { OnOk result (taking fields.new ≡ take_columns (order_status_shown (fields_left fields.old)) (taking fields.old)) }
 {
     Ok(OrderStatusReply {
         c_id: fields.whole(0, u32::MAX),
@@ -53,7 +59,8 @@ pub fn take_reply(alloc: Global, fields: &mut Fields) -> Result<OrderStatusReply
 // Takes what is shown of an order, with as many lines as the record has left; `None` where there is no
 // order, and O_ID is empty.
 fn take_order(alloc: Global, fields: &mut Fields) -> Result<Option<StatusOrder>, NoMemory>
-    ensures { IfOk result (λ order. Takes fields.old fields.new (IsStatusOrder order)) }
+    ensures taken { IfOk result (λ order. Takes fields.old fields.new (IsStatusOrder order)) }
+    ensures columns { OnOk result (taking fields.new ≡ take_columns (status_order (fields_left fields.old)) (taking fields.old)) }
 {
     if fields.next_is_empty() {
         take_no_order(fields);
@@ -77,7 +84,8 @@ fn take_order(alloc: Global, fields: &mut Fields) -> Result<Option<StatusOrder>,
 
 // Takes the three empty fields that stand for no order.
 fn take_no_order(fields: &mut Fields)
-    ensures { Takes fields.old fields.new (IsStatusOrder None) }
+    ensures taken { Takes fields.old fields.new (IsStatusOrder None) }
+    ensures columns { taking fields.new ≡ take_columns (null ∷ null ∷ null ∷ []) (taking fields.old) }
 {
     take_null(fields);
     take_null(fields);
@@ -86,7 +94,8 @@ fn take_no_order(fields: &mut Fields)
 
 // Takes an empty field; another one is noted as `NotOfKind`.
 fn take_null(fields: &mut Fields)
-    ensures { TakesWell fields.old fields.new [] }
+    ensures taken { TakesWell fields.old fields.new [] }
+    ensures column { taking fields.new ≡ take_column null (taking fields.old) }
 {
     if !fields.word().is_empty() {
         fields.note(FaultKind::NotOfKind);
@@ -94,7 +103,8 @@ fn take_null(fields: &mut Fields)
 }
 
 fn take_line(fields: &mut Fields) -> StatusLine
-    ensures { Takes fields.old fields.new (IsStatusLine result) }
+    ensures taken { Takes fields.old fields.new (IsStatusLine result) }
+    ensures columns { taking fields.new ≡ take_columns status_columns (taking fields.old) }
 {
     StatusLine {
         i_id: fields.whole(0, u32::MAX),

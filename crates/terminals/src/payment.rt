@@ -1,7 +1,11 @@
 //! The fields of a payment, and of its reply.
 ghost use Rattle.std.specs.Prelude.{◌≡◌, ℕ, List, ◌∷◌, ◌++◌, OnOk, codes};
+ghost use Rattle.files.specs.Columns.{take_columns};
+ghost use Rattle.files.specs.FieldRead.{taking};
 ghost use Rattle.files.specs.Taken.{Takes};
 ghost use Rattle.terminals.specs.Payment.{IsPayment, payment_reply_fields};
+ghost use Rattle.terminals.specs.ReplyColumns.{payment_shown};
+ghost use Rattle.terminals.specs.RequestColumns.{payment_columns};
 
 use crate::choice;
 use crate::request::{put_district, take_district};
@@ -14,7 +18,8 @@ pub const FIELDS: u64 = 8;
 
 /// Takes the fields of a payment that come after its letter.
 pub fn take(fields: &mut Fields) -> Payment
-    ensures { Takes fields.old fields.new (λ said. IsPayment result (codes "P" ∷ said)) }
+    ensures taken { Takes fields.old fields.new (λ said. IsPayment result (codes "P" ∷ said)) }
+    ensures columns { taking fields.new ≡ take_columns payment_columns (taking fields.old) }
 {
     Payment {
         home: take_district(fields),
@@ -39,7 +44,8 @@ pub fn put(row: &mut NewRecord, payment: &Payment) -> Result<(), NoMemory>
 
 /// Takes the fields of a payment's reply that come after its letter.
 pub fn take_reply(fields: &mut Fields) -> PaymentReply
-    ensures { Takes fields.old fields.new (λ said. codes "P" ∷ said ≡ payment_reply_fields result) }
+    ensures taken { Takes fields.old fields.new (λ said. codes "P" ∷ said ≡ payment_reply_fields result) }
+    ensures columns { taking fields.new ≡ take_columns payment_shown (taking fields.old) }
 {
     PaymentReply {
         c_id: fields.whole(0, u32::MAX),

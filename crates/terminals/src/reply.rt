@@ -1,5 +1,7 @@
 ghost use Rattle.std.specs.Prelude.{◌≡◌, ◌≢◌, ℕ, List, ◌∷◌, ◌++◌, None, OnOk, IfOk, IfSome, IfNone};
+ghost use Rattle.files.specs.FieldRead.{taking};
 ghost use Rattle.files.specs.Taken.{fault_of, TakesAll, Takes};
+ghost use Rattle.terminals.specs.ReplyColumns.{after_reply, after_why};
 ghost use Rattle.terminals.specs.ReplyFields.{IsReply, IsShown, fault_fields};
 
 use crate::{delivery, new_order, order_status, payment, stock_level};
@@ -13,6 +15,7 @@ use std::alloc::Global;
 pub fn take(alloc: Global, letter: &str, fields: &mut Fields) -> Result<Option<Reply>, NoMemory>
     ensures taken { IfOk result (λ taken. IfSome taken (λ reply. Takes fields.old fields.new (λ said. IsReply reply (letter.now ∷ said)))) }
     ensures unknown { IfOk result (λ taken. IfNone taken (fault_of fields.new ≢ None)) }
+    ensures columns { OnOk result (taking fields.new ≡ after_reply letter.now (taking fields.old)) }
 {
     match letter {
         "N" => {
@@ -50,6 +53,7 @@ pub fn take(alloc: Global, letter: &str, fields: &mut Fields) -> Result<Option<R
 fn take_fault(fields: &mut Fields) -> Option<Fault>
     ensures taken { IfSome result (λ fault. TakesAll fields.old fields.new (fault_fields fault)) }
     ensures unknown { IfNone result (fault_of fields.new ≢ None) }
+    ensures columns { taking fields.new ≡ after_why (taking fields.old) }
 {
     match fields.word() {
         "nocustomer" => Some(Fault::NoCustomer),

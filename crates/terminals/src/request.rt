@@ -1,6 +1,10 @@
 ghost use Rattle.std.specs.Prelude.{◌≡◌, ◌≢◌, ℕ, List, [], ◌∷◌, ◌++◌, length, None, OnOk, IfOk, IfSome, IfNone};
 ghost use Rattle.std.specs.Fmt.{decimal};
-ghost use Rattle.files.specs.Taken.{fault_of, TakesAll, Takes};
+ghost use Rattle.files.specs.Columns.{take_columns};
+ghost use Rattle.files.specs.FieldRead.{taking};
+ghost use Rattle.files.specs.Taken.{fault_of, fields_left, TakesAll, Takes};
+ghost use Rattle.terminals.specs.FirstFault.{after_asked};
+ghost use Rattle.terminals.specs.RequestColumns.{after_request, number, request_columns, request_size, HasColumns};
 ghost use Rattle.terminals.specs.RequestFields.{IsRequest};
 
 use crate::listing::{Listed, Told};
@@ -13,13 +17,15 @@ use std::alloc::Global;
 impl Listed for Request {
     ghost is_record = { λ place. IsRequest };
 
+    ghost after = { λ place. after_asked };
+
     fn take(
         alloc: Global,
         _place: u64,
         letter: &str,
         fields: &mut Fields,
     ) -> Result<Option<Request>, NoMemory> {
-        take(alloc, fields.count() as u64, letter, fields)
+        take(alloc, fields.left() as u64 + 1, letter, fields)
     }
 }
 
@@ -42,6 +48,8 @@ pub fn take(
 ) -> Result<Option<Request>, NoMemory>
     ensures taken { IfOk result (λ taken. IfSome taken (λ request. Takes fields.old fields.new (λ said. IsRequest request (letter.now ∷ said)))) }
     ensures unknown { IfOk result (λ taken. IfNone taken (fault_of fields.new ≢ None)) }
+    ensures columns { OnOk result (taking fields.new ≡ after_request count letter.now (taking fields.old)) }
+    ensures size { IfOk result (λ taken. HasColumns taken (request_columns count letter.now (length (fields_left fields.old)))) }
 {
     match letter {
         "N" => {
@@ -61,7 +69,8 @@ pub fn take(
 
 /// Takes the numbers of a warehouse and of a district.
 pub(crate) fn take_district(fields: &mut Fields) -> DistrictKey
-    ensures { TakesAll fields.old fields.new (decimal result.w_id ∷ decimal result.d_id ∷ []) }
+    ensures taken { TakesAll fields.old fields.new (decimal result.w_id ∷ decimal result.d_id ∷ []) }
+    ensures columns { taking fields.new ≡ take_columns (number ∷ number ∷ []) (taking fields.old) }
 {
     DistrictKey {
         w_id: fields.whole(0, u32::MAX),
@@ -71,7 +80,8 @@ pub(crate) fn take_district(fields: &mut Fields) -> DistrictKey
 
 /// How many fields the request has, with its letter.
 pub fn field_count(request: &Request) -> u64
-    ensures { (fields : List (List ℕ)) → IsRequest request.now fields → length fields ≡ result }
+    ensures fields { (fields : List (List ℕ)) → IsRequest request.now fields → length fields ≡ result }
+    ensures size { result ≡ request_size request.now }
 {
     match request {
         Request::NewOrder(asked) => new_order::field_count(asked),

@@ -1,6 +1,9 @@
-ghost use Rattle.std.specs.Prelude.{◌≡◌, ◌≢◌, ℕ, List, ◌∷◌, Some, None, codes, IfOk, IfSome, IfNone};
+ghost use Rattle.std.specs.Prelude.{◌≡◌, ◌≢◌, ◌<◌, ◌-◌, ◌^◌, ℕ, List, ◌∷◌, length, Some, None, codes, IfOk, IfSome, IfNone, OnOk, MatchResult};
 ghost use Rattle.files.specs.Place.{IsCsv};
+ghost use Rattle.files.specs.FieldRead.{taking};
+ghost use Rattle.files.specs.FirstFault.{TellsFault};
 ghost use Rattle.files.specs.Taken.{fault_of, Takes};
+ghost use Rattle.terminals.specs.FirstFault.{after_scheduled, after_submit, schedule_fault};
 ghost use Rattle.terminals.specs.Schedule.{IsSchedule, IsScheduleRecord};
 
 use crate::listing::Listed;
@@ -18,13 +21,17 @@ use std::io::Read;
 /// of its faults the least one. Whether there are such sessions, warehouses and executors, and whether the
 /// numbers fit a scale, is not looked at. Memory is taken record by record.
 pub fn read_schedule<R: Read + Drop>(alloc: Global, source: R) -> Result<Vec<Scheduled>, FileError>
-    ensures { IfOk result (λ schedule. (text : List ℕ) → R.remaining source ≡ Some text → (rows : List (List (List ℕ))) × IsCsv text rows × IsSchedule schedule.items rows) }
+    ensures schedule { IfOk result (λ schedule. (text : List ℕ) → R.remaining source ≡ Some text → (rows : List (List (List ℕ))) × IsCsv text rows × IsSchedule schedule.items rows) }
+    ensures first { (text : List ℕ) (rows : List (List (List ℕ))) → R.remaining source ≡ Some text → IsCsv text rows → length rows < 2 ^ 64 - 1
+        → MatchResult result (λ _. schedule_fault rows ≡ None) (λ error. TellsFault error (schedule_fault rows)) }
 {
     listing::read(alloc, source)
 }
 
 impl Listed for Scheduled {
     ghost is_record = { λ place. IsScheduleRecord };
+
+    ghost after = { λ place. after_scheduled };
 
     fn take(
         alloc: Global,
@@ -39,6 +46,7 @@ impl Listed for Scheduled {
 fn take(alloc: Global, letter: &str, fields: &mut Fields) -> Result<Option<Scheduled>, NoMemory>
     ensures taken { IfOk result (λ taken. IfSome taken (λ item. Takes fields.old fields.new (λ said. IsScheduleRecord item (letter.now ∷ said)))) }
     ensures unknown { IfOk result (λ taken. IfNone taken (fault_of fields.new ≢ None)) }
+    ensures columns { OnOk result (taking fields.new ≡ after_scheduled letter.now (taking fields.old)) }
 {
     match letter {
         "S" => take_submit(alloc, fields),
@@ -64,6 +72,7 @@ fn take(alloc: Global, letter: &str, fields: &mut Fields) -> Result<Option<Sched
 fn take_submit(alloc: Global, fields: &mut Fields) -> Result<Option<Scheduled>, NoMemory>
     ensures taken { IfOk result (λ taken. IfSome taken (λ item. Takes fields.old fields.new (λ said. IsScheduleRecord item (codes "S" ∷ said)))) }
     ensures unknown { IfOk result (λ taken. IfNone taken (fault_of fields.new ≢ None)) }
+    ensures columns { OnOk result (taking fields.new ≡ after_submit (taking fields.old)) }
 {
     let session = fields.whole(0, u32::MAX);
     let number = fields.whole(0, u32::MAX);

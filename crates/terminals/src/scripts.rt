@@ -1,7 +1,9 @@
-ghost use Rattle.std.specs.Prelude.{◌≡◌, ℕ, List, Some, IfOk};
+ghost use Rattle.std.specs.Prelude.{◌≡◌, ◌<◌, ◌-◌, ◌^◌, ℕ, List, length, Some, None, IfOk, MatchResult};
 ghost use Rattle.std.specs.Io.KnownBytes.{Appends};
+ghost use Rattle.files.specs.FirstFault.{TellsFault};
 ghost use Rattle.files.specs.Place.{IsCsv};
 ghost use Rattle.files.specs.Written.{csv_text};
+ghost use Rattle.terminals.specs.FirstFault.{script_fault};
 ghost use Rattle.terminals.specs.Script.{IsScript};
 
 use crate::listing;
@@ -16,7 +18,9 @@ use std::io::{Read, Write};
 /// of its faults the least one. Whether the numbers fit a scale is not looked at. Memory is taken
 /// request by request; more requests than a script has are as want of memory.
 pub fn read_script<R: Read + Drop>(alloc: Global, source: R) -> Result<Script, FileError>
-    ensures { IfOk result (λ script. (text : List ℕ) → R.remaining source ≡ Some text → (rows : List (List (List ℕ))) × IsCsv text rows × IsScript script rows) }
+    ensures script { IfOk result (λ script. (text : List ℕ) → R.remaining source ≡ Some text → (rows : List (List (List ℕ))) × IsCsv text rows × IsScript script rows) }
+    ensures first { (text : List ℕ) (rows : List (List (List ℕ))) → R.remaining source ≡ Some text → IsCsv text rows → length rows < 2 ^ 64 - 1
+        → MatchResult result (λ _. script_fault rows ≡ None) (λ error. TellsFault error (script_fault rows)) }
 {
     let requests = listing::read(alloc, source)?;
     match Script::checked_new(requests) {

@@ -1,5 +1,5 @@
 use Rattle.dataset.specs.Columns.{other_columns, Customers}
-use Rattle.dataset.proofs.ColumnsRead.{took_all}
+use Rattle.files.proofs.ColumnsRead.{took_all}
 use Rattle.files.specs.Taken.{fault_of}
 use Rattle.dataset.proofs.Reading.{awaits-whole}
 use Rattle.dataset.specs.Records.{customer_columns}

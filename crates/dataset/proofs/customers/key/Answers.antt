@@ -1,4 +1,4 @@
-use Rattle.dataset.proofs.ColumnsRead.{and_then, whole}
+use Rattle.files.proofs.ColumnsRead.{and_then, whole}
 use Rattle.dataset.proofs.Taking.{takes-then, takes-number}
 use Rattle.dataset.proofs.Bounds.{bounds, both}
 use Rattle.dataset.proofs.Reading.{reads-number}

@@ -1,5 +1,5 @@
 use Rattle.dataset.specs.Columns.{address_columns}
-use Rattle.dataset.proofs.ColumnsRead.{cents, several, and_then, whole, words}
+use Rattle.files.proofs.ColumnsRead.{cents, several, and_then, whole, words}
 use Rattle.dataset.specs.Records.{address_fields}
 use Rattle.dataset.proofs.Taking.{takes-fields, takes-then, takes-words, takes-number, takes-money}
 use Rattle.std.proofs.Common.{[], ◌∷◌, ◌++◌}

@@ -1,7 +1,7 @@
 use Rattle.std.proofs.Common.{◌≡◌}
 use Rattle.files.specs.FieldRead.{taking}
-use Rattle.dataset.specs.Columns.{Count, take_columns}
-use Rattle.dataset.proofs.ColumnsRead.{and_then, count, several}
+use Rattle.files.specs.Columns.{Count, take_columns}
+use Rattle.files.proofs.ColumnsRead.{and_then, count, several}
 use Rattle.std.proofs.Common.{rules, [], ◌∷◌, List, length, map, sum, subst}
 use Rattle.rows.specs.declared.records.History.{History}
 use Rattle.files.specs.Taken.{Takes}

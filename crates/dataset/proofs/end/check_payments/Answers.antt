@@ -1,4 +1,4 @@
-use Rattle.dataset.proofs.ColumnsRead.{count}
+use Rattle.files.proofs.ColumnsRead.{count}
 use Rattle.std.proofs.Common.{arith, length, map, sum, ◌∙◌}
 use Rattle.dataset.proofs.Taking.{takes-counted}
 use Rattle.dataset.proofs.Reading.{reads-count}

@@ -1,4 +1,4 @@
-use Rattle.dataset.proofs.ColumnsRead.{and_then, ended, whole}
+use Rattle.files.proofs.ColumnsRead.{and_then, ended, whole}
 use Rattle.dataset.proofs.HeaderFault.{header_made, header_told, no_header, not_five, other_name, other_version}
 use Rattle.schema.specs.Limits.{IsScale}
 use Rattle.files.specs.Taken.{fault_of}

@@ -1,7 +1,7 @@
 use Rattle.files.specs.Taken.{fault_of, fields_left}
 use Rattle.schema.specs.Scale.{district_slot}
 use Rattle.dataset.specs.Columns.{other_columns, Histories, sizes}
-use Rattle.dataset.proofs.ColumnsRead.{ended, took_all}
+use Rattle.files.proofs.ColumnsRead.{ended, took_all}
 use Rattle.dataset.proofs.Taking.{added_whole}
 use Rattle.dataset.proofs.Reading.{awaits-whole, awaits-none}
 use Rattle.dataset.specs.Payments.{Pays}

@@ -1,5 +1,5 @@
 use Rattle.dataset.specs.Columns.{Customers, key_columns, sizes}
-use Rattle.dataset.proofs.ColumnsRead.{cents, several, moment, and_then, words}
+use Rattle.files.proofs.ColumnsRead.{cents, several, moment, and_then, words}
 use Rattle.dataset.specs.Records.{customer_key_fields}
 use Rattle.dataset.proofs.Taking.{takes-fields, takes-then, takes-words, takes-money, takes-date}
 use Rattle.files.proofs.Ascii.{utf8_moment}

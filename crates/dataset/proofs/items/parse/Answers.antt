@@ -1,4 +1,4 @@
-use Rattle.dataset.proofs.ColumnsRead.{and_then, whole, words}
+use Rattle.files.proofs.ColumnsRead.{and_then, whole, words}
 use Rattle.dataset.proofs.Taking.{takes-then, takes-words, takes-number}
 use Rattle.dataset.proofs.Reading.{reads-words, reads-number}
 use Rattle.dataset.proofs.items.parse.Goals as goal

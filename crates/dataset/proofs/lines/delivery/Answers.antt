@@ -1,4 +1,4 @@
-use Rattle.dataset.proofs.ColumnsRead.{maybe_moment}
+use Rattle.files.proofs.ColumnsRead.{maybe_moment}
 use Rattle.dataset.proofs.Taking.{takes-delivery}
 use Rattle.dataset.proofs.Reading.{reads-delivery}
 use Rattle.dataset.proofs.lines.delivery.Goals as goal

@@ -1,6 +1,6 @@
 use Rattle.std.proofs.Common.{[], ◌∷◌}
-use Rattle.dataset.specs.Columns.{MaybeMoment}
-use Rattle.dataset.proofs.ColumnsRead.{several, and_then, whole, words}
+use Rattle.files.specs.Columns.{MaybeMoment}
+use Rattle.files.proofs.ColumnsRead.{several, and_then, whole, words}
 use Rattle.std.proofs.Common.{[], ◌∷◌}
 use Rattle.dataset.specs.Records.{delivery_field}
 use Rattle.dataset.proofs.Taking.{takes-fields, takes-then, takes-words, takes-number}

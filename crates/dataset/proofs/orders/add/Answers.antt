@@ -1,6 +1,7 @@
 use Rattle.files.specs.Taken.{fault_of, fields_left}
-use Rattle.dataset.specs.Columns.{MaybeWhole, Orders, Whole, other_columns, sizes}
-use Rattle.dataset.proofs.ColumnsRead.{and_then, ended, moment, several, took_all, whole}
+use Rattle.files.specs.Columns.{MaybeWhole, Whole}
+use Rattle.dataset.specs.Columns.{Orders, other_columns, sizes}
+use Rattle.files.proofs.ColumnsRead.{and_then, ended, moment, several, took_all, whole}
 use Rattle.std.proofs.Common.{◌≡◌, true, false, not, [], ◌∷◌, None, ap, ◌∙◌}
 use Rattle.std.specs.Prelude.{if◌then◌else◌}
 use Rattle.std.specs.BTreeMap.{insert_entry}

@@ -1,4 +1,4 @@
-use Rattle.dataset.proofs.ColumnsRead.{maybe_whole}
+use Rattle.files.proofs.ColumnsRead.{maybe_whole}
 use Rattle.dataset.proofs.Taking.{takes-carrier}
 use Rattle.dataset.proofs.Reading.{reads-carrier}
 use Rattle.dataset.proofs.orders.carrier.Goals as goal

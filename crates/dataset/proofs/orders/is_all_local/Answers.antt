@@ -1,4 +1,4 @@
-use Rattle.dataset.proofs.ColumnsRead.{whole}
+use Rattle.files.proofs.ColumnsRead.{whole}
 use Rattle.std.specs.Prelude.{if◌then◌else◌, nat_eq}
 use Rattle.std.proofs.Common.{◌≡◌, ◌≤◌, Bool, true, false, refl, ap, ◌∙◌, arith}
 use Rattle.dataset.proofs.Reading.{reads-number}

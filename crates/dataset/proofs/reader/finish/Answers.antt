@@ -2,7 +2,7 @@ use Rattle.std.proofs.Common.{inr, subst}
 use Rattle.std.proofs.lemmas.Result.{err_from_is_err_and}
 use Rattle.files.specs.Place.{HasLeft, record_number}
 use Rattle.files.specs.declared.fault.FaultKind.TheVariants.{ScaleBroken}
-use Rattle.dataset.specs.FirstFault.{fault_at}
+use Rattle.files.specs.FirstFault.{fault_at}
 use Rattle.dataset.proofs.HeaderFault.{more_found}
 use Rattle.std.proofs.Common.{[], ◌∷◌, ◌++◌}
 use Rattle.dataset.proofs.Expecting.{is_no_err}

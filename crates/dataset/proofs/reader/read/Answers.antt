@@ -2,7 +2,8 @@ use Rattle.std.proofs.Common.{Result, Ok, Err, IfErr, refl, sym, ◌∙◌}
 use Rattle.std.proofs.lemmas.Result.{MatchResult-from_both}
 use Rattle.files.specs.Place.{record_number}
 use Rattle.dataset.specs.Columns.{sizes}
-use Rattle.dataset.specs.FirstFault.{behind_end, first_fault, rows_fault}
+use Rattle.files.specs.FirstFault.{behind_end}
+use Rattle.dataset.specs.FirstFault.{first_fault, rows_fault}
 use Rattle.dataset.proofs.HeaderFault.{header_at, tells_end, tells_first}
 use Rattle.std.proofs.Common.{[], ◌∷◌}
 use Rattle.std.proofs.lemmas.Result.{IfOk-weaker}

@@ -1,13 +1,14 @@
 use Rattle.std.proofs.Common.{◌+◌}
 use Rattle.files.specs.Place.{record_number}
 use Rattle.dataset.specs.FirstFault.{first_fault, told_header}
-use Rattle.dataset.proofs.Expecting.{next_row}
+use Rattle.files.proofs.RecordsLeft.{next_row}
 use Rattle.dataset.proofs.HeaderFault.{header_error, header_fails, header_passes, header_unread, no_records}
 use Rattle.files.specs.declared.fault.FaultKind.TheVariants.{NoHeader}
 use Rattle.std.proofs.Common.{◌≡◌, [], Bool, true, rules, subst}
 use Rattle.files.specs.Place.{HasReadOn, record_fields}
 use Rattle.dataset.specs.Records.{AreSpelt, header_fields}
-use Rattle.dataset.proofs.Expecting.{no_row, same_ok, ok_err}
+use Rattle.files.proofs.RecordsLeft.{no_row}
+use Rattle.dataset.proofs.Expecting.{same_ok, ok_err}
 use Rattle.dataset.specs.Taking.{Awaits}
 use Rattle.std.proofs.Common.{◌∷◌, length, sym, ap, ◌∙◌, arith}
 use Rattle.dataset.proofs.Short.{no_fault_short, header_kept}

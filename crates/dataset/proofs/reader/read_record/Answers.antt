@@ -6,7 +6,7 @@ use Rattle.dataset.specs.declared.loader.Taken.TheVariants.{Row, End}
 use Rattle.dataset.specs.Columns.{fields_fault, sizes}
 use Rattle.dataset.specs.FirstFault.{is_end, record_place}
 use Rattle.dataset.specs.Order.{place_numbers}
-use Rattle.dataset.specs.TakenAs.{TellsKind}
+use Rattle.files.specs.FirstFault.{TellsKind}
 use Rattle.dataset.specs.Writing.{table_counts}
 use Rattle.dataset.proofs.Expecting.{goes_on, none_some}
 use Rattle.dataset.specs.Expecting.{Expects}

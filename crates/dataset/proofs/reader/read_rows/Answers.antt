@@ -9,7 +9,8 @@ use Rattle.dataset.specs.Records.{AreSpelt}
 use Rattle.dataset.specs.Writing.{count_fields}
 use Rattle.dataset.specs.Loading.{HasLoaded}
 use Rattle.dataset.proofs.reader.read_rows.Goals.{else-loop-test, then-loop-test+in_ok-advance+then-not-branch}
-use Rattle.dataset.proofs.Expecting.{next_row, no_row, expects_more}
+use Rattle.files.proofs.RecordsLeft.{next_row, no_row}
+use Rattle.dataset.proofs.Expecting.{expects_more}
 use Rattle.dataset.specs.Expecting.{Expects}
 use Rattle.files.specs.Place.{HasLeft}
 use Rattle.std.proofs.lemmas.Result.{err_from_is_err_and}

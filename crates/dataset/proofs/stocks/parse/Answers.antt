@@ -1,5 +1,5 @@
 use Rattle.dataset.specs.Columns.{info_columns}
-use Rattle.dataset.proofs.ColumnsRead.{several, and_then, whole, words}
+use Rattle.files.proofs.ColumnsRead.{several, and_then, whole, words}
 use Rattle.std.proofs.Common.{map}
 use Rattle.dataset.specs.Records.{Words}
 use Rattle.dataset.proofs.Taking.{takes-fields, takes-then, takes-words, takes-number}

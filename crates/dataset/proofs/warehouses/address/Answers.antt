@@ -1,4 +1,4 @@
-use Rattle.dataset.proofs.ColumnsRead.{and_then, words}
+use Rattle.files.proofs.ColumnsRead.{and_then, words}
 use Rattle.dataset.proofs.Taking.{takes-then, takes-words}
 use Rattle.dataset.proofs.Reading.{reads-words}
 use Rattle.dataset.proofs.warehouses.address.Goals as goal

@@ -1,4 +1,4 @@
-use Rattle.dataset.proofs.ColumnsRead.{whole}
+use Rattle.files.proofs.ColumnsRead.{whole}
 use Rattle.dataset.proofs.Taking.{takes-number}
 use Rattle.dataset.proofs.Bounds.{bounds}
 use Rattle.dataset.proofs.Reading.{reads-number}

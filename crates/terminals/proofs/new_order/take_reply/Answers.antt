@@ -1,11 +1,19 @@
 use Rattle.std.proofs.Common.{ℕ, List, ◌∷◌, codes, ap, ◌∙◌}
 use Rattle.std.specs.Fmt.{decimal, signed_decimal}
 use Rattle.files.specs.Word.{credit_text}
+use Rattle.std.proofs.Common.{◌≡◌, ◌-◌, [], length, sym}
+use Rattle.files.specs.Columns.{Cents, Column, Credit, Moment, Whole, Words, take_columns}
+use Rattle.files.specs.FieldRead.{Taking, taking}
+use Rattle.files.specs.Taken.{fields_left}
+use Rattle.files.proofs.ColumnsRead.{and_then, cents, credit, moment, take-append, whole, words}
+use Rattle.terminals.specs.ReplyColumns.{rate, shown_columns, shown_in}
+use Rattle.terminals.specs.RequestColumns.{repeated}
+use Rattle.terminals.proofs.ColumnsTaken.{columns_long}
 use Rattle.terminals.proofs.new_order.take_reply.Goals as goal
 
-pub returns : goal.returns
-returns c = λ none.
-    let lines = c.in_ok-take_shown_lines.ensures none in
+pub returns-clause-taken : goal.returns-clause-taken
+returns-clause-taken c = λ none.
+    let lines = c.in_ok-take_shown_lines.ensures.taken none in
     let total = c.cents.ensures.taken lines.faultless in
     let entry = c.moment.ensures.taken total.0 in
     let number = c.whole.ensures.taken entry.0 in
@@ -27,3 +35,25 @@ returns c = λ none.
       are_said = (text, entry.1.1, ap (λ l. codes "N" ∷ who (taxes (order l))) lines.are_said);
       left = all;
     }
+
+-- before the lines
+abbrev eight : List Column
+eight = Words 16 ∷ Credit ∷ rate ∷ rate ∷ rate ∷ Whole 1 9999999 ∷ Moment ∷ Cents ∷ []
+
+pub returns-clause-columns : goal.returns-clause-columns
+returns-clause-columns c =
+    let start = (and_then (words 16 c.args.fields.now c.text.new.self c.text.ensures.field)
+    (and_then (credit c.text.new.self c.credit.new.self c.credit.ensures.field)
+    (and_then (whole 0 9999 c.credit.new.self c.rate.new.self c.rate.ensures.field)
+    (and_then (whole 0 9999 c.rate.new.self c.rate-2.new.self c.rate-2.ensures.field)
+    (and_then (whole 0 9999 c.rate-2.new.self c.rate-3.new.self c.rate-3.ensures.field)
+    (and_then (whole 1 9999999 c.rate-3.new.self c.whole.new.self c.whole.ensures.field)
+    (and_then (moment c.whole.new.self c.moment.new.self c.moment.ensures.field)
+    (cents c.moment.new.self c.cents.new.self c.cents.ensures.field)))))))).is in
+    let left : length (fields_left c.cents.new.self) ≡ length (fields_left c.args.fields.now) - 8 =
+    ap (λ (t : Taking). length t.left) start ∙ columns_long eight (taking c.args.fields.now) in
+    let lines : List Column = repeated (shown_in (length (fields_left c.args.fields.now) - 8)) shown_columns in
+    c.in_ok-take_shown_lines.ensures.columns
+    ∙ ap (λ n. take_columns (repeated (shown_in n) shown_columns) (taking c.cents.new.self)) left
+    ∙ ap (take_columns lines) start
+    ∙ sym (take-append eight lines (taking c.args.fields.now))

@@ -1,15 +1,17 @@
 use Rattle.std.proofs.Common.{ℕ, List, [], ◌∷◌, refl, ap, ◌∙◌}
 use Rattle.std.specs.Fmt.{decimal}
 use Rattle.terminals.specs.ChoiceText.{choice_text}
+use Rattle.terminals.specs.RequestColumns.{choice, number}
+use Rattle.files.proofs.ColumnsRead.{and_then, moment, several, whole}
 use Rattle.terminals.proofs.payment.take.Goals as goal
 
-pub returns : goal.returns
-returns c = λ none.
+pub returns-clause-taken : goal.returns-clause-taken
+returns-clause-taken c = λ none.
     let moment = c.moment.ensures.taken none in
     let amount = c.whole.ensures.taken moment.0 in
     let who = c.take.ensures.taken amount.0 in
-    let away = c.take_district-2.ensures who.0 in
-    let home = c.take_district.ensures away.0 in
+    let away = c.take_district-2.ensures.taken who.0 in
+    let home = c.take_district.ensures.taken away.0 in
     let text = moment.1.0 in
     let at_home : List (List ℕ) → List (List ℕ) = λ l. decimal c.take_district.result.w_id ∷ decimal c.take_district.result.d_id ∷ l in
     let at_customer : List (List ℕ) → List (List ℕ) = λ l. decimal c.take_district-2.result.w_id ∷ decimal c.take_district-2.result.d_id ∷ l in
@@ -17,3 +19,11 @@ returns c = λ none.
     let asked = at_home (at_customer (paid (text ∷ []))) in
     let all = home.1 ∙ ap at_home (away.1 ∙ ap at_customer (who.1 ∙ ap (λ l. choice_text c.take.result ∷ l) (amount.1 ∙ ap (λ l. decimal c.whole.result ∷ l) moment.1.2))) in
     record { faultless = home.0; texts = asked; are_said = (text, moment.1.1, refl); left = all }
+
+pub returns-clause-columns : goal.returns-clause-columns
+returns-clause-columns c =
+    (and_then (several (number ∷ number ∷ []) c.args.fields.now c.take_district.new.fields c.take_district.ensures.columns)
+    (and_then (several (number ∷ number ∷ []) c.take_district.new.fields c.take_district-2.new.fields c.take_district-2.ensures.columns)
+    (and_then (several (choice ∷ []) c.take_district-2.new.fields c.take.new.fields c.take.ensures.column)
+    (and_then (whole 0 4294967295 c.take.new.fields c.whole.new.self c.whole.ensures.field)
+    (moment c.whole.new.self c.moment.new.self c.moment.ensures.field))))).is

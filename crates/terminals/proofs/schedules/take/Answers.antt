@@ -13,7 +13,7 @@ executor_was_read letter wanted executor old new is taken none =
 
 pub returns-in-M-clause-taken : goal.returns-in-M-clause-taken
 returns-in-M-clause-taken c = λ none.
-    let order = c.take_order.ensures none in
+    let order = c.take_order.ensures.taken none in
     let lo = c.word-lo.ensures.taken order.faultless in
     let texts : List (List ℕ) = c.word-lo.result.now ∷ order.texts in
     record {

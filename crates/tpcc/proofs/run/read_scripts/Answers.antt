@@ -20,7 +20,7 @@ loop-session-preserved g c =
     let script = c.in-Ok.script in
     let before : i < i + 1 = omega arith in
     let GivesScript : g.row.S.Denot → Type 0 = λ s. Gives (g.S.Read.remaining s) (IsScript script) in
-    let one : GivesScript source = subst GivesScript (sym c.index-sources-session.is) c.in-Ok.ensures in
+    let one : GivesScript source = subst GivesScript (sym c.index-sources-session.is) c.in-Ok.ensures.script in
     let AreRead : List (List Request) → Type 0 = λ l. AllZip (λ source script. Gives source (IsScript script)) (map g.S.Read.remaining (take (i + 1) old)) l in
     record {
       count = ap length c.in_ok-push-in-Ok.ensures.items ∙ length_push scripts script ∙ ap (λ n. n + 1) c.loop-session.invariant.count;

@@ -1,6 +1,6 @@
 use Rattle.files.specs.Taken.{fault_of, fields_left}
 use Rattle.dataset.specs.Columns.{Items, Warehouses, Districts, Stocks, Customers, Histories, Orders, NewOrders, Lines}
-use Rattle.dataset.proofs.ColumnsRead.{ended}
+use Rattle.files.proofs.ColumnsRead.{ended}
 use Rattle.dataset.proofs.LetterFault.{end_is, other_is, row_is}
 use Rattle.std.proofs.Common.{codes, refl, ◌∙◌}
 use Rattle.files.proofs.Ascii.{utf8_words}

@@ -1,6 +1,7 @@
 use Rattle.std.proofs.Common.{ap, refl, [], ◌∷◌, ◌∙◌}
 use Rattle.files.specs.FieldRead.{taking}
-use Rattle.dataset.specs.Columns.{Lines, columns_end, other_columns, sizes}
+use Rattle.dataset.specs.Columns.{Lines, other_columns, sizes}
+use Rattle.files.specs.Columns.{columns_end}
 use Rattle.dataset.proofs.RowFault.{row_taken, small_line}
 use Rattle.std.proofs.Common.{◌≡◌, [], ◌∷◌, None, OnOk, IsTrue, codes, sym, subst}
 use Rattle.std.proofs.lemmas.Result.{on_ok_weaker}

@@ -9,7 +9,7 @@ use Rattle.files.specs.FieldRead.{Taking, taking, field_read, whole_read}
 use Rattle.files.specs.KindsRead.{count_read, credit_read, moment_read, money_read, optional_read}
 use Rattle.files.specs.Taken.{fault_of, fields_left, with_fault}
 use Rattle.files.specs.Word.{text_read}
-use Rattle.dataset.specs.Columns.{Column, Whole, Words, Cents, Moment, Credit as CreditColumn, MaybeWhole, MaybeMoment, Count, at_end, columns_end, take_column, take_columns}
+use Rattle.files.specs.Columns.{Column, Whole, Words, Cents, Moment, Credit as CreditColumn, MaybeWhole, MaybeMoment, Count, at_end, columns_end, take_column, take_columns}
 
 -- the fields were taken so: a record, by which the columns are found
 pub record TakesColumns (columns : List Column) (old new : Fields) : Type 0 where

@@ -1,0 +1,37 @@
+-- The first fault of a file's records.
+use Rattle.std.specs.Prelude.{◌≡◌, ◌+◌, ◌⊎◌, ℕ, List, [], ◌∷◌, nat_lt, Option, Some, None, if◌then◌else◌}
+use Rattle.files.specs.declared.fault.FaultKind.{FaultKind}
+use Rattle.files.specs.declared.fault.FaultKind.TheVariants.{AfterEnd, Io, WrongShape}
+use Rattle.files.specs.declared.fault.FileFault.{FileFault}
+use Rattle.files.specs.declared.fault.FileError.{FileError}
+use Rattle.files.specs.declared.fault.FileError.TheVariants.{NoMemory, File}
+use Rattle.files.specs.Span.{record_size}
+
+-- of that kind, at that record
+abbrev pub fault_at : FaultKind → ℕ → FileFault
+fault_at kind number = record { kind = kind; «record» = number }
+
+-- the fault of a record of these fields, beside that of its length: it may have 65,536 bytes, with one for the end of
+-- each field
+abbrev pub unless_long : List (List ℕ) → Option FaultKind → Option FaultKind
+unless_long fields fault = if nat_lt 65536 (record_size fields) then Some WrongShape else fault
+
+-- a record's fault, or what is found from the next one on
+abbrev pub fault_or : Option FaultKind → ℕ → Option FileFault → Option FileFault
+fault_or (Some kind) number next = Some (fault_at kind number)
+fault_or None number next = next
+
+-- records that come after the end record, which has that number
+abbrev pub behind_end : ℕ → List (List (List ℕ)) → Option FileFault
+behind_end number [] = None
+behind_end number (row ∷ rows) = Some (fault_at AfterEnd (number + 1))
+
+-- an error is that fault of the record of that number, beside want of memory
+abbrev pub TellsKind : FileError → Option FaultKind → ℕ → Type 0
+TellsKind NoMemory kind number = Unit {0}
+TellsKind (File fault) kind number = (kind ≡ Some fault.kind) × (fault.record ≡ number)
+
+-- an error is that fault of the text, beside want of memory and a reader that failed
+abbrev pub TellsFault : FileError → Option FileFault → Type 0
+TellsFault NoMemory first = Unit {0}
+TellsFault (File fault) first = (fault.kind ≡ Io) ⊎ (first ≡ Some fault)

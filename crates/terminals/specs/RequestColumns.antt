@@ -1,0 +1,89 @@
+-- The columns of a request's record: what its fields are to spell, and so which fault it has.
+use Rattle.std.specs.Prelude.{◌≡◌, ℕ, zero, suc, ◌+◌, ◌-◌, ◌*◌, ◌/◌, min, List, [], ◌∷◌, ◌++◌, length, ◌==◌, codes, Option, Some, None, Result, Ok, Err, if◌then◌else◌}
+use Rattle.std.specs.Str.{bytes_eq}
+use Rattle.files.specs.declared.fault.FaultKind.{FaultKind}
+use Rattle.files.specs.declared.fault.FaultKind.TheVariants.{WrongShape}
+use Rattle.files.specs.Columns.{Column, Moment, Spelt, Whole, found, take_columns}
+use Rattle.files.specs.FieldRead.{Taking, whole_read}
+use Rattle.files.specs.Word.{text_read}
+use Rattle.requests.specs.declared.request.Request.{Request}
+use Rattle.requests.specs.declared.request.Request.TheVariants.{NewOrder, Payment, OrderStatus, Delivery, StockLevel}
+
+-- a number of 32 bits
+abbrev pub number : Column
+number = Whole 0 4294967295
+
+-- the fault, where nothing is read
+abbrev pub fault_in : {X : Type 0} → Result X FaultKind → Option FaultKind
+fault_in (Ok value) = None
+fault_in (Err kind) = Some kind
+
+-- the fault of a word that says who is chosen: `#` and a C_ID, or else a C_LAST of at most 16 bytes
+abbrev pub choice_fault : List ℕ → Option FaultKind
+choice_fault [] = None
+choice_fault (first ∷ rest) =
+    if first == 35 then fault_in (whole_read 0 4294967295 rest) else fault_in (text_read 16 (first ∷ rest))
+
+abbrev pub choice : Column
+choice = Spelt choice_fault
+
+-- so many times the same columns
+abbrev pub repeated : ℕ → List Column → List Column
+repeated zero columns = []
+repeated (suc times) columns = repeated times columns ++ columns
+
+-- what is ordered: item, supply warehouse and quantity
+abbrev pub line_columns : List Column
+line_columns = number ∷ number ∷ number ∷ []
+
+-- how many lines a New-Order has of so many fields with its letter, where so many are left for them: no more than 64
+abbrev pub lines_in : ℕ → ℕ → ℕ
+lines_in count left = min (min ((count - 5) / 3) (left / 3)) 64
+
+-- behind the letter of each kind
+abbrev pub new_order_columns : ℕ → ℕ → List Column
+new_order_columns count left = (number ∷ number ∷ number ∷ Moment ∷ []) ++ repeated (lines_in count (left - 4)) line_columns
+
+abbrev pub payment_columns : List Column
+payment_columns = number ∷ number ∷ number ∷ number ∷ choice ∷ number ∷ Moment ∷ []
+
+abbrev pub order_status_columns : List Column
+order_status_columns = number ∷ number ∷ choice ∷ []
+
+abbrev pub delivery_columns : List Column
+delivery_columns = number ∷ number ∷ Moment ∷ []
+
+abbrev pub stock_level_columns : List Column
+stock_level_columns = number ∷ number ∷ number ∷ []
+
+-- the columns behind a letter, of a request of so many fields with the letter, where so many are left; none where it is no
+-- kind's
+abbrev pub request_columns : ℕ → List ℕ → ℕ → Option (List Column)
+request_columns count letter left =
+    if bytes_eq letter (codes "N") then Some (new_order_columns count left)
+    else (if bytes_eq letter (codes "P") then Some payment_columns
+    else (if bytes_eq letter (codes "O") then Some order_status_columns
+    else (if bytes_eq letter (codes "D") then Some delivery_columns
+    else (if bytes_eq letter (codes "L") then Some stock_level_columns else None))))
+
+-- what is known of a record once these columns are taken; an unknown letter has none, and a wrong shape
+abbrev pub after_known : Option (List Column) → Taking → Taking
+after_known (Some columns) t = take_columns columns t
+after_known None t = found (Some WrongShape) t
+
+-- the same of a request's behind its letter
+abbrev pub after_request : ℕ → List ℕ → Taking → Taking
+after_request count letter t = after_known (request_columns count letter (length t.left)) t
+
+-- how many fields a request has, with its letter
+abbrev pub request_size : Request → ℕ
+request_size (NewOrder n) = 5 + 3 * length n.lines
+request_size (Payment p) = 8
+request_size (OrderStatus o) = 4
+request_size (Delivery d) = 4
+request_size (StockLevel s) = 4
+
+-- a request has these columns behind its letter; none was taken where there are none
+abbrev pub HasColumns : Option Request → Option (List Column) → Type 0
+HasColumns None columns = columns ≡ None
+HasColumns (Some request) columns = (own : List Column) × (columns ≡ Some own) × (length own + 1 ≡ request_size request)
