@@ -14,3 +14,4 @@ pub mod PathLists
 pub mod ScriptFaults
 pub mod AskedWords
 pub mod ScriptFiles
+pub mod FaultsOfSources

@@ -1,5 +1,5 @@
 -- Why commands end early, and with which status.
-use Rattle.std.specs.Prelude.{◌≡◌, ℕ, Bool, true, List, [], ◌∷◌, ◌++◌, Option, None, Some, Result, Err}
+use Rattle.std.specs.Prelude.{◌≡◌, ◌⊎◌, ◌<◌, ◌-◌, ◌^◌, ℕ, Bool, true, false, List, [], ◌∷◌, ◌++◌, length, Option, None, Some, Result, Err}
 use Rattle.std.specs.Borrow.{Bor}
 use Rattle.clap.specs.Words.{kind_of}
 use Rattle.clap.specs.declared.error.ErrorKind.{ErrorKind}
@@ -7,13 +7,18 @@ use Rattle.clap.specs.declared.error.ErrorKind.TheVariants.{OutOfMemory}
 use Rattle.schema.specs.Database.{Database}
 use Rattle.schema.specs.Consistency.{Consistent}
 use Rattle.consistency.specs.Broken.{BreaksFirst}
+use Rattle.dataset.specs.FirstFault.{IsFaultOf}
 use Rattle.dataset.specs.Records.{AreRecords}
 use Rattle.engine.specs.declared.outcome.ServeFault.{ServeFault}
 use Rattle.engine.specs.declared.outcome.ServeFault.TheVariants as serve
 use Rattle.engine.specs.Faults.{AreWithin, IsFirstBad}
 use Rattle.range_moves.specs.declared.order.MoveOrder.{MoveOrder}
+use Rattle.files.specs.declared.fault.FaultKind.TheVariants.{Io}
+use Rattle.files.specs.declared.fault.FileFault.{FileFault}
 use Rattle.files.specs.declared.fault.FileError.{FileError}
 use Rattle.files.specs.declared.fault.FileError.TheVariants as read
+use Rattle.files.specs.Place.{IsCsv}
+use Rattle.terminals.specs.FirstFault.{log_fault}
 use Rattle.history.specs.declared.schedule.Scheduled.{Scheduled}
 use Rattle.world.specs.declared.simulating.Simulation.{Simulation}
 use Rattle.world.specs.declared.world.GatherFault.{GatherFault}
@@ -76,6 +81,33 @@ abbrev pub IsOfFile : CommandFault → Type 0
 IsOfFile fault.NoMemory = Unit {0}
 IsOfFile (fault.File path of) = Unit {0}
 IsOfFile _ = ⊥
+
+-- no memory, or a file that failed
+abbrev pub IsOfWriting : CommandFault → Type 0
+IsOfWriting fault.NoMemory = Unit {0}
+IsOfWriting (fault.File path of) = of.kind ≡ Io
+IsOfWriting _ = ⊥
+
+-- where it is known what a source gives, this is said of its records
+abbrev pub OfRecords : Option (List ℕ) → (List (List (List ℕ)) → Type 0) → Type 0
+OfRecords source Are = (text : List ℕ) (rows : List (List (List ℕ))) → source ≡ Some text → IsCsv text rows → length rows < 2 ^ 64 - 1 → Are rows
+
+-- no memory, a file that failed, or the fault of the source's records
+abbrev pub IsOfSource : Option (List ℕ) → (List (List (List ℕ)) → FileFault → Type 0) → CommandFault → Type 0
+IsOfSource source IsFault fault.NoMemory = Unit {0}
+IsOfSource source IsFault (fault.File path of) = OfRecords source (λ rows. (of.kind ≡ Io) ⊎ IsFault rows of)
+IsOfSource source IsFault _ = ⊥
+
+-- the first fault of a log's records
+abbrev pub IsFaultOfLog : List (List (List ℕ)) → FileFault → Type 0
+IsFaultOfLog rows of = log_fault rows ≡ Some of
+
+-- No memory; or, where no tables were asked for, a file that failed, or the fault of the dataset or of the log.
+abbrev pub IsOfReplaying : Bool → Option (List ℕ) → Option (List ℕ) → CommandFault → Type 0
+IsOfReplaying asked «data» log fault.NoMemory = Unit {0}
+IsOfReplaying asked «data» log (fault.File path of) =
+    asked ≡ false → OfRecords «data» (λ rows. OfRecords log (λ entries. (of.kind ≡ Io) ⊎ IsFaultOf rows of ⊎ IsFaultOfLog entries of))
+IsOfReplaying asked «data» log _ = ⊥
 
 -- The tables and the moves that these sources give are such.
 abbrev pub OfServed : Option (List ℕ) → Option (Option (List ℕ)) → (Database → List MoveOrder → Type 0) → Type 0

@@ -1,5 +1,5 @@
 -- What `tpcc replay` tells, and how it ends.
-use Rattle.std.specs.Prelude.{◌≡◌, ℕ, List, [], ◌∷◌, ◌++◌, length, Option, codes}
+use Rattle.std.specs.Prelude.{◌≡◌, ℕ, List, [], ◌∷◌, ◌++◌, length, Option, is_some, codes}
 use Rattle.std.specs.Fmt.{decimal}
 use Rattle.std.specs.Io.KnownBytes.{Appends}
 use Rattle.schema.specs.Database.{Database}
@@ -15,7 +15,7 @@ use Rattle.tpcc.specs.declared.command_fault.CommandFault.{CommandFault}
 use Rattle.tpcc.specs.declared.status.Status.{Status}
 use Rattle.tpcc.specs.declared.status.Status.TheVariants as status
 use Rattle.tpcc.specs.Edges.{Gives, NamesFile, lines_text}
-use Rattle.tpcc.specs.Faults.{IsOfFile, EndsEarly}
+use Rattle.tpcc.specs.Faults.{IsOfReplaying, EndsEarly}
 
 -- the line that tells what a replay came to
 abbrev pub found_text : Found → List ℕ
@@ -49,8 +49,8 @@ module _ {F : Type 0} (contents : F → Option (List ℕ)) (file : Option F) («
     pub no_fault : told' ≡ told
 
   -- By the exit status: every entry is equal, and the file, if there is one, has got its name with the records of the machine's
-  -- last tables; an entry differs, and no file has got a name; or so it is, and a fault was told.
+  -- last tables; an entry differs, and no file has got a name; or so it is, and a fault was told: that of the dataset or of the log.
   abbrev pub ReplayEnds : Status → Type 0
   ReplayEnds status.Success = (last : Database) × Replays (Equal last) × NamesFile contents file named named' (AreRecords last)
   ReplayEnds status.NotConsistent = (place : ℕ) × Replays (Differs place) × (named' ≡ named)
-  ReplayEnds ended = (named' ≡ named) × EndsEarly IsOfFile told told' ended
+  ReplayEnds ended = (named' ≡ named) × EndsEarly (IsOfReplaying (is_some file) «data» log) told told' ended

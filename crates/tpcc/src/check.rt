@@ -1,7 +1,8 @@
 ghost use Rattle.std.specs.Prelude.{◌≡◌, List, Option, IfOk, IfErr};
 ghost use Rattle.tpcc.specs.declared.command_fault.CommandFault as command_fault;
 ghost use Rattle.tpcc.specs.Check.{Checks, CheckEnds};
-ghost use Rattle.tpcc.specs.Faults.{IsOfFile};
+ghost use Rattle.dataset.specs.FirstFault.{IsFaultOf};
+ghost use Rattle.tpcc.specs.Faults.{IsOfSource};
 
 use crate::command_fault::CommandFault;
 use crate::report::Report;
@@ -41,7 +42,7 @@ fn check<'a, D: Read + Drop, A: Write>(
     found: &mut A,
 ) -> Result<bool, CommandFault<'a>>
     ensures checks { IfOk result (λ broken. (told : Option (List command_fault.CommandFault)) → Checks settings.entry.now.fresh (D.remaining «data») (A.contents found.old) (A.contents found.new) told told broken) }
-    ensures fault { IfErr result IsOfFile }
+    ensures fault { IfErr result (IsOfSource (D.remaining «data») IsFaultOf) }
 {
     let tables = read_tables(alloc, settings.data, data)?;
     let answers = consistency::check(alloc, &tables)?;

@@ -1,7 +1,7 @@
-ghost use Rattle.std.specs.Prelude.{◌≡◌, is_some, IfOk, IfErr, OnErr};
+ghost use Rattle.std.specs.Prelude.{◌≡◌, false, is_some, IfOk, IfErr, OnErr};
 ghost use Rattle.terminals.specs.LogRecord.{IsLog};
 ghost use Rattle.tpcc.specs.Edges.{Gives};
-ghost use Rattle.tpcc.specs.Faults.{IsOfFile};
+ghost use Rattle.tpcc.specs.Faults.{IsFaultOfLog, IsOfFile, IsOfReplaying, IsOfSource, IsOfWriting};
 ghost use Rattle.schema.specs.Database.{Database};
 ghost use Rattle.commit_log.specs.Replay.{IsReplayOf};
 ghost use Rattle.tpcc.specs.Replay.{TellsReplay, ReplayEnds};
@@ -83,7 +83,7 @@ fn replay_log<
     ensures ends { IfOk result (ReplayEnds T.contents tables (D.remaining «data») (L.remaining log) (A.contents found.old) (A.contents found.new) (N.named shelf.old) (N.named shelf.new) (E.told errors.old) (E.told errors.new)) }
     ensures named { OnErr result (N.named shelf.new ≡ N.named shelf.old) }
     ensures told { OnErr result (E.told errors.new ≡ E.told errors.old) }
-    ensures fault { IfErr result IsOfFile }
+    ensures fault { IfErr result (IsOfReplaying (is_some tables) (D.remaining «data») (L.remaining log)) }
 {
     let opening = read_tables(alloc, settings.data, data)?;
     let entries = read_entries(alloc, settings.log, log)?;
@@ -128,7 +128,7 @@ fn tell<'a, A: Write, T: Write + Drop, N: Shelf<T>>(
     requires { is_some tables ≡ is_some settings.now.tables }
     ensures tells { IfOk result (TellsReplay T.contents tables (A.contents found.old) (A.contents found.new) (N.named shelf.old) (N.named shelf.new) entries.now came_to) }
     ensures named { OnErr result (N.named shelf.new ≡ N.named shelf.old) }
-    ensures fault { IfErr result IsOfFile }
+    ensures fault { IfErr result (λ fault. IsOfFile fault × (is_some tables ≡ false → IsOfWriting fault)) }
 {
     match came_to {
         Replay::Equal(last) => {
@@ -167,7 +167,7 @@ fn read_entries<'a, L: Read + Drop>(
     log: L,
 ) -> Result<Vec<Entry>, CommandFault<'a>>
     ensures entries { IfOk result (λ entries. Gives (L.remaining log) (IsLog entries.items)) }
-    ensures fault { IfErr result IsOfFile }
+    ensures first { IfErr result (IsOfSource (L.remaining log) IsFaultOfLog) }
 {
     match read_log(alloc, log) {
         Ok(entries) => Ok(entries),

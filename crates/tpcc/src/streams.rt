@@ -1,12 +1,13 @@
 //! What several commands read and write, with faults that name the files.
 ghost use Rattle.std.specs.Prelude.{◌≡◌, ◌++◌, ◌∷◌, [], ℕ, List, Some, Ok, is_some, true, map, IfOk, IfErr, IfSome, OnOk, OnErr, string_bytes};
 ghost use Rattle.std.specs.Io.KnownBytes.{Appends};
+ghost use Rattle.dataset.specs.FirstFault.{IsFaultOf};
 ghost use Rattle.dataset.specs.Records.{AreRecords};
 ghost use Rattle.terminals.specs.LogRecord.{IsLog};
 ghost use Rattle.terminals.specs.Script.{IsScript};
 ghost use Rattle.tpcc.specs.Shelf.{Shelves};
 ghost use Rattle.tpcc.specs.Edges.{Gives, Writes, NamesFile, HasWritten, IsNamed, lines_text};
-ghost use Rattle.tpcc.specs.Faults.{IsOfFile};
+ghost use Rattle.tpcc.specs.Faults.{IsOfFile, IsOfSource, IsOfWriting};
 
 use crate::command_fault::CommandFault;
 use crate::shelf::Shelf;
@@ -30,6 +31,7 @@ pub fn read_tables<'a, D: Read + Drop>(
 ) -> Result<Tables, CommandFault<'a>>
     ensures tables { IfOk result (λ tables. Gives (D.remaining «data») (AreRecords tables)) }
     ensures fault { IfErr result IsOfFile }
+    ensures first { IfErr result (IsOfSource (D.remaining «data») IsFaultOf) }
 {
     match dataset::read(alloc, data) {
         Ok(tables) => Ok(tables),
@@ -216,6 +218,7 @@ pub fn print_lines<A: Write, L: Display>(
 ) -> Result<(), CommandFault<'static>>
     ensures printed { OnOk result ((text : L → List ℕ) → ((line : L) → L.output line ≡ Some (text line)) → Appends (A.contents sink.old) (A.contents sink.new) (lines_text (map text lines.now))) }
     ensures fault { IfErr result IsOfFile }
+    ensures failed { IfErr result IsOfWriting }
 {
     let text = text_of(alloc, lines)?;
     match sink.write_all(text.as_bytes()) {

@@ -1,0 +1,76 @@
+-- The faults of sources, as commands tell them.
+use Rattle.std.proofs.Common.{◌≡◌, ◌⊎◌, inl, inr, ◌<◌, ◌-◌, ◌^◌, ℕ, List, length, Bool, false, Option, Some, sym, subst}
+use Rattle.std.specs.Borrow.{Bor}
+use Rattle.files.specs.declared.fault.FaultKind.TheVariants.{Io}
+use Rattle.files.specs.declared.fault.FileError.{FileError}
+use Rattle.files.specs.declared.fault.FileError.TheVariants.{NoMemory, File}
+use Rattle.files.specs.declared.fault.FileFault.{FileFault}
+use Rattle.files.specs.Place.{IsCsv}
+use Rattle.dataset.specs.FirstFault.{IsFaultOf}
+use Rattle.tpcc.specs.declared.command_fault.CommandFault.{CommandFault}
+use Rattle.tpcc.specs.declared.command_fault.CommandFault.TheVariants as fault
+use Rattle.tpcc.specs.Faults.{IsFaultOfLog, IsOfFile, IsOfReplaying, IsOfSource, IsOfWriting, OfRecords, fault_of_file}
+
+-- what is told of an error of a file, beside want of memory and a file that failed
+abbrev pub Told : (List (List (List ℕ)) → FileFault → Type 0) → List (List (List ℕ)) → FileError → Type 0
+Told IsFault rows NoMemory = Unit {0}
+Told IsFault rows (File of) = (of.kind ≡ Io) ⊎ IsFault rows of
+
+-- an error of a reader, as a fault of its file
+pub of_source : (source : Option (List ℕ)) (IsFault : List (List (List ℕ)) → FileFault → Type 0) (path : Bor (List ℕ)) (error : FileError) (f : CommandFault)
+    → f ≡ fault_of_file path error → OfRecords source (λ rows. Told IsFault rows error) → IsOfSource source IsFault f
+of_source source IsFault path NoMemory f is told = subst (IsOfSource source IsFault) (sym is) tt
+of_source source IsFault path (File of) f is told = subst (IsOfSource source IsFault) (sym is) told
+
+either : {A B C : Type 0} → A ⊎ B → A ⊎ (B ⊎ C)
+either (inl a) = inl a
+either (inr b) = inr (inl b)
+
+other : {A B C : Type 0} → A ⊎ C → A ⊎ (B ⊎ C)
+other (inl a) = inl a
+other (inr c) = inr (inr c)
+
+module _ (asked : Bool) («data» log : Option (List ℕ)) where
+  -- a fault of the dataset
+  pub of_dataset : (f : CommandFault) → IsOfSource «data» IsFaultOf f → IsOfReplaying asked «data» log f
+  of_dataset fault.NoMemory is = tt
+  of_dataset (fault.File path of) is = λ no text rows known csv few. λ text' rows' known' csv' few'. either (is text rows known csv few)
+  of_dataset (fault.NotConsistent condition) is = absurd is
+  of_dataset (fault.BadMove place) is = absurd is
+  of_dataset (fault.NoWarehouse warehouse) is = absurd is
+  of_dataset fault.NoThread is = absurd is
+  of_dataset fault.Unsettled is = absurd is
+  of_dataset fault.NotIdle is = absurd is
+
+  -- a fault of the log
+  pub of_log : (f : CommandFault) → IsOfSource log IsFaultOfLog f → IsOfReplaying asked «data» log f
+  of_log fault.NoMemory is = tt
+  of_log (fault.File path of) is = λ no text rows known csv few. λ text' rows' known' csv' few'. other (is text' rows' known' csv' few')
+  of_log (fault.NotConsistent condition) is = absurd is
+  of_log (fault.BadMove place) is = absurd is
+  of_log (fault.NoWarehouse warehouse) is = absurd is
+  of_log fault.NoThread is = absurd is
+  of_log fault.Unsettled is = absurd is
+  of_log fault.NotIdle is = absurd is
+
+  -- a fault of what is told, or of the tables
+  pub of_output : (f : CommandFault) → IsOfFile f × (asked ≡ false → IsOfWriting f) → IsOfReplaying asked «data» log f
+  of_output fault.NoMemory is = tt
+  of_output (fault.File path of) is = λ no text rows known csv few. λ text' rows' known' csv' few'. inl (is.1 no)
+  of_output (fault.NotConsistent condition) is = absurd is.0
+  of_output (fault.BadMove place) is = absurd is.0
+  of_output (fault.NoWarehouse warehouse) is = absurd is.0
+  of_output fault.NoThread is = absurd is.0
+  of_output fault.Unsettled is = absurd is.0
+  of_output fault.NotIdle is = absurd is.0
+
+-- a fault of what is told, beside those of the dataset
+pub of_print : («data» : Option (List ℕ)) (f : CommandFault) → IsOfWriting f → IsOfSource «data» IsFaultOf f
+of_print «data» fault.NoMemory is = tt
+of_print «data» (fault.File path of) is = λ text rows known csv few. inl is
+of_print «data» (fault.NotConsistent condition) is = absurd is
+of_print «data» (fault.BadMove place) is = absurd is
+of_print «data» (fault.NoWarehouse warehouse) is = absurd is
+of_print «data» fault.NoThread is = absurd is
+of_print «data» fault.Unsettled is = absurd is
+of_print «data» fault.NotIdle is = absurd is
