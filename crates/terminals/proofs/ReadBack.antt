@@ -15,7 +15,6 @@ use Rattle.files.proofs.KindsRead.{count_complete, whole_complete}
 use Rattle.files.proofs.Numerals.{is_number-decimal}
 use Rattle.commit_log.specs.declared.entry.Entry.{Entry}
 use Rattle.requests.specs.declared.request.Request.{Request}
-use Rattle.history.specs.declared.event.Event.{Event}
 use Rattle.history.specs.declared.event.Event.TheVariants.{Submit, Order, Take, Send}
 use Rattle.history.specs.declared.schedule.Scheduled.{Scheduled}
 use Rattle.history.specs.declared.schedule.Scheduled.TheVariants as scheduled

@@ -1,11 +1,11 @@
 -- The records of replies are read.
-use Rattle.std.proofs.Common.{◌≡◌, ◌<◌, ◌^◌, ◌+◌, ◌-◌, ◌*◌, ◌/◌, ℕ, zero, suc, List, [], ◌∷◌, ◌++◌, drop, length, flat_map, map, true, false, Option, Some, None, IfSome, IsUtf8, codes, refl, sym, ap, subst, ◌∙◌, arith}
+use Rattle.std.proofs.Common.{◌≡◌, ◌-◌, ◌*◌, ◌/◌, ℕ, List, [], ◌∷◌, ◌++◌, length, flat_map, map, Option, Some, None, IfSome, IsUtf8, codes, refl, sym, ap, subst, ◌∙◌, arith}
 use Rattle.std.specs.Fmt.{decimal, signed_decimal}
 use Rattle.std.specs.List.{AllByRecursion, AllZip}
 use Rattle.std.proofs.lemmas.List.{append-nil, length-append}
 use Rattle.rows.specs.declared.stock_rules.BrandGeneric.{BrandGeneric}
 use Rattle.rows.specs.declared.stock_rules.BrandGeneric.TheVariants.{Brand, Generic}
-use Rattle.files.specs.Columns.{Cents, Column, Credit, MaybeMoment, MaybeWhole, Moment, Spelt, Whole, Words, take_columns, take_word}
+use Rattle.files.specs.Columns.{Cents, Column, Credit, MaybeWhole, Moment, Spelt, Whole, Words, take_columns}
 use Rattle.files.specs.FieldRead.{Taking}
 use Rattle.files.specs.Word.{credit_text}
 use Rattle.files.proofs.Ascii.{utf8_words}

@@ -1,5 +1,5 @@
 -- What can be read: the records of a script, of moves, of a schedule and of a log have no fault.
-use Rattle.std.specs.Prelude.{◌≡◌, ◌≤◌, ◌<◌, ◌^◌, ℕ, List, Option, length, None, IfSome}
+use Rattle.std.specs.Prelude.{◌≡◌, ◌≤◌, ◌<◌, ◌^◌, ℕ, List, length, None, IfSome}
 use Rattle.std.specs.List.{AllByRecursion}
 use Rattle.amounts.specs.Money.{IsMoney}
 use Rattle.rows.specs.Text.{IsText}

@@ -1,6 +1,6 @@
 use Rattle.std.proofs.Common.{◌≡◌, Some, cond, codes, refl, sym, ap, subst, ◌∙◌}
-use Rattle.files.specs.Columns.{Count, at_end, take_column}
-use Rattle.files.specs.FieldRead.{Taking, taking}
+use Rattle.files.specs.Columns.{Count, take_column}
+use Rattle.files.specs.FieldRead.{taking}
 use Rattle.files.specs.FirstFault.{TellsKind}
 use Rattle.files.specs.Place.{record_fields, record_number}
 use Rattle.files.specs.Taken.{fault_of, fields_left}

@@ -1,4 +1,3 @@
-use Rattle.std.proofs.Common.{◌≡◌, ◌+◌, ◌∙◌, ap}
 use Rattle.std.proofs.lemmas.Result.{err_from_is_err_and}
 use Rattle.terminals.proofs.FirstFaults.{fault_at_end, none_behind}
 use Rattle.terminals.proofs.listing.read.Goals as goal

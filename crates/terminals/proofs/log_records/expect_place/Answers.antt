@@ -1,8 +1,8 @@
-use Rattle.std.proofs.Common.{◌≡◌, ◌==◌, ◌∙◌, Option, Some, None, true, false, cond, rules, sym, ap, arith}
+use Rattle.std.proofs.Common.{◌≡◌, ◌==◌, ◌∙◌, Some, None, true, false, cond, sym, ap, arith}
 use Rattle.std.proofs.lemmas.Bool.Decides.{nat_tests}
 use Rattle.files.specs.declared.fault.FaultKind.TheVariants.{OutOfOrder}
 use Rattle.files.specs.Columns.{found}
-use Rattle.files.specs.FieldRead.{taking, whole_read}
+use Rattle.files.specs.FieldRead.{taking}
 use Rattle.files.proofs.FieldsRead.{whole_is}
 use Rattle.terminals.specs.FirstFault.{other_place}
 use Rattle.terminals.proofs.ColumnsTaken.{noted_is}

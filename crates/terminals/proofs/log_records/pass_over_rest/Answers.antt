@@ -1,6 +1,6 @@
-use Rattle.std.proofs.Common.{◌≡◌, [], ◌∷◌, List, ℕ, None, refl, ap}
+use Rattle.std.proofs.Common.{[], ◌∷◌, None, refl}
 use Rattle.files.specs.Columns.{Spelt}
-use Rattle.files.specs.FieldRead.{Taking, taking}
+use Rattle.files.specs.FieldRead.{taking}
 use Rattle.terminals.proofs.ColumnsTaken.{once_more, spelt_is}
 use Rattle.terminals.proofs.log_records.pass_over_rest.Goals as goal
 

@@ -1,7 +1,7 @@
-use Rattle.std.proofs.Common.{◌≡◌, ◌∙◌, ℕ, List, Some, sym, ap, arith}
-use Rattle.files.specs.declared.fault.FaultKind.TheVariants.{OutOfRange, WrongShape}
+use Rattle.std.proofs.Common.{◌∙◌, ℕ, List, Some, sym, ap, arith}
+use Rattle.files.specs.declared.fault.FaultKind.TheVariants.{WrongShape}
 use Rattle.files.specs.Columns.{found}
-use Rattle.files.specs.FieldRead.{Taking, taking, whole_read}
+use Rattle.files.specs.FieldRead.{Taking, whole_read}
 use Rattle.files.proofs.FieldsRead.{whole_is}
 use Rattle.terminals.proofs.ColumnsTaken.{noted_is}
 use Rattle.terminals.proofs.log_records.take_count.Goals as goal

@@ -1,6 +1,6 @@
-use Rattle.std.proofs.Common.{◌≡◌, ◌∙◌, rules, sym, ap, arith}
+use Rattle.std.proofs.Common.{◌≡◌, ◌∙◌, sym, ap, arith}
 use Rattle.files.specs.Columns.{found}
-use Rattle.files.specs.FieldRead.{taking, whole_read}
+use Rattle.files.specs.FieldRead.{taking}
 use Rattle.files.proofs.FieldsRead.{whole_is}
 use Rattle.terminals.specs.RequestColumns.{fault_in}
 use Rattle.terminals.proofs.ColumnsTaken.{noted_is}

@@ -1,7 +1,6 @@
 use Rattle.std.proofs.Common.{ℕ, List, [], ◌∷◌, ap, ◌∙◌, sym}
 use Rattle.std.specs.Fmt.{decimal}
 use Rattle.files.proofs.ColumnsRead.{and_then, whole}
-use Rattle.files.specs.FieldRead.{taking}
 use Rattle.files.specs.Columns.{take_columns}
 use Rattle.terminals.specs.RequestColumns.{number}
 use Rattle.terminals.proofs.move_order.take_order.Goals as goal

@@ -1,6 +1,6 @@
 use Rattle.std.proofs.Common.{ℕ, List, [], ◌∷◌, codes, ap, ◌∙◌}
 use Rattle.std.specs.Fmt.{decimal}
-use Rattle.std.proofs.Common.{◌≡◌, ◌-◌, ◌/◌, min, length, rules, sym, arith}
+use Rattle.std.proofs.Common.{◌≡◌, ◌-◌, ◌/◌, min, length, rules, sym}
 use Rattle.files.specs.Columns.{Column, Moment, take_columns}
 use Rattle.files.specs.FieldRead.{Taking, taking}
 use Rattle.files.specs.Taken.{fields_left}

@@ -8,10 +8,10 @@ use Rattle.terminals.specs.OrderStatus.{AreStatusLines}
 use Rattle.terminals.proofs.Nullables.{number_was_taken}
 use Rattle.terminals.proofs.StatusLines.{lines-none, lines-push, there_is_one, three}
 use Rattle.std.proofs.Common.{◌≡◌, ◌-◌, ◌/◌, true, false, length, arith}
-use Rattle.files.specs.Columns.{Column, MaybeWhole, Moment, Whole, take_columns}
+use Rattle.files.specs.Columns.{Column, take_columns}
 use Rattle.files.specs.FieldRead.{Taking, taking}
 use Rattle.files.proofs.ColumnsRead.{and_then, maybe_whole, moment, take-append, whole}
-use Rattle.terminals.specs.ReplyColumns.{null, status_columns, status_order}
+use Rattle.terminals.specs.ReplyColumns.{status_columns}
 use Rattle.terminals.specs.RequestColumns.{repeated}
 use Rattle.terminals.proofs.ColumnsTaken.{columns_long, once_more}
 use Rattle.terminals.proofs.order_status.take_order.Goals as goal

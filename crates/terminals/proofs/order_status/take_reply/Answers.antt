@@ -1,6 +1,6 @@
 use Rattle.std.proofs.Common.{◌∷◌, refl, ap, ◌∙◌}
 use Rattle.std.specs.Fmt.{decimal, signed_decimal}
-use Rattle.std.proofs.Common.{◌≡◌, ℕ, List, [], drop, sym}
+use Rattle.std.proofs.Common.{◌≡◌, List, [], drop, sym}
 use Rattle.files.specs.Columns.{Cents, Column, Words, take_columns}
 use Rattle.files.specs.FieldRead.{Taking, taking}
 use Rattle.files.specs.Taken.{fields_left}
