@@ -37,7 +37,9 @@ impl<J: ServeNames, G: Gate, R: Wait> AtWork<'_, '_, J, G, R> {
                 backoff.reset();
             } else if self.engine.is_over() {
                 return self.own;
-            } else if let Some(steps) = self.steps_to_next() {
+            } else if let Some(steps) = self.steps_to_next()
+                && self.own.outbox.is_empty()
+            {
                 self.pause(steps);
             } else if backoff.is_completed() && self.own.outbox.is_empty() {
                 self.rest(None);
