@@ -5,22 +5,23 @@ use Rattle.files.specs.declared.fault.FaultKind.TheVariants.{Io}
 use Rattle.files.specs.declared.fault.FileError.{FileError}
 use Rattle.files.specs.declared.fault.FileError.TheVariants.{NoMemory, File}
 use Rattle.files.specs.declared.fault.FileFault.{FileFault}
+use Rattle.files.specs.FirstFault.{TellsFault}
 use Rattle.files.specs.Place.{IsCsv}
-use Rattle.dataset.specs.FirstFault.{IsFaultOf}
+use Rattle.terminals.specs.FirstFault.{log_fault}
+use Rattle.dataset.specs.FirstFault.{IsFaultOf, Tells}
 use Rattle.tpcc.specs.declared.command_fault.CommandFault.{CommandFault}
 use Rattle.tpcc.specs.declared.command_fault.CommandFault.TheVariants as fault
 use Rattle.tpcc.specs.Faults.{IsFaultOfLog, IsOfFile, IsOfReplaying, IsOfSource, IsOfWriting, OfRecords, fault_of_file}
 
--- what is told of an error of a file, beside want of memory and a file that failed
-abbrev pub Told : (List (List (List ℕ)) → FileFault → Type 0) → List (List (List ℕ)) → FileError → Type 0
-Told IsFault rows NoMemory = Unit {0}
-Told IsFault rows (File of) = (of.kind ≡ Io) ⊎ IsFault rows of
+-- an error of who reads a dataset, as a fault of its file
+pub of_tables : (source : Option (List ℕ)) (path : Bor (List ℕ)) (error : FileError) (f : CommandFault) → f ≡ fault_of_file path error → OfRecords source (λ rows. Tells rows error) → IsOfSource source IsFaultOf f
+of_tables source path NoMemory f is told = subst (IsOfSource source IsFaultOf) (sym is) tt
+of_tables source path (File of) f is told = subst (IsOfSource source IsFaultOf) (sym is) told
 
--- an error of a reader, as a fault of its file
-pub of_source : (source : Option (List ℕ)) (IsFault : List (List (List ℕ)) → FileFault → Type 0) (path : Bor (List ℕ)) (error : FileError) (f : CommandFault)
-    → f ≡ fault_of_file path error → OfRecords source (λ rows. Told IsFault rows error) → IsOfSource source IsFault f
-of_source source IsFault path NoMemory f is told = subst (IsOfSource source IsFault) (sym is) tt
-of_source source IsFault path (File of) f is told = subst (IsOfSource source IsFault) (sym is) told
+-- the same of a log
+pub of_entries : (source : Option (List ℕ)) (path : Bor (List ℕ)) (error : FileError) (f : CommandFault) → f ≡ fault_of_file path error → OfRecords source (λ rows. TellsFault error (log_fault rows)) → IsOfSource source IsFaultOfLog f
+of_entries source path NoMemory f is told = subst (IsOfSource source IsFaultOfLog) (sym is) tt
+of_entries source path (File of) f is told = subst (IsOfSource source IsFaultOfLog) (sym is) told
 
 either : {A B C : Type 0} → A ⊎ B → A ⊎ (B ⊎ C)
 either (inl a) = inl a
