@@ -1,7 +1,9 @@
-use Rattle.std.proofs.Common.{List, sym, subst, ◌∙◌}
+use Rattle.std.proofs.Common.{List, is_some, sym, subst, ◌∙◌}
+use Rattle.std.proofs.lemmas.Result.{err_from_is_err_and}
 use Rattle.commit_log.specs.declared.entry.Entry.{Entry}
 use Rattle.commit_log.specs.Replay.{IsReplayOf}
 use Rattle.tpcc.specs.Replay.{TellsReplay}
+use Rattle.tpcc.proofs.FaultsOfSources.{of_dataset, of_log}
 use Rattle.tpcc.proofs.ReplayTellings.{replay_ends}
 use Rattle.tpcc.proofs.replay.replay_log.Goals as goal
 
@@ -28,3 +30,13 @@ returns-clause-ends g c =
     (subst Of c.as_slice.ensures.value c.in_ok-came_to.ensures)
     (subst Tells c.as_slice-3.ensures.value c.in_ok-status.ensures.tells)
     (c.sum_up.ensures ∙ c.begin.ensures)
+
+pub returns-in_err-opening-clause-fault : goal.returns-in_err-opening-clause-fault
+returns-in_err-opening-clause-fault g c =
+    let p = err_from_is_err_and c.from_residual.result c.from_residual.ensures.1 in
+    rw (p.1, p.2) (of_dataset (is_some c.args.tables) (g.D.Read.remaining c.args.data) (g.L.Read.remaining c.args.log) _ c.in_err-opening.ensures.first)
+
+pub returns-in_err-entries-clause-fault : goal.returns-in_err-entries-clause-fault
+returns-in_err-entries-clause-fault g c =
+    let p = err_from_is_err_and c.from_residual-in_err-entries.result c.from_residual-in_err-entries.ensures.1 in
+    rw (p.1, p.2) (of_log (is_some c.args.tables) (g.D.Read.remaining c.args.data) (g.L.Read.remaining c.args.log) _ c.in_err-entries.ensures.first)
