@@ -1,17 +1,14 @@
 -- The faults of sources, as commands tell them.
-use Rattle.std.proofs.Common.{◌≡◌, ◌⊎◌, inl, inr, ◌<◌, ◌-◌, ◌^◌, ℕ, List, length, Bool, false, Option, Some, sym, subst}
+use Rattle.std.proofs.Common.{◌≡◌, ◌⊎◌, inl, inr, ℕ, List, Bool, Option, sym, subst}
 use Rattle.std.specs.Borrow.{Bor}
-use Rattle.files.specs.declared.fault.FaultKind.TheVariants.{Io}
 use Rattle.files.specs.declared.fault.FileError.{FileError}
 use Rattle.files.specs.declared.fault.FileError.TheVariants.{NoMemory, File}
-use Rattle.files.specs.declared.fault.FileFault.{FileFault}
 use Rattle.files.specs.FirstFault.{TellsFault}
-use Rattle.files.specs.Place.{IsCsv}
 use Rattle.terminals.specs.FirstFault.{log_fault}
 use Rattle.dataset.specs.FirstFault.{IsFaultOf, Tells}
 use Rattle.tpcc.specs.declared.command_fault.CommandFault.{CommandFault}
 use Rattle.tpcc.specs.declared.command_fault.CommandFault.TheVariants as fault
-use Rattle.tpcc.specs.Faults.{IsFaultOfLog, IsOfFile, IsOfReplaying, IsOfSource, IsOfWriting, OfRecords, fault_of_file}
+use Rattle.tpcc.specs.Faults.{IsFaultOfLog, IsOfReplaying, IsOfSource, OfRecords, fault_of_file}
 
 -- an error of who reads a dataset, as a fault of its file
 pub of_tables : (source : Option (List ℕ)) (path : Bor (List ℕ)) (error : FileError) (f : CommandFault) → f ≡ fault_of_file path error → OfRecords source (λ rows. Tells rows error) → IsOfSource source IsFaultOf f
@@ -53,25 +50,3 @@ module _ (asked : Bool) («data» log : Option (List ℕ)) where
   of_log fault.NoThread is = absurd is
   of_log fault.Unsettled is = absurd is
   of_log fault.NotIdle is = absurd is
-
-  -- a fault of what is told, or of the tables
-  pub of_output : (f : CommandFault) → IsOfFile f × (asked ≡ false → IsOfWriting f) → IsOfReplaying asked «data» log f
-  of_output fault.NoMemory is = tt
-  of_output (fault.File path of) is = λ no text rows known csv few. λ text' rows' known' csv' few'. inl (is.1 no)
-  of_output (fault.NotConsistent condition) is = absurd is.0
-  of_output (fault.BadMove place) is = absurd is.0
-  of_output (fault.NoWarehouse warehouse) is = absurd is.0
-  of_output fault.NoThread is = absurd is.0
-  of_output fault.Unsettled is = absurd is.0
-  of_output fault.NotIdle is = absurd is.0
-
--- a fault of what is told, beside those of the dataset
-pub of_print : («data» : Option (List ℕ)) (f : CommandFault) → IsOfWriting f → IsOfSource «data» IsFaultOf f
-of_print «data» fault.NoMemory is = tt
-of_print «data» (fault.File path of) is = λ text rows known csv few. inl is
-of_print «data» (fault.NotConsistent condition) is = absurd is
-of_print «data» (fault.BadMove place) is = absurd is
-of_print «data» (fault.NoWarehouse warehouse) is = absurd is
-of_print «data» fault.NoThread is = absurd is
-of_print «data» fault.Unsettled is = absurd is
-of_print «data» fault.NotIdle is = absurd is
