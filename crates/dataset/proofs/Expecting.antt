@@ -1,5 +1,5 @@
 -- How the reading of tables' records goes on.
-use Rattle.std.proofs.Common.{◌≡◌, ◌<◌, ◌^◌, ℕ, List, [], ◌∷◌, ◌++◌, map, length, None, Some, is_none, Option, Bool, true, false, IsTrue, refl, sym, ap, subst, ◌∙◌, arith}
+use Rattle.std.proofs.Common.{◌≡◌, ◌<◌, ◌^◌, ℕ, List, [], ◌∷◌, ◌++◌, map, length, None, Some, is_none, true, false, IsTrue, refl, sym, ap, subst, ◌∙◌, arith}
 use Rattle.std.specs.Prelude.{◌⊎◌, Result, Ok, Err, IsOk}
 use Rattle.std.specs.List.{AllByRecursion, AllZip}
 use Rattle.std.proofs.Common.{inl, inr}
@@ -7,14 +7,12 @@ use Rattle.std.proofs.lemmas.List.{append-nil, append_assoc, length-append}
 use Rattle.std.proofs.lemmas.Slice.Zip.{AllZip-long}
 use Rattle.schema.specs.Database.{Database, IsWithinScale}
 use Rattle.schema.specs.Rows.{AreNoRows}
-use Rattle.files.specs.declared.fault.FaultKind.TheVariants.{Io}
 use Rattle.files.specs.declared.fault.FileError.{FileError}
-use Rattle.files.specs.declared.fault.FileError.TheVariants.{NoMemory}
+use Rattle.files.specs.declared.fault.FileError.TheVariants.{NoMemory, Failed}
 use Rattle.files.specs.declared.fields.Fields.{Fields}
 use Rattle.std.specs.Result.{is_ok}
-use Rattle.files.specs.declared.records.Records.{Records}
-use Rattle.files.specs.Place.{file_fault, record_fields, HasLeft, HasLeftAfter}
 use Rattle.files.specs.Taken.{fault_of, fields_left}
+use Rattle.files.proofs.Unlike.{true_false}
 use Rattle.dataset.specs.declared.loader.Loader.{Loader}
 use Rattle.dataset.specs.declared.loader.Taken.{Taken}
 use Rattle.dataset.specs.declared.place.Place.TheVariants as at
@@ -98,15 +96,12 @@ pub expects_more : (t : Database) (l : Loader) → Expects t l [] → ⊥
 expects_more t l x = some_more (map row_fields x.todo) (end_fields (records_by_table t)) x.are_spelt
 
 -- what the reader failed by is no fault of the text
-pub no_fault : (error : FileError) (number : ℕ) → (error ≡ NoMemory) ⊎ (error ≡ file_fault Io number) → IsFault error → ⊥
+pub no_fault : (error : FileError) (number : ℕ) → (error ≡ NoMemory) ⊎ (error ≡ Failed number) → IsFault error → ⊥
 no_fault error number (inl e) fault = subst IsFault e fault
-no_fault error number (inr e) fault = (subst IsFault e fault) refl
+no_fault error number (inr e) fault = subst IsFault e fault
 
 pub no_memory : (error : FileError) → error ≡ NoMemory → IsFault error → ⊥
 no_memory error e fault = subst IsFault e fault
-
-true_false : true ≡ false → ⊥
-true_false e = cc
 
 -- ---- what is left to read
 

@@ -11,7 +11,7 @@ use Rattle.files.specs.declared.fault.FaultKind.{FaultKind}
 use Rattle.files.specs.declared.fault.FaultKind.TheVariants as fault
 use Rattle.files.specs.declared.fault.FileFault.{FileFault}
 use Rattle.files.specs.declared.fault.FileError.{FileError}
-use Rattle.files.specs.declared.fault.FileError.TheVariants.{NoMemory, File}
+use Rattle.files.specs.declared.fault.FileError.TheVariants.{NoMemory, Failed, File}
 use Rattle.files.specs.declared.fields.Fields.{Fields}
 use Rattle.files.specs.FieldRead.{Taking, taking, field_read}
 use Rattle.files.specs.KindsRead.{word_read}
@@ -32,7 +32,8 @@ use Rattle.files.specs.FirstFault.{behind_end, fault_at}
 use Rattle.dataset.specs.Records.{AreSpelt, header_fields}
 use Rattle.dataset.specs.TakenAs.{IsAt, IsHeaderAs, TellsEnd}
 use Rattle.files.specs.FirstFault.{TellsFault}
-use Rattle.dataset.proofs.LetterFault.{other, some_word}
+use Rattle.files.proofs.Unlike.{other}
+use Rattle.dataset.proofs.LetterFault.{some_word}
 use Rattle.files.proofs.RecordsLeft.{not_advanced}
 
 pub no_header : (fields : List (List ℕ)) → is_header fields ≡ false → told_header fields ≡ Some fault.NoHeader
@@ -132,22 +133,22 @@ unfolding first_fault
 long_header [] long = absurd long
 long_header (header ∷ more) long = let yes : nat_lt 65536 (record_size header) ≡ true = grind (arith, nat_tests) in rw yes refl
 
-pub header_unread : (error : FileError) (number : ℕ) (rows : List (List (List ℕ))) → number ≡ 1 → (error ≡ NoMemory) ⊎ (error ≡ file_fault fault.Io number) ⊎ (error ≡ file_fault fault.WrongShape number)
+pub header_unread : (error : FileError) (number : ℕ) (rows : List (List (List ℕ))) → number ≡ 1 → (error ≡ NoMemory) ⊎ (error ≡ Failed number) ⊎ (error ≡ file_fault fault.WrongShape number)
     → (error ≡ file_fault fault.WrongShape number → FirstIsTooLong rows) → TellsFault error (first_fault rows)
 header_unread error number rows one faults long =
     not_advanced error number (first_fault rows) faults (λ e. long_header rows (long e) ∙ ap (λ n. Some (fault_at fault.WrongShape n)) (sym one))
 
 pub header_error : (error : FileError) (kind : FaultKind) (number : ℕ) (first : Option FileFault) → error ≡ file_fault kind number → number ≡ 1 → first ≡ Some (fault_at kind 1) → TellsFault error first
-header_error error kind number first is one found = subst (λ e. TellsFault e first) (sym is) (inr (found ∙ ap (λ n. Some (fault_at kind n)) (sym one)))
+header_error error kind number first is one found = subst (λ e. TellsFault e first) (sym is) (found ∙ ap (λ n. Some (fault_at kind n)) (sym one))
 
 -- ---- behind the end record
 
 pub more_found : (error : FileError) (more : List (List (List ℕ))) (number next : ℕ) → next ≡ number + 1
-    → (error ≡ NoMemory) ⊎ (error ≡ file_fault fault.Io next) ⊎ (error ≡ file_fault fault.AfterEnd next) → (error ≡ file_fault fault.AfterEnd next → more ≡ [] → ⊥) → TellsEnd error more number
+    → (error ≡ NoMemory) ⊎ (error ≡ Failed next) ⊎ (error ≡ file_fault fault.AfterEnd next) → (error ≡ file_fault fault.AfterEnd next → more ≡ [] → ⊥) → TellsEnd error more number
 more_found error more number next is (inl e) some = subst (λ x. TellsEnd x more number) (sym e) tt
-more_found error more number next is (inr (inl e)) some = subst (λ x. TellsEnd x more number) (sym e) (inl refl)
+more_found error more number next is (inr (inl e)) some = subst (λ x. TellsEnd x more number) (sym e) tt
 more_found error [] number next is (inr (inr e)) some = absurd (some e refl)
-more_found error (row ∷ rows) number next is (inr (inr e)) some = subst (λ x. TellsEnd x (row ∷ rows) number) (sym e) (inr (inl (ap (λ n. Some (fault_at fault.AfterEnd n)) (sym is))))
+more_found error (row ∷ rows) number next is (inr (inr e)) some = subst (λ x. TellsEnd x (row ∷ rows) number) (sym e) (inl (ap (λ n. Some (fault_at fault.AfterEnd n)) (sym is)))
 
 -- ---- in all
 
@@ -160,17 +161,14 @@ header_at l (name ∷ fields) last loaded =
 -- the first fault is told
 pub tells_first : (error : FileError) (rows : List (List (List ℕ))) (first : Option FileFault) → first_fault rows ≡ first → TellsFault error first → Tells rows error
 tells_first NoMemory rows first is tells = tt
-tells_first (File f) rows first is (inl io) = inl io
-tells_first (File f) rows first is (inr e) = inr (subst (λ o. MatchOption o ((f ≡ fault_at fault.ScaleBroken (length rows)) × HasNoTables rows) (λ x. f ≡ x)) (sym (is ∙ e)) refl)
-
-broken : (f : FileFault) (number : ℕ) → f ≡ fault_at fault.ScaleBroken number → f.kind ≢ fault.Io
-broken f number is io = let clash : fault.ScaleBroken ≡ fault.Io = sym (ap (λ (x : FileFault). x.kind) is) ∙ io in absurd cc
+tells_first (Failed number) rows first is tells = tt
+tells_first (File f) rows first is e = subst (λ o. MatchOption o ((f ≡ fault_at fault.ScaleBroken (length rows)) × HasNoTables rows) (λ x. f ≡ x)) (sym (is ∙ e)) refl
 
 pub tells_end : (error : FileError) (rows more : List (List (List ℕ))) (number : ℕ) → first_fault rows ≡ behind_end number more → number + length more ≡ length rows → TellsEnd error more number → (IsFault error → HasNoTables rows) → Tells rows error
 tells_end NoMemory rows more number is long tells none = tt
-tells_end (File f) rows more number is long (inl io) none = inl io
-tells_end (File f) rows more number is long (inr (inl e)) none = tells_first (File f) rows (behind_end number more) is (inr e)
-tells_end (File f) rows more number is long (inr (inr h)) none =
+tells_end (Failed at) rows more number is long tells none = tt
+tells_end (File f) rows more number is long (inl e) none = tells_first (File f) rows (behind_end number more) is e
+tells_end (File f) rows more number is long (inr h) none =
     let all : number ≡ length rows = let e = ap length h.0 in omega (arith, long, e) in
-    inr (subst (λ o. MatchOption o ((f ≡ fault_at fault.ScaleBroken (length rows)) × HasNoTables rows) (λ x. f ≡ x)) (sym (is ∙ ap (behind_end number) h.0))
-    (h.1 ∙ ap (λ n. fault_at fault.ScaleBroken n) all, none (broken f number h.1)))
+    subst (λ o. MatchOption o ((f ≡ fault_at fault.ScaleBroken (length rows)) × HasNoTables rows) (λ x. f ≡ x)) (sym (is ∙ ap (behind_end number) h.0))
+    (h.1 ∙ ap (λ n. fault_at fault.ScaleBroken n) all, none tt)

@@ -1,7 +1,6 @@
 -- The fault of a record, by what its first field says that it is.
 use Rattle.std.proofs.Common.{◌≡◌, ◌<◌, ◌^◌, ℕ, suc, List, [], ◌∷◌, map, length, sum, Bool, true, false, Option, Some, None, codes, IsUtf8, refl, sym, ap, subst, ◌∙◌}
 use Rattle.std.specs.Prelude.{if◌then◌else◌}
-use Rattle.std.specs.Cmp.Lexicographic.{bytes_decides}
 use Rattle.std.specs.Str.{bytes_eq, is_utf8}
 use Rattle.std.proofs.lemmas.Str.{is_utf8-from_IsUtf8, IsUtf8-from_is_utf8}
 use Rattle.files.specs.declared.fault.FaultKind.{FaultKind}
@@ -11,6 +10,7 @@ use Rattle.files.specs.FieldRead.{Taking, taking, field_read, next_read}
 use Rattle.files.specs.KindsRead.{word_read}
 use Rattle.files.specs.Taken.{fault_of, fields_left, with_fault}
 use Rattle.files.proofs.Ascii.{utf8_words}
+use Rattle.files.proofs.Unlike.{other}
 use Rattle.files.proofs.KindsRead.{word_is, no_word}
 use Rattle.dataset.specs.declared.loader.Loader.{Loader}
 use Rattle.dataset.specs.declared.loader.Taken.TheVariants.{Row, End}
@@ -20,14 +20,6 @@ use Rattle.dataset.specs.FirstFault.{is_end, kind_place, record_place}
 use Rattle.dataset.specs.Order.{place_numbers}
 use Rattle.dataset.specs.TakenAs.{IsRowOf, IsTakenAs}
 use Rattle.dataset.specs.Writing.{table_counts}
-
--- a word that is none of the known ones
-false_unless : (b : Bool) → (b ≡ true → ⊥) → b ≡ false
-false_unless true h = absurd (h refl)
-false_unless false h = refl
-
-pub other : (word known : List ℕ) → (word ≡ known → ⊥) → bytes_eq word known ≡ false
-other word known none = false_unless (bytes_eq word known) (λ h. none ((bytes_decides word known).0 h))
 
 -- a word that was taken, and what is left behind it
 pub record TookWord (word : List ℕ) (before : List (List ℕ)) (known : Option FaultKind) (new : Taking) : Type 0 where

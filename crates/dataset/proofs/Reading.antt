@@ -9,7 +9,8 @@ use Rattle.files.specs.MomentText.{IsMomentText}
 use Rattle.files.specs.Taken.{fault_of, fields_left}
 use Rattle.files.proofs.Ascii.{utf8_moment}
 use Rattle.dataset.specs.Records.{Field, Words, Number, Money, Date, Null, IsSpelt, AreSpelt, carrier_field, delivery_field}
-use Rattle.dataset.specs.Ranges.{IsFrom, IsMoment}
+use Rattle.files.specs.MomentText.{IsMoment}
+use Rattle.dataset.specs.Ranges.{IsFrom}
 use Rattle.dataset.specs.Taking.{Awaits}
 
 -- the text of the first field, and those of the others

@@ -1,9 +1,8 @@
 -- The first fault of the records that are left.
-use Rattle.std.proofs.Common.{◌≡◌, ◌≤◌, ◌<◌, ◌^◌, ◌+◌, ◌-◌, ◌⊎◌, inl, inr, ℕ, suc, List, [], ◌∷◌, ◌++◌, map, sum, length, Bool, true, false, Option, Some, None, codes, nat_lt, get_or, refl, sym, ap, subst, ◌∙◌, arith}
+use Rattle.std.proofs.Common.{◌≡◌, ◌≤◌, ◌<◌, ◌^◌, ◌+◌, ◌-◌, ◌⊎◌, ℕ, suc, List, [], ◌∷◌, ◌++◌, map, sum, length, Bool, true, false, Option, Some, None, codes, get_or, refl, sym, ap, subst, ◌∙◌, arith}
 use Rattle.std.specs.Prelude.{if◌then◌else◌}
 use Rattle.std.specs.List.{AllByRecursion, AllZip, flat_map}
 use Rattle.std.specs.Str.{bytes_eq}
-use Rattle.std.proofs.lemmas.Bool.Decides.{nat_tests}
 use Rattle.std.proofs.lemmas.List.{length-append}
 use Rattle.rows.specs.declared.keys.DistrictKey.{DistrictKey}
 use Rattle.rows.specs.declared.records.History.{History}
@@ -11,7 +10,7 @@ use Rattle.schema.specs.declared.scale.Scale.{Scale}
 use Rattle.files.specs.declared.fault.FaultKind.TheVariants as fault
 use Rattle.files.specs.declared.fault.FileFault.{FileFault}
 use Rattle.files.specs.declared.fault.FileError.{FileError}
-use Rattle.files.specs.declared.fault.FileError.TheVariants.{NoMemory, File}
+use Rattle.files.specs.declared.fault.FileError.TheVariants.{NoMemory, Failed, File}
 use Rattle.files.specs.declared.records.Records.{Records}
 use Rattle.files.specs.Place.{FirstIsTooLong, HasLeft, HasLeftAfter, file_fault, record_fields, record_number}
 use Rattle.files.specs.Span.{record_size}
@@ -201,9 +200,10 @@ module _ (l : Loader) (read : List (List (List ℕ))) (at : IsAt l read) (row : 
   pub fault_found : (error : FileError) (number : ℕ) → number ≡ length read + 1 → TellsKind error (fields_fault (sizes l.scale) (place_numbers l.last) (table_counts l.rows) row) number → TellsFault error (rows_fault (sizes l.scale) read (row ∷ rest))
   unfolding rows_fault
   fault_found NoMemory number same tells = tt
+  fault_found (Failed at) number same tells = absurd tells
   fault_found (File f) number same tells =
       let is : f ≡ fault_at f.kind (length read + 1) = (λ i. record { kind = f.kind; «record» = (tells.1 ∙ same) i }) in
-      inr (rw (known ∙ tells.0) (ap (λ (x : FileFault). Some x) (sym is)))
+      rw (known ∙ tells.0) (ap (λ (x : FileFault). Some x) (sym is))
 
 -- a record that is too long
 pub long_found : (scale : Sizes) (read rows : List (List (List ℕ))) → FirstIsTooLong rows → rows_fault scale read rows ≡ Some (fault_at fault.WrongShape (length read + 1))
@@ -322,7 +322,7 @@ module _ {R : Type 0} (remaining : R → Option (List ℕ)) (scale : Sizes) (rea
   next_number = let n = g.number in let long = g.long in number (omega (arith, n, long, few)) ∙ ap (λ k. k + 1) n
 
   -- no further record could be read
-  pub fault_advancing : (error : FileError) → (error ≡ NoMemory) ⊎ (error ≡ file_fault fault.Io (record_number new)) ⊎ (error ≡ file_fault fault.WrongShape (record_number new))
+  pub fault_advancing : (error : FileError) → (error ≡ NoMemory) ⊎ (error ≡ Failed (record_number new)) ⊎ (error ≡ file_fault fault.WrongShape (record_number new))
       → (error ≡ file_fault fault.WrongShape (record_number new) → (left : List (List (List ℕ))) → HasLeft remaining left old → FirstIsTooLong left) → TellsFault error (rows_fault scale read rows)
   fault_advancing error faults long =
       not_advanced error (record_number new) (rows_fault scale read rows) faults
@@ -334,4 +334,4 @@ module _ {R : Type 0} (remaining : R → Option (List ℕ)) (scale : Sizes) (rea
   fault_at_last error found is none next =
       let empty = no_row remaining g.left found new none (next g.left g.has_left) in
       subst (λ e. TellsFault e (rows_fault scale read rows)) (sym is)
-      (inr (g.fault ∙ ap (rows_fault scale g.before) empty ∙ no_end scale g.before ∙ ap (λ n. Some (fault_at fault.NoEnd n)) (sym next_number)))
+      (g.fault ∙ ap (rows_fault scale g.before) empty ∙ no_end scale g.before ∙ ap (λ n. Some (fault_at fault.NoEnd n)) (sym next_number))

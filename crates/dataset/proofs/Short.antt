@@ -1,5 +1,5 @@
 -- A record of a dataset has far fewer bytes than a record may have.
-use Rattle.std.proofs.Common.{◌≡◌, ◌≤◌, ◌<◌, ◌+◌, ◌*◌, ◌^◌, ◌⊎◌, inl, inr, ℕ, List, [], ◌∷◌, ◌++◌, map, length, Bool, true, false, Option, Some, None, IfSome, IsTrue, refl, subst, arith, length-append}
+use Rattle.std.proofs.Common.{◌≡◌, ◌≤◌, ◌<◌, ◌+◌, ◌*◌, ◌^◌, ◌⊎◌, inl, inr, ℕ, List, [], ◌∷◌, ◌++◌, map, length, Bool, true, false, Option, Some, None, IfSome, IsTrue, subst, arith, length-append}
 use Rattle.std.proofs.lemmas.Fmt.{length-decimal-le, length_signed_le}
 use Rattle.std.proofs.lemmas.List.{length-map}
 use Rattle.std.proofs.lemmas.List.Sums.{sum_by-append}
@@ -16,9 +16,9 @@ use Rattle.schema.specs.Database.{Database, is_order_id, is_line_number}
 use Rattle.rows.specs.declared.records.Credit.{Credit}
 use Rattle.rows.specs.declared.records.Credit.TheVariants.{Good, Bad}
 use Rattle.files.specs.Word.{credit_text}
-use Rattle.files.specs.declared.fault.FaultKind.TheVariants.{Io, WrongShape}
+use Rattle.files.specs.declared.fault.FaultKind.TheVariants.{WrongShape}
 use Rattle.files.specs.declared.fault.FileError.{FileError}
-use Rattle.files.specs.declared.fault.FileError.TheVariants.{NoMemory}
+use Rattle.files.specs.declared.fault.FileError.TheVariants.{NoMemory, Failed}
 use Rattle.dataset.specs.declared.loader.Loader.{Loader}
 use Rattle.files.proofs.Ascii.{small_money}
 use Rattle.files.proofs.Moments.{length_moment}
@@ -176,8 +176,8 @@ pub expected_kept : (t : Database) (l : Loader) (rows : List (List (List ℕ))) 
 expected_kept t l rows x long = first_kept t x.todo rows x.few x.fit x.are_spelt long
 
 -- what failed is no fault of a text whose next record is short
-pub no_fault_short : (error : FileError) (number : ℕ) (rows : List (List (List ℕ))) → (error ≡ NoMemory) ⊎ (error ≡ file_fault Io number) ⊎ (error ≡ file_fault WrongShape number)
+pub no_fault_short : (error : FileError) (number : ℕ) (rows : List (List (List ℕ))) → (error ≡ NoMemory) ⊎ (error ≡ Failed number) ⊎ (error ≡ file_fault WrongShape number)
     → (error ≡ file_fault WrongShape number → FirstIsTooLong rows) → (FirstIsTooLong rows → ⊥) → IsFault error → ⊥
 no_fault_short error number rows (inl e) long short fault = subst IsFault e fault
-no_fault_short error number rows (inr (inl e)) long short fault = (subst IsFault e fault) refl
+no_fault_short error number rows (inr (inl e)) long short fault = subst IsFault e fault
 no_fault_short error number rows (inr (inr e)) long short fault = short (long e)

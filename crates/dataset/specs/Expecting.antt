@@ -1,10 +1,9 @@
 -- Tables whose records are read, as far as they were read.
-use Rattle.std.specs.Prelude.{◌≡◌, ◌≢◌, ◌<◌, ◌^◌, ℕ, List, [], ◌∷◌, ◌++◌, length, map, IsTrue}
+use Rattle.std.specs.Prelude.{◌≡◌, ◌<◌, ◌^◌, ℕ, List, [], ◌∷◌, ◌++◌, length, map, IsTrue}
 use Rattle.std.specs.List.{AllByRecursion, AllZip, flat_map}
 use Rattle.schema.specs.Database.{Database}
-use Rattle.files.specs.declared.fault.FaultKind.TheVariants.{Io}
 use Rattle.files.specs.declared.fault.FileError.{FileError}
-use Rattle.files.specs.declared.fault.FileError.TheVariants.{NoMemory, File}
+use Rattle.files.specs.declared.fault.FileError.TheVariants.{NoMemory, Failed, File}
 use Rattle.dataset.specs.declared.loader.Loader.{Loader}
 use Rattle.dataset.specs.declared.loader.Taken.{Taken}
 use Rattle.dataset.specs.declared.loader.Taken.TheVariants.{Row, End}
@@ -16,7 +15,8 @@ use Rattle.dataset.specs.Loading.{HasLoaded, records_loaded}
 -- an error that says that what was read is no dataset: it is not want of memory, and the reader did not fail
 abbrev pub IsFault : FileError → Type 0
 IsFault NoMemory = ⊥
-IsFault (File fault) = fault.kind ≢ Io
+IsFault (Failed number) = ⊥
+IsFault (File fault) = Unit {0}
 
 -- the records of all rows
 abbrev pub all_records : Database → List (List Field)

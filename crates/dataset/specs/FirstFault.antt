@@ -1,13 +1,13 @@
 -- The first fault of a dataset, by its record and its kind.
-use Rattle.std.specs.Prelude.{◌≡◌, ◌+◌, ◌⊎◌, ℕ, List, [], ◌∷◌, ◌++◌, length, drop, get_or, Bool, false, ◌&&◌, ◌==◌, codes, Option, Some, None, MatchOption, if◌then◌else◌}
+use Rattle.std.specs.Prelude.{◌≡◌, ◌+◌, ℕ, List, [], ◌∷◌, ◌++◌, length, drop, get_or, Bool, false, ◌&&◌, ◌==◌, codes, Option, Some, None, MatchOption, if◌then◌else◌}
 use Rattle.std.specs.Str.{bytes_eq}
 use Rattle.std.specs.Str.Parse.{digits_value}
 use Rattle.schema.specs.Database.{Database, IsWithinScale}
 use Rattle.files.specs.declared.fault.FaultKind.{FaultKind}
-use Rattle.files.specs.declared.fault.FaultKind.TheVariants.{NoHeader, NoEnd, ScaleBroken, Io}
+use Rattle.files.specs.declared.fault.FaultKind.TheVariants.{NoHeader, NoEnd, ScaleBroken}
 use Rattle.files.specs.declared.fault.FileFault.{FileFault}
 use Rattle.files.specs.declared.fault.FileError.{FileError}
-use Rattle.files.specs.declared.fault.FileError.TheVariants.{NoMemory, File}
+use Rattle.files.specs.declared.fault.FileError.TheVariants.{NoMemory, Failed, File}
 use Rattle.files.specs.FirstFault.{behind_end, fault_at, fault_or, unless_long}
 use Rattle.dataset.specs.Columns.{Sizes, Table, Kind, Of, Ending, Items, Warehouses, Districts, Stocks, Customers, Histories, Orders, NewOrders, Lines, kind_of, letter, place_in, record_fault}
 use Rattle.files.specs.Columns.{Column, Whole, columns_fault}
@@ -104,4 +104,5 @@ IsFaultOf rows fault =
 -- an error that is told of such a text: its fault, beside want of memory and a reader that failed
 abbrev pub Tells : List (List (List ℕ)) → FileError → Type 0
 Tells rows NoMemory = Unit {0}
-Tells rows (File fault) = (fault.kind ≡ Io) ⊎ IsFaultOf rows fault
+Tells rows (Failed number) = Unit {0}
+Tells rows (File fault) = IsFaultOf rows fault

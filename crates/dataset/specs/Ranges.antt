@@ -2,6 +2,7 @@
 use Rattle.std.specs.Prelude.{◌≡◌, ◌<◌, ◌≤◌, ℕ, length, IfSome, IsTrue, List}
 use Rattle.std.specs.List.{AllByRecursion}
 use Rattle.std.specs.FinMap as table
+use Rattle.files.specs.MomentText.{IsMoment}
 use Rattle.amounts.specs.Money.{IsMoney}
 use Rattle.rows.specs.Text.{IsText}
 use Rattle.rows.specs.declared.records.Address.{Address}
@@ -33,10 +34,6 @@ IsCounter number = IsFrom 0 999999999 number
 -- a rate, in ten-thousandths
 abbrev pub IsRate : ℕ → Type 0
 IsRate number = number < 10000
-
--- a date and time before the year 10000, in seconds after 1970 began
-abbrev pub IsMoment : ℕ → Type 0
-IsMoment seconds = seconds ≤ 253402300799
 
 -- ---- of a row
 

@@ -2,10 +2,9 @@
 use Rattle.std.specs.Prelude.{◌≡◌, ◌<◌, ◌^◌, ◌+◌, ◌⊎◌, ℕ, List, [], ◌∷◌, map, length, sum, Option, Some, None, Result, Ok, Err, if◌then◌else◌}
 use Rattle.schema.specs.declared.scale.Scale.{Scale}
 use Rattle.files.specs.declared.fault.FaultKind.{FaultKind}
-use Rattle.files.specs.declared.fault.FaultKind.TheVariants.{Io, ScaleBroken}
+use Rattle.files.specs.declared.fault.FaultKind.TheVariants.{ScaleBroken}
 use Rattle.files.specs.declared.fault.FileError.{FileError}
-use Rattle.files.specs.declared.fault.FileError.TheVariants.{NoMemory, File}
-use Rattle.files.specs.declared.fault.FileFault.{FileFault}
+use Rattle.files.specs.declared.fault.FileError.TheVariants.{NoMemory, Failed, File}
 use Rattle.files.specs.declared.records.Records.{Records}
 use Rattle.files.specs.Place.{HasLeft, record_number}
 use Rattle.files.specs.declared.fields.Fields.{Fields}
@@ -78,5 +77,6 @@ pub record BeginsDataset {R : Type 0} (remaining : R → Option (List ℕ)) (sca
 -- an error after the end record, which has that number: more records are left, or a rule of the scale is broken
 abbrev pub TellsEnd : FileError → List (List (List ℕ)) → ℕ → Type 0
 TellsEnd NoMemory more number = Unit {0}
+TellsEnd (Failed at) more number = Unit {0}
 TellsEnd (File fault) more number =
-    (fault.kind ≡ Io) ⊎ (behind_end number more ≡ Some fault) ⊎ ((more ≡ []) × (fault ≡ fault_at ScaleBroken number))
+    (behind_end number more ≡ Some fault) ⊎ ((more ≡ []) × (fault ≡ fault_at ScaleBroken number))

@@ -1,7 +1,8 @@
-ghost use Rattle.std.specs.Prelude.{◌≡◌, ◌≤◌, ◌<◌, ◌+◌, ◌^◌, [], ◌∷◌, ◌++◌, length, map, sum, Some, None, IsTrue, OnOk};
+ghost use Rattle.std.specs.Prelude.{◌≡◌, ◌≤◌, ◌<◌, ◌+◌, ◌^◌, [], ◌∷◌, ◌++◌, length, map, sum, Some, None, IsTrue, IfErr, OnOk};
 ghost use Rattle.std.specs.List.{zip};
 ghost use Rattle.schema.specs.Scale.{has_district, district_keys, district_slot};
 ghost use Rattle.files.specs.Taken.{fields_left, fault_of, Takes};
+ghost use Rattle.files.specs.Failure.{IsOfWriting};
 ghost use Rattle.files.specs.Written.{IsBetweenRecords};
 ghost use Rattle.dataset.specs.Payments.{Opens, Pays};
 ghost use Rattle.dataset.specs.Records.{AreSpelt, history_columns, history_fields, payment_records};
@@ -104,7 +105,8 @@ pub fn write<W: Write + Drop>(
 ) -> Result<(), FileError>
     requires count { length lists.now ≤ length (district_keys scale) }
     requires between { IsBetweenRecords writer.old }
-    ensures { OnOk result (Writes W.contents writer.old writer.new (payment_records (zip (district_keys scale) lists.now))) }
+    ensures written { OnOk result (Writes W.contents writer.old writer.new (payment_records (zip (district_keys scale) lists.now))) }
+    ensures failed { IfErr result IsOfWriting }
 {
     for (place, list) in lists.iter().enumerate() {
         write_list(writer, out, District::key_at(scale, place), list.rows())?;
@@ -120,7 +122,8 @@ fn write_list<W: Write + Drop>(
     payments: &[History],
 ) -> Result<(), FileError>
     requires { IsBetweenRecords writer.old }
-    ensures { OnOk result (Writes W.contents writer.old writer.new (map (history_fields home) payments.now)) }
+    ensures written { OnOk result (Writes W.contents writer.old writer.new (map (history_fields home) payments.now)) }
+    ensures failed { IfErr result IsOfWriting }
 {
     for payment in payments {
         out.clear();

@@ -4,7 +4,8 @@ ghost use Rattle.std.specs.Prelude.{◌≡◌, ℕ, List, IfSome, map};
 ghost use Rattle.std.specs.List.{AllByRecursion};
 ghost use Rattle.std.specs.Map.{values_of};
 ghost use Rattle.rows.specs.Text.{IsText};
-ghost use Rattle.dataset.specs.Ranges.{AddressInRange, CustomerInRange, DistrictInRange, HistoryInRange, InRange, IsFrom, IsMoment, ItemInRange, LineInRange, OrderInRange, StockInRange, WarehouseInRange};
+ghost use Rattle.files.specs.MomentText.{IsMoment};
+ghost use Rattle.dataset.specs.Ranges.{AddressInRange, CustomerInRange, DistrictInRange, HistoryInRange, InRange, IsFrom, ItemInRange, LineInRange, OrderInRange, StockInRange, WarehouseInRange};
 
 use rows::{
     Address, CarrierId, Customer, District, History, Item, Moment, Order, OrderLine, Stock, Text,

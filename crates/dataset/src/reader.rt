@@ -1,7 +1,8 @@
 ghost use Rattle.std.specs.Prelude.{◌≡◌, ◌+◌, ◌-◌, ◌^◌, ◌<◌, ℕ, List, [], ◌∷◌, length, map, sum, None, Some, IfOk, IfErr, MatchResult, OnOk};
 ghost use Rattle.schema.specs.Database.{Database, IsWithinScale};
 ghost use Rattle.schema.specs.declared.scale.Scale.{Scale};
-ghost use Rattle.files.specs.Place.{HasRead, HasLeft, IsCsv, record_fields, record_number};
+ghost use Rattle.files.specs.Failure.{IsOfText};
+ghost use Rattle.files.specs.Place.{input, HasRead, HasLeft, IsCsv, record_fields, record_number};
 ghost use Rattle.dataset.specs.Expecting.{Expects, Completes, GoesOn, IsFault};
 ghost use Rattle.dataset.specs.Ranges.{InRange};
 ghost use Rattle.dataset.specs.Columns.{sizes};
@@ -14,24 +15,24 @@ ghost use Rattle.dataset.specs.FirstRecord.{BeginsWith};
 
 use crate::header;
 use crate::loader::{Loader, Taken};
-use files::{FaultKind, FileError, FileFault, Records};
+use files::{FaultKind, FileError, FileFault, Input, Records};
 use schema::{Scale, Tables};
 use std::alloc::Global;
-use std::io::Read;
 
 /// The tables of the dataset that `source` gives.
 ///
-/// A fault comes with its record, and nothing else is given then; but for `Io`, it comes only where no
-/// tables have the records of the text. It is the first fault of the text: the first faulty record
+/// A fault comes with its record, and nothing else is given then; it comes only where no tables have the
+/// records of the text. It is the first fault of the text: the first faulty record
 /// decides, and of its faults the least one; a broken rule of the scale is looked for after the whole
 /// file was read, and named at the end record. Memory is taken row by row, never by the numbers of the
 /// header.
-pub fn read<R: Read + Drop>(alloc: Global, source: R) -> Result<Tables, FileError>
+pub fn read<R: Input + Drop>(alloc: Global, source: R) -> Result<Tables, FileError>
     ensures tables { IfOk result (λ tables. (text : List ℕ) → R.remaining source ≡ Some text → (rows : List (List (List ℕ))) × IsCsv text rows × AreRecords tables rows) }
     ensures first { (text : List ℕ) (rows : List (List (List ℕ))) → R.remaining source ≡ Some text → IsCsv text rows → length rows < 2 ^ 64 - 1
         → MatchResult result (λ _. first_fault rows ≡ None) (λ error. Tells rows error) }
     ensures fault { IfErr result (λ error. IsFault error → (text : List ℕ) → R.remaining source ≡ Some text → (rows : List (List (List ℕ))) → IsCsv text rows → length rows < 2 ^ 64 - 1
         → (t : Database) → IsWithinScale t → InRange t → AreRecords t rows → ⊥) }
+    ensures lasts { R.lasts source → IfErr result IsOfText }
 {
     let mut records = Records::new(alloc, source);
     let scale = read_header(&mut records)?;
@@ -42,20 +43,21 @@ pub fn read<R: Read + Drop>(alloc: Global, source: R) -> Result<Tables, FileErro
 
 /// The scale of the dataset that `source` gives, of which the header alone is read.
 ///
-/// A fault is one of the header, which is the first record; but for `Io`, it comes only where the text
-/// begins with no header.
-pub fn read_scale<R: Read + Drop>(alloc: Global, source: R) -> Result<Scale, FileError>
+/// A fault is one of the header, which is the first record; it comes only where the text begins with no
+/// header.
+pub fn read_scale<R: Input + Drop>(alloc: Global, source: R) -> Result<Scale, FileError>
     ensures first { (text : List ℕ) (rows : List (List (List ℕ))) → R.remaining source ≡ Some text → IsCsv text rows → IfErr result (λ error. TellsFault error (first_fault rows)) }
     ensures scale { IfOk result (λ scale. (text : List ℕ) → R.remaining source ≡ Some text → (header : List (List ℕ)) × AreSpelt (header_fields scale) header × BeginsWith text header) }
     ensures fault { IfErr result (λ error. IsFault error → (text : List ℕ) → R.remaining source ≡ Some text
         → (s : Scale) (header : List (List ℕ)) (rows : List (List (List ℕ))) → AreSpelt (header_fields s) header → IsCsv text (header ∷ rows) → ⊥) }
+    ensures lasts { R.lasts source → IfErr result IsOfText }
 {
     let mut records = Records::new(alloc, source);
     read_header(&mut records)
 }
 
 // The scale of the first record, which is the header.
-fn read_header<R: Read + Drop>(records: &mut Records<R>) -> Result<Scale, FileError>
+fn read_header<R: Input + Drop>(records: &mut Records<R>) -> Result<Scale, FileError>
     ensures first { (rows : List (List (List ℕ))) → record_number records.old ≡ 0 → HasLeft R.remaining rows records.old
         → MatchResult result (λ scale. BeginsDataset R.remaining scale rows records.new) (λ error. TellsFault error (first_fault rows)) }
     ensures read { IfOk result (λ scale. (text : List ℕ) → HasRead R.remaining text [] records.old
@@ -63,6 +65,7 @@ fn read_header<R: Read + Drop>(records: &mut Records<R>) -> Result<Scale, FileEr
     ensures scale { IfOk result (λ scale. (s : Scale) (header : List (List ℕ)) (rows : List (List (List ℕ))) → AreSpelt (header_fields s) header → HasLeft R.remaining (header ∷ rows) records.old
         → (scale ≡ s) × HasLeft R.remaining rows records.new) }
     ensures fault { IfErr result (λ error. IsFault error → (s : Scale) (header : List (List ℕ)) (rows : List (List (List ℕ))) → AreSpelt (header_fields s) header → HasLeft R.remaining (header ∷ rows) records.old → ⊥) }
+    ensures lasts { R.lasts (input records.old) → MatchResult result (λ _. R.lasts (input records.new)) IsOfText }
 {
     if !records.advance()? {
         return Err(records.fault(FaultKind::NoHeader));
@@ -74,7 +77,10 @@ fn read_header<R: Read + Drop>(records: &mut Records<R>) -> Result<Scale, FileEr
 }
 
 // Takes the records up to the end record, which is then under way.
-fn read_rows<R: Read + Drop>(records: &mut Records<R>, loader: &mut Loader) -> Result<(), FileError>
+fn read_rows<R: Input + Drop>(
+    records: &mut Records<R>,
+    loader: &mut Loader,
+) -> Result<(), FileError>
     ensures first { (read rows : List (List (List ℕ))) → length read + length rows < 2 ^ 64 - 1 → IsAt loader.old read → record_number records.old ≡ length read → HasLeft R.remaining rows records.old
         → MatchResult result (λ _. ReachesEnd R.remaining (sizes loader.old.scale) read rows records.new) (λ error. TellsFault error (rows_fault (sizes loader.old.scale) read rows)) }
     ensures read { OnOk result ((text : List ℕ) (read : List (List (List ℕ))) → HasRead R.remaining text read records.old → HasLoaded loader.old read
@@ -82,6 +88,7 @@ fn read_rows<R: Read + Drop>(records: &mut Records<R>, loader: &mut Loader) -> R
     ensures all { OnOk result ((t : Database) (rows : List (List (List ℕ))) → Expects t loader.old rows → HasLeft R.remaining rows records.old
         → Completes t loader.new × HasLeft R.remaining [] records.new) }
     ensures fault { IfErr result (λ error. IsFault error → (t : Database) (rows : List (List (List ℕ))) → length rows < 2 ^ 64 - 1 → Expects t loader.old rows → HasLeft R.remaining rows records.old → ⊥) }
+    ensures lasts { R.lasts (input records.old) → MatchResult result (λ _. R.lasts (input records.new)) IsOfText }
 {
     for _ in 0..u64::MAX {
         if !records.advance()? {
@@ -96,7 +103,7 @@ fn read_rows<R: Read + Drop>(records: &mut Records<R>, loader: &mut Loader) -> R
 }
 
 // Takes the record under way.
-fn read_record<R: Read + Drop>(
+fn read_record<R: Input + Drop>(
     records: &Records<R>,
     loader: &mut Loader,
 ) -> Result<Taken, FileError>
@@ -104,6 +111,7 @@ fn read_record<R: Read + Drop>(
     ensures loaded { IfOk result (λ taken. IsLoaded taken loader.old loader.new (record_fields records.now)) }
     ensures goes_on { IfOk result (λ taken. (t : Database) (rest : List (List (List ℕ))) → Expects t loader.old (record_fields records.now ∷ rest) → GoesOn taken t loader.new rest) }
     ensures fault { IfErr result (λ error. IsFault error → (t : Database) (rest : List (List (List ℕ))) → Expects t loader.old (record_fields records.now ∷ rest) → ⊥) }
+    ensures of_text { IfErr result IsOfText }
 {
     let mut fields = records.fields();
     let taken = loader.take(&mut fields)?;
@@ -114,12 +122,13 @@ fn read_record<R: Read + Drop>(
 }
 
 // The tables, after the end record, which has to be the last.
-fn finish<R: Read + Drop>(mut records: Records<R>, loader: Loader) -> Result<Tables, FileError>
+fn finish<R: Input + Drop>(mut records: Records<R>, loader: Loader) -> Result<Tables, FileError>
     ensures none_left { OnOk result ((more : List (List (List ℕ))) → HasLeft R.remaining more records → more ≡ []) }
     ensures first { IfErr result (λ error. (more : List (List (List ℕ))) → HasLeft R.remaining more records → record_number records < 2 ^ 64 - 1
         → TellsEnd error more (record_number records)) }
     ensures tables { IfOk result (λ tables. (text : List ℕ) → HasEnded R.remaining text loader records → (rows : List (List (List ℕ))) × IsCsv text rows × AreRecords tables rows) }
     ensures fault { IfErr result (λ error. IsFault error → (t : Database) → IsWithinScale t → Completes t loader → HasLeft R.remaining [] records → ⊥) }
+    ensures lasts { R.lasts (input records) → IfErr result IsOfText }
 {
     let end = records.number();
     records.expect_end()?;

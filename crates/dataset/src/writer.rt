@@ -1,7 +1,8 @@
-ghost use Rattle.std.specs.Prelude.{◌≤◌, ℕ, List, length, IfOk, OnOk};
+ghost use Rattle.std.specs.Prelude.{◌≤◌, ℕ, List, length, IfOk, IfErr, OnOk};
 ghost use Rattle.std.specs.List.{zip};
 ghost use Rattle.std.specs.BTreeMap.{IsOrdered};
 ghost use Rattle.std.specs.Io.KnownBytes.{Appends};
+ghost use Rattle.files.specs.Failure.{IsOfWriting};
 ghost use Rattle.files.specs.Written.{IsBetweenRecords, csv_text};
 ghost use Rattle.dataset.specs.Records.{AreRecords, row_records};
 ghost use Rattle.dataset.specs.Writing.{Writes};
@@ -16,12 +17,13 @@ use std::io::Write;
 
 /// Writes the dataset of the tables, and gives the sink back.
 ///
-/// `NoMemory` comes where there is none for a record, and the fault `Io` where the sink fails, with the
-/// number of the record under way; since records are gathered before they are handed over, what was not
+/// `NoMemory` comes where there is none for a record, and `Failed` where the sink fails, with the number of
+/// the record under way; since records are gathered before they are handed over, what was not
 /// taken may be an earlier one. After an error the sink has a beginning of the text. Use a `&mut` to a sink
 /// that is needed then.
 pub fn write<W: Write + Drop>(alloc: Global, sink: W, tables: &Tables) -> Result<W, FileError>
-    ensures { IfOk result (λ full. (rows : List (List (List ℕ))) × AreRecords tables.now rows × Appends (W.contents sink) (W.contents full) (csv_text rows)) }
+    ensures written { IfOk result (λ full. (rows : List (List (List ℕ))) × AreRecords tables.now rows × Appends (W.contents sink) (W.contents full) (csv_text rows)) }
+    ensures failed { IfErr result IsOfWriting }
 {
     let scale = tables.scale();
     let rows = tables.rows();
@@ -53,7 +55,8 @@ fn write_dense<W: Write + Drop, K, T: Dense<K>>(
 ) -> Result<(), FileError>
     requires count { length rows.now ≤ length (T.keys scale) }
     requires between { IsBetweenRecords writer.old }
-    ensures { OnOk result (Writes W.contents writer.old writer.new (row_records T.fields (zip (T.keys scale) rows.now))) }
+    ensures written { OnOk result (Writes W.contents writer.old writer.new (row_records T.fields (zip (T.keys scale) rows.now))) }
+    ensures failed { IfErr result IsOfWriting }
 {
     for (place, row) in rows.iter().enumerate() {
         out.clear();
@@ -72,6 +75,7 @@ fn write_ordered<W: Write + Drop, K: Ord + Copy, T: Recorded<K>>(
     requires { IsBetweenRecords writer.old }
     ensures written { OnOk result (Writes W.contents writer.old writer.new (row_records T.fields rows.now.entries)) }
     ensures ordered { OnOk result (IsOrdered K.cmp rows.now) }
+    ensures failed { IfErr result IsOfWriting }
 {
     for (key, row) in rows.iter() {
         out.clear();

@@ -18,6 +18,7 @@ use Rattle.jiff_core.specs.declared.civil.datetime.DateTime.{DateTime}
 use Rattle.jiff_core.specs.declared.error.Error.{Error}
 use Rattle.jiff_fmt.specs.Temporal.{DateParts, TimeParts, date_parts, time_parts, datetime_view, parse_datetime}
 use Rattle.jiff_fmt.specs.Text.{year_text, pad2, fraction_part}
+use Rattle.jiff_fmt.proofs.RoundTrip.{parse_datetime-datetime_text}
 use Rattle.amounts.specs.Money.{IsMoney, is_money, money}
 use Rattle.rows.specs.declared.records.Credit.{Credit}
 use Rattle.rows.specs.declared.records.Credit.TheVariants.{Good, Bad}
@@ -27,17 +28,16 @@ use Rattle.files.specs.declared.fault.FaultKind.TheVariants as fault
 use Rattle.files.specs.declared.fields.Fields.{Fields}
 use Rattle.files.specs.FieldRead.{Taking, taking, field_read, is_negative, is_within, next_read, noted, whole_read}
 use Rattle.files.specs.KindsRead.{count_read, credit_read, moment_at, moment_read, money_read, optional_read, parts_seconds, parts_text, read_as, signed_value, spelt_moment, word_read}
+use Rattle.files.specs.MomentText.{IsMoment, IsMomentText}
 use Rattle.files.specs.Number.{is_number, is_positive}
 use Rattle.files.specs.Taken.{TakesWell, fields_left, fault_of, with_fault}
 use Rattle.files.specs.Word.{credit_text}
 use Rattle.files.proofs.Amounts.{money_fits}
+use Rattle.files.proofs.Ascii.{utf8_moment}
 use Rattle.files.proofs.FieldsRead.{Absent, field_is, given_by, by_result, unsigned_digits, within_digits, both, not_true}
 use Rattle.files.proofs.Numerals.{own, number_plain, number_of_positive, signed_negative, spelling, is_number-decimal, is_number-signed}
 use Rattle.files.proofs.ShortNumbers.{number_is_text}
-
-false_unless : (b : Bool) → (b ≡ true → ⊥) → b ≡ false
-false_unless true h = absurd (h refl)
-false_unless false h = refl
+use Rattle.files.proofs.Unlike.{false_unless}
 
 -- what is no text spells no number
 pub no_number : (bytes : List ℕ) → (IsUtf8 bytes → ⊥) → is_number bytes ≡ false
@@ -329,6 +329,14 @@ pub spelt_test : (text : List ℕ) (moment : DateTime) → iso_datetime_text mom
 spelt_test text moment spelt whole =
     let same : bytes_eq (iso_datetime_text moment) text ≡ true = (bytes_decides (iso_datetime_text moment) text).1 spelt in
     rw (same, whole) refl
+
+-- what is spelt as a moment is read
+pub moment_complete : (text : List ℕ) (seconds : ℕ) → IsMomentText text seconds → IsMoment seconds → moment_read text ≡ Ok seconds
+moment_complete text seconds (moment, s) most =
+    let view : datetime_view (Ok moment) ≡ parse_datetime text = sym (parse_datetime-datetime_text moment) ∙ ap parse_datetime s.is_text in
+    let read = moment_of text (Ok moment) moment true (utf8_moment text seconds (moment, s)) view refl (spelt_test text moment s.is_text s.is_whole) in
+    let within : nat_le seconds 253402300799 ≡ true = grind (arith, nat_tests, most) in
+    sym read ∙ ap moment_at s.is_second ∙ rw within refl
 
 pub spelt_not : (text : List ℕ) (moment : DateTime) → ((iso_datetime_text moment ≡ text) × (moment.time.subsec_nanosecond ≡ 0) → ⊥) → (bytes_eq (iso_datetime_text moment) text && (moment.time.subsec_nanosecond == 0)) ≡ false
 spelt_not text moment other = false_unless (bytes_eq (iso_datetime_text moment) text && (moment.time.subsec_nanosecond == 0)) (λ h.

@@ -1,3 +1,4 @@
+pub mod Unlike
 pub mod Numerals
 pub mod Amounts
 pub mod Moments

@@ -4,15 +4,13 @@ use Rattle.std.proofs.lemmas.Bool.Decides.{nat_tests}
 use Rattle.files.specs.declared.fault.FaultKind.{FaultKind}
 use Rattle.files.specs.declared.fault.FaultKind.TheVariants as fault
 use Rattle.files.specs.declared.fault.FileError.{FileError}
-use Rattle.files.specs.declared.fault.FileError.TheVariants.{NoMemory}
+use Rattle.files.specs.declared.fault.FileError.TheVariants.{NoMemory, Failed}
 use Rattle.files.specs.declared.fault.FileFault.{FileFault}
 use Rattle.files.specs.declared.records.Records.{Records}
 use Rattle.files.specs.FirstFault.{TellsFault, fault_at, unless_long}
 use Rattle.files.specs.Place.{HasLeft, HasLeftAfter, file_fault, record_fields}
 use Rattle.files.specs.Span.{record_size}
-
-true_false : true ≡ false → ⊥
-true_false e = cc
+use Rattle.files.proofs.Unlike.{true_false}
 
 -- the next record was read
 pub next_row : {R : Type 0} (remaining : R → Option (List ℕ)) (rows : List (List (List ℕ))) (found : Bool) (r : Records R) → found ≡ true → HasLeftAfter remaining rows found r
@@ -26,11 +24,11 @@ no_row remaining [] found r e h = refl
 no_row remaining (row ∷ rows) found r e h = let clash : true ≡ false = sym h.0 ∙ e in absurd (true_false clash)
 
 -- a reader that failed, or a record that is too long
-pub not_advanced : (error : FileError) (number : ℕ) (first : Option FileFault) → (error ≡ NoMemory) ⊎ (error ≡ file_fault fault.Io number) ⊎ (error ≡ file_fault fault.WrongShape number)
+pub not_advanced : (error : FileError) (number : ℕ) (first : Option FileFault) → (error ≡ NoMemory) ⊎ (error ≡ Failed number) ⊎ (error ≡ file_fault fault.WrongShape number)
     → (error ≡ file_fault fault.WrongShape number → first ≡ Some (fault_at fault.WrongShape number)) → TellsFault error first
 not_advanced error number first (inl e) long = subst (λ x. TellsFault x first) (sym e) tt
-not_advanced error number first (inr (inl e)) long = subst (λ x. TellsFault x first) (sym e) (inl refl)
-not_advanced error number first (inr (inr e)) long = subst (λ x. TellsFault x first) (sym e) (inr (long e))
+not_advanced error number first (inr (inl e)) long = subst (λ x. TellsFault x first) (sym e) tt
+not_advanced error number first (inr (inr e)) long = subst (λ x. TellsFault x first) (sym e) (long e)
 
 -- a record that is not too long
 pub short_record : (row : List (List ℕ)) (kind : Option FaultKind) → record_size row ≤ 65536 → unless_long row kind ≡ kind

@@ -1,5 +1,6 @@
--- The numbers of the faults.
-use Rattle.std.specs.Prelude.{ℕ, nat_le, if◌then◌else◌}
+-- The numbers of the faults, and how they are told.
+use Rattle.std.specs.Prelude.{ℕ, List, ◌++◌, codes, nat_le, if◌then◌else◌}
+use Rattle.std.specs.Fmt.{decimal}
 use Rattle.files.specs.declared.fault.FaultKind.{FaultKind}
 use Rattle.files.specs.declared.fault.FaultKind.TheVariants as fault
 
@@ -14,8 +15,11 @@ fault_number fault.ScaleBroken = 6
 fault_number fault.NoEnd = 7
 fault_number fault.WrongCount = 8
 fault_number fault.AfterEnd = 9
-fault_number fault.Io = 10
 
 -- the one of the least number
 abbrev pub least_fault : FaultKind → FaultKind → FaultKind
 least_fault a b = if nat_le (fault_number a) (fault_number b) then a else b
+
+-- how the fault of that number is told, at that record
+abbrev pub fault_text : ℕ → ℕ → List ℕ
+fault_text number at = codes "row " ++ (decimal at ++ (codes ": fault " ++ decimal number))

@@ -1,10 +1,10 @@
 -- The first fault of a file's records.
-use Rattle.std.specs.Prelude.{◌≡◌, ◌+◌, ◌⊎◌, ℕ, List, [], ◌∷◌, nat_lt, Option, Some, None, if◌then◌else◌}
+use Rattle.std.specs.Prelude.{◌≡◌, ◌+◌, ℕ, List, [], ◌∷◌, nat_lt, Option, Some, None, if◌then◌else◌}
 use Rattle.files.specs.declared.fault.FaultKind.{FaultKind}
-use Rattle.files.specs.declared.fault.FaultKind.TheVariants.{AfterEnd, Io, WrongShape}
+use Rattle.files.specs.declared.fault.FaultKind.TheVariants.{AfterEnd, WrongShape}
 use Rattle.files.specs.declared.fault.FileFault.{FileFault}
 use Rattle.files.specs.declared.fault.FileError.{FileError}
-use Rattle.files.specs.declared.fault.FileError.TheVariants.{NoMemory, File}
+use Rattle.files.specs.declared.fault.FileError.TheVariants.{NoMemory, Failed, File}
 use Rattle.files.specs.Span.{record_size}
 
 -- of that kind, at that record
@@ -29,9 +29,11 @@ behind_end number (row ∷ rows) = Some (fault_at AfterEnd (number + 1))
 -- an error is that fault of the record of that number, beside want of memory
 abbrev pub TellsKind : FileError → Option FaultKind → ℕ → Type 0
 TellsKind NoMemory kind number = Unit {0}
+TellsKind (Failed at) kind number = ⊥
 TellsKind (File fault) kind number = (kind ≡ Some fault.kind) × (fault.record ≡ number)
 
 -- an error is that fault of the text, beside want of memory and a reader that failed
 abbrev pub TellsFault : FileError → Option FileFault → Type 0
 TellsFault NoMemory first = Unit {0}
-TellsFault (File fault) first = (fault.kind ≡ Io) ⊎ (first ≡ Some fault)
+TellsFault (Failed number) first = Unit {0}
+TellsFault (File fault) first = first ≡ Some fault

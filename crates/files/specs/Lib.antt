@@ -1,4 +1,5 @@
 pub mod Fault
+pub mod Failure
 pub mod Number
 pub mod MomentText
 pub mod Word

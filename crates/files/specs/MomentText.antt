@@ -1,5 +1,5 @@
 -- How moments are spelt: `2024-01-31T23:59:59`.
-use Rattle.std.specs.Prelude.{◌≡◌, ℕ, List, pos}
+use Rattle.std.specs.Prelude.{◌≡◌, ◌≤◌, ℕ, List, pos}
 use Rattle.jiff.specs.Names.{iso_datetime_text}
 use Rattle.jiff_core.specs.DateTime.{civil_seconds}
 use Rattle.jiff_core.specs.declared.civil.datetime.DateTime.{DateTime}
@@ -13,3 +13,7 @@ pub record Spells (moment : DateTime) (text : List ℕ) (seconds : ℕ) : Type 0
 -- the text spells that moment
 abbrev pub IsMomentText : List ℕ → ℕ → Type 0
 IsMomentText text seconds = (moment : DateTime) × Spells moment text seconds
+
+-- a moment of the years 1970 to 9999
+abbrev pub IsMoment : ℕ → Type 0
+IsMoment seconds = seconds ≤ 253402300799

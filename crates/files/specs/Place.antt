@@ -13,6 +13,10 @@ use Rattle.files.specs.Line.{IsBetween}
 use Rattle.files.specs.Source.{at_hand}
 use Rattle.files.specs.Span.{parts, record_size}
 
+-- what the records are read from
+abbrev pub input : {R : Type 0} → Records R → R
+input r = r.source.reader
+
 -- the number of the record under way
 abbrev pub record_number : {R : Type 0} → Records R → ℕ
 record_number r = r.number

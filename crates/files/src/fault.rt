@@ -5,7 +5,7 @@ ghost use Rattle.files.specs.declared.fault.FileError.TheVariants.{NoMemory};
 use std::alloc::AllocError;
 use std::fmt;
 
-/// What can be wrong with a file. Of several faults of one record the least is given, in this order.
+/// What can be wrong with the text of a file. Of several faults of one record the least is given, in this order.
 #[derive(Clone, Copy, Debug, PartialEq, Eq)]
 pub enum FaultKind {
     /// The header record is missing or not of this format.
@@ -26,12 +26,10 @@ pub enum FaultKind {
     WrongCount,
     /// A record comes after the end record.
     AfterEnd,
-    /// Reading or writing failed.
-    Io,
 }
 
 impl FaultKind {
-    /// The number by which the program names the fault, from 1 to 10.
+    /// The number by which the program names the fault, from 1 to 9.
     pub fn number(self) -> u8
         ensures { result ≡ fault_number self }
     {
@@ -45,7 +43,6 @@ impl FaultKind {
             FaultKind::NoEnd => 7,
             FaultKind::WrongCount => 8,
             FaultKind::AfterEnd => 9,
-            FaultKind::Io => 10,
         }
     }
 
@@ -61,15 +58,20 @@ impl FaultKind {
     }
 }
 
-/// A fault of a file, and the record where it was found.
+/// A fault of a file's text, and the record where it was found.
 #[derive(Clone, Copy, Debug, PartialEq, Eq)]
 pub struct FileFault {
     pub kind: FaultKind,
-    /// From 1; 0 where the file can't be opened or made.
+    /// From 1.
     pub record: u64,
 }
 
 impl fmt::Display for FileFault {
+    ghost use Rattle.std.specs.Prelude.{Some};
+    ghost use Rattle.files.specs.Fault.{fault_text};
+
+    ghost output = { λ fault. Some (fault_text (fault_number fault.kind) fault.«record») };
+
     fn fmt<W: fmt::Write>(&self, f: &mut fmt::Formatter<W>) -> fmt::Result {
         let record = self.record;
         let number = self.kind.number();
@@ -82,7 +84,9 @@ impl fmt::Display for FileFault {
 pub enum FileError {
     /// There was no memory for what the file holds, or for a record.
     NoMemory,
-    /// The file has a fault.
+    /// Reading or writing failed, at the record of that number, from 1.
+    Failed(u64),
+    /// The file's text has a fault.
     File(FileFault),
 }
 

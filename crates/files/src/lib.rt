@@ -4,6 +4,7 @@
 
 mod fault;
 mod fields;
+mod input;
 mod line;
 mod moment;
 mod new_record;
@@ -12,12 +13,14 @@ mod record_writer;
 mod records;
 mod source;
 mod span;
+mod stop;
 mod unquoted;
 mod window;
 mod words;
 
 pub use fault::{FaultKind, FileError, FileFault};
 pub use fields::Fields;
+pub use input::{Input, Reader};
 pub use moment::{moment_text, parse_moment};
 pub use new_record::NewRecord;
 pub use numbers::{parse_cents, parse_whole};

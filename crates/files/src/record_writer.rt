@@ -1,8 +1,8 @@
 ghost use Rattle.std.specs.Prelude.{◌≡◌, ◌⊎◌, ◌+◌, ◌-◌, ◌^◌, ◌<◌, IfOk, IfErr, OnOk};
 ghost use Rattle.std.specs.Io.KnownBytes.{Appends, Keeps};
-ghost use Rattle.files.specs.Place.{file_fault};
+ghost use Rattle.files.specs.Failure.{IsOfWriting};
 
-use crate::{FaultKind, FileError, FileFault, NewRecord};
+use crate::{FileError, NewRecord};
 use csv::{Error, ErrorKind, Writer, WriterBuilder};
 use std::io::Write;
 
@@ -31,12 +31,13 @@ impl<W: Write + Drop> RecordWriter<W> {
     }
 
     /// Writes the record. A failure of the sink, also one that comes late since records are gathered
-    /// before they are written, is the fault `Io` at this record.
+    /// before they are written, is `Failed` at this record.
     pub fn write(&mut self, row: &NewRecord) -> Result<(), FileError>
         ensures between { OnOk result (IsBetweenRecords self.old → IsBetweenRecords self.new) }
         ensures text { OnOk result (IsBetweenRecords self.old → Appends (written W.contents self.old) (written W.contents self.new) (record_text row.now)) }
         ensures number { records_written self.old < 2 ^ 64 - 1 → records_written self.new ≡ records_written self.old + 1 }
-        ensures faults { IfErr result (λ fault. (fault ≡ FileError.NoMemory) ⊎ (fault ≡ file_fault FaultKind.Io (records_written self.new))) }
+        ensures faults { IfErr result (λ fault. (fault ≡ FileError.NoMemory) ⊎ (fault ≡ FileError.Failed (records_written self.new))) }
+        ensures writing { IfErr result IsOfWriting }
     {
         self.number = self.number.saturating_add(1);
         match self.writer.write_byte_record(row.as_byte_record()) {
@@ -48,7 +49,8 @@ impl<W: Write + Drop> RecordWriter<W> {
     /// The sink, which has all records then. Its faults are those of `write`, at the last record.
     pub fn finish(self) -> Result<W, FileError>
         ensures text { IfOk result (λ sink. Keeps (written W.contents self) (W.contents sink)) }
-        ensures faults { IfErr result (λ fault. (fault ≡ FileError.NoMemory) ⊎ (fault ≡ file_fault FaultKind.Io (records_written self))) }
+        ensures faults { IfErr result (λ fault. (fault ≡ FileError.NoMemory) ⊎ (fault ≡ FileError.Failed (records_written self))) }
+        ensures writing { IfErr result IsOfWriting }
     {
         let RecordWriter { writer, number } = self;
         match writer.into_inner() {
@@ -60,13 +62,11 @@ impl<W: Write + Drop> RecordWriter<W> {
 
 // Why the record of that number was not written.
 fn failure(number: u64, error: Error) -> FileError
-    ensures { (result ≡ FileError.NoMemory) ⊎ (result ≡ file_fault FaultKind.Io number) }
+    ensures fault { (result ≡ FileError.NoMemory) ⊎ (result ≡ FileError.Failed number) }
+    ensures writing { IsOfWriting result }
 {
     match error.into_kind() {
         ErrorKind::OutOfMemory => FileError::NoMemory,
-        _ => FileError::File(FileFault {
-            kind: FaultKind::Io,
-            record: number,
-        }),
+        _ => FileError::Failed(number),
     }
 }

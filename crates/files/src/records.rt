@@ -1,20 +1,22 @@
-ghost use Rattle.std.specs.Prelude.{◌≡◌, ◌≢◌, ◌≤◌, ◌⊎◌, ◌+◌, ◌-◌, ◌^◌, ◌<◌, ◌↔◌, ◌++◌, ℕ, List, [], length, drop, Option, Some, None, true, false, IfOk, IfErr, OnOk, IsTrue};
+ghost use Rattle.std.specs.Prelude.{◌≡◌, ◌≢◌, ◌≤◌, ◌⊎◌, ◌+◌, ◌-◌, ◌^◌, ◌<◌, ◌↔◌, ◌++◌, ℕ, List, [], length, drop, Option, Some, None, true, false, IfOk, IfErr, OnOk, IsTrue, MatchResult};
 ghost use Rattle.std.specs.Io.KnownBytes.{IsAtEnd};
 ghost use Rattle.csv.specs.Reading.{default_config};
 ghost use Rattle.csv.specs.declared.parser.State.TheVariants as state;
 ghost use Rattle.csv.proofs.ReadFacts.{Tracks};
+ghost use Rattle.files.specs.Failure.{IsNoFailure, IsOfText};
 ghost use Rattle.files.specs.Taken.{fields_left, fault_of};
 ghost use Rattle.files.specs.Line.{BeginsRecord, IsOpen};
 ghost use Rattle.files.specs.Source.{ahead, at_hand, is_begun};
 ghost use Rattle.files.specs.Unquoted.{machine_state, fields_ended, field_begun, IsInTurn};
 
+use crate::input::Input;
 use crate::line::{Line, add, cut_line};
-use crate::source::{Source, Unreadable};
+use crate::source::Source;
 use crate::span::Span;
+use crate::stop::Stop;
 use crate::unquoted::{Fed, Unquoted};
 use crate::{FaultKind, Fields, FileError, FileFault};
-use std::alloc::{AllocError, Global};
-use std::io::Read;
+use std::alloc::Global;
 
 /// The records of a file, one after the other, with their numbers from 1. Blank lines and a byte order
 /// mark at the front are no records.
@@ -30,40 +32,13 @@ pub struct Records<R> {
     number: u64,
 }
 
-// Why the next record was not read.
-#[derive(Clone, Copy, Debug)]
-enum Stop {
-    NoMemory,
-    Unreadable,
-    TooLong,
-}
-
-impl From<AllocError> for Stop {
-    ghost use Rattle.files.specs.declared.records.Stop.TheVariants.{NoMemory};
-
-    ghost from_gives = { λ _ stop. stop ≡ NoMemory };
-
-    fn from(_error: AllocError) -> Stop {
-        Stop::NoMemory
-    }
-}
-
-impl From<Unreadable> for Stop {
-    ghost use Rattle.files.specs.declared.records.Stop.TheVariants as stop;
-
-    ghost from_gives = { λ _ why. why ≡ stop.Unreadable };
-
-    fn from(_error: Unreadable) -> Stop {
-        Stop::Unreadable
-    }
-}
-
-impl<R: Read> Records<R> {
-    ghost use Rattle.files.specs.Place.{record_number, record_fields, text_left, file_fault, IsCsv, HasRead, HasReadOn, HasLeft, HasLeftAfter, IsKept, IsNext, FirstIsTooLong, NextIsTooLong};
+impl<R: Input> Records<R> {
+    ghost use Rattle.files.specs.Place.{input, record_number, record_fields, text_left, file_fault, IsCsv, HasRead, HasReadOn, HasLeft, HasLeftAfter, IsKept, IsNext, FirstIsTooLong, NextIsTooLong};
 
     /// The records that `source` gives, before the first.
     pub fn new(alloc: Global, source: R) -> Self
         ensures number { record_number result ≡ 0 }
+        ensures input { input result ≡ source }
         ensures none_read { (text : List ℕ) → R.remaining source ≡ Some text → HasRead R.remaining text [] result }
         ensures all_left { (text : List ℕ) (rows : List (List (List ℕ))) → R.remaining source ≡ Some text → IsCsv text rows → HasLeft R.remaining rows result }
     {
@@ -77,8 +52,8 @@ impl<R: Read> Records<R> {
         }
     }
 
-    /// Goes on to the next record, and says whether there is one. A failure of the source is the fault
-    /// `Io` at the record under way. A record of more than 65,536 bytes is the fault `WrongShape`, and is
+    /// Goes on to the next record, and says whether there is one. Where a read of the source fails, that is
+    /// `Failed` at the record under way. A record of more than 65,536 bytes is the fault `WrongShape`, and is
     /// not kept: its fields count with a byte for the end of each, and without the quotation marks around
     /// them. After an error nothing is said of the records to come.
     pub fn advance(&mut self) -> Result<bool, FileError>
@@ -86,13 +61,14 @@ impl<R: Read> Records<R> {
         ensures reads_next { IfOk result (λ found. (rows : List (List (List ℕ))) → HasLeft R.remaining rows self.old → HasLeftAfter R.remaining rows found self.new) }
         ensures kept { IfOk result (λ found. found ≡ true → IsKept (record_fields self.new)) }
         ensures number { record_number self.old < 2 ^ 64 - 1 → record_number self.new ≡ record_number self.old + 1 }
-        ensures faults { IfErr result (λ fault. (fault ≡ FileError.NoMemory) ⊎ (fault ≡ file_fault FaultKind.Io (record_number self.new)) ⊎ (fault ≡ file_fault FaultKind.WrongShape (record_number self.new))) }
+        ensures faults { IfErr result (λ fault. (fault ≡ FileError.NoMemory) ⊎ (fault ≡ FileError.Failed (record_number self.new)) ⊎ (fault ≡ file_fault FaultKind.WrongShape (record_number self.new))) }
         ensures too_long { IfErr result (λ fault. fault ≡ file_fault FaultKind.WrongShape (record_number self.new) → (rows : List (List (List ℕ))) → HasLeft R.remaining rows self.old → FirstIsTooLong rows) }
+        ensures lasts { R.lasts (input self.old) → MatchResult result (λ _. R.lasts (input self.new)) IsOfText }
     {
         match self.next_record() {
             Ok(found) => Ok(found),
             Err(Stop::NoMemory) => Err(FileError::NoMemory),
-            Err(Stop::Unreadable) => Err(self.fault(FaultKind::Io)),
+            Err(Stop::Unreadable) => Err(FileError::Failed(self.number)),
             Err(Stop::TooLong) => Err(self.fault(FaultKind::WrongShape)),
         }
     }
@@ -103,15 +79,16 @@ impl<R: Read> Records<R> {
         ensures reads { OnOk result ((text : List ℕ) (rows : List (List (List ℕ))) → HasRead R.remaining text rows self.old → IsCsv text rows) }
         ensures none_left { OnOk result ((rows : List (List (List ℕ))) → HasLeft R.remaining rows self.old → rows ≡ []) }
         ensures number { record_number self.old < 2 ^ 64 - 1 → record_number self.new ≡ record_number self.old + 1 }
-        ensures faults { IfErr result (λ fault. (fault ≡ FileError.NoMemory) ⊎ (fault ≡ file_fault FaultKind.Io (record_number self.new)) ⊎ (fault ≡ file_fault FaultKind.AfterEnd (record_number self.new))) }
+        ensures faults { IfErr result (λ fault. (fault ≡ FileError.NoMemory) ⊎ (fault ≡ FileError.Failed (record_number self.new)) ⊎ (fault ≡ file_fault FaultKind.AfterEnd (record_number self.new))) }
         ensures after_end { IfErr result (λ fault. fault ≡ file_fault FaultKind.AfterEnd (record_number self.new) → HasLeft R.remaining [] self.old → ⊥) }
+        ensures lasts { R.lasts (input self.old) → MatchResult result (λ _. R.lasts (input self.new)) IsOfText }
     {
         match self.next_record() {
             Ok(false) => Ok(()),
             Ok(true) => Err(self.fault(FaultKind::AfterEnd)),
             Err(Stop::TooLong) => Err(self.fault(FaultKind::AfterEnd)),
             Err(Stop::NoMemory) => Err(FileError::NoMemory),
-            Err(Stop::Unreadable) => Err(self.fault(FaultKind::Io)),
+            Err(Stop::Unreadable) => Err(FileError::Failed(self.number)),
         }
     }
 
@@ -119,6 +96,7 @@ impl<R: Read> Records<R> {
     fn next_record(&mut self) -> Result<bool, Stop>
         ensures next { IfOk result (λ found. IsNext R.remaining (text_left R.remaining self.old) found self.new) }
         ensures too_long { IfErr result (λ stop. stop ≡ Stop.TooLong → NextIsTooLong (text_left R.remaining self.old)) }
+        ensures lasts { R.lasts (input self.old) → MatchResult result (λ _. R.lasts (input self.new)) IsNoFailure }
         ensures number { record_number self.old < 2 ^ 64 - 1 → record_number self.new ≡ record_number self.old + 1 }
     {
         self.number = self.number.saturating_add(1);
@@ -136,6 +114,7 @@ impl<R: Read> Records<R> {
         ensures left { text_left R.remaining self.new ≡ text_left R.remaining self.old }
         ensures none_taken { self.new.taken ≡ 0 }
         ensures number { record_number self.new ≡ record_number self.old }
+        ensures behind { input self.new ≡ input self.old }
     {
         let taken = self.taken.min(self.source.at_hand().len());
         self.source.consume(taken);
@@ -149,6 +128,7 @@ impl<R: Read> Records<R> {
         requires begun { is_begun self.old.source ≡ true }
         ensures next { IfOk result (λ found. IsNext R.remaining (ahead R.remaining self.old.source) found self.new) }
         ensures too_long { IfErr result (λ stop. stop ≡ Stop.TooLong → NextIsTooLong (ahead R.remaining self.old.source)) }
+        ensures lasts { R.lasts (input self.old) → MatchResult result (λ _. R.lasts (input self.new)) IsNoFailure }
         ensures number { record_number self.new ≡ record_number self.old }
     {
         self.is_quoted = false;
@@ -177,6 +157,7 @@ impl<R: Read> Records<R> {
         requires ended { length (at_hand self.old.source) < 65536 → IsAtEnd (R.remaining self.old.source.reader) }
         ensures next { IfOk result (λ found. IsNext R.remaining (ahead R.remaining self.old.source) found self.new) }
         ensures too_long { IfErr result (λ stop. stop ≡ Stop.TooLong → NextIsTooLong (ahead R.remaining self.old.source)) }
+        ensures lasts { R.lasts (input self.old) → MatchResult result (λ _. R.lasts (input self.new)) IsNoFailure }
         ensures number { record_number self.new ≡ record_number self.old }
     {
         if self.source.is_full() {
@@ -194,6 +175,7 @@ impl<R: Read> Records<R> {
         requires begun { is_begun self.old.source ≡ true }
         ensures next { IfOk result (λ found. IsNext R.remaining (ahead R.remaining self.old.source) found self.new) }
         ensures too_long { IfErr result (λ stop. stop ≡ Stop.TooLong → NextIsTooLong (ahead R.remaining self.old.source)) }
+        ensures lasts { R.lasts (input self.old) → MatchResult result (λ _. R.lasts (input self.new)) IsNoFailure }
         ensures number { record_number self.new ≡ record_number self.old }
     {
         self.is_quoted = true;
@@ -225,6 +207,7 @@ impl<R: Read> Records<R> {
         requires ended { IsAtEnd (R.remaining self.old.source.reader) }
         ensures next { IfOk result (λ found. (before : Option (List ℕ)) → Tracks default_config state.StartRecord before (machine_state self.old.unquoted.state) (fields_ended self.old.unquoted self.old.spans.items) (field_begun self.old.unquoted) (ahead R.remaining self.old.source) → IsNext R.remaining before found self.new) }
         ensures too_long { IfErr result (λ stop. stop ≡ Stop.TooLong → (before : Option (List ℕ)) → Tracks default_config state.StartRecord before (machine_state self.old.unquoted.state) (fields_ended self.old.unquoted self.old.spans.items) (field_begun self.old.unquoted) (ahead R.remaining self.old.source) → NextIsTooLong before) }
+        ensures lasts { R.lasts (input self.old) → MatchResult result (λ _. R.lasts (input self.new)) IsNoFailure }
         ensures number { record_number self.new ≡ record_number self.old }
     {
         if self.unquoted.is_too_long(&self.spans) {

@@ -1,17 +1,15 @@
-ghost use Rattle.std.specs.Prelude.{◌≡◌, ◌↔◌, IsTrue, ℕ, ◌<◌, ◌≤◌, List, [], ◌∷◌, ◌++◌, drop, length, Some, true, false, IfOk, IfSome, IfNone, IfErr, OnOk, option_map, is_some};
+ghost use Rattle.std.specs.Prelude.{◌≡◌, ◌≢◌, ◌↔◌, IsTrue, ℕ, ◌<◌, ◌≤◌, List, [], ◌∷◌, ◌++◌, drop, length, Some, true, false, IfOk, IfSome, IfNone, IfErr, OnOk, option_map, IsOk, MatchResult};
 ghost use Rattle.std.specs.Io.KnownBytes.{Keeps, Consumes, IsAtEnd, prepend_known};
 ghost use Rattle.csv.specs.Reading.{default_config, strip_bom};
 ghost use Rattle.csv.specs.declared.parser.State.TheVariants as state;
 ghost use Rattle.csv.proofs.ReadFacts.{Tracks};
 ghost use Rattle.files.specs.ByteOrder.{is_marked};
 ghost use Rattle.files.specs.Line.{BeginsRecord, IsFirst};
+ghost use Rattle.files.specs.Failure.{IsNoFailure};
 
+use crate::input::Input;
+use crate::stop::{Stop, Unreadable};
 use crate::window::{MOST_BYTES, Window};
-use std::io::Read;
-
-/// Why there are no more bytes of a file: reading failed.
-#[derive(Clone, Copy, Debug, PartialEq, Eq)]
-pub struct Unreadable;
 
 /// The text of a file, from left to right. A byte order mark at its front is none of it.
 #[derive(Drop)]
@@ -22,12 +20,13 @@ pub struct Source<R> {
     is_begun: bool,
 }
 
-impl<R: Read> Source<R> {
+impl<R: Input> Source<R> {
     ghost use Rattle.files.specs.Source.{at_hand, ahead, unread, is_begun};
 
     /// All text that `reader` gives.
     pub fn new(reader: R) -> Self
-        ensures { unread R.remaining result ≡ option_map strip_bom (R.remaining reader) }
+        ensures unread { unread R.remaining result ≡ option_map strip_bom (R.remaining reader) }
+        ensures reader { result.reader ≡ reader }
     {
         Source {
             reader,
@@ -55,7 +54,7 @@ impl<R: Read> Source<R> {
     pub fn consume(&mut self, count: usize)
         requires { count ≤ length (at_hand self.old) }
         ensures left { at_hand self.new ≡ drop count (at_hand self.old) }
-        ensures behind { R.remaining self.new.reader ≡ R.remaining self.old.reader }
+        ensures behind { self.new.reader ≡ self.old.reader }
         ensures begun { is_begun self.new ≡ is_begun self.old }
     {
         self.window.consume(count);
@@ -65,7 +64,7 @@ impl<R: Read> Source<R> {
     pub fn next_byte(&mut self) -> Option<u8>
         ensures some { IfSome result (λ byte. at_hand self.old ≡ byte ∷ at_hand self.new) }
         ensures none { IfNone result ((at_hand self.old ≡ []) × (at_hand self.new ≡ [])) }
-        ensures behind { R.remaining self.new.reader ≡ R.remaining self.old.reader }
+        ensures behind { self.new.reader ≡ self.old.reader }
         ensures begun { is_begun self.new ≡ is_begun self.old }
     {
         let byte = self.at_hand().first().copied();
@@ -82,6 +81,7 @@ impl<R: Read> Source<R> {
         ensures grows { IfOk result (λ came. (bytes : List ℕ) × (at_hand self.new ≡ at_hand self.old ++ bytes) × (came ≡ true → 0 < length bytes)) }
         ensures none { IfOk result (λ came. came ≡ false → (at_hand self.new ≡ at_hand self.old) × (length (at_hand self.new) < 65536 → IsAtEnd (R.remaining self.new.reader))) }
         ensures begun { is_begun self.new ≡ is_begun self.old }
+        ensures lasts { R.lasts self.old.reader → IsOk result × R.lasts self.new.reader }
     {
         self.window.move_to_front();
         match self.window.read_from(&mut self.reader) {
@@ -94,6 +94,7 @@ impl<R: Read> Source<R> {
     pub fn begin(&mut self) -> Result<(), Unreadable>
         ensures unread { OnOk result (Keeps (unread R.remaining self.old) (ahead R.remaining self.new)) }
         ensures begun { OnOk result (is_begun self.new ≡ true) }
+        ensures lasts { R.lasts self.old.reader → IsOk result × R.lasts self.new.reader }
     {
         if self.is_begun {
             return Ok(());
@@ -107,12 +108,14 @@ impl<R: Read> Source<R> {
     }
 
     /// Takes the ends of lines up to the next record; says whether there is one, whose first byte is in
-    /// memory then.
-    pub fn skip_line_ends(&mut self) -> Result<bool, Unreadable>
+    /// memory then. More line ends than can be counted are as want of memory.
+    pub fn skip_line_ends(&mut self) -> Result<bool, Stop>
         ensures tracks { OnOk result (Tracks default_config state.StartRecord (ahead R.remaining self.old) state.StartRecord [] [] (ahead R.remaining self.new)) }
         ensures first { IfOk result (λ found. found ≡ true → BeginsRecord (at_hand self.new)) }
         ensures none { IfOk result (λ found. found ≡ false → (at_hand self.new ≡ []) × IsAtEnd (R.remaining self.new.reader)) }
         ensures begun { is_begun self.new ≡ is_begun self.old }
+        ensures short { IfErr result (λ stop. stop ≢ Stop.TooLong) }
+        ensures lasts { R.lasts self.old.reader → MatchResult result (λ _. R.lasts self.new.reader) IsNoFailure }
     {
         for _ in 0..u64::MAX {
             match first_of(self.at_hand()) {
@@ -125,13 +128,14 @@ impl<R: Read> Source<R> {
                 }
             }
         }
-        Err(Unreadable)
+        Err(Stop::NoMemory)
     }
 
     // Brings three bytes into memory, where the file has as many.
     fn three_bytes(&mut self) -> Result<(), Unreadable>
         ensures keeps { OnOk result (Keeps (ahead R.remaining self.old) (ahead R.remaining self.new)) }
         ensures three { OnOk result (length (at_hand self.new) < 3 → IsAtEnd (R.remaining self.new.reader)) }
+        ensures lasts { R.lasts self.old.reader → IsOk result × R.lasts self.new.reader }
     {
         while self.at_hand().len() < 3 {
             if !self.more()? {

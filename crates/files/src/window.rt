@@ -1,8 +1,8 @@
-ghost use Rattle.std.specs.Prelude.{◌≡◌, ℕ, ◌+◌, ◌≤◌, ◌<◌, List, [], ◌++◌, length, drop, IfOk, OnErr};
+ghost use Rattle.std.specs.Prelude.{◌≡◌, ℕ, ◌+◌, ◌≤◌, ◌<◌, List, [], ◌++◌, length, drop, IfOk, OnErr, IsOk};
 ghost use Rattle.std.specs.Io.KnownBytes.{Keeps, Consumes, IsAtEnd};
 
+use crate::input::Input;
 use std::io;
-use std::io::Read;
 
 /// How many bytes of a file are in memory at a time, and the most that a record may have.
 pub const MOST_BYTES: usize = 65_536;
@@ -59,12 +59,13 @@ impl Window {
     }
 
     /// Reads once, behind the bytes that are there, as many bytes as come and have room; says how many.
-    pub fn read_from<R: Read>(&mut self, reader: &mut R) -> io::Result<usize>
+    pub fn read_from<R: Input>(&mut self, reader: &mut R) -> io::Result<usize>
         ensures ok { IfOk result (λ n. (more : List ℕ) × (length more ≡ n) × (items self.new ≡ items self.old ++ more)
             × Consumes (R.remaining reader.old) (R.remaining reader.new) more) }
         ensures end { IfOk result (λ n. n ≡ 0 → 0 < room self.old → IsAtEnd (R.remaining reader.new)) }
         ensures err { OnErr result ((items self.new ≡ items self.old)
             × Keeps (R.remaining reader.old) (R.remaining reader.new)) }
+        ensures lasts { R.lasts reader.old → IsOk result × R.lasts reader.new }
     {
         let end = self.end;
         let count = reader.read(&mut self.bytes[end..])?;

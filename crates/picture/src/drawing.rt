@@ -1,6 +1,7 @@
 //! A picture is written.
-ghost use Rattle.std.specs.Prelude.{◌≡◌, ◌≤◌, ℕ, List, [], IfOk, IfSome, OnOk, Some};
+ghost use Rattle.std.specs.Prelude.{◌≡◌, ◌≤◌, ℕ, List, [], IfOk, IfErr, IfSome, OnOk, Some};
 ghost use Rattle.std.specs.Io.KnownBytes.{Appends};
+ghost use Rattle.files.specs.Failure.{IsOfWriting};
 ghost use Rattle.picture.specs.declared.asides.Aside.{Aside as AnyAside};
 ghost use Rattle.picture.specs.Drawing.{picture_text, texts};
 ghost use Rattle.picture.specs.Lanes.{sessions_from};
@@ -14,7 +15,7 @@ use crate::row::rows_of;
 use crate::row_marks::marks_of;
 use crate::sheet::{Ground, Legend, Sheet};
 use crate::slices::Slices;
-use files::{FaultKind, FileError, FileFault};
+use files::FileError;
 use history::{Output, Scheduled};
 use schema::{NoMemory, Scale};
 use std::alloc::Global;
@@ -22,8 +23,8 @@ use std::fmt::Display;
 use std::io::Write;
 
 /// Writes the picture of a schedule of which this is told, as SVG, and gives the sink back. Use a `&mut` to a sink
-/// that is needed after a fault too. So many executors have the warehouses of the scale. A failure of the sink is the
-/// fault `Io` at record 1.
+/// that is needed after a fault too. So many executors have the warehouses of the scale. A failure of the sink is
+/// `Failed` at record 1.
 pub fn write_picture<W: Write + Drop>(
     alloc: Global,
     sink: W,
@@ -33,8 +34,9 @@ pub fn write_picture<W: Write + Drop>(
     executors: u32,
 ) -> Result<W, FileError>
     requires { 1 ≤ executors }
-    ensures { IfOk result (λ full. (asides : List AnyAside) × Appends (W.contents sink) (W.contents full)
+    ensures written { IfOk result (λ full. (asides : List AnyAside) × Appends (W.contents sink) (W.contents full)
         (picture_text (sessions_from [] schedule.now) executors (spec.rows_of 1 schedule.now outputs.now) asides)) }
+    ensures failed { IfErr result IsOfWriting }
 {
     let rows = rows_of(alloc, schedule, outputs)?;
     let lanes = lanes_of(alloc, schedule, executors)?;
@@ -75,8 +77,9 @@ fn draw_all<W: Write, D: Display>(
     line: &mut String,
     signs: &[D],
 ) -> Result<(), FileError>
-    ensures { OnOk result ((text : D → List ℕ) → ((sign : D) → D.output sign ≡ Some (text sign))
+    ensures written { OnOk result ((text : D → List ℕ) → ((sign : D) → D.output sign ≡ Some (text sign))
         → Appends (W.contents sink.old) (W.contents sink.new) (texts text signs.now)) }
+    ensures failed { IfErr result IsOfWriting }
 {
     for sign in signs {
         draw(sink, line, sign)?;
@@ -86,7 +89,8 @@ fn draw_all<W: Write, D: Display>(
 
 // Writes the text of a sign.
 fn draw<W: Write, D: Display>(sink: &mut W, line: &mut String, sign: &D) -> Result<(), FileError>
-    ensures { OnOk result (IfSome (D.output sign.now) (Appends (W.contents sink.old) (W.contents sink.new))) }
+    ensures written { OnOk result (IfSome (D.output sign.now) (Appends (W.contents sink.old) (W.contents sink.new))) }
+    ensures failed { IfErr result IsOfWriting }
 {
     line.clear();
     if write!(line, "{sign}").is_err() {
@@ -94,10 +98,7 @@ fn draw<W: Write, D: Display>(sink: &mut W, line: &mut String, sign: &D) -> Resu
     }
     match sink.write_all(line.as_bytes()) {
         Ok(()) => Ok(()),
-        Err(_) => Err(FileError::File(FileFault {
-            kind: FaultKind::Io,
-            record: 1,
-        })),
+        Err(_) => Err(FileError::Failed(1)),
     }
 }
 

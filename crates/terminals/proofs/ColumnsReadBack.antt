@@ -7,8 +7,6 @@ use Rattle.std.proofs.lemmas.Fmt.{IsAscii-decimal}
 use Rattle.std.proofs.lemmas.List.{append-nil, append_assoc}
 use Rattle.std.proofs.lemmas.Str.{IsUtf8-from_ascii}
 use Rattle.std.proofs.lemmas.Str.Ascii.{IsAscii-cons}
-use Rattle.jiff_fmt.specs.Temporal.{datetime_view, parse_datetime}
-use Rattle.jiff_fmt.proofs.RoundTrip.{parse_datetime-datetime_text}
 use Rattle.amounts.specs.Money.{IsMoney}
 use Rattle.rows.specs.Text.{IsText}
 use Rattle.rows.specs.declared.records.Credit.{Credit}
@@ -16,12 +14,12 @@ use Rattle.rows.specs.declared.records.Credit.TheVariants.{Good}
 use Rattle.files.specs.declared.fault.FaultKind.{FaultKind}
 use Rattle.files.specs.Columns.{Cents, Column, Credit as CreditColumn, MaybeMoment, MaybeWhole, Moment, Spelt, Whole, Words, found, take_column, take_columns, take_word}
 use Rattle.files.specs.FieldRead.{Taking, value_or, whole_read}
-use Rattle.files.specs.KindsRead.{moment_at, moment_read, optional_read}
-use Rattle.files.specs.MomentText.{IsMomentText}
+use Rattle.files.specs.KindsRead.{moment_read, optional_read}
+use Rattle.files.specs.MomentText.{IsMoment, IsMomentText}
 use Rattle.files.specs.Word.{credit_text, text_read}
-use Rattle.files.proofs.Ascii.{utf8_moment, utf8_text}
+use Rattle.files.proofs.Ascii.{utf8_text}
 use Rattle.files.proofs.ColumnsRead.{take-append}
-use Rattle.files.proofs.KindsRead.{credit_complete, moment_of, money_complete, no_bytes_no_moment, optional_some, spelt_test, whole_complete, word_is}
+use Rattle.files.proofs.KindsRead.{credit_complete, moment_complete, money_complete, no_bytes_no_moment, optional_some, whole_complete, word_is}
 use Rattle.files.proofs.Numerals.{some_digits}
 use Rattle.requests.specs.LastName.{begins_with_hash}
 use Rattle.requests.specs.declared.request.Choice.{Choice}
@@ -29,7 +27,7 @@ use Rattle.requests.specs.declared.request.Choice.TheVariants.{Number, LastName}
 use Rattle.terminals.specs.ChoiceLaws.{IsChoice}
 use Rattle.terminals.specs.ChoiceText.{choice_text}
 use Rattle.terminals.specs.Nullable.{IsNullableMoment, nullable_text}
-use Rattle.terminals.specs.ReadLaws.{IsBetween, IsMoment, IsNamed}
+use Rattle.terminals.specs.ReadLaws.{IsBetween, IsNamed}
 use Rattle.terminals.specs.RecordLaws.{IsWord}
 use Rattle.terminals.specs.RequestColumns.{choice, choice_fault, fault_in, number, repeated}
 
@@ -69,13 +67,6 @@ whole_is_read low high n fits least most = record { is = λ rest. ap (λ r. (val
 
 pub number_read : (n : ℕ) → IsWord n → IsRead number (decimal n)
 number_read n small = whole_is_read 0 4294967295 n (omega arith) (omega arith) (omega (arith, small))
-
-pub moment_complete : (text : List ℕ) (seconds : ℕ) → IsMomentText text seconds → IsMoment seconds → moment_read text ≡ Ok seconds
-moment_complete text seconds (moment, s) most =
-    let view : datetime_view (Ok moment) ≡ parse_datetime text = sym (parse_datetime-datetime_text moment) ∙ ap parse_datetime s.is_text in
-    let read = moment_of text (Ok moment) moment true (utf8_moment text seconds (moment, s)) view refl (spelt_test text moment s.is_text s.is_whole) in
-    let within : nat_le seconds 253402300799 ≡ true = grind (arith, nat_tests, most) in
-    sym read ∙ ap moment_at s.is_second ∙ rw within refl
 
 pub moment_is_read : (text : List ℕ) (seconds : ℕ) → IsMomentText text seconds → IsMoment seconds → IsRead Moment text
 moment_is_read text seconds spelt most = record { is = λ rest. ap (λ r. (value_or r 0 rest None).1) (moment_complete text seconds spelt most) }

@@ -1,8 +1,6 @@
 -- Words that are taken and looked at, and columns that are taken again and again.
-use Rattle.std.proofs.Common.{◌≡◌, ℕ, pos, zero, suc, ◌+◌, ◌-◌, ◌*◌, List, [], ◌∷◌, drop, length, Bool, true, false, Option, Some, None, Result, Ok, Err, refl, sym, ap, ◌∙◌, arith}
+use Rattle.std.proofs.Common.{◌≡◌, ℕ, pos, zero, suc, ◌+◌, ◌-◌, ◌*◌, List, [], ◌∷◌, drop, length, Option, Some, None, Result, Ok, Err, refl, sym, ap, ◌∙◌, arith}
 use Rattle.std.proofs.lemmas.List.{drop-drop, length-append, length-drop}
-use Rattle.std.specs.Cmp.Lexicographic.{bytes_decides}
-use Rattle.std.specs.Str.{bytes_eq}
 use Rattle.files.specs.declared.fault.FaultKind.{FaultKind}
 use Rattle.files.specs.declared.fields.Fields.{Fields}
 use Rattle.rows.specs.declared.records.Credit.TheVariants.{Good}
@@ -13,14 +11,6 @@ use Rattle.files.specs.Word.{text_read}
 use Rattle.files.specs.Taken.{fault_of, fields_left, with_fault}
 use Rattle.files.proofs.ColumnsRead.{take-append}
 use Rattle.terminals.specs.RequestColumns.{line_columns, repeated}
-
-false_unless : (b : Bool) → (b ≡ true → ⊥) → b ≡ false
-false_unless true h = absurd (h refl)
-false_unless false h = refl
-
--- a word that is not the known one
-pub other : (word known : List ℕ) → (word ≡ known → ⊥) → bytes_eq word known ≡ false
-other word known none = false_unless (bytes_eq word known) (λ h. none ((bytes_decides word known).0 h))
 
 -- a fault that is noted
 pub noted_is : (kind : FaultKind) (old new : Fields) → fault_of new ≡ Some (with_fault (fault_of old) kind) → fields_left new ≡ fields_left old → taking new ≡ found (Some kind) (taking old)

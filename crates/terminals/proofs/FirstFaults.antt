@@ -3,7 +3,7 @@ use Rattle.std.proofs.Common.{◌≡◌, ◌≤◌, ◌<◌, ◌^◌, ◌+◌, �
 use Rattle.files.specs.declared.fault.FaultKind.TheVariants as fault
 use Rattle.files.specs.declared.fault.FileFault.{FileFault}
 use Rattle.files.specs.declared.fault.FileError.{FileError}
-use Rattle.files.specs.declared.fault.FileError.TheVariants.{NoMemory, File}
+use Rattle.files.specs.declared.fault.FileError.TheVariants.{NoMemory, Failed, File}
 use Rattle.files.specs.declared.records.Records.{Records}
 use Rattle.files.specs.declared.fault.FaultKind.{FaultKind}
 use Rattle.files.specs.declared.fields.Fields.{Fields}
@@ -36,9 +36,10 @@ module _ (take : ℕ → List ℕ → Taking → Taking) where
       → TellsKind error (fields_fault take count row) number → TellsFault error (listing_fault take count (row ∷ rest))
   unfolding listing_fault
   fault_found count row rest NoMemory number short same tells = tt
+  fault_found count row rest (Failed at) number short same tells = absurd tells
   fault_found count row rest (File f) number short same tells =
       let is : f ≡ fault_at f.kind (count + 1) = (λ i. record { kind = f.kind; «record» = (tells.1 ∙ same) i }) in
-      inr (rw (short_record row (fields_fault take count row) short ∙ tells.0) (ap (λ (x : FileFault). Some x) (sym is)))
+      rw (short_record row (fields_fault take count row) short ∙ tells.0) (ap (λ (x : FileFault). Some x) (sym is))
 
   -- a record that is too long
   pub long_found : (count : ℕ) (rows : List (List (List ℕ))) → FirstIsTooLong rows → listing_fault take count rows ≡ Some (fault_at fault.WrongShape (count + 1))
@@ -92,7 +93,7 @@ module _ {R : Type 0} (remaining : R → Option (List ℕ)) (take : ℕ → List
         }
 
     -- no further record could be read
-    pub fault_advancing : (error : FileError) → (error ≡ NoMemory) ⊎ (error ≡ file_fault fault.Io (record_number new)) ⊎ (error ≡ file_fault fault.WrongShape (record_number new))
+    pub fault_advancing : (error : FileError) → (error ≡ NoMemory) ⊎ (error ≡ Failed (record_number new)) ⊎ (error ≡ file_fault fault.WrongShape (record_number new))
         → (error ≡ file_fault fault.WrongShape (record_number new) → (left : List (List (List ℕ))) → HasLeft remaining left old → FirstIsTooLong left) → TellsFault error (listing_fault take 0 rows)
     fault_advancing error faults long =
         not_advanced error (record_number new) (listing_fault take 0 rows) faults
@@ -104,7 +105,7 @@ module _ {R : Type 0} (remaining : R → Option (List ℕ)) (take : ℕ → List
     fault_at_last error found is none next =
         let empty = no_row remaining g.left found new none (next g.left g.has_left) in
         subst (λ e. TellsFault e (listing_fault take 0 rows)) (sym is)
-        (inr (g.fault ∙ ap (listing_fault take count) empty ∙ no_end take count ∙ ap (λ n. Some (fault_at fault.NoEnd n)) (sym next_number)))
+        (g.fault ∙ ap (listing_fault take count) empty ∙ no_end take count ∙ ap (λ n. Some (fault_at fault.NoEnd n)) (sym next_number))
 
   -- more records after the end record
   more_left : (more : List (List (List ℕ))) → HasLeft remaining more old → (HasLeft remaining [] old → ⊥) → record_number old + length more ≡ length rows
@@ -113,11 +114,11 @@ module _ {R : Type 0} (remaining : R → Option (List ℕ)) (take : ℕ → List
   more_left (row ∷ more) left none long = ap (λ n. Some (fault_at fault.AfterEnd n)) (sym (number (omega (arith, long, few))))
 
   -- the end record was not the last, or it couldn't be seen whether it is
-  pub fault_at_end : (e : ReachesEnd remaining take rows old) (error : FileError) → (error ≡ NoMemory) ⊎ (error ≡ file_fault fault.Io (record_number new)) ⊎ (error ≡ file_fault fault.AfterEnd (record_number new))
+  pub fault_at_end : (e : ReachesEnd remaining take rows old) (error : FileError) → (error ≡ NoMemory) ⊎ (error ≡ Failed (record_number new)) ⊎ (error ≡ file_fault fault.AfterEnd (record_number new))
       → (error ≡ file_fault fault.AfterEnd (record_number new) → HasLeft remaining [] old → ⊥) → TellsFault error (listing_fault take 0 rows)
   fault_at_end e error (inl is) none = subst (λ x. TellsFault x (listing_fault take 0 rows)) (sym is) tt
-  fault_at_end e error (inr (inl is)) none = subst (λ x. TellsFault x (listing_fault take 0 rows)) (sym is) (inl refl)
-  fault_at_end e error (inr (inr is)) none = subst (λ x. TellsFault x (listing_fault take 0 rows)) (sym is) (inr (e.fault ∙ more_left e.more e.left (none is) e.number))
+  fault_at_end e error (inr (inl is)) none = subst (λ x. TellsFault x (listing_fault take 0 rows)) (sym is) tt
+  fault_at_end e error (inr (inr is)) none = subst (λ x. TellsFault x (listing_fault take 0 rows)) (sym is) (e.fault ∙ more_left e.more e.left (none is) e.number)
 
 module _ {R : Type 0} (remaining : R → Option (List ℕ)) (take : ℕ → List ℕ → Taking → Taking) (rows : List (List (List ℕ))) (count : ℕ) (new : Records R) (counter : ℕ)
     (a : AtRecord remaining take rows count new counter) (short : record_size (record_fields new) ≤ 65536) where

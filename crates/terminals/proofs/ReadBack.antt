@@ -32,7 +32,7 @@ use Rattle.terminals.specs.RequestColumns.{after_request, fault_in, number, requ
 use Rattle.terminals.specs.RequestFields.{IsRequest}
 use Rattle.terminals.specs.Schedule.{IsScheduleRecord}
 use Rattle.terminals.proofs.ColumnsReadBack.{and_read, clean, none_read, number_read, word_is_taken}
-use Rattle.terminals.proofs.ColumnsTaken.{other}
+use Rattle.files.proofs.Unlike.{other}
 use Rattle.terminals.proofs.FirstFaults.{end_passes, item_passes}
 use Rattle.terminals.proofs.RepliesReadBack.{IsReadReply, reply_is_read}
 use Rattle.terminals.proofs.RequestTexts.{few_fields}

@@ -4,6 +4,7 @@ use Rattle.std.specs.List.{AllByRecursion}
 use Rattle.amounts.specs.Money.{IsMoney}
 use Rattle.rows.specs.Text.{IsText}
 use Rattle.commit_log.specs.declared.entry.Entry.{Entry}
+use Rattle.files.specs.MomentText.{IsMoment}
 use Rattle.files.specs.Place.{IsKept}
 use Rattle.requests.specs.declared.request.Choice.{Choice}
 use Rattle.requests.specs.declared.request.Choice.TheVariants.{Number, LastName}
@@ -29,10 +30,6 @@ use Rattle.terminals.specs.Moves.{AreMoves}
 use Rattle.terminals.specs.RecordLaws.{CanBeAsked, CanBeOrdered, IsWord}
 use Rattle.terminals.specs.Schedule.{IsSchedule}
 use Rattle.terminals.specs.Script.{IsScript}
-
--- a moment of the years 1970 to 9999
-abbrev pub IsMoment : ℕ → Type 0
-IsMoment seconds = seconds ≤ 253402300799
 
 -- a number from low to high
 abbrev pub IsBetween : ℕ → ℕ → ℕ → Type 0

@@ -1,6 +1,7 @@
-ghost use Rattle.std.specs.Prelude.{◌≡◌, ℕ, List, ◌++◌, IfOk, OnOk};
+ghost use Rattle.std.specs.Prelude.{◌≡◌, ℕ, List, ◌++◌, IfOk, IfErr, OnOk};
 ghost use Rattle.std.specs.Io.KnownBytes.{Appends};
 ghost use Rattle.csv.specs.Records.{fields_of};
+ghost use Rattle.files.specs.Failure.{IsOfWriting};
 ghost use Rattle.files.specs.Written.{csv_text};
 ghost use Rattle.terminals.specs.Answers.{IsAnswer, AreAnswers, refusal_fields};
 
@@ -34,7 +35,8 @@ pub fn write_answers<W: Write + Drop>(
     session: u32,
     answers: &[Answer],
 ) -> Result<W, FileError>
-    ensures { IfOk result (λ full. (rows : List (List (List ℕ))) × AreAnswers session answers.now rows × Appends (W.contents sink) (W.contents full) (csv_text rows)) }
+    ensures written { IfOk result (λ full. (rows : List (List (List ℕ))) × AreAnswers session answers.now rows × Appends (W.contents sink) (W.contents full) (csv_text rows)) }
+    ensures failed { IfErr result IsOfWriting }
 {
     let mut writer = RecordWriter::new(sink);
     let mut row = NewRecord::new(alloc);

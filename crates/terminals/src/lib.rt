@@ -58,7 +58,7 @@ mod scripts;
 mod stock_level;
 
 pub use answers::{answer_record, write_answers};
-pub use files::{FaultKind, FileError, FileFault};
+pub use files::{FaultKind, FileError, FileFault, Input, Reader};
 pub use laws::{
     choice_texts_differ, logs_are_read, logs_differ, moves_are_read, moves_differ,
     schedules_are_read, schedules_differ, scripts_are_read, scripts_differ,

@@ -1,17 +1,18 @@
-ghost use Rattle.std.specs.Prelude.{◌≡◌, ◌≢◌, ◌<◌, ◌-◌, ◌^◌, ℕ, List, [], ◌∷◌, ◌++◌, length, Some, None, IfOk, IfSome, IfNone, OnOk, MatchResult};
+ghost use Rattle.std.specs.Prelude.{◌≡◌, ◌≢◌, ◌<◌, ◌-◌, ◌^◌, ℕ, List, [], ◌∷◌, ◌++◌, length, Some, None, IfOk, IfErr, IfSome, IfNone, OnOk, MatchResult};
 ghost use Rattle.std.specs.Io.KnownBytes.{Appends};
 ghost use Rattle.files.specs.FieldRead.{Taking, taking};
 ghost use Rattle.files.specs.FirstFault.{TellsFault};
-ghost use Rattle.files.specs.Place.{HasLeft, HasRead, IsCsv, record_fields, record_number};
+ghost use Rattle.files.specs.Failure.{IsOfText, IsOfWriting};
+ghost use Rattle.files.specs.Place.{input, HasLeft, HasRead, IsCsv, record_fields, record_number};
 ghost use Rattle.files.specs.Taken.{fault_of, Takes};
 ghost use Rattle.files.specs.Written.{csv_text};
 ghost use Rattle.terminals.specs.FirstFault.{IsReadAs, ReachesEnd, listing_fault};
 ghost use Rattle.terminals.specs.Listing.{IsListing, end_fields};
 
-use files::{FaultKind, Fields, FileError, NewRecord, RecordWriter, Records};
+use files::{FaultKind, Fields, FileError, Input, NewRecord, RecordWriter, Records};
 use schema::NoMemory;
 use std::alloc::Global;
-use std::io::{Read, Write};
+use std::io::Write;
 
 /// What a record says, in a file whose records are ended by their count.
 pub trait Listed: Drop {
@@ -38,10 +39,11 @@ pub trait Listed: Drop {
 ///
 /// A fault comes with its record, and nothing else is given then. The first faulty record decides, and
 /// of its faults the least one. Memory is taken item by item.
-pub fn read<T: Listed, R: Read + Drop>(alloc: Global, source: R) -> Result<Vec<T>, FileError>
+pub fn read<T: Listed, R: Input + Drop>(alloc: Global, source: R) -> Result<Vec<T>, FileError>
     ensures listed { IfOk result (λ listed. (text : List ℕ) → R.remaining source ≡ Some text → (rows : List (List (List ℕ))) × IsCsv text rows × IsListing T.is_record listed.items rows) }
     ensures first { (text : List ℕ) (rows : List (List (List ℕ))) → R.remaining source ≡ Some text → IsCsv text rows → length rows < 2 ^ 64 - 1
         → MatchResult result (λ _. listing_fault T.after 0 rows ≡ None) (λ error. TellsFault error (listing_fault T.after 0 rows)) }
+    ensures lasts { R.lasts source → IfErr result IsOfText }
 {
     let mut records = Records::new(alloc, source);
     let items = read_items(alloc, &mut records)?;
@@ -50,7 +52,7 @@ pub fn read<T: Listed, R: Read + Drop>(alloc: Global, source: R) -> Result<Vec<T
 }
 
 // The items up to the end record, which is then under way.
-fn read_items<T: Listed, R: Read + Drop>(
+fn read_items<T: Listed, R: Input + Drop>(
     alloc: Global,
     records: &mut Records<R>,
 ) -> Result<Vec<T>, FileError>
@@ -58,6 +60,7 @@ fn read_items<T: Listed, R: Read + Drop>(
         → (rows : List (List (List ℕ))) × HasRead R.remaining text rows records.new × IsListing T.is_record listed.items rows) }
     ensures first { (rows : List (List (List ℕ))) → length rows < 2 ^ 64 - 1 → record_number records.old ≡ 0 → HasLeft R.remaining rows records.old
         → MatchResult result (λ _. ReachesEnd R.remaining T.after rows records.new) (λ error. TellsFault error (listing_fault T.after 0 rows)) }
+    ensures lasts { R.lasts (input records.old) → MatchResult result (λ _. R.lasts (input records.new)) IsOfText }
 {
     let mut items = Vec::new(alloc);
     for _ in 0..u64::MAX {
@@ -77,7 +80,7 @@ fn read_items<T: Listed, R: Read + Drop>(
 }
 
 // The item of the record under way; `None` for the end record, after `count` items.
-fn parse<T: Listed, R: Read + Drop>(
+fn parse<T: Listed, R: Input + Drop>(
     alloc: Global,
     records: &Records<R>,
     count: u64,
@@ -85,6 +88,7 @@ fn parse<T: Listed, R: Read + Drop>(
     ensures item { IfOk result (λ said. IfSome said (λ item. T.is_record count item (record_fields records.now))) }
     ensures end { IfOk result (λ said. IfNone said (record_fields records.now ≡ end_fields count)) }
     ensures exact { IsReadAs T.after count (record_fields records.now) (record_number records.now) result }
+    ensures of_text { IfErr result IsOfText }
 {
     let mut fields = records.fields();
     let item = match fields.word() {
@@ -112,7 +116,8 @@ pub trait Told {
 
 /// Writes the record of each item, and then the end record, and gives the sink back.
 pub fn write<T: Told, W: Write + Drop>(alloc: Global, sink: W, items: &[T]) -> Result<W, FileError>
-    ensures { IfOk result (λ full. (rows : List (List (List ℕ))) × IsListing T.is_record items.now rows × Appends (W.contents sink) (W.contents full) (csv_text rows)) }
+    ensures written { IfOk result (λ full. (rows : List (List (List ℕ))) × IsListing T.is_record items.now rows × Appends (W.contents sink) (W.contents full) (csv_text rows)) }
+    ensures failed { IfErr result IsOfWriting }
 {
     let mut writer = RecordWriter::new(sink);
     let mut row = NewRecord::new(alloc);

@@ -1,9 +1,10 @@
-ghost use Rattle.std.specs.Prelude.{◌≡◌, ◌≢◌, ◌<◌, ◌-◌, ◌+◌, ◌^◌, ◌==◌, ℕ, List, ◌∷◌, ◌++◌, length, Some, None, IfOk, IfSome, IfNone, OnOk, MatchResult, if◌then◌else◌};
+ghost use Rattle.std.specs.Prelude.{◌≡◌, ◌≢◌, ◌<◌, ◌-◌, ◌+◌, ◌^◌, ◌==◌, ℕ, List, ◌∷◌, ◌++◌, length, Some, None, IfOk, IfErr, IfSome, IfNone, OnOk, MatchResult, if◌then◌else◌};
 ghost use Rattle.std.specs.Fmt.{decimal};
 ghost use Rattle.std.specs.Io.KnownBytes.{Appends};
 ghost use Rattle.csv.specs.Records.{fields_of};
 ghost use Rattle.files.specs.Columns.{found, take_word};
 ghost use Rattle.files.specs.FieldRead.{taking, whole_read};
+ghost use Rattle.files.specs.Failure.{IsOfText, IsOfWriting};
 ghost use Rattle.files.specs.FirstFault.{TellsFault};
 ghost use Rattle.files.specs.Place.{IsCsv};
 ghost use Rattle.files.specs.Taken.{fields_left, fault_of, TakesWell, Takes};
@@ -16,11 +17,11 @@ use crate::listing::{Listed, Told};
 use crate::{listing, reply, request};
 use commit_log::Entry;
 use csv::ByteRecord;
-use files::{FaultKind, Fields, FileError, NewRecord, parse_whole};
+use files::{FaultKind, Fields, FileError, Input, NewRecord, parse_whole};
 use requests::Request;
 use schema::NoMemory;
 use std::alloc::Global;
-use std::io::{Read, Write};
+use std::io::Write;
 
 /// The entries of the log that `source` gives, as `write_log` writes it.
 ///
@@ -28,10 +29,11 @@ use std::io::{Read, Write};
 /// of its faults the least one. A place is that of its record, from 0, else `OutOfOrder`; another number of
 /// request fields than the kind has is `WrongShape`. Whether a session is one of 64 and the numbers fit a
 /// scale is not looked at, nor whether a reply is of its request's kind. Memory is taken entry by entry.
-pub fn read_log<R: Read + Drop>(alloc: Global, source: R) -> Result<Vec<Entry>, FileError>
+pub fn read_log<R: Input + Drop>(alloc: Global, source: R) -> Result<Vec<Entry>, FileError>
     ensures log { IfOk result (λ entries. (text : List ℕ) → R.remaining source ≡ Some text → (rows : List (List (List ℕ))) × IsCsv text rows × IsLog entries.items rows) }
     ensures first { (text : List ℕ) (rows : List (List (List ℕ))) → R.remaining source ≡ Some text → IsCsv text rows → length rows < 2 ^ 64 - 1
         → MatchResult result (λ _. log_fault rows ≡ None) (λ error. TellsFault error (log_fault rows)) }
+    ensures lasts { R.lasts source → IfErr result IsOfText }
 {
     listing::read(alloc, source)
 }
@@ -145,7 +147,8 @@ pub fn log_record(alloc: Global, place: u32, entry: &Entry) -> Result<ByteRecord
 /// Writes a log: the record of each entry, whose place is its index, and then the end record. It gives
 /// the sink back. Use a `&mut` to a sink that is needed after a fault too.
 pub fn write_log<W: Write + Drop>(alloc: Global, sink: W, entries: &[Entry]) -> Result<W, FileError>
-    ensures { IfOk result (λ full. (rows : List (List (List ℕ))) × IsLog entries.now rows × Appends (W.contents sink) (W.contents full) (csv_text rows)) }
+    ensures written { IfOk result (λ full. (rows : List (List (List ℕ))) × IsLog entries.now rows × Appends (W.contents sink) (W.contents full) (csv_text rows)) }
+    ensures failed { IfErr result IsOfWriting }
 {
     listing::write(alloc, sink, entries)
 }

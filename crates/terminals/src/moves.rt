@@ -1,4 +1,5 @@
-ghost use Rattle.std.specs.Prelude.{◌≡◌, ◌<◌, ◌-◌, ◌^◌, ℕ, List, length, Some, None, IfOk, MatchResult};
+ghost use Rattle.std.specs.Prelude.{◌≡◌, ◌<◌, ◌-◌, ◌^◌, ℕ, List, length, Some, None, IfOk, IfErr, MatchResult};
+ghost use Rattle.files.specs.Failure.{IsOfText};
 ghost use Rattle.files.specs.FirstFault.{TellsFault};
 ghost use Rattle.files.specs.Place.{IsCsv};
 ghost use Rattle.terminals.specs.FirstFault.{after_move, moves_fault};
@@ -7,21 +8,21 @@ ghost use Rattle.terminals.specs.Moves.{AreMoves, IsMoveRecord};
 use crate::listing;
 use crate::listing::Listed;
 use crate::move_order::take_order;
-use files::{Fields, FileError};
+use files::{Fields, FileError, Input};
 use range_moves::MoveOrder;
 use schema::NoMemory;
 use std::alloc::Global;
-use std::io::Read;
 
 /// The moves that `source` gives.
 ///
 /// A fault comes with its record, and nothing else is given then. The first faulty record decides, and
 /// of its faults the least one. Whether there are such warehouses and executors, and whether a range ends
 /// before it begins, is not looked at. Memory is taken record by record.
-pub fn read_moves<R: Read + Drop>(alloc: Global, source: R) -> Result<Vec<MoveOrder>, FileError>
+pub fn read_moves<R: Input + Drop>(alloc: Global, source: R) -> Result<Vec<MoveOrder>, FileError>
     ensures moves { IfOk result (λ moves. (text : List ℕ) → R.remaining source ≡ Some text → (rows : List (List (List ℕ))) × IsCsv text rows × AreMoves moves.items rows) }
     ensures first { (text : List ℕ) (rows : List (List (List ℕ))) → R.remaining source ≡ Some text → IsCsv text rows → length rows < 2 ^ 64 - 1
         → MatchResult result (λ _. moves_fault rows ≡ None) (λ error. TellsFault error (moves_fault rows)) }
+    ensures lasts { R.lasts source → IfErr result IsOfText }
 {
     listing::read(alloc, source)
 }

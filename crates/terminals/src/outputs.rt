@@ -1,5 +1,6 @@
-ghost use Rattle.std.specs.Prelude.{◌≡◌, ℕ, List, ◌++◌, IfOk, OnOk};
+ghost use Rattle.std.specs.Prelude.{◌≡◌, ℕ, List, ◌++◌, IfOk, IfErr, OnOk};
 ghost use Rattle.std.specs.Io.KnownBytes.{Appends};
+ghost use Rattle.files.specs.Failure.{IsOfWriting};
 ghost use Rattle.files.specs.Written.{csv_text};
 ghost use Rattle.terminals.specs.Outputs.{IsEventAnswer, IsOutput, AreOutputs};
 
@@ -17,7 +18,8 @@ pub fn write_outputs<W: Write + Drop>(
     sink: W,
     told: &[Output],
 ) -> Result<W, FileError>
-    ensures { IfOk result (λ full. (rows : List (List (List ℕ))) × AreOutputs told.now rows × Appends (W.contents sink) (W.contents full) (csv_text rows)) }
+    ensures written { IfOk result (λ full. (rows : List (List (List ℕ))) × AreOutputs told.now rows × Appends (W.contents sink) (W.contents full) (csv_text rows)) }
+    ensures failed { IfErr result IsOfWriting }
 {
     let mut writer = RecordWriter::new(sink);
     let mut row = NewRecord::new(alloc);

@@ -1,6 +1,7 @@
-ghost use Rattle.std.specs.Prelude.{◌≡◌, ◌≢◌, ◌<◌, ◌-◌, ◌^◌, ℕ, List, ◌∷◌, length, Some, None, codes, IfOk, IfSome, IfNone, OnOk, MatchResult};
+ghost use Rattle.std.specs.Prelude.{◌≡◌, ◌≢◌, ◌<◌, ◌-◌, ◌^◌, ℕ, List, ◌∷◌, length, Some, None, codes, IfOk, IfErr, IfSome, IfNone, OnOk, MatchResult};
 ghost use Rattle.files.specs.Place.{IsCsv};
 ghost use Rattle.files.specs.FieldRead.{taking};
+ghost use Rattle.files.specs.Failure.{IsOfText};
 ghost use Rattle.files.specs.FirstFault.{TellsFault};
 ghost use Rattle.files.specs.Taken.{fault_of, Takes};
 ghost use Rattle.terminals.specs.FirstFault.{after_scheduled, after_submit, schedule_fault};
@@ -9,21 +10,21 @@ ghost use Rattle.terminals.specs.Schedule.{IsSchedule, IsScheduleRecord};
 use crate::listing::Listed;
 use crate::move_order::take_order;
 use crate::{listing, request};
-use files::{FaultKind, Fields, FileError};
+use files::{FaultKind, Fields, FileError, Input};
 use history::{Event, Scheduled};
 use schema::NoMemory;
 use std::alloc::Global;
-use std::io::Read;
 
 /// The schedule that `source` gives.
 ///
 /// A fault comes with its record, and nothing else is given then. The first faulty record decides, and
 /// of its faults the least one. Whether there are such sessions, warehouses and executors, and whether the
 /// numbers fit a scale, is not looked at. Memory is taken record by record.
-pub fn read_schedule<R: Read + Drop>(alloc: Global, source: R) -> Result<Vec<Scheduled>, FileError>
+pub fn read_schedule<R: Input + Drop>(alloc: Global, source: R) -> Result<Vec<Scheduled>, FileError>
     ensures schedule { IfOk result (λ schedule. (text : List ℕ) → R.remaining source ≡ Some text → (rows : List (List (List ℕ))) × IsCsv text rows × IsSchedule schedule.items rows) }
     ensures first { (text : List ℕ) (rows : List (List (List ℕ))) → R.remaining source ≡ Some text → IsCsv text rows → length rows < 2 ^ 64 - 1
         → MatchResult result (λ _. schedule_fault rows ≡ None) (λ error. TellsFault error (schedule_fault rows)) }
+    ensures lasts { R.lasts source → IfErr result IsOfText }
 {
     listing::read(alloc, source)
 }

@@ -1,5 +1,6 @@
-ghost use Rattle.std.specs.Prelude.{◌≡◌, ◌<◌, ◌-◌, ◌^◌, ℕ, List, length, Some, None, IfOk, MatchResult};
+ghost use Rattle.std.specs.Prelude.{◌≡◌, ◌<◌, ◌-◌, ◌^◌, ℕ, List, length, Some, None, IfOk, IfErr, MatchResult};
 ghost use Rattle.std.specs.Io.KnownBytes.{Appends};
+ghost use Rattle.files.specs.Failure.{IsOfText, IsOfWriting};
 ghost use Rattle.files.specs.FirstFault.{TellsFault};
 ghost use Rattle.files.specs.Place.{IsCsv};
 ghost use Rattle.files.specs.Written.{csv_text};
@@ -7,20 +8,21 @@ ghost use Rattle.terminals.specs.FirstFault.{script_fault};
 ghost use Rattle.terminals.specs.Script.{IsScript};
 
 use crate::listing;
-use files::FileError;
+use files::{FileError, Input};
 use requests::Script;
 use std::alloc::Global;
-use std::io::{Read, Write};
+use std::io::Write;
 
 /// The script that `source` gives.
 ///
 /// A fault comes with its record, and nothing else is given then. The first faulty record decides, and
 /// of its faults the least one. Whether the numbers fit a scale is not looked at. Memory is taken
 /// request by request; more requests than a script has are as want of memory.
-pub fn read_script<R: Read + Drop>(alloc: Global, source: R) -> Result<Script, FileError>
+pub fn read_script<R: Input + Drop>(alloc: Global, source: R) -> Result<Script, FileError>
     ensures script { IfOk result (λ script. (text : List ℕ) → R.remaining source ≡ Some text → (rows : List (List (List ℕ))) × IsCsv text rows × IsScript script rows) }
     ensures first { (text : List ℕ) (rows : List (List (List ℕ))) → R.remaining source ≡ Some text → IsCsv text rows → length rows < 2 ^ 64 - 1
         → MatchResult result (λ _. script_fault rows ≡ None) (λ error. TellsFault error (script_fault rows)) }
+    ensures lasts { R.lasts source → IfErr result IsOfText }
 {
     let requests = listing::read(alloc, source)?;
     match Script::checked_new(requests) {
@@ -36,7 +38,8 @@ pub fn write_script<W: Write + Drop>(
     sink: W,
     script: &Script,
 ) -> Result<W, FileError>
-    ensures { IfOk result (λ full. (rows : List (List (List ℕ))) × IsScript script.now rows × Appends (W.contents sink) (W.contents full) (csv_text rows)) }
+    ensures written { IfOk result (λ full. (rows : List (List (List ℕ))) × IsScript script.now rows × Appends (W.contents sink) (W.contents full) (csv_text rows)) }
+    ensures failed { IfErr result IsOfWriting }
 {
     listing::write(alloc, sink, script.requests())
 }

@@ -1,52 +1,56 @@
--- The faults of sources, as commands tell them.
-use Rattle.std.proofs.Common.{◌≡◌, ◌⊎◌, inl, inr, ℕ, List, Bool, Option, sym, subst}
+-- Errors of who reads and writes files, as faults that a command tells of them.
+use Rattle.std.proofs.Common.{◌≡◌, ◌⊎◌, inl, inr, List, ℕ, Option, None, Some, Result, Err, IfErr, option_map, refl, sym, subst}
 use Rattle.std.specs.Borrow.{Bor}
 use Rattle.files.specs.declared.fault.FileError.{FileError}
-use Rattle.files.specs.declared.fault.FileError.TheVariants.{NoMemory, File}
+use Rattle.files.specs.declared.fault.FileError.TheVariants.{NoMemory, Failed, File}
+use Rattle.files.specs.declared.fault.FileFault.{FileFault}
+use Rattle.files.specs.Failure.{IsOfText, IsOfWriting as IsOfSink}
 use Rattle.files.specs.FirstFault.{TellsFault}
-use Rattle.terminals.specs.FirstFault.{log_fault}
 use Rattle.dataset.specs.FirstFault.{IsFaultOf, Tells}
 use Rattle.tpcc.specs.declared.command_fault.CommandFault.{CommandFault}
-use Rattle.tpcc.specs.declared.command_fault.CommandFault.TheVariants as fault
-use Rattle.tpcc.specs.Faults.{IsFaultOfLog, IsOfReplaying, IsOfSource, OfRecords, fault_of_file}
+use Rattle.tpcc.specs.EarlyEnds.{IsFaultOfMoves, IsOfMoves}
+use Rattle.tpcc.specs.Faults.{IsOfNaming, IsOfReading, IsOfWriting, IsOfWritingSome, OfRecords, fault_of_file, standard_output}
 
--- an error of who reads a dataset, as a fault of its file
-pub of_tables : (source : Option (List ℕ)) (path : Bor (List ℕ)) (error : FileError) (f : CommandFault) → f ≡ fault_of_file path error → OfRecords source (λ rows. Tells rows error) → IsOfSource source IsFaultOf f
-of_tables source path NoMemory f is told = subst (IsOfSource source IsFaultOf) (sym is) tt
-of_tables source path (File of) f is told = subst (IsOfSource source IsFaultOf) (sym is) told
+module _ (path : Bor (List ℕ)) (source : Option (List ℕ)) (lasts : Type 0) where
+  of_read : (IsFault : List (List (List ℕ)) → FileFault → Type 0) (error : FileError) (f : CommandFault) → f ≡ fault_of_file path error → (lasts → IsOfText error)
+      → ((of : FileFault) → error ≡ File of → OfRecords source (λ rows. IsFault rows of)) → IsOfReading path.now source lasts IsFault f
+  of_read IsFault NoMemory f is fine told = subst (IsOfReading path.now source lasts IsFault) (sym is) tt
+  of_read IsFault (Failed number) f is fine told = subst (IsOfReading path.now source lasts IsFault) (sym is) (refl, fine)
+  of_read IsFault (File of) f is fine told = subst (IsOfReading path.now source lasts IsFault) (sym is) (refl, told of refl)
 
--- the same of a log
-pub of_entries : (source : Option (List ℕ)) (path : Bor (List ℕ)) (error : FileError) (f : CommandFault) → f ≡ fault_of_file path error → OfRecords source (λ rows. TellsFault error (log_fault rows)) → IsOfSource source IsFaultOfLog f
-of_entries source path NoMemory f is told = subst (IsOfSource source IsFaultOfLog) (sym is) tt
-of_entries source path (File of) f is told = subst (IsOfSource source IsFaultOfLog) (sym is) told
+  -- of a dataset
+  pub of_tables : (error : FileError) (f : CommandFault) → f ≡ fault_of_file path error → (lasts → IsOfText error) → OfRecords source (λ rows. Tells rows error) → IsOfReading path.now source lasts IsFaultOf f
+  of_tables error f is fine told = of_read IsFaultOf error f is fine (λ of e text rows known csv few. subst (Tells rows) e (told text rows known csv few))
 
-either : {A B C : Type 0} → A ⊎ B → A ⊎ (B ⊎ C)
-either (inl a) = inl a
-either (inr b) = inr (inl b)
+  -- of records whose first fault is such
+  pub of_records : (first : List (List (List ℕ)) → Option FileFault) (error : FileError) (f : CommandFault) → f ≡ fault_of_file path error → (lasts → IsOfText error)
+      → OfRecords source (λ rows. TellsFault error (first rows)) → IsOfReading path.now source lasts (λ rows of. first rows ≡ Some of) f
+  of_records first error f is fine told = of_read (λ rows of. first rows ≡ Some of) error f is fine (λ of e text rows known csv few. subst (λ x. TellsFault x (first rows)) e (told text rows known csv few))
 
-other : {A B C : Type 0} → A ⊎ C → A ⊎ (B ⊎ C)
-other (inl a) = inl a
-other (inr c) = inr (inr c)
+-- of a file that is written
+pub of_sink : (path : Bor (List ℕ)) (error : FileError) (f : CommandFault) → f ≡ fault_of_file path error → IsOfSink error → IsOfWriting path.now f
+of_sink path NoMemory f is failed = subst (IsOfWriting path.now) (sym is) tt
+of_sink path (Failed number) f is failed = subst (IsOfWriting path.now) (sym is) refl
+of_sink path (File of) f is failed = absurd failed
 
-module _ (asked : Bool) («data» log : Option (List ℕ)) where
-  -- a fault of the dataset
-  pub of_dataset : (f : CommandFault) → IsOfSource «data» IsFaultOf f → IsOfReplaying asked «data» log f
-  of_dataset fault.NoMemory is = tt
-  of_dataset (fault.File path of) is = λ no text rows known csv few. λ text' rows' known' csv' few'. either (is text rows known csv few)
-  of_dataset (fault.NotConsistent condition) is = absurd is
-  of_dataset (fault.BadMove place) is = absurd is
-  of_dataset (fault.NoWarehouse warehouse) is = absurd is
-  of_dataset fault.NoThread is = absurd is
-  of_dataset fault.Unsettled is = absurd is
-  of_dataset fault.NotIdle is = absurd is
+-- of one that there is
+pub of_some : (some : Option (Bor (List ℕ))) (path : Bor (List ℕ)) (f : CommandFault) → some ≡ Some path → IsOfWriting path.now f → IsOfWritingSome some f
+of_some some path f is failed = subst (λ o. IsOfWritingSome o f) (sym is) failed
 
-  -- a fault of the log
-  pub of_log : (f : CommandFault) → IsOfSource log IsFaultOfLog f → IsOfReplaying asked «data» log f
-  of_log fault.NoMemory is = tt
-  of_log (fault.File path of) is = λ no text rows known csv few. λ text' rows' known' csv' few'. other (is text' rows' known' csv' few')
-  of_log (fault.NotConsistent condition) is = absurd is
-  of_log (fault.BadMove place) is = absurd is
-  of_log (fault.NoWarehouse warehouse) is = absurd is
-  of_log fault.NoThread is = absurd is
-  of_log fault.Unsettled is = absurd is
-  of_log fault.NotIdle is = absurd is
+-- what is printed, or the log that gets its name then
+pub of_printing : {A F : Type 0} (printed : Result A CommandFault) (log : Option (Bor (List ℕ) × F)) (path : Option (Bor (List ℕ))) (f : CommandFault) → IfErr printed (IsOfWriting standard_output)
+    → option_map (λ (named : Bor (List ℕ) × F). named.0) log ≡ path → (printed ≡ Err f) ⊎ IsOfNaming log f → IsOfWritingSome path f ⊎ IsOfWriting standard_output f
+of_printing {A} {F} printed log path f out is (inl e) = let Said : Result A CommandFault → Type 0 = λ r. IfErr r (IsOfWriting standard_output) in inr (subst Said e out)
+of_printing printed None path f out is (inr naming) = absurd naming
+of_printing printed (Some whole) path f out is (inr naming) = inl (subst (λ o. IsOfWritingSome o f) is naming)
+
+-- one of these two, among three
+pub log_or_output : {A B C : Type 0} → A ⊎ B → A ⊎ (B ⊎ C)
+log_or_output (inl a) = inl a
+log_or_output (inr b) = inr (inl b)
+
+-- of moves that there are
+pub of_moves : {S : Type 0} (remaining : S → Option (List ℕ)) (lasts : S → Type 0) (path : Option (Bor (List ℕ))) (source : Option S) (at : Bor (List ℕ)) (from : S) (f : CommandFault)
+    → path ≡ Some at → source ≡ Some from → IsOfReading at.now (remaining from) (lasts from) IsFaultOfMoves f → IsOfMoves remaining lasts path source f
+of_moves {S} remaining lasts path source at from f is_path is_source said =
+    subst (λ (p : Option (Bor (List ℕ))). IsOfMoves remaining lasts p source f) (sym is_path) (subst (λ (o : Option S). IsOfMoves remaining lasts (Some at) o f) (sym is_source) said)

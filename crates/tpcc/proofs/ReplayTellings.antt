@@ -1,5 +1,6 @@
 -- How a replay ends, by what it came to.
-use Rattle.std.proofs.Common.{◌≡◌, ℕ, List, Option, sym, subst}
+use Rattle.std.proofs.Common.{◌≡◌, inl, inr, ℕ, List, Option, None, Some, refl, sym, subst}
+use Rattle.std.specs.Borrow.{Bor}
 use Rattle.schema.specs.Database.{Database}
 use Rattle.commit_log.specs.declared.entry.Entry.{Entry}
 use Rattle.commit_log.specs.declared.verdict.Replay.{Replay}
@@ -8,17 +9,47 @@ use Rattle.commit_log.specs.Replay.{IsReplayOf}
 use Rattle.dataset.specs.Records.{AreRecords}
 use Rattle.terminals.specs.LogRecord.{IsLog}
 use Rattle.tpcc.specs.declared.command_fault.CommandFault.{CommandFault}
+use Rattle.tpcc.specs.declared.settings.replay.ReplaySettings.{ReplaySettings}
 use Rattle.tpcc.specs.declared.status.Status.{Status}
+use Rattle.tpcc.specs.declared.command_fault.CommandFault.TheVariants as fault
+use Rattle.tpcc.specs.EarlyEnds.{IsOfReplaying}
 use Rattle.tpcc.specs.Edges.{Gives}
+use Rattle.tpcc.specs.Faults.{IsOfWritingSome, Tells, status_of}
 use Rattle.tpcc.specs.Replay.{TellsReplay, ReplayEnds}
 
-module _ {F : Type 0} (contents : F → Option (List ℕ)) (file : Option F) (source log before after : Option (List ℕ))
-    (named named' : Option (List (Option (List ℕ)))) (told told' : Option (List CommandFault)) where
+module _ {F : Type 0} (contents : F → Option (List ℕ)) (file : Option F) (s : ReplaySettings) (source : Option (List ℕ)) (source_lasts : Type 0) (log : Option (List ℕ)) (log_lasts : Type 0)
+    (before after : Option (List ℕ)) (named named' : Option (List (Option (List ℕ)))) (told told' : Option (List CommandFault)) where
   pub replay_ends : (opening : Database) (entries : List Entry) (replay : Replay) (ended : Status) → Gives source (AreRecords opening) → Gives log (IsLog entries) → IsReplayOf opening entries replay
-      → TellsReplay contents file before after named named' entries replay ended → told' ≡ told → ReplayEnds contents file source log before after named named' told told' ended
+      → TellsReplay contents file before after named named' entries replay ended → told' ≡ told → ReplayEnds contents file s source source_lasts log log_lasts before after named named' told told' ended
   replay_ends opening entries (Equal last) ended is_dataset is_log is_replay tells same =
-      subst (ReplayEnds contents file source log before after named named' told told') (sym tells.0)
+      subst (ReplayEnds contents file s source source_lasts log log_lasts before after named named' told told') (sym tells.0)
       (last, record { opening = opening; is_dataset = is_dataset; entries = entries; is_log = is_log; is_replay = is_replay; printed = tells.1; no_fault = same }, tells.2)
   replay_ends opening entries (Differs place) ended is_dataset is_log is_replay tells same =
-      subst (ReplayEnds contents file source log before after named named' told told') (sym tells.0)
+      subst (ReplayEnds contents file s source source_lasts log log_lasts before after named named' told told') (sym tells.0)
       (place, record { opening = opening; is_dataset = is_dataset; entries = entries; is_log = is_log; is_replay = is_replay; printed = tells.1; no_fault = same }, tells.2)
+
+  no_condition : (condition : ℕ) → IsOfReplaying s source source_lasts log log_lasts (fault.NotConsistent condition) → ⊥
+  no_condition condition (inl a) = a
+  no_condition condition (inr (inl a)) = a.1
+  no_condition condition (inr (inr (inl a))) = a
+  no_condition condition (inr (inr (inr a))) = none s.tables a
+    where
+      none : (path : Option (Bor (List ℕ))) → IsOfWritingSome path (fault.NotConsistent condition) → ⊥
+      none None a = a
+      none (Some path) a = a
+
+  -- the same, where it ends early
+  pub replay_ends_early : (of : CommandFault) (ended : Status) → ended ≡ status_of of → IsOfReplaying s source source_lasts log log_lasts of → Tells told told' of → named' ≡ named
+      → ReplayEnds contents file s source source_lasts log log_lasts before after named named' told told' ended
+  replay_ends_early of ended is said tells same = subst (ReplayEnds contents file s source source_lasts log log_lasts before after named named' told told') (sym is) (by of said tells)
+    where
+      by : (f : CommandFault) → IsOfReplaying s source source_lasts log log_lasts f → Tells told told' f → ReplayEnds contents file s source source_lasts log log_lasts before after named named' told told' (status_of f)
+      by (fault.NotConsistent condition) said tells = absurd (no_condition condition said)
+      by fault.NoMemory said tells = (same, record { fault = fault.NoMemory; said = said; tells = tells; ends = refl })
+      by (fault.File path f) said tells = (same, record { fault = fault.File path f; said = said; tells = tells; ends = refl })
+      by (fault.Failed path number) said tells = (same, record { fault = fault.Failed path number; said = said; tells = tells; ends = refl })
+      by (fault.BadMove place) said tells = (same, record { fault = fault.BadMove place; said = said; tells = tells; ends = refl })
+      by (fault.NoWarehouse warehouse) said tells = (same, record { fault = fault.NoWarehouse warehouse; said = said; tells = tells; ends = refl })
+      by fault.NoThread said tells = (same, record { fault = fault.NoThread; said = said; tells = tells; ends = refl })
+      by fault.Unsettled said tells = (same, record { fault = fault.Unsettled; said = said; tells = tells; ends = refl })
+      by fault.NotIdle said tells = (same, record { fault = fault.NotIdle; said = said; tells = tells; ends = refl })

@@ -7,7 +7,8 @@ use Rattle.engine.specs.declared.outcome.ServeFault.TheVariants.{BadMove, NoMemo
 use Rattle.engine.specs.Faults.{IsFaultOf}
 use Rattle.dataset.specs.Records.{AreRecords}
 use Rattle.tpcc.specs.Edges.{Gives}
-use Rattle.tpcc.specs.Faults.{fault_of_serving, IsOfServing}
+use Rattle.tpcc.specs.EarlyEnds.{IsOfServing}
+use Rattle.tpcc.specs.Faults.{fault_of_serving}
 use Rattle.tpcc.specs.Run.{GivesMoves}
 
 pub of_tables : (source : Option (List ℕ)) (executors : ℕ) (moving : Option (Option (List ℕ))) (tables : Database) (moves : List MoveOrder) (fault : ServeFault)

@@ -4,14 +4,15 @@ use Rattle.std.specs.List.{list_any}
 use Rattle.std.specs.Io.KnownBytes.{Appends}
 use Rattle.schema.specs.Database.{Database}
 use Rattle.consistency.specs.Conditions.{AreExact}
-use Rattle.dataset.specs.FirstFault.{IsFaultOf}
 use Rattle.dataset.specs.Records.{AreRecords}
 use Rattle.tpcc.specs.declared.command_fault.CommandFault.{CommandFault}
 use Rattle.tpcc.specs.declared.status.Status.{Status}
 use Rattle.tpcc.specs.declared.status.Status.TheVariants as status
 use Rattle.tpcc.specs.Verdicts.{verdict_text, verdicts_of, is_broken}
 use Rattle.tpcc.specs.Edges.{Gives, lines_text}
-use Rattle.tpcc.specs.Faults.{IsOfSource, EndsEarly}
+use Rattle.tpcc.specs.declared.settings.check.CheckSettings.{CheckSettings}
+use Rattle.tpcc.specs.EarlyEnds.{IsOfChecking}
+use Rattle.tpcc.specs.Faults.{EndsEarly}
 
 module _ (fresh : Bool) («data» before after : Option (List ℕ)) (told told' : Option (List CommandFault)) where
   -- of the tables that the source gives each condition was told, line by line; one of them is broken, or none
@@ -24,8 +25,9 @@ module _ (fresh : Bool) («data» before after : Option (List ℕ)) (told told' 
     pub any_broken : broken ≡ list_any (λ verdict. is_broken verdict.found) (verdicts_of fresh 1 answers)
     pub no_fault : told' ≡ told
 
-  -- by the exit status: none is broken; one is; or a fault was told, which is the first of the dataset
+module _ (s : CheckSettings) («data» : Option (List ℕ)) (lasts : Type 0) (before after : Option (List ℕ)) (told told' : Option (List CommandFault)) where
+  -- by the exit status: none is broken; one is; or a fault was told: that of the dataset, or that printing failed
   abbrev pub CheckEnds : Status → Type 0
-  CheckEnds status.Success = Checks false
-  CheckEnds status.NotConsistent = Checks true
-  CheckEnds ended = EndsEarly (IsOfSource «data» IsFaultOf) told told' ended
+  CheckEnds status.Success = Checks s.fresh «data» before after told told' false
+  CheckEnds status.NotConsistent = Checks s.fresh «data» before after told told' true
+  CheckEnds ended = EndsEarly (IsOfChecking s «data» lasts) told told' ended

@@ -10,7 +10,9 @@ pub mod Mistakes
 pub mod Asked
 pub mod Edges
 pub mod Sim
+pub mod Escaped
 pub mod Faults
+pub mod EarlyEnds
 pub mod Verdicts
 pub mod Check
 pub mod Populate

@@ -9,7 +9,8 @@ use Rattle.tpcc.specs.declared.status.Status.{Status}
 use Rattle.tpcc.specs.declared.status.Status.TheVariants as status
 use Rattle.tpcc.specs.Shelf.{Shelves}
 use Rattle.tpcc.specs.Edges.{Writes}
-use Rattle.tpcc.specs.Faults.{IsOfFile, EndsEarly}
+use Rattle.tpcc.specs.declared.settings.populate.PopulateSettings.{PopulateSettings}
+use Rattle.tpcc.specs.Faults.{IsOfWriting, EndsEarly}
 
 module _ {F : Type 0} (contents : F → Option (List ℕ)) (scale : Scale) (seed now : ℕ) (file : F)
     (named named' : Option (List (Option (List ℕ)))) (told told' : Option (List CommandFault)) where
@@ -22,7 +23,8 @@ module _ {F : Type 0} (contents : F → Option (List ℕ)) (scale : Scale) (seed
     pub shelved : Shelves named named' text
     pub no_fault : told' ≡ told
 
+module _ {F : Type 0} (contents : F → Option (List ℕ)) (s : PopulateSettings) (file : F) (named named' : Option (List (Option (List ℕ)))) (told told' : Option (List CommandFault)) where
   -- by the exit status: the file is there; or it has not got its name, and a fault was told
   abbrev pub PopulateEnds : Status → Type 0
-  PopulateEnds status.Success = Populates
-  PopulateEnds ended = (named' ≡ named) × EndsEarly IsOfFile told told' ended
+  PopulateEnds status.Success = Populates contents s.scale s.seed s.now file named named' told told'
+  PopulateEnds ended = (named' ≡ named) × EndsEarly (IsOfWriting s.file.now) told told' ended

@@ -1,5 +1,5 @@
 -- What `tpcc replay` tells, and how it ends.
-use Rattle.std.specs.Prelude.{◌≡◌, ℕ, List, [], ◌∷◌, ◌++◌, length, Option, is_some, codes}
+use Rattle.std.specs.Prelude.{◌≡◌, ℕ, List, [], ◌∷◌, ◌++◌, length, Option, codes}
 use Rattle.std.specs.Fmt.{decimal}
 use Rattle.std.specs.Io.KnownBytes.{Appends}
 use Rattle.schema.specs.Database.{Database}
@@ -15,7 +15,9 @@ use Rattle.tpcc.specs.declared.command_fault.CommandFault.{CommandFault}
 use Rattle.tpcc.specs.declared.status.Status.{Status}
 use Rattle.tpcc.specs.declared.status.Status.TheVariants as status
 use Rattle.tpcc.specs.Edges.{Gives, NamesFile, lines_text}
-use Rattle.tpcc.specs.Faults.{IsOfReplaying, EndsEarly}
+use Rattle.tpcc.specs.declared.settings.replay.ReplaySettings.{ReplaySettings}
+use Rattle.tpcc.specs.EarlyEnds.{IsOfReplaying}
+use Rattle.tpcc.specs.Faults.{EndsEarly}
 
 -- the line that tells what a replay came to
 abbrev pub found_text : Found → List ℕ
@@ -36,8 +38,7 @@ module _ {F : Type 0} (contents : F → Option (List ℕ)) (file : Option F) (be
   TellsReplay entries (Differs place) ended =
       (ended ≡ status.NotConsistent) × Appends before after (lines_text (found_text (found.Differs place) ∷ [])) × (named' ≡ named)
 
-module _ {F : Type 0} (contents : F → Option (List ℕ)) (file : Option F) («data» log before after : Option (List ℕ))
-    (named named' : Option (List (Option (List ℕ)))) (told told' : Option (List CommandFault)) where
+module _ («data» log before after : Option (List ℕ)) (told told' : Option (List CommandFault)) where
   -- the log's requests were carried out from the tables on that the source gives, with this result, and that was told
   pub record Replays (replay : Replay) : Type 0 where
     pub opening : Database
@@ -48,9 +49,12 @@ module _ {F : Type 0} (contents : F → Option (List ℕ)) (file : Option F) («
     pub printed : Appends before after (lines_text (found_text (found_of entries replay) ∷ []))
     pub no_fault : told' ≡ told
 
+module _ {F : Type 0} (contents : F → Option (List ℕ)) (file : Option F) (s : ReplaySettings) («data» : Option (List ℕ)) (data_lasts : Type 0) (log : Option (List ℕ)) (log_lasts : Type 0)
+    (before after : Option (List ℕ)) (named named' : Option (List (Option (List ℕ)))) (told told' : Option (List CommandFault)) where
   -- By the exit status: every entry is equal, and the file, if there is one, has got its name with the records of the machine's
-  -- last tables; an entry differs, and no file has got a name; or so it is, and a fault was told: that of the dataset or of the log.
+  -- last tables; an entry differs, and no file has got a name; or so it is, and a fault was told: that of
+  -- the dataset, of the log, or of what is written.
   abbrev pub ReplayEnds : Status → Type 0
-  ReplayEnds status.Success = (last : Database) × Replays (Equal last) × NamesFile contents file named named' (AreRecords last)
-  ReplayEnds status.NotConsistent = (place : ℕ) × Replays (Differs place) × (named' ≡ named)
-  ReplayEnds ended = (named' ≡ named) × EndsEarly (IsOfReplaying (is_some file) «data» log) told told' ended
+  ReplayEnds status.Success = (last : Database) × Replays «data» log before after told told' (Equal last) × NamesFile contents file named named' (AreRecords last)
+  ReplayEnds status.NotConsistent = (place : ℕ) × Replays «data» log before after told told' (Differs place) × (named' ≡ named)
+  ReplayEnds ended = (named' ≡ named) × EndsEarly (IsOfReplaying s «data» data_lasts log log_lasts) told told' ended

@@ -3,6 +3,7 @@ use Rattle.std.specs.Prelude.{◌≡◌, ◌⊎◌, ◌+◌, ℕ, false, List, [
 use Rattle.std.specs.List.{All}
 use Rattle.schema.specs.declared.scale.Scale.{Scale}
 use Rattle.schema.specs.Scale.{has_warehouse}
+use Rattle.dataset.specs.FirstFault.{first_fault}
 use Rattle.dataset.specs.FirstRecord.{BeginsWith}
 use Rattle.dataset.specs.Records.{AreSpelt, header_fields}
 use Rattle.requests.specs.Check.{IsAccepted}
@@ -15,7 +16,8 @@ use Rattle.tpcc.specs.declared.command_fault.CommandFault.TheVariants as fault
 use Rattle.tpcc.specs.declared.status.Status.{Status}
 use Rattle.tpcc.specs.declared.status.Status.TheVariants as status
 use Rattle.tpcc.specs.Edges.{NamesFile}
-use Rattle.tpcc.specs.Faults.{EndsEarly}
+use Rattle.files.specs.declared.fault.FileFault.{FileFault}
+use Rattle.tpcc.specs.Faults.{IsOfReading, IsOfWritingOneOf, EndsEarly}
 
 -- where it is known what a source gives, that begins with the header of a dataset of this scale
 abbrev pub GivesScale : Option (List ℕ) → Scale → Type 0
@@ -40,12 +42,16 @@ abbrev pub IsNoWarehouse : Option ℕ → Scale → CommandFault → Type 0
 IsNoWarehouse home scale (fault.NoWarehouse warehouse) = (home ≡ Some warehouse) × (has_warehouse scale warehouse ≡ false)
 IsNoWarehouse home scale _ = ⊥
 
--- no memory, a fault of a file, or that the scale that the source tells has not the home warehouse
-abbrev pub IsOfMaking : Option ℕ → Option (List ℕ) → CommandFault → Type 0
-IsOfMaking home source fault.NoMemory = Unit {0}
-IsOfMaking home source (fault.File path of) = Unit {0}
-IsOfMaking home source (fault.NoWarehouse warehouse) = (scale : Scale) × GivesScale source scale × IsNoWarehouse home scale (fault.NoWarehouse warehouse)
-IsOfMaking home source _ = ⊥
+-- the first fault of a dataset's records
+abbrev pub IsFaultOfHeader : List (List (List ℕ)) → FileFault → Type 0
+IsFaultOfHeader rows of = first_fault rows ≡ Some of
+
+-- the dataset's header; or, as that tells a scale, that the scale has not the home warehouse; or one of the files that are made
+abbrev pub IsOfMaking : ScriptSettings → Option (List ℕ) → Type 0 → CommandFault → Type 0
+IsOfMaking s source lasts of =
+    IsOfReading s.«data».now source lasts IsFaultOfHeader of
+    ⊎ ((scale : Scale) × GivesScale source scale × IsNoWarehouse s.home scale of)
+    ⊎ IsOfWritingOneOf s.files.items of
 
 module _ {F : Type 0} (contents : F → Option (List ℕ)) where
   -- these files have got their names in turn, each with the script of a session, the first of them with that of this session
@@ -73,7 +79,8 @@ module _ {F : Type 0} (contents : F → Option (List ℕ)) where
         ⊎ ((scale : Scale) × GivesScale «data» scale × (workload : Workload) × IsWorkload settings scale workload
         × NamesFirstScripts workload files named named')
 
+  module _ (settings : ScriptSettings) («data» : Option (List ℕ)) (lasts : Type 0) (files : List F) (named named' : Option (List (Option (List ℕ)))) where
     -- by the exit status: all files are there; or the first of them are at most, and a fault was told
     abbrev pub ScriptEnds : Option (List CommandFault) → Option (List CommandFault) → Status → Type 0
-    ScriptEnds told told' status.Success = MakesAll × (told' ≡ told)
-    ScriptEnds told told' ended = MakesSome × EndsEarly (IsOfMaking settings.home «data») told told' ended
+    ScriptEnds told told' status.Success = MakesAll settings «data» files named named' × (told' ≡ told)
+    ScriptEnds told told' ended = MakesSome settings «data» files named named' × EndsEarly (IsOfMaking settings «data» lasts) told told' ended

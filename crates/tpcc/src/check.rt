@@ -1,8 +1,7 @@
 ghost use Rattle.std.specs.Prelude.{◌≡◌, List, Option, IfOk, IfErr};
 ghost use Rattle.tpcc.specs.declared.command_fault.CommandFault as command_fault;
 ghost use Rattle.tpcc.specs.Check.{Checks, CheckEnds};
-ghost use Rattle.dataset.specs.FirstFault.{IsFaultOf};
-ghost use Rattle.tpcc.specs.Faults.{IsOfSource};
+ghost use Rattle.tpcc.specs.EarlyEnds.{IsOfChecking};
 
 use crate::command_fault::CommandFault;
 use crate::report::Report;
@@ -10,22 +9,23 @@ use crate::settings::CheckSettings;
 use crate::status::Status;
 use crate::streams::{print_lines, read_tables};
 use crate::verdicts::{any_broken, verdicts};
+use files::Input;
 use std::alloc::Global;
-use std::io::{Read, Write};
+use std::io::Write;
 
 /// Tells of each of the twelve conditions of consistency (TPC-C 5.11, clause 3.3.2) whether the dataset
 /// meets it, and gives the exit status.
 ///
 /// On `found` comes `1 ok` or `1 broken`, and so on to 12, where 11 is `11 skipped` unless the dataset is
 /// said to be fresh. Why a check ended early is told to `errors`: a fault of the file, or no memory.
-pub fn check_over<D: Read + Drop, A: Write, E: Report>(
+pub fn check_over<D: Input + Drop, A: Write, E: Report>(
     alloc: Global,
     settings: &CheckSettings,
     data: D,
     found: &mut A,
     errors: &mut E,
 ) -> Status
-    ensures { CheckEnds settings.entry.now.fresh (D.remaining «data») (A.contents found.old) (A.contents found.new) (E.told errors.old) (E.told errors.new) result }
+    ensures { CheckEnds settings.entry.now (D.remaining «data») (D.lasts «data») (A.contents found.old) (A.contents found.new) (E.told errors.old) (E.told errors.new) result }
 {
     match check(alloc, settings, data, found) {
         Ok(false) => Status::Success,
@@ -35,14 +35,14 @@ pub fn check_over<D: Read + Drop, A: Write, E: Report>(
 }
 
 // Whether a condition that was asked is broken.
-fn check<'a, D: Read + Drop, A: Write>(
+fn check<'a, D: Input + Drop, A: Write>(
     alloc: Global,
     settings: &CheckSettings<'a>,
     data: D,
     found: &mut A,
 ) -> Result<bool, CommandFault<'a>>
     ensures checks { IfOk result (λ broken. (told : Option (List command_fault.CommandFault)) → Checks settings.entry.now.fresh (D.remaining «data») (A.contents found.old) (A.contents found.new) told told broken) }
-    ensures fault { IfErr result (IsOfSource (D.remaining «data») IsFaultOf) }
+    ensures fault { IfErr result (IsOfChecking settings.entry.now (D.remaining «data») (D.lasts «data»)) }
 {
     let tables = read_tables(alloc, settings.data, data)?;
     let answers = consistency::check(alloc, &tables)?;

@@ -4,16 +4,22 @@ ghost use Rattle.std.specs.Prelude.{◌≡◌};
 use crate::escaped::Escaped;
 use crate::status::Status;
 use engine::ServeFault;
-use files::{FaultKind, FileError, FileFault};
+use files::{FileError, FileFault};
 use std::alloc::{AllocError, AllocFailed};
 use std::fmt;
+
+/// The number by which it is told that reading or writing failed; texts have the faults 1 to 9.
+const FAILED: u8 = 10;
 
 /// Why a command ended early.
 #[derive(Clone, Copy, Debug, PartialEq, Eq)]
 pub enum CommandFault<'a> {
     NoMemory,
-    /// The file of that path has a fault.
+    /// The text of the file of that path has a fault.
     File { path: &'a str, fault: FileFault },
+    /// Reading or writing the file of that path failed, at this record, from 1; 0 where it can't be opened or
+    /// made.
+    Failed { path: &'a str, record: u64 },
     /// The tables of the dataset break this condition of consistency, the least of those that they break.
     NotConsistent(u8),
     /// There can't be the move of this place, from 0, and it is the first: its range ends before it begins, or a
@@ -31,17 +37,13 @@ pub enum CommandFault<'a> {
 
 impl<'a> CommandFault<'a> {
     ghost use Rattle.std.specs.Prelude.{◌≡◌};
-    ghost use Rattle.tpcc.specs.Faults.{status_of, fault_of_file, fault_of_serving, IsOfFile};
+    ghost use Rattle.tpcc.specs.Faults.{status_of, fault_of_file, fault_of_serving};
 
     /// A file that can't be opened or made.
     pub fn not_opened(path: &'a str) -> CommandFault<'a>
-        ensures { IsOfFile result }
+        ensures { result ≡ CommandFault.Failed path.entry 0 }
     {
-        let fault = FileFault {
-            kind: FaultKind::Io,
-            record: 0,
-        };
-        CommandFault::File { path, fault }
+        CommandFault::Failed { path, record: 0 }
     }
 
     /// What was wrong with the file of that path.
@@ -50,6 +52,7 @@ impl<'a> CommandFault<'a> {
     {
         match error {
             FileError::NoMemory => CommandFault::NoMemory,
+            FileError::Failed(record) => CommandFault::Failed { path, record },
             FileError::File(fault) => CommandFault::File { path, fault },
         }
     }
@@ -74,6 +77,7 @@ impl<'a> CommandFault<'a> {
         match self {
             CommandFault::NoMemory => Status::NoMemory,
             CommandFault::File { .. }
+            | CommandFault::Failed { .. }
             | CommandFault::BadMove(_)
             | CommandFault::NoThread
             | CommandFault::Unsettled
@@ -85,12 +89,21 @@ impl<'a> CommandFault<'a> {
 }
 
 impl fmt::Display for CommandFault<'_> {
+    ghost use Rattle.std.specs.Prelude.{Some};
+    ghost use Rattle.tpcc.specs.Faults.{told_text};
+
+    ghost output = { λ fault. Some (told_text fault) };
+
     fn fmt<W: fmt::Write>(&self, f: &mut fmt::Formatter<W>) -> fmt::Result {
         match self {
             CommandFault::NoMemory => f.write_str("no memory"),
             CommandFault::File { path, fault } => {
                 let path = Escaped(path);
                 write!(f, "{path}: {fault}")
+            }
+            CommandFault::Failed { path, record } => {
+                let path = Escaped(path);
+                write!(f, "{path}: row {record}: fault {FAILED}")
             }
             CommandFault::NotConsistent(number) => write!(f, "not consistent: {number}"),
             CommandFault::BadMove(place) => write!(f, "bad move: {place}"),

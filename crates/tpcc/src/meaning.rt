@@ -5,7 +5,7 @@ use crate::command_fault::CommandFault;
 use crate::escaped::Escaped;
 use crate::lines::Lines;
 use crate::trouble::Trouble;
-use files::{FaultKind, Fields, FileError, FileFault, Records};
+use files::{FaultKind, Fields, FileError, FileFault, Reader, Records};
 use std::io::{Read, Write};
 use std::rt::Files;
 use std::{fs, io};
@@ -51,9 +51,7 @@ pub fn tell_meaning<R: Files + AllocGlobal, W: Write>(
             sink,
             "the dataset's first record tells how many warehouses there are: its third field",
         ),
-        CommandFault::File { path, fault } if fault.kind == FaultKind::Io => {
-            tell_trouble(sink, path, trouble);
-        }
+        CommandFault::Failed { path, record: _ } => tell_trouble(sink, path, trouble),
         CommandFault::File { path, fault } => {
             if tell_place(rt, sink, path, fault.record).is_err() {
                 return;
@@ -93,16 +91,18 @@ fn tell_place<R: Files + AllocGlobal, W: Write>(
     if !fs::metadata(rt, path)?.is_file() {
         return Ok(());
     }
-    let mut records = Records::new(rt.alloc(), fs::open(rt, path)?);
+    let source = Reader {
+        source: fs::open(rt, path)?,
+    };
+    let mut records = Records::new(rt.alloc(), source);
     for _ in 0..record {
         match records.advance() {
             Ok(true) => {}
             Ok(false) => return writeln!(sink, "  after the last line of the file"),
-            Err(FileError::File(fault)) if fault.kind != FaultKind::Io && fault.record == record =>
-                {
-                    let line = line_of(rt, path, record)?;
-                    return writeln!(sink, "  line {line}: a record of more than 65,536 bytes");
-                }
+            Err(FileError::File(fault)) if fault.record == record => {
+                let line = line_of(rt, path, record)?;
+                return writeln!(sink, "  line {line}: a record of more than 65,536 bytes");
+            }
             Err(_) => return Ok(()),
         }
     }
@@ -185,6 +185,5 @@ fn meaning(fault: FileFault) -> &'static str {
             "the end record is missing: the file was cut, or needs END and its counts",
         FaultKind::WrongCount => "a count of the end record is not how many there are",
         FaultKind::AfterEnd => "a record after the end record: were two files joined?",
-        FaultKind::Io => "reading or writing failed",
     }
 }

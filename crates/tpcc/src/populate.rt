@@ -1,5 +1,5 @@
 ghost use Rattle.std.specs.Prelude.{◌≡◌, IfErr, OnOk, OnErr};
-ghost use Rattle.tpcc.specs.Faults.{IsOfFile};
+ghost use Rattle.tpcc.specs.Faults.{IsOfWriting};
 ghost use Rattle.tpcc.specs.Populate.{Populates, PopulateEnds};
 
 use crate::command_fault::CommandFault;
@@ -21,7 +21,7 @@ pub fn populate_over<T: Write + Drop, N: Shelf<T>, E: Report>(
     shelf: &mut N,
     errors: &mut E,
 ) -> Status
-    ensures { PopulateEnds T.contents settings.entry.now.scale settings.entry.now.seed settings.entry.now.now file (N.named shelf.old) (N.named shelf.new) (E.told errors.old) (E.told errors.new) result }
+    ensures { PopulateEnds T.contents settings.entry.now file (N.named shelf.old) (N.named shelf.new) (E.told errors.old) (E.told errors.new) result }
 {
     match make(alloc, settings, file, shelf, errors) {
         Ok(()) => Status::Success,
@@ -40,7 +40,7 @@ fn make<'a, T: Write + Drop, N: Shelf<T>, E: Report>(
     ensures populates { OnOk result (Populates T.contents settings.entry.now.scale settings.entry.now.seed settings.entry.now.now file (N.named shelf.old) (N.named shelf.new) (E.told errors.old) (E.told errors.new)) }
     ensures named { OnErr result (N.named shelf.new ≡ N.named shelf.old) }
     ensures told { OnErr result (E.told errors.new ≡ E.told errors.old) }
-    ensures fault { IfErr result IsOfFile }
+    ensures fault { IfErr result (IsOfWriting settings.entry.now.file.now) }
 {
     let scale = settings.scale;
     let customers = scale.warehouses as usize * 10 * scale.customers as usize;

@@ -1,5 +1,6 @@
 use crate::escaped::Escaped;
 use crate::trouble::Trouble;
+use files::Input;
 use std::io;
 use std::io::{Read, Write};
 
@@ -60,7 +61,8 @@ impl<'a, W: Write + Drop> Meter<'a, W> {
     }
 }
 
-/// A reader of whose reading it is told on a terminal, and what the system says of it noted.
+/// A reader of whose reading it is told on a terminal, and what the system says of it noted. A read of it may
+/// fail.
 #[derive(Drop)]
 pub struct ProgressReader<'a, R, W> {
     source: R,
@@ -78,7 +80,11 @@ impl<'a, R: Read + Drop, W: Write + Drop> ProgressReader<'a, R, W> {
     }
 }
 
-impl<R: Read + Drop, W: Write + Drop> Read for ProgressReader<'_, R, W> {
+impl<R: Read + Drop, W: Write + Drop> Input for ProgressReader<'_, R, W> {
+    ghost remaining = { λ reader. R.remaining reader.source };
+
+    ghost lasts = { λ _. ⊥ };
+
     fn read(&mut self, buf: &mut [u8]) -> io::Result<usize> {
         match self.source.read(buf) {
             Ok(0) => {

@@ -1,7 +1,8 @@
-ghost use Rattle.std.specs.Prelude.{◌≡◌, false, is_some, IfOk, IfErr, OnErr};
+ghost use Rattle.std.specs.Prelude.{◌≡◌, is_some, IfOk, IfErr, OnErr};
 ghost use Rattle.terminals.specs.LogRecord.{IsLog};
 ghost use Rattle.tpcc.specs.Edges.{Gives};
-ghost use Rattle.tpcc.specs.Faults.{IsFaultOfLog, IsOfFile, IsOfReplaying, IsOfSource, IsOfWriting};
+ghost use Rattle.tpcc.specs.EarlyEnds.{IsFaultOfLog, IsOfReplaying, IsOfTelling};
+ghost use Rattle.tpcc.specs.Faults.{IsOfReading};
 ghost use Rattle.schema.specs.Database.{Database};
 ghost use Rattle.commit_log.specs.Replay.{IsReplayOf};
 ghost use Rattle.tpcc.specs.Replay.{TellsReplay, ReplayEnds};
@@ -16,9 +17,10 @@ use crate::streams::{print_lines, read_tables, write_tables};
 use crate::summary::Summary;
 use crate::tally::Tally;
 use commit_log::{Entry, Replay, replay};
+use files::Input;
 use std::alloc::Global;
 use std::fmt;
-use std::io::{Read, Write};
+use std::io::Write;
 use std::rt::Clock;
 use terminals::read_log;
 
@@ -32,8 +34,8 @@ use terminals::read_log;
 /// fault of a file, or no memory.
 pub fn replay_over<
     R: Clock,
-    D: Read + Drop,
-    L: Read + Drop,
+    D: Input + Drop,
+    L: Input + Drop,
     A: Write,
     T: Write + Drop,
     N: Shelf<T>,
@@ -50,7 +52,7 @@ pub fn replay_over<
     errors: &mut E,
 ) -> Status
     requires { is_some tables ≡ is_some settings.now.tables }
-    ensures { ReplayEnds T.contents tables (D.remaining «data») (L.remaining log) (A.contents found.old) (A.contents found.new) (N.named shelf.old) (N.named shelf.new) (E.told errors.old) (E.told errors.new) result }
+    ensures { ReplayEnds T.contents tables settings.entry.now (D.remaining «data») (D.lasts «data») (L.remaining log) (L.lasts log) (A.contents found.old) (A.contents found.new) (N.named shelf.old) (N.named shelf.new) (E.told errors.old) (E.told errors.new) result }
 {
     match replay_log(rt, alloc, settings, data, log, found, tables, shelf, errors) {
         Ok(status) => status,
@@ -62,8 +64,8 @@ pub fn replay_over<
 fn replay_log<
     'a,
     R: Clock,
-    D: Read + Drop,
-    L: Read + Drop,
+    D: Input + Drop,
+    L: Input + Drop,
     A: Write,
     T: Write + Drop,
     N: Shelf<T>,
@@ -80,10 +82,10 @@ fn replay_log<
     errors: &mut E,
 ) -> Result<Status, CommandFault<'a>>
     requires { is_some tables ≡ is_some settings.now.tables }
-    ensures ends { IfOk result (ReplayEnds T.contents tables (D.remaining «data») (L.remaining log) (A.contents found.old) (A.contents found.new) (N.named shelf.old) (N.named shelf.new) (E.told errors.old) (E.told errors.new)) }
+    ensures ends { IfOk result (ReplayEnds T.contents tables settings.entry.now (D.remaining «data») (D.lasts «data») (L.remaining log) (L.lasts log) (A.contents found.old) (A.contents found.new) (N.named shelf.old) (N.named shelf.new) (E.told errors.old) (E.told errors.new)) }
     ensures named { OnErr result (N.named shelf.new ≡ N.named shelf.old) }
     ensures told { OnErr result (E.told errors.new ≡ E.told errors.old) }
-    ensures fault { IfErr result (IsOfReplaying (is_some tables) (D.remaining «data») (L.remaining log)) }
+    ensures fault { IfErr result (IsOfReplaying settings.entry.now (D.remaining «data») (D.lasts «data») (L.remaining log) (L.lasts log)) }
 {
     let opening = read_tables(alloc, settings.data, data)?;
     let entries = read_entries(alloc, settings.log, log)?;
@@ -128,7 +130,7 @@ fn tell<'a, A: Write, T: Write + Drop, N: Shelf<T>>(
     requires { is_some tables ≡ is_some settings.now.tables }
     ensures tells { IfOk result (TellsReplay T.contents tables (A.contents found.old) (A.contents found.new) (N.named shelf.old) (N.named shelf.new) entries.now came_to) }
     ensures named { OnErr result (N.named shelf.new ≡ N.named shelf.old) }
-    ensures fault { IfErr result (λ fault. IsOfFile fault × (is_some tables ≡ false → IsOfWriting fault)) }
+    ensures fault { IfErr result (IsOfTelling settings.entry.now) }
 {
     match came_to {
         Replay::Equal(last) => {
@@ -161,13 +163,13 @@ fn sum_up<E: Report>(alloc: Global, entries: &[Entry], served_for: u64, errors: 
 }
 
 // The entries of the log of that path.
-fn read_entries<'a, L: Read + Drop>(
+fn read_entries<'a, L: Input + Drop>(
     alloc: Global,
     path: &'a str,
     log: L,
 ) -> Result<Vec<Entry>, CommandFault<'a>>
     ensures entries { IfOk result (λ entries. Gives (L.remaining log) (IsLog entries.items)) }
-    ensures first { IfErr result (IsOfSource (L.remaining log) IsFaultOfLog) }
+    ensures fault { IfErr result (IsOfReading path.now (L.remaining log) (L.lasts log) IsFaultOfLog) }
 {
     match read_log(alloc, log) {
         Ok(entries) => Ok(entries),

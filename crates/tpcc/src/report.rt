@@ -1,12 +1,14 @@
-ghost use Rattle.std.specs.Prelude.{◌≡◌, List, Option, None};
+ghost use Rattle.std.specs.Prelude.{◌≡◌, List, Option, None, OnOk};
+ghost use Rattle.std.specs.Io.KnownBytes.{Appends};
 ghost use Rattle.tpcc.specs.declared.command_fault.CommandFault as command_fault;
-ghost use Rattle.tpcc.specs.Faults.{status_of, Tells};
+ghost use Rattle.tpcc.specs.Faults.{status_of, told_line, Tells};
 
 use crate::command_fault::CommandFault;
 use crate::meaning::tell_meaning;
 use crate::status::Status;
 use crate::summary::{Summary, tell_summary};
 use crate::trouble::Trouble;
+use std::io;
 use std::io::{IsTerminal, Stderr, Write};
 use std::rt::Files;
 
@@ -67,11 +69,18 @@ impl<'a, R: Files + AllocGlobal> Teller<'a, R> {
     }
 }
 
+// Tells the fault in a line.
+fn tell<W: Write>(sink: &mut W, fault: CommandFault<'_>) -> io::Result<()>
+    ensures { OnOk result (Appends (W.contents sink.old) (W.contents sink.new) (told_line fault.entry)) }
+{
+    writeln!(sink, "tpcc: {fault}")
+}
+
 impl<R: Files + AllocGlobal> Report for Teller<'_, R> {
     ghost told = { λ _. None };
 
     fn report(&mut self, fault: CommandFault<'_>) -> Status {
-        let _ = writeln!(self.stderr, "tpcc: {fault}");
+        let _ = tell(&mut self.stderr, fault);
         if self.stderr.is_terminal() {
             tell_meaning(self.rt, &mut self.stderr, fault, self.trouble);
         }

@@ -1,10 +1,11 @@
-ghost use Rattle.std.specs.Prelude.{◌≡◌, ◌≤◌, length, map, is_some, IfOk, IfErr, OnErr};
+ghost use Rattle.std.specs.Prelude.{◌≡◌, ◌⊎◌, ◌≤◌, length, map, is_some, IfOk, IfErr, OnErr};
 ghost use Rattle.std.specs.List.{AllZip};
 ghost use Rattle.std.specs.Option.{option_map};
 ghost use Rattle.terminals.specs.Answers.{AreAnswers};
 ghost use Rattle.terminals.specs.Script.{IsScript};
 ghost use Rattle.tpcc.specs.Edges.{Gives, Writes};
-ghost use Rattle.tpcc.specs.Faults.{IsOfFile, IsOfServing, EndsEarly};
+ghost use Rattle.tpcc.specs.EarlyEnds.{IsOfMoves, IsOfRunning, IsOfScripts};
+ghost use Rattle.tpcc.specs.Faults.{IsOfWriting, standard_output, EndsEarly};
 ghost use Rattle.tpcc.specs.Run.{AreAllAnswers, GivesMoves, Serves, ServesSome};
 ghost use Rattle.tpcc.specs.Settings.{IsRunnable};
 
@@ -18,11 +19,12 @@ use crate::summary::Summary;
 use crate::tally::Tally;
 use crate::watch::Watch;
 use engine::{Answers, serve};
+use files::Input;
 use range_moves::MoveOrder;
 use requests::Script;
 use schema::NoMemory;
 use std::alloc::Global;
-use std::io::{Read, Write};
+use std::io::Write;
 use std::rt::Clock;
 use std::sync::Wait;
 use std::thread::Threads;
@@ -39,8 +41,8 @@ use terminals::{read_moves, read_script, write_answers};
 /// tables that are not consistent, no thread, something that was not back at the end, or no memory.
 pub fn run_over<
     R: Clock + Threads + Wait + Sync,
-    D: Read + Drop,
-    S: Read + Drop,
+    D: Input + Drop,
+    S: Input + Drop,
     A: Write + Drop,
     F: Write + Drop,
     N: Shelf<F>,
@@ -66,7 +68,7 @@ pub fn run_over<
     requires tables { is_some tables ≡ is_some settings.now.tables }
     ensures serves { IfOk result (λ full. Serves F.contents (D.remaining «data») (map S.remaining scripts.old) settings.now.executors (option_map S.remaining moves) log tables (A.contents answers) (A.contents full) (N.named shelf.old) (N.named shelf.new) (E.told errors.old) (E.told errors.new)) }
     ensures some { OnErr result (ServesSome F.contents (D.remaining «data») (map S.remaining scripts.old) settings.now.executors (option_map S.remaining moves) log tables (N.named shelf.old) (N.named shelf.new)) }
-    ensures early { IfErr result (EndsEarly (IsOfServing (D.remaining «data») settings.now.executors (option_map S.remaining moves)) (E.told errors.old) (E.told errors.new)) }
+    ensures early { IfErr result (EndsEarly (IsOfRunning S.remaining S.lasts settings.now (D.remaining «data») (D.lasts «data») scripts.old moves) (E.told errors.old) (E.told errors.new)) }
 {
     match run(
         rt, alloc, settings, data, scripts, moves, answers, log, tables, shelf, watch, errors,
@@ -79,8 +81,8 @@ pub fn run_over<
 fn run<
     'a,
     R: Clock + Threads + Wait + Sync,
-    D: Read + Drop,
-    S: Read + Drop,
+    D: Input + Drop,
+    S: Input + Drop,
     A: Write + Drop,
     F: Write + Drop,
     N: Shelf<F>,
@@ -107,7 +109,7 @@ fn run<
     ensures serves { IfOk result (λ full. Serves F.contents (D.remaining «data») (map S.remaining scripts.old) settings.now.executors (option_map S.remaining moves) log tables (A.contents answers) (A.contents full) (N.named shelf.old) (N.named shelf.new) (E.told errors.old) (E.told errors.new)) }
     ensures some { OnErr result (ServesSome F.contents (D.remaining «data») (map S.remaining scripts.old) settings.now.executors (option_map S.remaining moves) log tables (N.named shelf.old) (N.named shelf.new)) }
     ensures told { OnErr result (E.told errors.new ≡ E.told errors.old) }
-    ensures fault { IfErr result (IsOfServing (D.remaining «data») settings.now.executors (option_map S.remaining moves)) }
+    ensures fault { IfErr result (IsOfRunning S.remaining S.lasts settings.now (D.remaining «data») (D.lasts «data») scripts.old moves) }
 {
     let opening = read_tables(alloc, settings.data, data)?;
     let scripts = read_scripts(alloc, &settings.scripts, scripts)?;
@@ -142,7 +144,7 @@ fn run<
 }
 
 // The scripts of these paths.
-fn read_scripts<'a, S: Read + Drop>(
+fn read_scripts<'a, S: Input + Drop>(
     alloc: Global,
     paths: &[&'a str],
     sources: &mut [S],
@@ -150,7 +152,7 @@ fn read_scripts<'a, S: Read + Drop>(
     requires { length sources.old ≡ length paths.now }
     ensures count { IfOk result (λ scripts. length scripts.items ≡ length paths.now) }
     ensures scripts { IfOk result (λ scripts. AllZip (λ source script. Gives source (IsScript script)) (map S.remaining sources.old) scripts.items) }
-    ensures fault { IfErr result IsOfFile }
+    ensures fault { IfErr result (λ fault. (fault ≡ CommandFault.NoMemory) ⊎ IsOfScripts S.remaining S.lasts paths.now sources.old fault) }
 {
     let mut scripts = Vec::new(alloc);
     for (session, source) in sources.iter_mut().enumerate() {
@@ -163,14 +165,14 @@ fn read_scripts<'a, S: Read + Drop>(
 }
 
 // The moves of this path, if there is one.
-fn read_orders<'a, S: Read + Drop>(
+fn read_orders<'a, S: Input + Drop>(
     alloc: Global,
     path: Option<&'a str>,
     source: Option<S>,
 ) -> Result<Vec<MoveOrder>, CommandFault<'a>>
     requires { is_some source ≡ is_some path }
     ensures moves { IfOk result (λ moves. GivesMoves (option_map S.remaining source) moves.items) }
-    ensures fault { IfErr result IsOfFile }
+    ensures fault { IfErr result (IsOfMoves S.remaining S.lasts path.entry source) }
 {
     let Some(source) = source else {
         return Ok(Vec::new(alloc));
@@ -190,7 +192,7 @@ fn print_answers<A: Write + Drop>(
 ) -> Result<A, CommandFault<'static>>
     requires { length answers.now ≤ 64 }
     ensures printed { IfOk result (λ full. Writes (A.contents sink) (A.contents full) (AreAllAnswers 0 answers.now)) }
-    ensures fault { IfErr result IsOfFile }
+    ensures fault { IfErr result (IsOfWriting standard_output) }
 {
     let mut sink = sink;
     for (session, told) in answers.iter().enumerate() {
@@ -207,7 +209,7 @@ fn print_session<A: Write + Drop>(
     told: &Answers,
 ) -> Result<A, CommandFault<'static>>
     ensures printed { IfOk result (λ full. Writes (A.contents sink) (A.contents full) (AreAnswers session told.now)) }
-    ensures fault { IfErr result IsOfFile }
+    ensures fault { IfErr result (IsOfWriting standard_output) }
 {
     match write_answers(alloc, sink, session, told.as_slice()) {
         Ok(full) => Ok(full),

@@ -1,6 +1,6 @@
-ghost use Rattle.std.specs.Prelude.{◌≡◌, ◌≤◌, length, IfOk, IfErr, OnOk, OnErr};
-ghost use Rattle.tpcc.specs.Faults.{IsOfFile};
-ghost use Rattle.tpcc.specs.Script.{GivesScale, IsNoWarehouse, IsOfMaking, MakesAll, MakesSome, NamesFirstScripts, NamesScripts, ScriptEnds, IsWorkload};
+ghost use Rattle.std.specs.Prelude.{◌≡◌, ◌⊎◌, ◌≤◌, length, IfOk, IfErr, OnOk, OnErr};
+ghost use Rattle.tpcc.specs.Faults.{IsOfReading, IsOfWritingOneOf};
+ghost use Rattle.tpcc.specs.Script.{GivesScale, IsFaultOfHeader, IsNoWarehouse, IsOfMaking, MakesAll, MakesSome, NamesFirstScripts, NamesScripts, ScriptEnds, IsWorkload};
 ghost use Rattle.tpcc.specs.Settings.{HasFiles};
 
 use crate::command_fault::CommandFault;
@@ -10,15 +10,16 @@ use crate::shelf::Shelf;
 use crate::status::Status;
 use crate::streams::write_requests;
 use dataset::read_scale;
+use files::Input;
 use schema::Scale;
 use std::alloc::Global;
-use std::io::{Read, Write};
+use std::io::Write;
 use workload::{Workload, draw_script};
 
 /// Makes a script for each session, of the scale that `data` begins with, writes them to `files`, one after
 /// the other, each of which then gets its name on `shelf`, and gives the exit status. Why it ended early is
 /// told to `errors`: a fault of a file, a home warehouse that the scale has not, or no memory.
-pub fn script_over<D: Read + Drop, T: Write + Drop, N: Shelf<T>, E: Report>(
+pub fn script_over<D: Input + Drop, T: Write + Drop, N: Shelf<T>, E: Report>(
     alloc: Global,
     settings: &ScriptSettings,
     data: D,
@@ -28,7 +29,7 @@ pub fn script_over<D: Read + Drop, T: Write + Drop, N: Shelf<T>, E: Report>(
 ) -> Status
     requires settings { HasFiles settings.now }
     requires files { length files.items ≡ length settings.now.files.items }
-    ensures { ScriptEnds T.contents settings.entry.now (D.remaining «data») files.items (N.named shelf.old) (N.named shelf.new) (E.told errors.old) (E.told errors.new) result }
+    ensures { ScriptEnds T.contents settings.entry.now (D.remaining «data») (D.lasts «data») files.items (N.named shelf.old) (N.named shelf.new) (E.told errors.old) (E.told errors.new) result }
 {
     match make(alloc, settings, data, files, shelf) {
         Ok(()) => Status::Success,
@@ -37,7 +38,7 @@ pub fn script_over<D: Read + Drop, T: Write + Drop, N: Shelf<T>, E: Report>(
 }
 
 // Reads the scale, draws the scripts at it, and gives their files their names.
-fn make<'a, D: Read + Drop, T: Write + Drop, N: Shelf<T>>(
+fn make<'a, D: Input + Drop, T: Write + Drop, N: Shelf<T>>(
     alloc: Global,
     settings: &ScriptSettings<'a>,
     data: D,
@@ -48,7 +49,7 @@ fn make<'a, D: Read + Drop, T: Write + Drop, N: Shelf<T>>(
     requires files { length files.items ≡ length settings.now.files.items }
     ensures all { OnOk result (MakesAll T.contents settings.entry.now (D.remaining «data») files.items (N.named shelf.old) (N.named shelf.new)) }
     ensures some { OnErr result (MakesSome T.contents settings.entry.now (D.remaining «data») files.items (N.named shelf.old) (N.named shelf.new)) }
-    ensures fault { IfErr result (IsOfMaking settings.entry.now.home (D.remaining «data»)) }
+    ensures fault { IfErr result (IsOfMaking settings.entry.now (D.remaining «data») (D.lasts «data»)) }
 {
     let scale = read_header(alloc, settings.data, data)?;
     let workload = match workload(settings, scale) {
@@ -59,13 +60,13 @@ fn make<'a, D: Read + Drop, T: Write + Drop, N: Shelf<T>>(
 }
 
 // The scale of the dataset of that path.
-fn read_header<'a, D: Read + Drop>(
+fn read_header<'a, D: Input + Drop>(
     alloc: Global,
     path: &'a str,
     data: D,
 ) -> Result<Scale, CommandFault<'a>>
     ensures scale { IfOk result (GivesScale (D.remaining «data»)) }
-    ensures fault { IfErr result IsOfFile }
+    ensures fault { IfErr result (IsOfReading path.now (D.remaining «data») (D.lasts «data») IsFaultOfHeader) }
 {
     match read_scale(alloc, data) {
         Ok(scale) => Ok(scale),
@@ -106,7 +107,7 @@ fn write_scripts<'a, T: Write + Drop, N: Shelf<T>>(
     requires files { length files.items ≡ length paths.now }
     ensures all { OnOk result (NamesScripts T.contents workload.now 0 files.items (N.named shelf.old) (N.named shelf.new)) }
     ensures some { OnErr result (NamesFirstScripts T.contents workload.now files.items (N.named shelf.old) (N.named shelf.new)) }
-    ensures fault { IfErr result IsOfFile }
+    ensures fault { IfErr result (λ fault. (fault ≡ CommandFault.NoMemory) ⊎ IsOfWritingOneOf paths.now fault) }
 {
     for (session, path) in paths.iter().enumerate() {
         let file = files.remove(0);

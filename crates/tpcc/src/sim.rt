@@ -1,8 +1,9 @@
-ghost use Rattle.std.specs.Prelude.{◌≡◌, is_some, IfOk, IfErr, OnOk, OnErr};
+ghost use Rattle.std.specs.Prelude.{◌≡◌, ◌⊎◌, is_some, IfOk, IfErr, OnOk, OnErr};
 ghost use Rattle.terminals.specs.Outputs.{AreOutputs};
 ghost use Rattle.terminals.specs.Schedule.{IsSchedule};
 ghost use Rattle.tpcc.specs.Edges.{Gives, Writes};
-ghost use Rattle.tpcc.specs.Faults.{IsOfFile, IsOfGathering, IsOfSimulating, EndsEarly};
+ghost use Rattle.tpcc.specs.EarlyEnds.{IsFaultOfSchedule, IsOfGathering, IsOfSimulating};
+ghost use Rattle.tpcc.specs.Faults.{IsOfReading, IsOfWriting, IsOfWritingSome, standard_output, EndsEarly};
 ghost use Rattle.tpcc.specs.Settings.{HasExecutors};
 ghost use Rattle.tpcc.specs.Sim.{NamesPicture, NamesTables, SimulatesAll, SimulatesSome};
 
@@ -14,11 +15,12 @@ use crate::status::Status;
 use crate::streams::{
     STANDARD_OUTPUT, finished, name_printed, read_tables, write_entries, write_tables,
 };
+use files::Input;
 use history::{Output, Scheduled};
 use picture::write_picture;
 use schema::{Scale, Tables};
 use std::alloc::Global;
-use std::io::{Read, Write};
+use std::io::Write;
 use terminals::{read_schedule, write_outputs};
 use world::{GatherFault, OpenFault, simulate};
 
@@ -32,8 +34,8 @@ use world::{GatherFault, OpenFault, simulate};
 /// for. `told` is given back. Why a simulation ended early is told to `errors`: a fault of a file, tables that
 /// are not consistent, a transaction that is active or a move that is outstanding, or no memory.
 pub fn sim_over<
-    D: Read + Drop,
-    S: Read + Drop,
+    D: Input + Drop,
+    S: Input + Drop,
     A: Write + Drop,
     F: Write + Drop,
     N: Shelf<F>,
@@ -56,7 +58,7 @@ pub fn sim_over<
     requires tables { is_some tables ≡ is_some settings.now.tables }
     ensures simulates { IfOk result (λ full. SimulatesAll F.contents (D.remaining «data») (S.remaining schedule) settings.entry.now.executors log picture tables (A.contents told) (A.contents full) (N.named shelf.old) (N.named shelf.new) (E.told errors.old) (E.told errors.new)) }
     ensures some { OnErr result (SimulatesSome F.contents (D.remaining «data») (S.remaining schedule) settings.entry.now.executors log picture (N.named shelf.old) (N.named shelf.new)) }
-    ensures early { IfErr result (EndsEarly (IsOfSimulating (D.remaining «data») (S.remaining schedule) settings.entry.now.executors (is_some tables)) (E.told errors.old) (E.told errors.new)) }
+    ensures early { IfErr result (EndsEarly (IsOfSimulating settings.entry.now (D.remaining «data») (D.lasts «data») (S.remaining schedule) (S.lasts schedule)) (E.told errors.old) (E.told errors.new)) }
 {
     match sim(
         alloc, settings, data, schedule, told, log, picture, tables, shelf, errors,
@@ -68,8 +70,8 @@ pub fn sim_over<
 
 fn sim<
     'a,
-    D: Read + Drop,
-    S: Read + Drop,
+    D: Input + Drop,
+    S: Input + Drop,
     A: Write + Drop,
     F: Write + Drop,
     N: Shelf<F>,
@@ -93,7 +95,7 @@ fn sim<
     ensures simulates { IfOk result (λ full. SimulatesAll F.contents (D.remaining «data») (S.remaining schedule) settings.entry.now.executors log picture tables (A.contents told) (A.contents full) (N.named shelf.old) (N.named shelf.new) (E.told errors.old) (E.told errors.new)) }
     ensures some { OnErr result (SimulatesSome F.contents (D.remaining «data») (S.remaining schedule) settings.entry.now.executors log picture (N.named shelf.old) (N.named shelf.new)) }
     ensures told { OnErr result (E.told errors.new ≡ E.told errors.old) }
-    ensures fault { IfErr result (IsOfSimulating (D.remaining «data») (S.remaining schedule) settings.entry.now.executors (is_some tables)) }
+    ensures fault { IfErr result (IsOfSimulating settings.entry.now (D.remaining «data») (D.lasts «data») (S.remaining schedule) (S.lasts schedule)) }
 {
     let opening = read_tables(alloc, settings.data, data)?;
     let scale = opening.scale();
@@ -122,13 +124,13 @@ fn sim<
 }
 
 // The items of the schedule of that path.
-fn read_items<'a, S: Read + Drop>(
+fn read_items<'a, S: Input + Drop>(
     alloc: Global,
     path: &'a str,
     schedule: S,
 ) -> Result<Vec<Scheduled>, CommandFault<'a>>
     ensures items { IfOk result (λ items. Gives (S.remaining schedule) (IsSchedule items.items)) }
-    ensures fault { IfErr result IsOfFile }
+    ensures fault { IfErr result (IsOfReading path.now (S.remaining schedule) (S.lasts schedule) IsFaultOfSchedule) }
 {
     match read_schedule(alloc, schedule) {
         Ok(schedule) => Ok(schedule),
@@ -143,7 +145,7 @@ fn print_outputs<A: Write + Drop>(
     outputs: &[Output],
 ) -> Result<A, CommandFault<'static>>
     ensures printed { IfOk result (λ full. Writes (A.contents sink) (A.contents full) (AreOutputs outputs.now)) }
-    ensures fault { IfErr result IsOfFile }
+    ensures fault { IfErr result (IsOfWriting standard_output) }
 {
     match write_outputs(alloc, sink, outputs) {
         Ok(full) => Ok(full),
@@ -162,7 +164,7 @@ fn name_gathered<'a, F: Write + Drop, N: Shelf<F>>(
     requires { is_some tables ≡ is_some path }
     ensures named { OnOk result (NamesTables F.contents tables (N.named shelf.old) (N.named shelf.new) gathered.now) }
     ensures err { OnErr result (N.named shelf.new ≡ N.named shelf.old) }
-    ensures fault { IfErr result (IsOfGathering (is_some tables) gathered.now) }
+    ensures fault { IfErr result (λ fault. IsOfWritingSome path.entry fault ⊎ IsOfGathering (is_some path.entry) gathered.now fault) }
 {
     match gathered {
         Ok(last) => Ok(write_tables(alloc, path, tables, last, shelf)?),
@@ -186,7 +188,7 @@ fn draw<'a, F: Write + Drop, N: Shelf<F>>(
     requires asked { is_some picture ≡ is_some settings.now.picture }
     ensures named { OnOk result (NamesPicture F.contents picture (N.named shelf.old) (N.named shelf.new) settings.entry.now.executors schedule.now outputs.now) }
     ensures err { OnErr result (N.named shelf.new ≡ N.named shelf.old) }
-    ensures fault { IfErr result IsOfFile }
+    ensures fault { IfErr result (IsOfWritingSome settings.now.picture) }
 {
     let Some(sink) = picture else {
         return Ok(());

@@ -1,5 +1,5 @@
 //! What several commands read and write, with faults that name the files.
-ghost use Rattle.std.specs.Prelude.{◌≡◌, ◌++◌, ◌∷◌, [], ℕ, List, Some, Ok, is_some, true, map, IfOk, IfErr, IfSome, OnOk, OnErr, string_bytes};
+ghost use Rattle.std.specs.Prelude.{◌≡◌, ◌⊎◌, ◌++◌, ◌∷◌, [], ℕ, List, Some, Ok, Err, option_map, is_some, true, map, IfOk, IfErr, IfSome, OnOk, OnErr, string_bytes};
 ghost use Rattle.std.specs.Io.KnownBytes.{Appends};
 ghost use Rattle.dataset.specs.FirstFault.{IsFaultOf};
 ghost use Rattle.dataset.specs.Records.{AreRecords};
@@ -7,31 +7,30 @@ ghost use Rattle.terminals.specs.LogRecord.{IsLog};
 ghost use Rattle.terminals.specs.Script.{IsScript};
 ghost use Rattle.tpcc.specs.Shelf.{Shelves};
 ghost use Rattle.tpcc.specs.Edges.{Gives, Writes, NamesFile, HasWritten, IsNamed, lines_text};
-ghost use Rattle.tpcc.specs.Faults.{IsOfFile, IsOfSource, IsOfWriting};
+ghost use Rattle.tpcc.specs.Faults.{IsOfNaming, IsOfReading, IsOfWriting, IsOfWritingSome, standard_output};
 
 use crate::command_fault::CommandFault;
 use crate::shelf::Shelf;
 use commit_log::Entry;
-use files::{FaultKind, FileError, FileFault};
+use files::Input;
 use requests::Script;
 use schema::{NoMemory, Tables};
 use std::alloc::Global;
 use std::fmt::Display;
-use std::io::{Read, Write};
+use std::io::Write;
 use terminals::{write_log, write_script};
 
 /// How the standard output is named in a fault.
 pub const STANDARD_OUTPUT: &str = "standard output";
 
 /// The tables of the dataset of that path.
-pub fn read_tables<'a, D: Read + Drop>(
+pub fn read_tables<'a, D: Input + Drop>(
     alloc: Global,
     path: &'a str,
     data: D,
 ) -> Result<Tables, CommandFault<'a>>
     ensures tables { IfOk result (λ tables. Gives (D.remaining «data») (AreRecords tables)) }
-    ensures fault { IfErr result IsOfFile }
-    ensures first { IfErr result (IsOfSource (D.remaining «data») IsFaultOf) }
+    ensures fault { IfErr result (IsOfReading path.now (D.remaining «data») (D.lasts «data») IsFaultOf) }
 {
     match dataset::read(alloc, data) {
         Ok(tables) => Ok(tables),
@@ -48,9 +47,10 @@ pub fn write_entries<'a, L: Write + Drop, N: Shelf<L>>(
     shelf: &mut N,
 ) -> Result<Option<(&'a str, L)>, CommandFault<'a>>
     requires { is_some log ≡ is_some path }
+    ensures path { IfOk result (λ whole. option_map (λ named. named.0) whole ≡ path.entry) }
     ensures written { IfOk result (HasWritten L.contents log (IsLog entries.now)) }
     ensures same { N.named shelf.new ≡ N.named shelf.old }
-    ensures fault { IfErr result IsOfFile }
+    ensures fault { IfErr result (IsOfWritingSome path.entry) }
 {
     let Some(sink) = log else {
         return Ok(None);
@@ -70,7 +70,7 @@ fn whole_log<'a, L: Write + Drop, N: Shelf<L>>(
 ) -> Result<L, CommandFault<'a>>
     ensures text { IfOk result (λ whole. Writes (L.contents sink) (L.contents whole) (IsLog entries.now)) }
     ensures same { N.named shelf.new ≡ N.named shelf.old }
-    ensures fault { IfErr result IsOfFile }
+    ensures fault { IfErr result (IsOfWriting path.now) }
 {
     match write_log(alloc, sink, entries) {
         Ok(whole) => settled(path, whole, shelf),
@@ -91,7 +91,7 @@ pub fn write_tables<'a, T: Write + Drop, N: Shelf<T>>(
     ensures asked { OnErr result (is_some sink ≡ true) }
     ensures named { OnOk result (NamesFile T.contents sink (N.named shelf.old) (N.named shelf.new) (AreRecords tables.now)) }
     ensures err { OnErr result (N.named shelf.new ≡ N.named shelf.old) }
-    ensures fault { IfErr result IsOfFile }
+    ensures fault { IfErr result (IsOfWritingSome path.entry) }
 {
     let Some(sink) = sink else {
         return Ok(());
@@ -111,7 +111,7 @@ pub fn name_tables<'a, T: Write + Drop, N: Shelf<T>>(
 ) -> Result<(), CommandFault<'a>>
     ensures ok { OnOk result (NamesFile T.contents (Some sink) (N.named shelf.old) (N.named shelf.new) (AreRecords tables.now)) }
     ensures err { OnErr result (N.named shelf.new ≡ N.named shelf.old) }
-    ensures fault { IfErr result IsOfFile }
+    ensures fault { IfErr result (IsOfWriting path.now) }
 {
     match dataset::write(alloc, sink, tables) {
         Ok(whole) => finished(path, whole, shelf),
@@ -130,7 +130,7 @@ pub fn write_requests<'a, T: Write + Drop, N: Shelf<T>>(
 ) -> Result<(), CommandFault<'a>>
     ensures ok { OnOk result (NamesFile T.contents (Some sink) (N.named shelf.old) (N.named shelf.new) (IsScript script.now)) }
     ensures err { OnErr result (N.named shelf.new ≡ N.named shelf.old) }
-    ensures fault { IfErr result IsOfFile }
+    ensures fault { IfErr result (IsOfWriting path.now) }
 {
     match write_script(alloc, sink, script) {
         Ok(whole) => finished(path, whole, shelf),
@@ -146,7 +146,7 @@ fn settled<'a, F: Write + Drop, N: Shelf<F>>(
 ) -> Result<F, CommandFault<'a>>
     ensures text { IfOk result (λ whole. F.contents whole ≡ F.contents file) }
     ensures same { N.named shelf.new ≡ N.named shelf.old }
-    ensures fault { IfErr result IsOfFile }
+    ensures fault { IfErr result (IsOfWriting path.now) }
 {
     match shelf.settle(&mut file) {
         Ok(()) => Ok(file),
@@ -162,7 +162,7 @@ pub fn finished<'a, F: Write + Drop, N: Shelf<F>>(
 ) -> Result<(), CommandFault<'a>>
     ensures ok { OnOk result (Shelves (N.named shelf.old) (N.named shelf.new) (F.contents file)) }
     ensures err { OnErr result (N.named shelf.new ≡ N.named shelf.old) }
-    ensures fault { IfErr result IsOfFile }
+    ensures fault { IfErr result (IsOfWriting path.now) }
 {
     let whole = settled(path, file, shelf)?;
     named(path, whole, shelf)
@@ -176,7 +176,7 @@ fn named<'a, F: Write + Drop, N: Shelf<F>>(
 ) -> Result<(), CommandFault<'a>>
     ensures ok { OnOk result (Shelves (N.named shelf.old) (N.named shelf.new) (F.contents file)) }
     ensures err { OnErr result (N.named shelf.new ≡ N.named shelf.old) }
-    ensures fault { IfErr result IsOfFile }
+    ensures fault { IfErr result (IsOfWriting path.now) }
 {
     match shelf.give_name(file) {
         Ok(()) => Ok(()),
@@ -191,11 +191,10 @@ pub fn name_printed<'a, A: Drop, L: Write + Drop, N: Shelf<L>>(
     log: Option<(&'a str, L)>,
     shelf: &mut N,
 ) -> Result<A, CommandFault<'a>>
-    requires { IfErr printed IsOfFile }
     ensures printed { IfOk result (λ full. printed.entry ≡ Ok full) }
     ensures named { OnOk result (IsNamed L.contents log.entry (N.named shelf.old) (N.named shelf.new)) }
     ensures err { OnErr result (N.named shelf.new ≡ N.named shelf.old) }
-    ensures fault { IfErr result IsOfFile }
+    ensures fault { IfErr result (λ fault. (printed.entry ≡ Err fault) ⊎ IsOfNaming log.entry fault) }
 {
     match (printed, log) {
         (Ok(full), Some((path, log))) => {
@@ -210,26 +209,22 @@ pub fn name_printed<'a, A: Drop, L: Write + Drop, N: Shelf<L>>(
     }
 }
 
-/// Prints each of these on a line of its own. A failure is the fault `Io` at the last line.
+/// Prints each of these on a line of its own. A failure is `Failed` at the last line.
 pub fn print_lines<A: Write, L: Display>(
     alloc: Global,
     sink: &mut A,
     lines: &[L],
 ) -> Result<(), CommandFault<'static>>
     ensures printed { OnOk result ((text : L → List ℕ) → ((line : L) → L.output line ≡ Some (text line)) → Appends (A.contents sink.old) (A.contents sink.new) (lines_text (map text lines.now))) }
-    ensures fault { IfErr result IsOfFile }
-    ensures failed { IfErr result IsOfWriting }
+    ensures fault { IfErr result (IsOfWriting standard_output) }
 {
     let text = text_of(alloc, lines)?;
     match sink.write_all(text.as_bytes()) {
         Ok(()) => Ok(()),
-        Err(_) => {
-            let fault = FileFault {
-                kind: FaultKind::Io,
-                record: lines.len() as u64,
-            };
-            Err(CommandFault::of_file(STANDARD_OUTPUT, FileError::File(fault)))
-        }
+        Err(_) => Err(CommandFault::Failed {
+            path: STANDARD_OUTPUT,
+            record: lines.len() as u64,
+        }),
     }
 }
 

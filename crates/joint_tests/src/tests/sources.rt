@@ -1,7 +1,7 @@
 use super::*;
 use std::io;
 use std::io::Read;
-use terminals::{FaultKind, FileError, FileFault, read_script};
+use terminals::{FileError, Reader, read_script};
 
 // Gives its text, then an error.
 #[derive(Drop)]
@@ -26,11 +26,10 @@ impl<'a> Read for Failing<'a> {
 #[test]
 fn a_source_that_fails_is_a_fault(rt: HostRuntime) {
     for (text, record) in [("L,1", 1), ("L,1,1,10\nEN", 2), ("END,0\n", 2)] {
-        let kind = FaultKind::Io;
         let source = Failing {
             text: text.as_bytes(),
         };
-        let found = read_script(rt.alloc(), source).err();
-        assert_eq!(rt; found, Some(FileError::File(FileFault { kind, record })));
+        let found = read_script(rt.alloc(), Reader { source }).err();
+        assert_eq!(rt; found, Some(FileError::Failed(record)));
     }
 }

@@ -32,10 +32,10 @@ loop-place-preserved g c =
     let writes : List (List Field) → Type 0 = λ records. Writes contents c.args.writer.now c.write_list.new.writer records in
     subst writes (sym one)
     (writes-then contents c.args.writer.now c.loop-place.writer c.write_list.new.writer (payment_records rows) (map (history_fields home) list)
-    c.loop-place.invariant (subst more c.rows.ensures c.in_ok-write_list.ensures))
+    c.loop-place.invariant (subst more c.rows.ensures c.in_ok-write_list.ensures.written))
 
-pub returns : goal.returns
-returns g c =
+pub returns-clause-written : goal.returns-clause-written
+returns-clause-written g c =
     let keys = district_keys c.args.scale in
     let lists = c.args.lists.now in
     let i = c.loop-place.place in

@@ -23,7 +23,7 @@ returns-in_err-expect_end-clause-first g c =
     let p = err_from_is_err_and c.from_residual.result c.from_residual.ensures.1 in
     let failed = c.in_err-expect_end.ensures in
     rw (p.1, p.2) (λ more left few.
-    more_found _ more (record_number c.args.records) (record_number c.expect_end.new.self) (c.expect_end.ensures.number few) failed.faults (λ after none. failed.after_end after (subst (λ l. HasLeft g.R.Read.remaining l c.args.records) none left)))
+    more_found _ more (record_number c.args.records) (record_number c.expect_end.new.self) (c.expect_end.ensures.number few) failed.faults (λ after none. failed.after_end after (subst (λ l. HasLeft g.R.Input.remaining l c.args.records) none left)))
 
 pub returns-clause-first : goal.returns-clause-first
-returns-clause-first g c = λ more left few. inr (inr (c.in_ok-expect_end.ensures.none_left more left, λ i. fault_at ScaleBroken (c.number-end.ensures i)))
+returns-clause-first g c = λ more left few. inr (c.in_ok-expect_end.ensures.none_left more left, λ i. fault_at ScaleBroken (c.number-end.ensures i))

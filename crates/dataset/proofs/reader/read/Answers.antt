@@ -27,7 +27,7 @@ returns-in_err-scale-clause-fault g c =
     let first = header_of t rows records in
     let header = first.0 in
     let rest = first.1 in
-    let start = subst (λ l. HasLeft g.R.Read.remaining l c.new-records.result) first.2 (c.new-records.ensures.all_left text rows known csv) in
+    let start = subst (λ l. HasLeft g.R.Input.remaining l c.new-records.result) first.2 (c.new-records.ensures.all_left text rows known csv) in
     c.in_err-scale.ensures.fault fault t.scale header rest first.3 start)
 
 pub returns-in_err-read_rows-clause-fault : goal.returns-in_err-read_rows-clause-fault
@@ -37,7 +37,7 @@ returns-in_err-read_rows-clause-fault g c =
     let first = header_of t rows records in
     let header = first.0 in
     let rest = first.1 in
-    let start = subst (λ l. HasLeft g.R.Read.remaining l c.new-records.result) first.2 (c.new-records.ensures.all_left text rows known csv) in
+    let start = subst (λ l. HasLeft g.R.Input.remaining l c.new-records.result) first.2 (c.new-records.ensures.all_left text rows known csv) in
     let scale = c.in_ok-scale.ensures.scale t.scale header rest first.3 start in
     let fewer : length rows ≡ length rest + 1 = let e = ap length first.2 in omega (arith, e) in
     let expects = c.new-loader.ensures.expects t header rest within range (omega (arith, fewer, few)) scale.0 (subst (AreRecords t) first.2 records) in
@@ -49,7 +49,7 @@ returns-clause-fault g c =
     let first = header_of t rows records in
     let header = first.0 in
     let rest = first.1 in
-    let start = subst (λ l. HasLeft g.R.Read.remaining l c.new-records.result) first.2 (c.new-records.ensures.all_left text rows known csv) in
+    let start = subst (λ l. HasLeft g.R.Input.remaining l c.new-records.result) first.2 (c.new-records.ensures.all_left text rows known csv) in
     let scale = c.in_ok-scale.ensures.scale t.scale header rest first.3 start in
     let fewer : length rows ≡ length rest + 1 = let e = ap length first.2 in omega (arith, e) in
     let expects = c.new-loader.ensures.expects t header rest within range (omega (arith, fewer, few)) scale.0 (subst (AreRecords t) first.2 records) in

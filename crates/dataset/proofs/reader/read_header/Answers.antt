@@ -18,14 +18,14 @@ use Rattle.dataset.proofs.reader.read_header.Goals as goal
 pub returns-in-Ok-clause-read : goal.returns-in-Ok-clause-read
 returns-in-Ok-clause-read g c = λ text none_read.
     let found : c.in_ok-advance.field-0 ≡ true = search rules in
-    let P : Bool → Type 0 = λ b. HasReadOn g.R.Read.remaining text [] b c.advance.new.self in
+    let P : Bool → Type 0 = λ b. HasReadOn g.R.Input.remaining text [] b c.advance.new.self in
     let spelt = subst (AreSpelt (header_fields c.in-Ok.scale)) c.fields.ensures.left c.in-Ok.ensures.spelt in
     (record_fields c.advance.new.self, spelt, subst P found (c.in_ok-advance.ensures.reads text [] none_read))
 
 pub returns-then-not-branch-clause-fault : goal.returns-then-not-branch-clause-fault
 returns-then-not-branch-clause-fault g c = λ fault s header rows spelt left.
     let after = c.in_ok-advance.ensures.reads_next (header ∷ rows) left in
-    let none = no_row g.R.Read.remaining (header ∷ rows) c.in_ok-advance.field-0 c.advance.new.self c.if-not-branch.true after in
+    let none = no_row g.R.Input.remaining (header ∷ rows) c.in_ok-advance.field-0 c.advance.new.self c.if-not-branch.true after in
     let many : length (header ∷ rows) ≡ 0 = ap length none in
     omega arith
 
@@ -60,13 +60,13 @@ returns-in_err-advance-clause-first g c =
 pub returns-then-not-branch-clause-first : goal.returns-then-not-branch-clause-first
 returns-then-not-branch-clause-first g c = λ rows number left.
     let after = c.in_ok-advance.ensures.reads_next rows left in
-    let none = no_row g.R.Read.remaining rows c.in_ok-advance.field-0 c.advance.new.self c.if-not-branch.true after in
+    let none = no_row g.R.Input.remaining rows c.in_ok-advance.field-0 c.advance.new.self c.if-not-branch.true after in
     header_error c.fault.result NoHeader (record_number c.advance.new.self) (first_fault rows) c.fault.ensures (c.advance.ensures.number (omega (arith, number)) ∙ ap (λ n. n + 1) number) (ap first_fault none ∙ no_records)
 
 pub returns-in-Ok-clause-first : goal.returns-in-Ok-clause-first
 returns-in-Ok-clause-first g c = λ rows number left.
     let found : c.in_ok-advance.field-0 ≡ true = search rules in
-    let next = next_row g.R.Read.remaining rows c.in_ok-advance.field-0 c.advance.new.self found (c.in_ok-advance.ensures.reads_next rows left) in
+    let next = next_row g.R.Input.remaining rows c.in_ok-advance.field-0 c.advance.new.self found (c.in_ok-advance.ensures.reads_next rows left) in
     let spelt = subst (AreSpelt (header_fields c.in-Ok.scale)) c.fields.ensures.left c.in-Ok.ensures.spelt in
     let told = ap told_header (sym c.fields.ensures.left) ∙ c.in-Ok.ensures.exact c.fields.ensures.fault in
     record {
@@ -82,7 +82,7 @@ returns-in-Ok-clause-first g c = λ rows number left.
 pub returns-in-Err-clause-first : goal.returns-in-Err-clause-first
 returns-in-Err-clause-first g c = λ rows number left.
     let found : c.in_ok-advance.field-0 ≡ true = search rules in
-    let next = next_row g.R.Read.remaining rows c.in_ok-advance.field-0 c.advance.new.self found (c.in_ok-advance.ensures.reads_next rows left) in
+    let next = next_row g.R.Input.remaining rows c.in_ok-advance.field-0 c.advance.new.self found (c.in_ok-advance.ensures.reads_next rows left) in
     let told = ap told_header (sym c.fields.ensures.left) ∙ c.in-Err.ensures.exact c.fields.ensures.fault in
     header_error c.fault-in-Err.result c.in-Err.kind (record_number c.advance.new.self) (first_fault rows) c.fault-in-Err.ensures (c.advance.ensures.number (omega (arith, number)) ∙ ap (λ n. n + 1) number)
     (ap first_fault next.1 ∙ header_fails c.in-Err.kind (record_fields c.advance.new.self) next.0 (c.in_ok-advance.ensures.kept found) told)

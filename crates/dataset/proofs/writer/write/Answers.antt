@@ -56,8 +56,8 @@ write-requires-2-clause-count g c =
     let has : Scale → Type 0 = λ s. HasCounts s rows in
     few_histories c.scale-scale.result rows (subst has (sym c.scale-scale.ensures.value) c.rows-rows.ensures.fits.counts) c.deref-6.result.now c.deref-6.ensures.value
 
-pub returns : goal.returns
-returns g c =
+pub returns-clause-written : goal.returns-clause-written
+returns-clause-written g c =
     let contents = g.W.Write.contents in
     let tables = c.args.tables.now in
     let scale = c.scale-scale.result in
@@ -87,12 +87,12 @@ returns g c =
     let of_stocks : List Stock → Type 0 = λ l. Writes contents w4 w5 (row_records stock_fields (zip (stock_keys scale) l)) in
     let of_customers : List Customer → Type 0 = λ l. Writes contents w5 w6 (row_records customer_fields (zip (customer_keys scale) l)) in
     let of_histories : List (List History) → Type 0 = λ l. Writes contents w6 w7 (payment_records (zip (district_keys scale) l)) in
-    let items = subst of_items c.deref.ensures.value c.in_ok-write_dense.ensures in
-    let warehouses = subst of_warehouses c.deref-2.ensures.value c.in_ok-write_dense-2.ensures in
-    let districts = subst of_districts c.deref-3.ensures.value c.in_ok-write_dense-3.ensures in
-    let stocks = subst of_stocks c.deref-4.ensures.value c.in_ok-write_dense-4.ensures in
-    let customers = subst of_customers c.deref-5.ensures.value c.in_ok-write_dense-5.ensures in
-    let histories = subst of_histories c.deref-6.ensures.value c.in_ok-write-2.ensures in
+    let items = subst of_items c.deref.ensures.value c.in_ok-write_dense.ensures.written in
+    let warehouses = subst of_warehouses c.deref-2.ensures.value c.in_ok-write_dense-2.ensures.written in
+    let districts = subst of_districts c.deref-3.ensures.value c.in_ok-write_dense-3.ensures.written in
+    let stocks = subst of_stocks c.deref-4.ensures.value c.in_ok-write_dense-4.ensures.written in
+    let customers = subst of_customers c.deref-5.ensures.value c.in_ok-write_dense-5.ensures.written in
+    let histories = subst of_histories c.deref-6.ensures.value c.in_ok-write-2.ensures.written in
     let orders = c.in_ok-write_ordered.ensures in
     let new_orders = c.in_ok-write_ordered-2.ensures in
     let lines = c.in_ok-write_ordered-3.ensures in

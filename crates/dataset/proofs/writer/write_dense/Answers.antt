@@ -28,8 +28,8 @@ loop-place-preserved g c =
     (writes-more contents c.args.writer.now c.loop-place.writer c.write.new.self (row_records fields before) (fields key row) c.clear.new.self c.put.new.out
     c.loop-place.invariant c.clear.ensures c.in_ok-put.ensures c.in_ok-write.ensures.between c.in_ok-write.ensures.text)
 
-pub returns : goal.returns
-returns g c =
+pub returns-clause-written : goal.returns-clause-written
+returns-clause-written g c =
     let fields = g.T.Recorded.fields in
     let keys = g.T.Dense.keys c.args.scale in
     let rows = c.args.rows.now in

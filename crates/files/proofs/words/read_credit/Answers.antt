@@ -1,14 +1,11 @@
-use Rattle.std.proofs.Common.{◌≡◌, Bool, true, false, List, ℕ, codes, refl, sym, subst, IsUtf8}
+use Rattle.std.proofs.Common.{◌≡◌, false, List, ℕ, codes, refl, sym, subst, IsUtf8}
 use Rattle.std.specs.List.{list_all}
 use Rattle.std.specs.Str.{bytes_eq}
 use Rattle.std.specs.Cmp.Lexicographic.{bytes_decides}
 use Rattle.rows.specs.Text.{is_printable_byte}
 use Rattle.files.proofs.Ascii.{utf8_words}
+use Rattle.files.proofs.Unlike.{false_unless}
 use Rattle.files.proofs.words.read_credit.Goals as goal
-
-false_unless : (b : Bool) → (b ≡ true → ⊥) → b ≡ false
-false_unless true h = absurd (h refl)
-false_unless false h = refl
 
 pub returns-in-Err : goal.returns-in-Err
 returns-in-Err c =

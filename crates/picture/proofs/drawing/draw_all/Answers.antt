@@ -19,13 +19,13 @@ loop-sign-preserved g c = λ text known.
     let new = g.W.Write.contents c.draw.new.sink in
     let there : i < length signs = c.loop-sign-test.true in
     let Draws : Option (List ℕ) → Type 0 = λ o. IfSome o (λ bytes. Appends old new bytes) in
-    let drawn : Appends old new (text sign) = subst Draws (known sign) c.in_ok-draw.ensures in
+    let drawn : Appends old new (text sign) = subst Draws (known sign) c.in_ok-draw.ensures.written in
     let Written : List ℕ → Type 0 = λ bytes. Appends first new bytes in
     subst Written (sym (texts-more text signs i sign there c.sign-item.is))
     (appends-after first old new (texts text (take i signs)) (text sign) (c.loop-sign.invariant text known) drawn)
 
-pub returns : goal.returns
-returns g c = λ text known.
+pub returns-clause-written : goal.returns-clause-written
+returns-clause-written g c = λ text known.
     let signs = c.args.signs.now in
     let done : length signs ≤ c.loop-sign.sign-index = c.loop-sign-test.false in
     let Written : List g.row.D.Denot → Type 0 =

@@ -9,8 +9,8 @@ use Rattle.picture.specs.Rows.{rows_of}
 use Rattle.picture.proofs.Parts.{picture-drawn}
 use Rattle.picture.proofs.drawing.write_picture.Goals as goal
 
-pub returns : goal.returns
-returns g c =
+pub returns-clause-written : goal.returns-clause-written
+returns-clause-written g c =
     let s0 = g.W.Write.contents c.args.sink in
     let s1 = g.W.Write.contents c.draw.new.sink in
     let s2 = g.W.Write.contents c.draw-2.new.sink in
@@ -30,10 +30,10 @@ returns g c =
       asides,
       picture-drawn s0 s1 s2 s3 s4 s5 s6 sessions c.args.executors rows asides
           c.width-width.result c.height-height.result c.rows_end-bottom.result c.as_slice-4.result.now across down bottom marks
-          c.in_ok-draw.ensures
-          (subst Plain c.ground.ensures c.in_ok-draw-2.ensures)
-          (subst Striped c.ground-2.ensures c.in_ok-draw-3.ensures)
-          (c.in_ok-draw_all.ensures aside_text (λ one. refl))
-          (c.in_ok-draw_all-2.ensures mark_text (λ one. refl))
-          c.in_ok-draw-4.ensures,
+          c.in_ok-draw.ensures.written
+          (subst Plain c.ground.ensures c.in_ok-draw-2.ensures.written)
+          (subst Striped c.ground-2.ensures c.in_ok-draw-3.ensures.written)
+          (c.in_ok-draw_all.ensures.written aside_text (λ one. refl))
+          (c.in_ok-draw_all-2.ensures.written mark_text (λ one. refl))
+          c.in_ok-draw-4.ensures.written,
     )

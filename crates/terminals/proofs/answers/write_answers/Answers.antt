@@ -36,8 +36,8 @@ loop-number-preserved g c =
       appends-push sink old new inv.1 put.0 inv.3 one,
     )
 
-pub returns : goal.returns
-returns g c =
+pub returns-clause-written : goal.returns-clause-written
+returns-clause-written g c =
     let inv = c.loop-number.invariant in
     let answers = c.args.answers.now in
     let sink = g.W.Write.contents c.args.sink in

@@ -6,7 +6,7 @@ use Rattle.files.specs.Place.{record_fields, record_number}
 use Rattle.files.specs.Taken.{fault_of, fields_left}
 use Rattle.files.proofs.ColumnsRead.{ended}
 use Rattle.terminals.specs.FirstFault.{after_listed, fields_fault}
-use Rattle.terminals.proofs.ColumnsTaken.{other}
+use Rattle.files.proofs.Unlike.{other}
 use Rattle.terminals.proofs.FirstFaults.{fields_were_taken}
 use Rattle.terminals.proofs.listing.parse.Goals.{in-END, in_default+in_ok-item-in_default}
 use Rattle.terminals.proofs.listing.parse.Goals as goal

@@ -10,7 +10,7 @@ returns-clause-listed g c = λ text known.
 pub returns-clause-first : goal.returns-clause-first
 returns-clause-first g c = λ text rows known csv few.
     let ended = c.in_ok-items.ensures.first rows few c.new-records.ensures.number (c.new-records.ensures.all_left text rows known csv) in
-    none_behind g.R.Read.remaining g.T.Listed.after rows _ ended c.in_ok-expect_end.ensures.none_left
+    none_behind g.R.Input.remaining g.T.Listed.after rows _ ended c.in_ok-expect_end.ensures.none_left
 
 pub returns-in_err-expect_end-clause-first : goal.returns-in_err-expect_end-clause-first
 returns-in_err-expect_end-clause-first g c =
@@ -18,4 +18,4 @@ returns-in_err-expect_end-clause-first g c =
     let failed = c.in_err-expect_end.ensures in
     rw (p.1, p.2) (λ text rows known csv few.
     let ended = c.in_ok-items.ensures.first rows few c.new-records.ensures.number (c.new-records.ensures.all_left text rows known csv) in
-    fault_at_end g.R.Read.remaining g.T.Listed.after rows 0 _ c.expect_end.new.self 0 few c.expect_end.ensures.number ended _ failed.faults failed.after_end)
+    fault_at_end g.R.Input.remaining g.T.Listed.after rows 0 _ c.expect_end.new.self 0 few c.expect_end.ensures.number ended _ failed.faults failed.after_end)

@@ -18,15 +18,16 @@ loop-init g c = (
       let are = subst (λ items. AreNumbered g.T.Listed.is_record 0 items []) (sym c.new-items.ensures.items) (numbered-none g.T.Listed.is_record 0) in
       ([], are, h),
   λ rows few number left.
-      subst (λ items. GoesOnAt g.R.Read.remaining g.T.Listed.after rows (length items) c.args.records.now 0) (sym c.new-items.ensures.items)
+      subst (λ items. GoesOnAt g.R.Input.remaining g.T.Listed.after rows (length items) c.args.records.now 0) (sym c.new-items.ensures.items)
       (record { left = rows; number = number; has_left = left; fault = refl; long = zero-add (length rows); counted = omega arith }),
+  λ fine. fine,
 )
 
 pub returns-in-None-clause-listed : goal.returns-in-None-clause-listed
 returns-in-None-clause-listed g c = λ text h.
     let inv = c.loop.invariant.0 text h in
     let found : c.in_ok-advance.field-0 ≡ true = search rules in
-    let P : Bool → Type 0 = λ b. HasReadOn g.R.Read.remaining text inv.0 b c.advance.new.self in
+    let P : Bool → Type 0 = λ b. HasReadOn g.R.Input.remaining text inv.0 b c.advance.new.self in
     let on = subst P found (c.in_ok-advance.ensures.reads text inv.0 inv.2) in
     let said = rw c.in-None.is at c.in_ok-item.ensures.end in
     let count : c.len.result ≡ length c.loop.items.items = search rules in
@@ -42,7 +43,7 @@ loop-preserved g c =
     let more : c.push.new.self.items ≡ c.loop.items.items ++ (c.in-Some.item ∷ []) = rw good at c.push.ensures.items in (
       λ text h.
           let inv = c.loop.invariant.0 text h in
-          let P : Bool → Type 0 = λ b. HasReadOn g.R.Read.remaining text inv.0 b c.advance.new.self in
+          let P : Bool → Type 0 = λ b. HasReadOn g.R.Input.remaining text inv.0 b c.advance.new.self in
           let on = subst P found (c.in_ok-advance.ensures.reads text inv.0 inv.2) in
           let said = rw c.in-Some.is at c.in_ok-item.ensures.item in
           let is_record : ℕ → Type 0 = λ place. g.T.Listed.is_record place c.in-Some.item fields in
@@ -51,11 +52,12 @@ loop-preserved g c =
           let all = numbered-push g.T.Listed.is_record 0 c.loop.items.items inv.0 c.in-Some.item fields inv.1 one in
           (rows, subst (λ items. AreNumbered g.T.Listed.is_record 0 items rows) (sym more) all, on),
       λ rows few number left.
-          let a = at_record g.R.Read.remaining g.T.Listed.after rows (length c.loop.items.items) c.loop.records c.advance.new.self c.loop.counter few c.advance.ensures.number (c.loop.invariant.1 rows few number left) c.in_ok-advance.field-0 found c.in_ok-advance.ensures.reads_next in
+          let a = at_record g.R.Input.remaining g.T.Listed.after rows (length c.loop.items.items) c.loop.records c.advance.new.self c.loop.counter few c.advance.ensures.number (c.loop.invariant.1 rows few number left) c.in_ok-advance.field-0 found c.in_ok-advance.ensures.reads_next in
           let read = rw c.in-Some.is at c.in_ok-item.ensures.exact in
           let well = subst (λ n. (fields_fault g.T.Listed.after n fields ≡ None) × (is_end fields ≡ false)) count read in
-          let next = next_at g.R.Read.remaining g.T.Listed.after rows (length c.loop.items.items) c.advance.new.self c.loop.counter a (c.in_ok-advance.ensures.kept found) well in
-          subst (λ n. GoesOnAt g.R.Read.remaining g.T.Listed.after rows n c.advance.new.self (c.loop.counter + 1)) (sym (ap length more ∙ length-append c.loop.items.items (c.in-Some.item ∷ []))) next,
+          let next = next_at g.R.Input.remaining g.T.Listed.after rows (length c.loop.items.items) c.advance.new.self c.loop.counter a (c.in_ok-advance.ensures.kept found) well in
+          subst (λ n. GoesOnAt g.R.Input.remaining g.T.Listed.after rows n c.advance.new.self (c.loop.counter + 1)) (sym (ap length more ∙ length-append c.loop.items.items (c.in-Some.item ∷ []))) next,
+      λ fine. c.in_ok-advance.ensures.lasts (c.loop.invariant.2 fine),
     )
 
 pub returns-in-None-clause-first : goal.returns-in-None-clause-first
@@ -63,10 +65,10 @@ returns-in-None-clause-first g c = λ rows few number left.
     let found : c.in_ok-advance.field-0 ≡ true = search rules in
     let fields = record_fields c.advance.new.self in
     let count : c.len.result ≡ length c.loop.items.items = search rules in
-    let a = at_record g.R.Read.remaining g.T.Listed.after rows (length c.loop.items.items) c.loop.records c.advance.new.self c.loop.counter few c.advance.ensures.number (c.loop.invariant.1 rows few number left) c.in_ok-advance.field-0 found c.in_ok-advance.ensures.reads_next in
+    let a = at_record g.R.Input.remaining g.T.Listed.after rows (length c.loop.items.items) c.loop.records c.advance.new.self c.loop.counter few c.advance.ensures.number (c.loop.invariant.1 rows few number left) c.in_ok-advance.field-0 found c.in_ok-advance.ensures.reads_next in
     let read = rw c.in-None.is at c.in_ok-item.ensures.exact in
     let well = subst (λ n. (fields_fault g.T.Listed.after n fields ≡ None) × (is_end fields ≡ true)) count read in
-    end_at g.R.Read.remaining g.T.Listed.after rows (length c.loop.items.items) c.advance.new.self c.loop.counter a (c.in_ok-advance.ensures.kept found) well
+    end_at g.R.Input.remaining g.T.Listed.after rows (length c.loop.items.items) c.advance.new.self c.loop.counter a (c.in_ok-advance.ensures.kept found) well
 
 pub returns-in_err-item-clause-first : goal.returns-in_err-item-clause-first
 returns-in_err-item-clause-first g c =
@@ -75,15 +77,15 @@ returns-in_err-item-clause-first g c =
     let found : c.in_ok-advance.field-0 ≡ true = search rules in
     let fields = record_fields c.advance.new.self in
     let count : c.len.result ≡ length c.loop.items.items = search rules in
-    let a = at_record g.R.Read.remaining g.T.Listed.after rows (length c.loop.items.items) c.loop.records c.advance.new.self c.loop.counter few c.advance.ensures.number (c.loop.invariant.1 rows few number left) c.in_ok-advance.field-0 found c.in_ok-advance.ensures.reads_next in
-    fault_at_record g.R.Read.remaining g.T.Listed.after rows (length c.loop.items.items) c.advance.new.self c.loop.counter a (c.in_ok-advance.ensures.kept found) c.len.result count _ c.in_err-item.ensures.exact)
+    let a = at_record g.R.Input.remaining g.T.Listed.after rows (length c.loop.items.items) c.loop.records c.advance.new.self c.loop.counter few c.advance.ensures.number (c.loop.invariant.1 rows few number left) c.in_ok-advance.field-0 found c.in_ok-advance.ensures.reads_next in
+    fault_at_record g.R.Input.remaining g.T.Listed.after rows (length c.loop.items.items) c.advance.new.self c.loop.counter a (c.in_ok-advance.ensures.kept found) c.len.result count _ c.in_err-item.ensures.exact)
 
 pub returns-in_err-advance-clause-first : goal.returns-in_err-advance-clause-first
 returns-in_err-advance-clause-first g c =
     let p = err_from_is_err_and c.from_residual.result c.from_residual.ensures.1 in
     let failed = c.in_err-advance.ensures in
     rw (p.1, p.2) (λ rows few number left.
-    fault_advancing g.R.Read.remaining g.T.Listed.after rows (length c.loop.items.items) c.loop.records c.advance.new.self c.loop.counter few c.advance.ensures.number (c.loop.invariant.1 rows few number left) _ failed.faults failed.too_long)
+    fault_advancing g.R.Input.remaining g.T.Listed.after rows (length c.loop.items.items) c.loop.records c.advance.new.self c.loop.counter few c.advance.ensures.number (c.loop.invariant.1 rows few number left) _ failed.faults failed.too_long)
 
 pub returns-clause-first : goal.returns-clause-first
 returns-clause-first g c = λ rows few number left.
@@ -91,6 +93,6 @@ returns-clause-first g c = λ rows few number left.
     elim c.loop-test.branch [
       | else-loop-test w ↦ let bound = inv.counted in let past = w.loop-test.false in absurd (omega (arith, bound, past, few))
       | then-loop-test+in_ok-advance+then-not-branch w ↦
-          fault_at_last g.R.Read.remaining g.T.Listed.after rows (length c.loop.items.items) c.loop.records w.advance.new.self c.loop.counter few w.advance.ensures.number inv c.fault.result w.in_ok-advance.field-0
+          fault_at_last g.R.Input.remaining g.T.Listed.after rows (length c.loop.items.items) c.loop.records w.advance.new.self c.loop.counter few w.advance.ensures.number inv c.fault.result w.in_ok-advance.field-0
           (c.fault.ensures ∙ ap (λ r. file_fault NoEnd (record_number r)) w.records-is) w.if-not-branch.true w.in_ok-advance.ensures.reads_next
     ]

@@ -33,8 +33,8 @@ loop-place-preserved g c =
       appends-push sink old new inv.1 put.0 inv.3 one,
     )
 
-pub returns : goal.returns
-returns g c =
+pub returns-clause-written : goal.returns-clause-written
+returns-clause-written g c =
     let inv = c.loop-place.invariant in
     let items = c.args.items.now in
     let sink = g.W.Write.contents c.args.sink in

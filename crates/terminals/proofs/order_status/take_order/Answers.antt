@@ -7,17 +7,15 @@ use Rattle.terminals.specs.Nullable.{nullable_text}
 use Rattle.terminals.specs.OrderStatus.{AreStatusLines}
 use Rattle.terminals.proofs.Nullables.{number_was_taken}
 use Rattle.terminals.proofs.StatusLines.{lines-none, lines-push, there_is_one, three}
-use Rattle.std.proofs.Common.{◌≡◌, ◌-◌, ◌/◌, true, false, length, arith}
+use Rattle.std.proofs.Common.{◌≡◌, ◌-◌, ◌/◌, true, length, arith}
 use Rattle.files.specs.Columns.{Column, take_columns}
 use Rattle.files.specs.FieldRead.{Taking, taking}
+use Rattle.files.proofs.Unlike.{true_false}
 use Rattle.files.proofs.ColumnsRead.{and_then, maybe_whole, moment, take-append, whole}
 use Rattle.terminals.specs.ReplyColumns.{status_columns}
 use Rattle.terminals.specs.RequestColumns.{repeated}
 use Rattle.terminals.proofs.ColumnsTaken.{columns_long, once_more}
 use Rattle.terminals.proofs.order_status.take_order.Goals as goal
-
-true_false : true ≡ false → ⊥
-true_false e = cc
 
 pub loop-init : goal.loop-init
 loop-init c = (

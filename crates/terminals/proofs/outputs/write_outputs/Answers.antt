@@ -35,8 +35,8 @@ loop-one-preserved g c =
       appends-push sink old new inv.1 put.0 inv.3 text,
     )
 
-pub returns : goal.returns
-returns g c =
+pub returns-clause-written : goal.returns-clause-written
+returns-clause-written g c =
     let inv = c.loop-one.invariant in
     let told = c.args.told.now in
     let sink = g.W.Write.contents c.args.sink in

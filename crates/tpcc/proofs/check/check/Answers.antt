@@ -1,4 +1,5 @@
-use Rattle.std.proofs.Common.{◌≡◌, List, map, refl, ap, subst, ◌∙◌}
+use Rattle.std.proofs.lemmas.Result.{err_from_is_err_and}
+use Rattle.std.proofs.Common.{◌≡◌, inl, inr, List, map, refl, ap, subst, ◌∙◌}
 use Rattle.std.specs.List.{list_any}
 use Rattle.std.specs.Io.KnownBytes.{Appends}
 use Rattle.tpcc.specs.declared.verdicts.Verdict.{Verdict}
@@ -22,3 +23,13 @@ returns-clause-checks g c = λ told.
       any_broken = c.any_broken.ensures ∙ ap (list_any (λ (verdict : Verdict). is_broken verdict.found)) still;
       no_fault = refl;
     }
+
+pub returns-in_err-tables-clause-fault : goal.returns-in_err-tables-clause-fault
+returns-in_err-tables-clause-fault g c =
+    let p = err_from_is_err_and c.from_residual.result c.from_residual.ensures.1 in
+    rw (p.1, p.2) (inl c.in_err-tables.ensures.fault)
+
+pub returns-in_err-print_lines-clause-fault : goal.returns-in_err-print_lines-clause-fault
+returns-in_err-print_lines-clause-fault g c =
+    let p = err_from_is_err_and c.from_residual-in_err-print_lines.result c.from_residual-in_err-print_lines.ensures.1 in
+    rw (p.1, p.2) (inr c.in_err-print_lines.ensures.fault)

@@ -6,12 +6,12 @@ pub returns-in-Ok-true : goal.returns-in-Ok-true
 returns-in-Ok-true g c =
     let told = g.E.Report.told c.args.errors.now in
     let broken : c.in-Ok-true.field-0 ≡ true = cc in
-    subst (Checks c.args.settings.now.fresh (g.D.Read.remaining c.args.data) (g.A.Write.contents c.args.found.now) (g.A.Write.contents c.check.new.found) told told)
+    subst (Checks c.args.settings.now.fresh (g.D.Input.remaining c.args.data) (g.A.Write.contents c.args.found.now) (g.A.Write.contents c.check.new.found) told told)
     broken (c.in-Ok-true.ensures.checks told)
 
 pub returns-in-Ok-false : goal.returns-in-Ok-false
 returns-in-Ok-false g c =
     let told = g.E.Report.told c.args.errors.now in
     let met : c.in-Ok-false.field-0 ≡ false = cc in
-    subst (Checks c.args.settings.now.fresh (g.D.Read.remaining c.args.data) (g.A.Write.contents c.args.found.now) (g.A.Write.contents c.check.new.found) told told)
+    subst (Checks c.args.settings.now.fresh (g.D.Input.remaining c.args.data) (g.A.Write.contents c.args.found.now) (g.A.Write.contents c.check.new.found) told told)
     met (c.in-Ok-false.ensures.checks told)

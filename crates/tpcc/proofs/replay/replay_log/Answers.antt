@@ -1,9 +1,8 @@
-use Rattle.std.proofs.Common.{List, is_some, sym, subst, ◌∙◌}
+use Rattle.std.proofs.Common.{inl, inr, List, sym, subst, ◌∙◌}
 use Rattle.std.proofs.lemmas.Result.{err_from_is_err_and}
 use Rattle.commit_log.specs.declared.entry.Entry.{Entry}
 use Rattle.commit_log.specs.Replay.{IsReplayOf}
 use Rattle.tpcc.specs.Replay.{TellsReplay}
-use Rattle.tpcc.proofs.FaultsOfSources.{of_dataset, of_log}
 use Rattle.tpcc.proofs.ReplayTellings.{replay_ends}
 use Rattle.tpcc.proofs.replay.replay_log.Goals as goal
 
@@ -24,7 +23,7 @@ returns-clause-ends g c =
     let named' = g.N.Shelf.named c.tell.new.shelf in
     let Of : List Entry → Type 0 = λ entries. IsReplayOf opening entries came_to in
     let Tells : List Entry → Type 0 = λ entries. TellsReplay g.T.Write.contents c.args.tables before after named named' entries came_to status in
-    replay_ends g.T.Write.contents c.args.tables (g.D.Read.remaining c.args.data) (g.L.Read.remaining c.args.log) before after named named'
+    replay_ends g.T.Write.contents c.args.tables c.args.settings.now (g.D.Input.remaining c.args.data) (g.D.Input.lasts c.args.data) (g.L.Input.remaining c.args.log) (g.L.Input.lasts c.args.log) before after named named'
     (g.E.Report.told c.args.errors.now) (g.E.Report.told c.sum_up.new.errors)
     opening c.in_ok-entries.entries.items came_to status c.in_ok-opening.ensures.tables c.in_ok-entries.ensures.entries
     (subst Of c.as_slice.ensures.value c.in_ok-came_to.ensures)
@@ -34,9 +33,14 @@ returns-clause-ends g c =
 pub returns-in_err-opening-clause-fault : goal.returns-in_err-opening-clause-fault
 returns-in_err-opening-clause-fault g c =
     let p = err_from_is_err_and c.from_residual.result c.from_residual.ensures.1 in
-    rw (p.1, p.2) (of_dataset (is_some c.args.tables) (g.D.Read.remaining c.args.data) (g.L.Read.remaining c.args.log) _ c.in_err-opening.ensures.first)
+    rw (p.1, p.2) (inl c.in_err-opening.ensures.fault)
 
 pub returns-in_err-entries-clause-fault : goal.returns-in_err-entries-clause-fault
 returns-in_err-entries-clause-fault g c =
     let p = err_from_is_err_and c.from_residual-in_err-entries.result c.from_residual-in_err-entries.ensures.1 in
-    rw (p.1, p.2) (of_log (is_some c.args.tables) (g.D.Read.remaining c.args.data) (g.L.Read.remaining c.args.log) _ c.in_err-entries.ensures.first)
+    rw (p.1, p.2) (inr (inl ((c.in_ok-opening.opening, c.in_ok-opening.ensures.tables), c.in_err-entries.ensures.fault)))
+
+pub returns-in_err-status-clause-fault : goal.returns-in_err-status-clause-fault
+returns-in_err-status-clause-fault g c =
+    let p = err_from_is_err_and c.from_residual-in_err-status.result c.from_residual-in_err-status.ensures.1 in
+    rw (p.1, p.2) (inr (inr c.in_err-status.ensures.fault))

@@ -8,6 +8,6 @@ use Rattle.tpcc.proofs.run.read_scripts.Given as goal
 abbrev pub invariant-loop-session : goal.invariant-loop-session
 invariant-loop-session g l = record {
   count : length l.scripts.items ≡ l.session;
-  read : AllZip (λ source script. Gives source (IsScript script)) (map g.S.Read.remaining (take l.session l.fn.sources)) l.scripts.items;
+  read : AllZip (λ source script. Gives source (IsScript script)) (map g.S.Input.remaining (take l.session l.fn.sources)) l.scripts.items;
   others : drop l.session l.sources ≡ drop l.session l.fn.sources;
 }

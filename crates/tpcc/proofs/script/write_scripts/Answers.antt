@@ -1,6 +1,8 @@
-use Rattle.std.proofs.Common.{◌≡◌, ◌+◌, ◌<◌, ℕ, List, length, take, drop, get_or, Option, sym, ap, subst, ◌∙◌, arith}
+use Rattle.std.proofs.lemmas.Result.{err_from_is_err_and}
+use Rattle.std.proofs.Common.{◌≡◌, inl, inr, [], ◌+◌, ◌<◌, ℕ, List, length, take, drop, get_or, Option, sym, ap, subst, ◌∙◌, arith}
 use Rattle.std.specs.List.{All}
-use Rattle.std.proofs.lemmas.List.{drop-drop, get_or-drop}
+use Rattle.std.specs.Borrow.{Bor}
+use Rattle.std.proofs.lemmas.List.{drop-drop, get_or-drop, get_or_default}
 use Rattle.requests.specs.Check.{IsAccepted}
 use Rattle.requests.specs.declared.request.Request.{Request}
 use Rattle.terminals.specs.Script.{IsScript}
@@ -41,3 +43,18 @@ loop-session-preserved g c =
       named = scripts-more g.T.Write.contents workload files session file (g.N.Shelf.named c.args.shelf.now) (g.N.Shelf.named c.loop-session.shelf) (g.N.Shelf.named c.write_requests.new.shelf) there is
           c.loop-session.invariant.named (ok.0, (ok.1.0, drawn, ok.1.2), ok.2);
     }
+
+pub returns-in_err-script-clause-fault : goal.returns-in_err-script-clause-fault
+returns-in_err-script-clause-fault g c =
+    let p = err_from_is_err_and c.from_residual.result c.from_residual.ensures.1 in
+    rw p.1 (inl p.2)
+
+pub returns-in_err-write_requests-clause-fault : goal.returns-in_err-write_requests-clause-fault
+returns-in_err-write_requests-clause-fault g c =
+    let p = err_from_is_err_and c.from_residual-in_err-write_requests.result c.from_residual-in_err-write_requests.ensures.1 in
+    let session = c.loop-session.session in
+    let paths = c.args.paths.now in
+    let nowhere : Bor (List ℕ) = record { ref_ptr = (0, 0); now = [] } in
+    let path = get_or paths session nowhere in
+    let there : session < length paths = omega (arith, c.loop-session-test.true) in
+    rw (p.1, p.2) (inr (record { place = session; there = there; path = path; is_path = get_or_default paths session nowhere path there; said = c.in_err-write_requests.ensures.fault }))

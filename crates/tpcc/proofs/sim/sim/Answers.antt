@@ -1,7 +1,5 @@
-use Rattle.std.proofs.Common.{◌≡◌, ℕ, List, Option, inl, inr, is_some, rules, subst, sym}
-use Rattle.std.specs.Prelude.{IfErr}
+use Rattle.std.proofs.Common.{◌≡◌, ℕ, List, Option, inl, inr, is_some, subst, sym}
 use Rattle.std.specs.declared.marker.Brand.{Brand}
-use Rattle.std.proofs.lemmas.Result.{IfErr-weaker}
 use Rattle.consistency.specs.Broken.{BreaksFirst}
 use Rattle.commit_log.specs.declared.entry.Entry.{Entry}
 use Rattle.history.specs.declared.schedule.Output.{Output}
@@ -10,9 +8,10 @@ use Rattle.terminals.specs.LogRecord.{IsLog}
 use Rattle.terminals.specs.Outputs.{AreOutputs}
 use Rattle.world.specs.Openings.{IsFaultOf, Simulates}
 use Rattle.tpcc.specs.Edges.{Writes, HasWritten, NamesFile}
-use Rattle.tpcc.specs.Faults.{IsOfGathering}
 use Rattle.tpcc.specs.Sim.{IsSimulation, NamesPicture}
 use Rattle.tpcc.proofs.FileNames.{names_written, printed_well}
+use Rattle.std.proofs.lemmas.Result.{err_from_is_err_and}
+use Rattle.tpcc.proofs.FaultsOfSources.{log_or_output, of_printing}
 use Rattle.tpcc.proofs.ScriptFiles.{on_any_err}
 use Rattle.tpcc.proofs.SimulationEnds.{of_gathering}
 use Rattle.tpcc.proofs.sim.sim.Goals as goal
@@ -21,12 +20,12 @@ pub returns-in-Err-NotConsistent-clause-fault : goal.returns-in-Err-NotConsisten
 returns-in-Err-NotConsistent-clause-fault g c =
     let opening = c.in_ok-opening.opening in
     let breaks : BreaksFirst opening c.in-Err-NotConsistent.number = subst (IsFaultOf opening) c.in-Err-NotConsistent.field-0-is c.in-Err-NotConsistent.ensures.fault in
-    (opening, c.in_ok-opening.ensures.tables, subst (BreaksFirst opening) (sym c.in-Err-NotConsistent.number-is) breaks)
+    inr (inr (inl (opening, c.in_ok-opening.ensures.tables, subst (BreaksFirst opening) (sym c.in-Err-NotConsistent.number-is) breaks)))
 
 pub returns-in_err-name_gathered-clause-fault : goal.returns-in_err-name_gathered-clause-fault
 returns-in_err-name_gathered-clause-fault g c =
-    let «data» = g.D.Read.remaining c.args.data in
-    let source = g.S.Read.remaining c.args.schedule in
+    let «data» = g.D.Input.remaining c.args.data in
+    let source = g.S.Input.remaining c.args.schedule in
     let executors = c.args.settings.now.executors in
     let schedule = c.in_ok-schedule.schedule.items in
     let simulation = c.in-Ok.simulation in
@@ -37,8 +36,11 @@ returns-in_err-name_gathered-clause-fault g c =
       is_schedule = c.in_ok-schedule.ensures.items;
       simulates = subst Plays c.as_slice.ensures.value c.in-Ok.ensures.simulates;
     } in
-    let gathered : IfErr c.from_residual-in_err-name_gathered.result (IsOfGathering (is_some c.args.tables) simulation.tables) = search rules in
-    IfErr-weaker c.from_residual-in_err-name_gathered.result _ _ (λ fault h. of_gathering «data» source executors (is_some c.args.tables) schedule simulation is fault h) gathered
+    let p = err_from_is_err_and c.from_residual-in_err-name_gathered.result c.from_residual-in_err-name_gathered.ensures.1 in
+    rw (p.1, p.2) (elim c.in_err-name_gathered.ensures.fault [
+      | inl written ↦ inr (inr (inr (inr (inr (inr written)))))
+      | inr of ↦ inr (inr (inl (of_gathering «data» source executors (is_some c.args.settings.now.tables) schedule simulation is _ of)))
+    ])
 
 pub returns-in_err-draw-clause-some : goal.returns-in_err-draw-clause-some
 returns-in_err-draw-clause-some g c =
@@ -47,7 +49,7 @@ returns-in_err-draw-clause-some g c =
     let schedule = c.in_ok-schedule.schedule.items in
     let simulation = c.in-Ok.simulation in
     let Plays : List Scheduled → Type 0 = λ items. Simulates Brand c.in_ok-opening.opening executors items simulation in
-    let is : IsSimulation (g.D.Read.remaining c.args.data) (g.S.Read.remaining c.args.schedule) executors schedule simulation = record {
+    let is : IsSimulation (g.D.Input.remaining c.args.data) (g.S.Input.remaining c.args.schedule) executors schedule simulation = record {
       opening = c.in_ok-opening.opening;
       is_dataset = c.in_ok-opening.ensures.tables;
       is_schedule = c.in_ok-schedule.ensures.items;
@@ -67,7 +69,7 @@ returns-in_err-name_gathered-clause-some g c =
     let schedule = c.in_ok-schedule.schedule.items in
     let simulation = c.in-Ok.simulation in
     let Plays : List Scheduled → Type 0 = λ items. Simulates Brand c.in_ok-opening.opening executors items simulation in
-    let is : IsSimulation (g.D.Read.remaining c.args.data) (g.S.Read.remaining c.args.schedule) executors schedule simulation = record {
+    let is : IsSimulation (g.D.Input.remaining c.args.data) (g.S.Input.remaining c.args.schedule) executors schedule simulation = record {
       opening = c.in_ok-opening.opening;
       is_dataset = c.in_ok-opening.ensures.tables;
       is_schedule = c.in_ok-schedule.ensures.items;
@@ -96,7 +98,7 @@ returns-clause-simulates g c =
     let schedule = c.in_ok-schedule.schedule.items in
     let simulation = c.in-Ok.simulation in
     let Plays : List Scheduled → Type 0 = λ items. Simulates Brand c.in_ok-opening.opening executors items simulation in
-    let is : IsSimulation (g.D.Read.remaining c.args.data) (g.S.Read.remaining c.args.schedule) executors schedule simulation = record {
+    let is : IsSimulation (g.D.Input.remaining c.args.data) (g.S.Input.remaining c.args.schedule) executors schedule simulation = record {
       opening = c.in_ok-opening.opening;
       is_dataset = c.in_ok-opening.ensures.tables;
       is_schedule = c.in_ok-schedule.ensures.items;
@@ -128,3 +130,31 @@ returns-clause-simulates g c =
       gathered = c.in_ok-name_gathered.ensures.named;
       no_fault = c.begin.ensures;
     }
+
+pub returns-in_err-opening-clause-fault : goal.returns-in_err-opening-clause-fault
+returns-in_err-opening-clause-fault g c =
+    let p = err_from_is_err_and c.from_residual.result c.from_residual.ensures.1 in
+    rw (p.1, p.2) (inl c.in_err-opening.ensures.fault)
+
+pub returns-in_err-schedule-clause-fault : goal.returns-in_err-schedule-clause-fault
+returns-in_err-schedule-clause-fault g c =
+    let p = err_from_is_err_and c.from_residual-in_err-schedule.result c.from_residual-in_err-schedule.ensures.1 in
+    rw (p.1, p.2) (inr (inl ((c.in_ok-opening.opening, c.in_ok-opening.ensures.tables), c.in_err-schedule.ensures.fault)))
+
+pub returns-in-Err-NoMemory-clause-fault : goal.returns-in-Err-NoMemory-clause-fault
+returns-in-Err-NoMemory-clause-fault g c = inl tt
+
+pub returns-in_err-log-clause-fault : goal.returns-in_err-log-clause-fault
+returns-in_err-log-clause-fault g c =
+    let p = err_from_is_err_and c.from_residual-in_err-log.result c.from_residual-in_err-log.ensures.1 in
+    rw (p.1, p.2) (inr (inr (inr (inl c.in_err-log.ensures.fault))))
+
+pub returns-in_err-full-clause-fault : goal.returns-in_err-full-clause-fault
+returns-in_err-full-clause-fault g c =
+    let p = err_from_is_err_and c.from_residual-in_err-full.result c.from_residual-in_err-full.ensures.1 in
+    rw (p.1, p.2) (inr (inr (inr (log_or_output (of_printing c.print_outputs-printed.result c.in_ok-log.log c.args.settings.now.log _ c.print_outputs-printed.ensures.fault c.in_ok-log.ensures.path c.in_err-full.ensures.fault)))))
+
+pub returns-in_err-draw-clause-fault : goal.returns-in_err-draw-clause-fault
+returns-in_err-draw-clause-fault g c =
+    let p = err_from_is_err_and c.from_residual-in_err-draw.result c.from_residual-in_err-draw.ensures.1 in
+    rw (p.1, p.2) (inr (inr (inr (inr (inr (inl c.in_err-draw.ensures.fault))))))

@@ -11,7 +11,7 @@ use Rattle.files.proofs.records.Records.cut.Goals as goal
 
 pub returns-in-Ends-clause-next : goal.returns-in-Ends-clause-next
 returns-in-Ends-clause-next g c =
-    let rem = g.R.Read.remaining in
+    let rem = g.R.Input.remaining in
     let inv = c.loop.invariant in
     let hand = at_hand c.loop.self.source in
     let read = c.at_hand.ensures in
@@ -26,11 +26,11 @@ returns-in-Ends-clause-next g c =
 
 pub returns-in-Quoted-clause-next : goal.returns-in-Quoted-clause-next
 returns-in-Quoted-clause-next g c =
-    let rem = g.R.Read.remaining in
+    let rem = g.R.Input.remaining in
     IfOk-weaker c.unquote.result _ _ (λ found next. next_kept rem (ahead rem c.args.self.now.source) (ahead rem c.loop.self.source) found c.unquote.new.self c.loop.invariant.0 next) c.unquote.ensures.next
 
 pub returns-then-not-branch-clause-next : goal.returns-then-not-branch-clause-next
 returns-then-not-branch-clause-next g c =
-    let rem = g.R.Read.remaining in
+    let rem = g.R.Input.remaining in
     let keeps = keeps-on (ahead rem c.args.self.now.source) (ahead rem c.loop.self.source) (ahead rem c.more.new.self) c.loop.invariant.0 c.in_ok-more-in-Open.ensures.keeps in
     IfOk-weaker c.cut_last.result _ _ (λ found next. next_kept rem (ahead rem c.args.self.now.source) (ahead rem c.more.new.self) found c.cut_last.new.self keeps next) c.cut_last.ensures.next

@@ -8,7 +8,7 @@ use Rattle.files.proofs.records.Records.cut_last.Goals as goal
 pub returns-then-is_full-clause-too_long : goal.returns-then-is_full-clause-too_long
 returns-then-is_full-clause-too_long g c = λ _.
     let r = c.args.self.now in
-    open_too_long (at_hand r.source) (g.R.Read.remaining r.source.reader) r.spans.items c.args.from c.requires.«open» (c.is_full.ensures.0 (search rules))
+    open_too_long (at_hand r.source) (g.R.Input.remaining r.source.reader) r.spans.items c.args.from c.requires.«open» (c.is_full.ensures.0 (search rules))
 
 pub returns-clause-next : goal.returns-clause-next
 returns-clause-next g c =
@@ -17,9 +17,9 @@ returns-clause-next g c =
     let read = c.at_hand-count.ensures in
     let most : length hand ≤ 65536 = rw read.value at read.fits in
     let room = not_full c.is_full.result (length hand) c.if-is_full.false c.is_full.ensures.1 most in
-    let known = g.R.Read.remaining r.source.reader in
+    let known = g.R.Input.remaining r.source.reader in
     let spans = r.spans.items ++ (record { from = c.args.from; to = length hand } ∷ []) in
-    next_plain g.R.Read.remaining (ahead g.R.Read.remaining r.source) _ st.StartRecord hand (drop (length hand) hand) spans c.requires.begun c.requires.plain refl
+    next_plain g.R.Input.remaining (ahead g.R.Input.remaining r.source) _ st.StartRecord hand (drop (length hand) hand) spans c.requires.begun c.requires.plain refl
     (ap (λ (h : List ℕ). drop (length h) hand) read.value)
     (c.in_ok-add.ensures ∙ ap (λ (h : List ℕ). r.spans.items ++ (record { from = c.args.from; to = length h } ∷ [])) read.value)
     (λ text. refl)

@@ -7,4 +7,4 @@ use Rattle.files.proofs.records.Records.new.Goals as goal
 pub returns-clause-none_read : goal.returns-clause-none_read
 unfolding Reached
 returns-clause-none_read g c = λ text known.
-    record { left = strip_bom text; source = c.new.ensures ∙ ap (option_map strip_bom) known; after = state.StartRecord; is_between = λ t. refl; reached = (refl, refl) }
+    record { left = strip_bom text; source = c.new.ensures.unread ∙ ap (option_map strip_bom) known; after = state.StartRecord; is_between = λ t. refl; reached = (refl, refl) }

@@ -9,7 +9,7 @@ use Rattle.files.proofs.records.Records.next_record.Goals as goal
 
 pub returns-else-branch-clause-next : goal.returns-else-branch-clause-next
 returns-else-branch-clause-next g c =
-    let rem = g.R.Read.remaining in
+    let rem = g.R.Input.remaining in
     let left = c.leave.ensures in
     let start = sym left.left ∙ left_is_unread rem c.leave.new.self left.none_taken in
     let begun = c.in_ok-begin.ensures in

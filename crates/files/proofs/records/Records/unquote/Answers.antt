@@ -12,7 +12,7 @@ use Rattle.files.proofs.records.Records.unquote.Goals as goal
 
 pub returns-in-Ends-clause-next : goal.returns-in-Ends-clause-next
 returns-in-Ends-clause-next g c =
-    let rem = g.R.Read.remaining in
+    let rem = g.R.Input.remaining in
     let inv = c.loop.invariant in
     let r = c.loop.self in
     let u = r.unquoted in
@@ -28,7 +28,7 @@ returns-in-Ends-clause-next g c =
 
 pub returns-in-TooLong-clause-too_long : goal.returns-in-TooLong-clause-too_long
 returns-in-TooLong-clause-too_long g c = λ _.
-    let rem = g.R.Read.remaining in
+    let rem = g.R.Input.remaining in
     let inv = c.loop.invariant in
     let r = c.loop.self in
     let u = r.unquoted in
@@ -37,7 +37,7 @@ returns-in-TooLong-clause-too_long g c = λ _.
 
 pub loop-preserved : goal.loop-preserved
 loop-preserved g c =
-    let rem = g.R.Read.remaining in
+    let rem = g.R.Input.remaining in
     let inv = c.loop.invariant in
     let r = c.loop.self in
     let u = r.unquoted in
@@ -56,6 +56,7 @@ loop-preserved g c =
             inv.3,
             inv.4,
             inv.5,
+            λ fine. rw byte.behind (inv.6 fine),
           )
       | in-None+in_ok-more-in-None+else-not-branch w ↦
           let none = w.in-None.ensures in
@@ -63,5 +64,5 @@ loop-preserved g c =
           let empty = none.none in
           let same : ahead rem c.next_byte.new.self ≡ ahead rem r.source = rw (none.behind, empty.1, empty.0) refl in
           let tracks = tracks-keep default_config st.StartRecord (machine_state u.state) (fields_ended u r.spans.items) (field_begun u) before (ahead rem r.source) (ahead rem w.more.new.self) inv.0 (subst (λ t. Keeps t (ahead rem w.more.new.self)) same more.keeps) in
-          rw (w.self-is) (tracks, inv.1, more.begun ∙ none.begun ∙ inv.2, inv.3, inv.4, inv.5)
+          rw (w.self-is) (tracks, inv.1, more.begun ∙ none.begun ∙ inv.2, inv.3, inv.4, inv.5, λ fine. (more.lasts (rw none.behind (inv.6 fine))).1)
     ]

@@ -13,8 +13,8 @@ returns-clause-unread g c =
     rw c.if-self.false (elim c.if-is_marked.branch [
       | then-is_marked w ↦
           let marked : is_marked (at_hand mid) ≡ true = sym test ∙ w.if-is_marked.true in
-          rw w.self-is (began (ahead g.R.Read.remaining c.args.self.now) (g.R.Read.remaining mid.reader) _ (at_hand mid) _ three.keeps three.three (rw marked w.consume.ensures.left) w.consume.ensures.behind)
+          rw w.self-is (began (ahead g.R.Input.remaining c.args.self.now) (g.R.Input.remaining mid.reader) _ (at_hand mid) _ three.keeps three.three (rw marked w.consume.ensures.left) (ap g.R.Input.remaining w.consume.ensures.behind))
       | else-is_marked w ↦
           let marked : is_marked (at_hand mid) ≡ false = sym test ∙ w.if-is_marked.false in
-          rw w.self-is (began (ahead g.R.Read.remaining c.args.self.now) (g.R.Read.remaining mid.reader) _ (at_hand mid) _ three.keeps three.three (rw marked refl) refl)
+          rw w.self-is (began (ahead g.R.Input.remaining c.args.self.now) (g.R.Input.remaining mid.reader) _ (at_hand mid) _ three.keeps three.three (rw marked refl) refl)
     ])

@@ -16,8 +16,8 @@ loop-preserved g c =
       | in-LineEnd w ↦
           let is_first : IsFirst (at_hand c.loop.self) first.LineEnd = subst (λ bytes. IsFirst bytes first.LineEnd) c.at_hand.ensures.value (rw w.in-LineEnd.is at c.first_of.ensures) in
           rw (w.self-is, w.consume.ensures.left, w.consume.ensures.behind, w.consume.ensures.begun)
-          (skipped (at_hand c.loop.self) (ahead g.R.Read.remaining c.args.self.now) (g.R.Read.remaining c.loop.self.reader) is_first inv.0, inv.1)
+          (skipped (at_hand c.loop.self) (ahead g.R.Input.remaining c.args.self.now) (g.R.Input.remaining c.loop.self.reader) is_first inv.0, inv.1, inv.2)
       | in-None+in_ok-more-in-None+else-not-branch w ↦
           let more = w.in_ok-more-in-None.ensures in
-          rw w.self-is (tracks-keep default_config state.StartRecord state.StartRecord [] [] (ahead g.R.Read.remaining c.args.self.now) (ahead g.R.Read.remaining c.loop.self) _ inv.0 more.keeps, more.begun ∙ inv.1)
+          rw w.self-is (tracks-keep default_config state.StartRecord state.StartRecord [] [] (ahead g.R.Input.remaining c.args.self.now) (ahead g.R.Input.remaining c.loop.self) _ inv.0 more.keeps, more.begun ∙ inv.1, λ fine. (more.lasts (inv.2 fine)).1)
     ]
