@@ -1,14 +1,11 @@
 -- How the reading of tables' records goes on.
 use Rattle.std.proofs.Common.{◌≡◌, ◌<◌, ◌^◌, ℕ, List, [], ◌∷◌, ◌++◌, map, length, None, Some, is_none, true, false, IsTrue, refl, sym, ap, subst, ◌∙◌, arith}
-use Rattle.std.specs.Prelude.{◌⊎◌, Result, Ok, Err, IsOk}
+use Rattle.std.specs.Prelude.{Result, Ok, Err, IsOk}
 use Rattle.std.specs.List.{AllByRecursion, AllZip}
-use Rattle.std.proofs.Common.{inl, inr}
 use Rattle.std.proofs.lemmas.List.{append-nil, append_assoc, length-append}
 use Rattle.std.proofs.lemmas.Slice.Zip.{AllZip-long}
 use Rattle.schema.specs.Database.{Database, IsWithinScale}
 use Rattle.schema.specs.Rows.{AreNoRows}
-use Rattle.files.specs.declared.fault.FileError.{FileError}
-use Rattle.files.specs.declared.fault.FileError.TheVariants.{NoMemory, Failed}
 use Rattle.files.specs.declared.fields.Fields.{Fields}
 use Rattle.std.specs.Result.{is_ok}
 use Rattle.files.specs.Taken.{fault_of, fields_left}
@@ -23,7 +20,7 @@ use Rattle.dataset.specs.Taking.{Awaits}
 use Rattle.dataset.specs.Writing.{count_fields}
 use Rattle.dataset.specs.TableRow.{TableRow, RowFits, row_fields, row_place}
 use Rattle.dataset.specs.Loading.{HasLoaded, TakesRow, TakesEnd, records_loaded}
-use Rattle.dataset.specs.Expecting.{Expects, Completes, GoesOn, AreInOrder, IsFault, all_records}
+use Rattle.dataset.specs.Expecting.{Expects, Completes, GoesOn, AreInOrder, all_records}
 use Rattle.dataset.proofs.AllRows.{all_rows, records_of_rows, rows_in_order, rows_fit, after_header}
 use Rattle.dataset.proofs.Counted.{same_end, few_payments}
 use Rattle.dataset.proofs.Finished.{none_loaded}
@@ -94,14 +91,6 @@ some_more (f ∷ fields) end s = s
 -- there is more to read before the end record
 pub expects_more : (t : Database) (l : Loader) → Expects t l [] → ⊥
 expects_more t l x = some_more (map row_fields x.todo) (end_fields (records_by_table t)) x.are_spelt
-
--- what the reader failed by is no fault of the text
-pub no_fault : (error : FileError) (number : ℕ) → (error ≡ NoMemory) ⊎ (error ≡ Failed number) → IsFault error → ⊥
-no_fault error number (inl e) fault = subst IsFault e fault
-no_fault error number (inr e) fault = subst IsFault e fault
-
-pub no_memory : (error : FileError) → error ≡ NoMemory → IsFault error → ⊥
-no_memory error e fault = subst IsFault e fault
 
 -- ---- what is left to read
 

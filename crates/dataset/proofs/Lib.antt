@@ -3,6 +3,7 @@ pub mod Texts
 pub mod Lists
 pub mod Written
 pub mod Tables
+pub mod TablesPut
 pub mod Order
 pub mod Taking
 pub mod Payments

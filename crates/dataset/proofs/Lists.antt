@@ -1,5 +1,5 @@
 -- Rows beside their keys, one more at a time.
-use Rattle.std.proofs.Common.{◌≡◌, ℕ, zero, suc, ◌+◌, ◌<◌, ◌≤◌, List, [], ◌∷◌, ◌++◌, length, take, get_or, Some, sym, ap, ◌∙◌, arith}
+use Rattle.std.proofs.Common.{◌≡◌, ℕ, zero, suc, ◌+◌, ◌<◌, ◌≤◌, List, [], ◌∷◌, ◌++◌, length, take, drop, get_or, Some, sym, ap, ◌∙◌, append_assoc, take-append-drop, arith}
 use Rattle.std.specs.List.{zip, slice_get}
 use Rattle.std.proofs.lemmas.List.{take_more, take_all}
 
@@ -36,3 +36,14 @@ zip-shorter (k ∷ ks) (x ∷ xs) = let rest = zip-shorter ks xs in omega arith
 -- all of them
 pub take-zip_all : {K X : Type 0} (ks : List K) (xs : List X) (n : ℕ) → length xs ≤ n → take n (zip ks xs) ≡ zip ks xs
 take-zip_all ks xs n h = let shorter = zip-shorter ks xs in take_all n (zip ks xs) (omega arith)
+
+-- an element, between those before it and those after it
+split-at : {X : Type 0} (xs : List X) (n : ℕ) (x : X) → take (n + 1) xs ≡ take n xs ++ (x ∷ []) → xs ≡ take n xs ++ (x ∷ drop (n + 1) xs)
+split-at xs n x next = sym (take-append-drop (n + 1) xs) ∙ ap (λ l. l ++ drop (n + 1) xs) next ∙ append_assoc (take n xs) (x ∷ []) (drop (n + 1) xs)
+
+pub split-zip : {K X : Type 0} (ks : List K) (xs : List X) (n : ℕ) (k : K) (x : X) → slice_get ks n ≡ Some k → n < length xs → x ≡ get_or xs n x
+    → zip ks xs ≡ take n (zip ks xs) ++ ((k, x) ∷ drop (n + 1) (zip ks xs))
+split-zip ks xs n k x e below is = split-at (zip ks xs) n (k, x) (take-zip ks xs n k x e below is)
+
+pub split-next : {X : Type 0} (xs : List X) (n : ℕ) (x : X) → n < length xs → x ≡ get_or xs n x → xs ≡ take n xs ++ (x ∷ drop (n + 1) xs)
+split-next xs n x below is = split-at xs n x (take-next xs n x below is)

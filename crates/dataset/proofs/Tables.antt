@@ -9,6 +9,11 @@ use Rattle.std.specs.FinMap.{entries, from_entries}
 use Rattle.std.proofs.lemmas.List.{length-append, length-map}
 use Rattle.std.proofs.lemmas.List.Sums.{sum-map, sum_by-cons}
 use Rattle.rows.specs.declared.keys.DistrictKey.{DistrictKey}
+use Rattle.rows.specs.declared.records.Item.{Item}
+use Rattle.rows.specs.declared.records.Warehouse.{Warehouse}
+use Rattle.rows.specs.declared.records.District.{District}
+use Rattle.rows.specs.declared.records.Stock.{Stock}
+use Rattle.rows.specs.declared.records.Customer.{Customer}
 use Rattle.rows.specs.declared.records.History.{History}
 use Rattle.rows.specs.Keys.{order_cmp, line_cmp}
 use Rattle.schema.specs.declared.scale.Scale.{Scale}
@@ -18,7 +23,7 @@ use Rattle.schema.specs.Rows.{database, HasCounts}
 use Rattle.schema.proofs.KeyOrders.{districts_total, stocks_total, customers_total, orders_total, lines_total}
 use Rattle.schema.proofs.OrderedParts.{entries-ordered}
 use Rattle.schema.proofs.ScalePlaces.{length-item_ids, length-warehouse_ids, length-district_keys, length-stock_keys, length-customer_keys}
-use Rattle.dataset.specs.Records.{Field, Words, Number, AreSpelt, AreRecords, row_records, payment_records, records, records_by_table, end_fields, header_fields, item_fields, warehouse_fields, district_fields, stock_fields, customer_fields, history_fields, order_fields, new_order_fields, line_fields}
+use Rattle.dataset.specs.Records.{Field, Words, Number, AreSpelt, AreRecords, row_records, table_records, payment_records, records, records_by_table, end_fields, header_fields, item_fields, warehouse_fields, district_fields, stock_fields, customer_fields, history_fields, order_fields, new_order_fields, line_fields}
 use Rattle.dataset.specs.Writing.{count_fields}
 use Rattle.dataset.proofs.Keys.{sorted-item_ids, sorted-warehouse_ids, sorted-district_keys, sorted-stock_keys, sorted-customer_keys, keys_of-zip}
 
@@ -41,15 +46,46 @@ length-payments (k ∷ ks) (list ∷ lists) even =
     ∙ ap (λ n. length list + n) (length-payments ks lists (omega arith) ∙ sum-map length lists)
     ∙ sym (sum-map length (list ∷ lists) ∙ sum_by-cons length list lists)
 
+-- the records of rows that stand in the order of the scale's keys
+abbrev pub items_of : Scale → List Item → List (List Field)
+items_of scale items = row_records item_fields (zip (item_ids scale) items)
+
+abbrev pub warehouses_of : Scale → List Warehouse → List (List Field)
+warehouses_of scale warehouses = row_records warehouse_fields (zip (warehouse_ids scale) warehouses)
+
+abbrev pub districts_of : Scale → List District → List (List Field)
+districts_of scale districts = row_records district_fields (zip (district_keys scale) districts)
+
+abbrev pub stocks_of : Scale → List Stock → List (List Field)
+stocks_of scale stocks = row_records stock_fields (zip (stock_keys scale) stocks)
+
+abbrev pub customers_of : Scale → List Customer → List (List Field)
+customers_of scale customers = row_records customer_fields (zip (customer_keys scale) customers)
+
+abbrev pub histories_of : Scale → List (List History) → List (List Field)
+histories_of scale lists = payment_records (zip (district_keys scale) lists)
+
 module _ (scale : Scale) (rows : TableRows) where
+  -- the records of six tables, whose rows stand in the order of their keys, and then others
+  abbrev dense_then : List (List (List Field)) → List (List (List Field))
+  dense_then others =
+      items_of scale rows.items.items ∷ warehouses_of scale rows.warehouses.items ∷ districts_of scale rows.districts.items
+      ∷ stocks_of scale rows.stocks.items ∷ customers_of scale rows.customers.items ∷ histories_of scale rows.histories.items ∷ others
+
   -- the records of these rows, table by table
   abbrev pub rows_by_table : List (List (List Field))
   rows_by_table =
-      row_records item_fields (zip (item_ids scale) rows.items.items) ∷ row_records warehouse_fields (zip (warehouse_ids scale) rows.warehouses.items)
-      ∷ row_records district_fields (zip (district_keys scale) rows.districts.items) ∷ row_records stock_fields (zip (stock_keys scale) rows.stocks.items)
-      ∷ row_records customer_fields (zip (customer_keys scale) rows.customers.items) ∷ payment_records (zip (district_keys scale) rows.histories.items)
-      ∷ row_records order_fields rows.orders.entries ∷ row_records new_order_fields rows.new_orders.entries
-      ∷ row_records line_fields rows.lines.entries ∷ []
+      dense_then (row_records order_fields rows.orders.entries ∷ row_records new_order_fields rows.new_orders.entries ∷ row_records line_fields rows.lines.entries ∷ [])
+
+  -- the records of the three other tables, by ascending keys
+  abbrev pub ordered_by_table : List (List (List Field))
+  ordered_by_table =
+      table_records order_fields (database scale rows).orders ∷ table_records new_order_fields (database scale rows).new_orders
+      ∷ table_records line_fields (database scale rows).lines ∷ []
+
+  -- those of the six and of the three
+  abbrev pub sorted_by_table : List (List (List Field))
+  sorted_by_table = dense_then ordered_by_table
 
   module _ (counts : HasCounts scale rows) where
     item_count : length rows.items.items ≡ length (item_ids scale)
@@ -104,19 +140,34 @@ module _ (scale : Scale) (rows : TableRows) where
         ∷ Number (length-map rows.new_orders.entries (λ e. new_order_fields e.0 e.1) i)
         ∷ Number (length-map rows.lines.entries (λ e. line_fields e.0 e.1) i) ∷ []
 
+    sorted : records_by_table (database scale rows) ≡ sorted_by_table
+    unfolding records_by_table
+    sorted i =
+        row_records item_fields (dense nat_cmp_total (item_ids scale) rows.items.items (sorted-item_ids scale) item_count i)
+        ∷ row_records warehouse_fields (dense nat_cmp_total (warehouse_ids scale) rows.warehouses.items (sorted-warehouse_ids scale) warehouse_count i)
+        ∷ row_records district_fields (dense districts_total (district_keys scale) rows.districts.items (sorted-district_keys scale) district_count i)
+        ∷ row_records stock_fields (dense stocks_total (stock_keys scale) rows.stocks.items (sorted-stock_keys scale) stock_count i)
+        ∷ row_records customer_fields (dense customers_total (customer_keys scale) rows.customers.items (sorted-customer_keys scale) customer_count i)
+        ∷ payment_records (dense districts_total (district_keys scale) rows.histories.items (sorted-district_keys scale) history_count i)
+        ∷ ordered_by_table
+
+    -- the tables' records are the header, those, and the end
+    pub records-sorted : records (database scale rows) ≡ (header_fields scale ∷ []) ++ (flat_map (λ part. part) sorted_by_table ++ (end_fields (records_by_table (database scale rows)) ∷ []))
+    unfolding records
+    records-sorted = ap (λ parts. (header_fields scale ∷ []) ++ (flat_map (λ part. part) parts ++ (end_fields (records_by_table (database scale rows)) ∷ []))) sorted
+
     module _ (orders : IsOrdered order_cmp rows.orders) (new_orders : IsOrdered order_cmp rows.new_orders) (lines : IsOrdered line_cmp rows.lines) where
       by_table : records_by_table (database scale rows) ≡ rows_by_table
-      unfolding records_by_table
-      by_table i =
-          row_records item_fields (dense nat_cmp_total (item_ids scale) rows.items.items (sorted-item_ids scale) item_count i)
-          ∷ row_records warehouse_fields (dense nat_cmp_total (warehouse_ids scale) rows.warehouses.items (sorted-warehouse_ids scale) warehouse_count i)
-          ∷ row_records district_fields (dense districts_total (district_keys scale) rows.districts.items (sorted-district_keys scale) district_count i)
-          ∷ row_records stock_fields (dense stocks_total (stock_keys scale) rows.stocks.items (sorted-stock_keys scale) stock_count i)
-          ∷ row_records customer_fields (dense customers_total (customer_keys scale) rows.customers.items (sorted-customer_keys scale) customer_count i)
-          ∷ payment_records (dense districts_total (district_keys scale) rows.histories.items (sorted-district_keys scale) history_count i)
-          ∷ row_records order_fields (entries-ordered orders_total rows.orders.entries orders i)
+      by_table =
+          sorted
+          ∙ ap dense_then (λ i.
+          row_records order_fields (entries-ordered orders_total rows.orders.entries orders i)
           ∷ row_records new_order_fields (entries-ordered orders_total rows.new_orders.entries new_orders i)
-          ∷ row_records line_fields (entries-ordered lines_total rows.lines.entries lines i) ∷ []
+          ∷ row_records line_fields (entries-ordered lines_total rows.lines.entries lines i) ∷ [])
+
+      -- the end is that of the rows
+      pub end-counts : end_fields (records_by_table (database scale rows)) ≡ count_fields rows
+      end-counts = ap end_fields by_table ∙ counted
 
       -- so what was written for the rows is the tables' records
       pub are-records : (written : List (List (List ℕ)))

@@ -22,6 +22,7 @@ use Rattle.rows.specs.declared.records.OrderLine.{OrderLine}
 use Rattle.schema.specs.declared.scale.Scale.{Scale}
 use Rattle.schema.specs.Database.{Database}
 use Rattle.files.specs.MomentText.{IsMomentText}
+use Rattle.files.specs.Sending.{OfFirst}
 use Rattle.files.specs.Word.{credit_text}
 
 -- a field: words, a number, an amount in cents, a date and time in seconds after 1970 began, or null
@@ -203,3 +204,7 @@ AreSpelt fields texts = AllZip IsSpelt fields texts
 -- these are the records of the tables, each a list of texts
 unfoldable pub AreRecords : Database → List (List (List ℕ)) → Type 0
 AreRecords t rows = AllZip AreSpelt (records t) rows
+
+-- these are the first of them, as many as one likes
+abbrev pub AreFirstRecords : Database → List (List (List ℕ)) → Type 0
+AreFirstRecords t rows = OfFirst (λ (first : List (List Field)). AllZip AreSpelt first) (records t) rows

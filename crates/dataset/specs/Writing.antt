@@ -1,9 +1,8 @@
 -- What is added to a record, and to a file.
 use Rattle.std.specs.Prelude.{◌≡◌, ℕ, List, [], ◌∷◌, ◌++◌, length, map, sum, Option, codes}
 use Rattle.std.specs.List.{AllZip}
-use Rattle.std.specs.Io.KnownBytes.{Appends}
-use Rattle.files.specs.declared.record_writer.RecordWriter.{RecordWriter}
-use Rattle.files.specs.Written.{IsBetweenRecords, csv_text, written}
+use Rattle.files.specs.Sending.{Begins, Sends}
+use Rattle.files.specs.Written.{csv_text}
 use Rattle.schema.specs.declared.table_rows.TableRows.{TableRows}
 use Rattle.dataset.specs.Records.{Field, Words, Number, AreSpelt}
 
@@ -28,9 +27,17 @@ row_counts rows = map (λ count. Number count) (table_counts rows)
 abbrev pub count_fields : TableRows → List Field
 count_fields rows = Words (codes "END") ∷ row_counts rows
 
--- the text of these records was written, by a writer that stands after a whole record again
-pub record Writes {W : Type 0} (contents : W → Option (List ℕ)) (old new : RecordWriter W) (records : List (List Field)) : Type 0 where
-  pub between : IsBetweenRecords new
+-- What comes to a sink where records are written: the text that was gathered before, and then theirs, and this text is gathered still.
+pub record Puts (before after : Option (List ℕ)) (old new : List ℕ) (records : List (List Field)) : Type 0 where
   pub rows : List (List (List ℕ))
   pub are_spelt : AllZip AreSpelt records rows
-  pub appended : Appends (written contents old) (written contents new) (csv_text rows)
+  pub sends : Sends before after (old ++ csv_text rows) new
+
+-- the same where that ended early: a beginning of that text, with the first of these records
+pub record StopsIn (before after : Option (List ℕ)) (old : List ℕ) (records : List (List Field)) : Type 0 where
+  pub first : List (List Field)
+  pub others : List (List Field)
+  pub parts : records ≡ first ++ others
+  pub rows : List (List (List ℕ))
+  pub are_spelt : AllZip AreSpelt first rows
+  pub begins : Begins before after (old ++ csv_text rows)

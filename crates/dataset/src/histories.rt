@@ -1,13 +1,12 @@
-ghost use Rattle.std.specs.Prelude.{◌≡◌, ◌≤◌, ◌<◌, ◌+◌, ◌^◌, [], ◌∷◌, ◌++◌, length, map, sum, Some, None, IsTrue, IfErr, OnOk};
+ghost use Rattle.std.specs.Prelude.{◌≡◌, ◌≤◌, ◌<◌, ◌+◌, ◌^◌, [], ◌∷◌, ◌++◌, length, map, sum, Some, None, IsTrue, IfErr, OnErr, OnOk};
 ghost use Rattle.std.specs.List.{zip};
 ghost use Rattle.schema.specs.Scale.{has_district, district_keys, district_slot};
 ghost use Rattle.files.specs.Taken.{fields_left, fault_of, Takes};
 ghost use Rattle.files.specs.Failure.{IsOfWriting};
-ghost use Rattle.files.specs.Written.{IsBetweenRecords};
 ghost use Rattle.dataset.specs.Payments.{Opens, Pays};
 ghost use Rattle.dataset.specs.Records.{AreSpelt, history_columns, history_fields, payment_records};
 ghost use Rattle.dataset.specs.Taking.{Added, Reads, ReadsRow};
-ghost use Rattle.dataset.specs.Writing.{Writes};
+ghost use Rattle.dataset.specs.Writing.{Puts, StopsIn};
 ghost use Rattle.dataset.specs.Ranges.{IsPayment};
 ghost use Rattle.files.specs.Columns.{take_columns, columns_end};
 ghost use Rattle.dataset.specs.Columns.{sizes, other_columns, Histories};
@@ -97,38 +96,46 @@ impl Recorded<DistrictKey> for History {
 }
 
 /// Writes the payments of all districts, each district's in the order of its list.
-pub fn write<W: Write + Drop>(
-    writer: &mut RecordWriter<W>,
+pub fn write<W: Write>(
+    writer: &mut RecordWriter,
+    sink: &mut W,
     out: &mut NewRecord,
     scale: Scale,
     lists: &[HistoryList],
 ) -> Result<(), FileError>
     requires count { length lists.now ≤ length (district_keys scale) }
-    requires between { IsBetweenRecords writer.old }
-    ensures written { OnOk result (Writes W.contents writer.old writer.new (payment_records (zip (district_keys scale) lists.now))) }
+    ensures written { OnOk result (Puts (W.contents sink.old) (W.contents sink.new) writer.old.text writer.new.text (payment_records (zip (district_keys scale) lists.now))) }
+    ensures begun { OnErr result (StopsIn (W.contents sink.old) (W.contents sink.new) writer.old.text (payment_records (zip (district_keys scale) lists.now))) }
     ensures failed { IfErr result IsOfWriting }
 {
     for (place, list) in lists.iter().enumerate() {
-        write_list(writer, out, District::key_at(scale, place), list.rows())?;
+        write_list(
+            writer,
+            sink,
+            out,
+            District::key_at(scale, place),
+            list.rows(),
+        )?;
     }
     Ok(())
 }
 
 // Writes the payments of a district.
-fn write_list<W: Write + Drop>(
-    writer: &mut RecordWriter<W>,
+fn write_list<W: Write>(
+    writer: &mut RecordWriter,
+    sink: &mut W,
     out: &mut NewRecord,
     home: DistrictKey,
     payments: &[History],
 ) -> Result<(), FileError>
-    requires { IsBetweenRecords writer.old }
-    ensures written { OnOk result (Writes W.contents writer.old writer.new (map (history_fields home) payments.now)) }
+    ensures written { OnOk result (Puts (W.contents sink.old) (W.contents sink.new) writer.old.text writer.new.text (map (history_fields home) payments.now)) }
+    ensures begun { OnErr result (StopsIn (W.contents sink.old) (W.contents sink.new) writer.old.text (map (history_fields home) payments.now)) }
     ensures failed { IfErr result IsOfWriting }
 {
     for payment in payments {
         out.clear();
         payment.put(home, out)?;
-        writer.write(out)?;
+        writer.write(sink, out)?;
     }
     Ok(())
 }

@@ -4,6 +4,7 @@ pub mod Amounts
 pub mod Moments
 pub mod FieldsLeft
 pub mod Progress
+pub mod Sent
 pub mod Texts
 pub mod Ascii
 pub mod WindowBytes

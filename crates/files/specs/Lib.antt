@@ -6,6 +6,7 @@ pub mod Word
 pub mod Taken
 pub mod Place
 pub mod Written
+pub mod Sending
 pub mod Window
 pub mod Source
 pub mod Span

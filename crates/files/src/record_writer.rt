@@ -1,72 +1,123 @@
-ghost use Rattle.std.specs.Prelude.{◌≡◌, ◌⊎◌, ◌+◌, ◌-◌, ◌^◌, ◌<◌, IfOk, IfErr, OnOk};
-ghost use Rattle.std.specs.Io.KnownBytes.{Appends, Keeps};
+ghost use Rattle.std.specs.Prelude.{◌≡◌, ◌⊎◌, ◌+◌, ◌-◌, ◌^◌, ◌<◌, ◌++◌, [], Some, IfOk, IfErr, OnOk, OnErr};
+ghost use Rattle.csv.specs.Writing.{text_written, writer_pending, writer_under};
 ghost use Rattle.files.specs.Failure.{IsOfWriting};
+ghost use Rattle.files.specs.Sending.{Sends, Begins};
+ghost use Rattle.files.specs.Written.{IsBetweenRecords, gathered, record_text};
 
-use crate::{FileError, NewRecord};
-use csv::{Error, ErrorKind, Writer, WriterBuilder};
+use crate::{FileError, NewRecord, send};
+use csv::{Writer, WriterBuilder};
+use std::alloc::{AllocError, Global};
 use std::io::Write;
+use std::marker::Model;
+use std::mem;
 
-/// Writes a file, one record after the other, each ended by one line feed. What was written is in the
-/// sink for sure only after `finish`.
+// So many bytes are gathered, or a few more, before they are sent.
+const CHUNK: usize = 65_536;
+
+/// Gathers the text of records, each ended by one line feed, and sends it to a sink, many records at a
+/// time. What was written is in the sink for sure only after `finish`.
 #[derive(Drop)]
-pub struct RecordWriter<W: Write + Drop> {
-    writer: Writer<W>,
+pub struct RecordWriter {
+    alloc: Global,
+    writer: Writer<Vec<u8>>,
     // How many records there are, with the one under way.
     number: u64,
 }
 
-impl<W: Write + Drop> RecordWriter<W> {
-    ghost use Rattle.files.specs.Written.{records_written, record_text, written, IsBetweenRecords};
+impl Model for RecordWriter {
+    ghost use Rattle.files.specs.Written.{Gathered, IsBetweenRecords, gathered};
 
+    ghost Value = { Gathered };
+
+    ghost view = { λ w. record { text = gathered w.writer; number = w.number } };
+
+    ghost invariant = { λ w. IsBetweenRecords w.writer };
+}
+
+impl RecordWriter {
     /// A writer of no records yet.
-    pub fn new(sink: W) -> Self
-        ensures number { records_written result ≡ 0 }
-        ensures between { IsBetweenRecords result }
-        ensures text { written W.contents result ≡ W.contents sink }
+    pub fn new(alloc: Global) -> Self
+        ensures { result ≡ record { text = []; number = 0 } }
     {
         RecordWriter {
-            writer: WriterBuilder::new().flexible(true).from_writer(sink),
+            alloc,
+            writer: writer_into(Vec::new(alloc)),
             number: 0,
         }
     }
 
     /// Writes the record. A failure of the sink, also one that comes late since records are gathered
-    /// before they are written, is `Failed` at this record.
-    pub fn write(&mut self, row: &NewRecord) -> Result<(), FileError>
-        ensures between { OnOk result (IsBetweenRecords self.old → IsBetweenRecords self.new) }
-        ensures text { OnOk result (IsBetweenRecords self.old → Appends (written W.contents self.old) (written W.contents self.new) (record_text row.now)) }
-        ensures number { records_written self.old < 2 ^ 64 - 1 → records_written self.new ≡ records_written self.old + 1 }
-        ensures faults { IfErr result (λ fault. (fault ≡ FileError.NoMemory) ⊎ (fault ≡ FileError.Failed (records_written self.new))) }
+    /// before they are sent, is `Failed` at this record. After an error the sink has got a beginning of what was
+    /// written, with this record, and the writer has nothing more to send.
+    pub fn write<W: Write>(&mut self, sink: &mut W, row: &NewRecord) -> Result<(), FileError>
+        ensures sent { OnOk result (Sends (W.contents sink.old) (W.contents sink.new) (self.old.text ++ record_text row.now) self.new.text) }
+        ensures begun { OnErr result (Begins (W.contents sink.old) (W.contents sink.new) (self.old.text ++ record_text row.now)) }
+        ensures number { self.old.number < 2 ^ 64 - 1 → self.new.number ≡ self.old.number + 1 }
+        ensures faults { IfErr result (λ fault. (fault ≡ FileError.NoMemory) ⊎ (fault ≡ FileError.Failed self.new.number)) }
         ensures writing { IfErr result IsOfWriting }
     {
         self.number = self.number.saturating_add(1);
-        match self.writer.write_byte_record(row.as_byte_record()) {
+        if self.writer.write_byte_record(row.as_byte_record()).is_err() {
+            self.writer = writer_into(Vec::new(self.alloc));
+            return Err(FileError::NoMemory);
+        }
+        if self.writer.get_ref().len() < CHUNK {
+            return Ok(());
+        }
+        self.send_all(sink)
+    }
+
+    /// Has the sink take all records. Its errors are those of `write`, at the last record; after one the sink
+    /// has got a beginning of what was written.
+    pub fn finish<W: Write>(mut self, sink: &mut W) -> Result<(), FileError>
+        ensures sent { OnOk result (Sends (W.contents sink.old) (W.contents sink.new) self.text []) }
+        ensures begun { OnErr result (Begins (W.contents sink.old) (W.contents sink.new) self.text) }
+        ensures faults { IfErr result (λ fault. (fault ≡ FileError.NoMemory) ⊎ (fault ≡ FileError.Failed self.number)) }
+        ensures writing { IfErr result IsOfWriting }
+    {
+        self.send_all(sink)?;
+        match sink.flush() {
             Ok(()) => Ok(()),
-            Err(error) => Err(failure(self.number, error)),
+            Err(_) => Err(FileError::Failed(self.number)),
         }
     }
 
-    /// The sink, which has all records then. Its faults are those of `write`, at the last record.
-    pub fn finish(self) -> Result<W, FileError>
-        ensures text { IfOk result (λ sink. Keeps (written W.contents self) (W.contents sink)) }
-        ensures faults { IfErr result (λ fault. (fault ≡ FileError.NoMemory) ⊎ (fault ≡ FileError.Failed (records_written self))) }
+    // Sends what was gathered.
+    fn send_all<W: Write>(&mut self, sink: &mut W) -> Result<(), FileError>
+        ensures sent { OnOk result (Sends (W.contents sink.old) (W.contents sink.new) self.old.text self.new.text) }
+        ensures none { self.new.text ≡ [] }
+        ensures begun { OnErr result (Begins (W.contents sink.old) (W.contents sink.new) self.old.text) }
+        ensures number { self.new.number ≡ self.old.number }
+        ensures faults { IfErr result (λ fault. (fault ≡ FileError.NoMemory) ⊎ (fault ≡ FileError.Failed self.old.number)) }
         ensures writing { IfErr result IsOfWriting }
     {
-        let RecordWriter { writer, number } = self;
-        match writer.into_inner() {
-            Ok(sink) => Ok(sink),
-            Err(error) => Err(failure(number, error.into_error())),
+        let mut text = self.take()?;
+        if send(sink, text.as_slice()).is_err() {
+            return Err(FileError::Failed(self.number));
+        }
+        text.clear();
+        self.writer = writer_into(text);
+        Ok(())
+    }
+
+    // Takes what was gathered.
+    fn take(&mut self) -> Result<Vec<u8>, AllocError>
+        ensures text { IfOk result (λ text. text.items ≡ self.old.text) }
+        ensures none { self.new.text ≡ [] }
+        ensures number { self.new.number ≡ self.old.number }
+    {
+        let fresh = writer_into(Vec::new(self.alloc));
+        match mem::replace(&mut self.writer, fresh).into_inner() {
+            Ok(text) => Ok(text),
+            Err(_) => Err(AllocError),
         }
     }
 }
 
-// Why the record of that number was not written.
-fn failure(number: u64, error: Error) -> FileError
-    ensures fault { (result ≡ FileError.NoMemory) ⊎ (result ≡ FileError.Failed number) }
-    ensures writing { IsOfWriting result }
+// A writer of records behind that text.
+fn writer_into(text: Vec<u8>) -> Writer<Vec<u8>>
+    ensures text { gathered result ≡ text.items }
+    ensures between { IsBetweenRecords result }
 {
-    match error.into_kind() {
-        ErrorKind::OutOfMemory => FileError::NoMemory,
-        _ => FileError::Failed(number),
-    }
+    WriterBuilder::new().flexible(true).from_writer(text)
 }

@@ -1,7 +1,8 @@
 -- Texts, one after the other.
-use Rattle.std.proofs.Common.{◌≡◌, ◌+◌, ◌<◌, ℕ, List, [], ◌∷◌, ◌++◌, length, take, get_or, Option, Some, None, sym, ap, ◌∙◌, append_assoc}
+use Rattle.std.proofs.Common.{◌≡◌, ◌+◌, ◌<◌, ℕ, List, [], ◌∷◌, ◌++◌, length, take, get_or, Option, refl, sym, ap, ◌∙◌, append_assoc}
 use Rattle.std.proofs.lemmas.List.{append-nil, take_more}
 use Rattle.std.specs.Io.KnownBytes.{Appends}
+use Rattle.std.proofs.KnownBytes.{Appends-nil}
 use Rattle.picture.specs.Drawing.{texts}
 
 pub texts-push : {T : Type 0} (text : T → List ℕ) (before : List T) (one : T) → texts text (before ++ (one ∷ [])) ≡ texts text before ++ text one
@@ -13,16 +14,7 @@ texts-push text (first ∷ before) one =
 -- nothing is written at first
 pub appends-none : {T : Type 0} (text : T → List ℕ) (sink : Option (List ℕ)) → Appends sink sink (texts text [])
 unfolding texts
-appends-none text None = tt
-appends-none text (Some bytes) = sym (append-nil bytes)
-
--- one text after another
-pub appends-after : (sink old new : Option (List ℕ)) (first second : List ℕ) → Appends sink old first → Appends old new second → Appends sink new (first ++ second)
-appends-after None old new first second before one = tt
-appends-after (Some bytes) None new first second before one = absurd before
-appends-after (Some bytes) (Some more) None first second before one = absurd one
-appends-after (Some bytes) (Some more) (Some all) first second before one =
-    one ∙ ap (λ l. l ++ second) before ∙ append_assoc bytes first second
+appends-none text sink = Appends-nil sink
 
 -- the texts of one more
 pub texts-more : {T : Type 0} (text : T → List ℕ) (xs : List T) (i : ℕ) (x : T) → i < length xs → x ≡ get_or xs i x
@@ -30,3 +22,10 @@ pub texts-more : {T : Type 0} (text : T → List ℕ) (xs : List T) (i : ℕ) (x
 texts-more {T} text xs i x there e =
     let all : take (i + 1) xs ≡ take i xs ++ (x ∷ []) = take_more xs i x there ∙ ap (λ (a : T). take i xs ++ (a ∷ [])) (sym e) in
     ap (λ (l : List T). texts text l) all ∙ texts-push text (take i xs) x
+
+-- the first ones of them, and then the others
+pub texts-parted : {T : Type 0} (text : T → List ℕ) (before after : List T) → texts text (before ++ after) ≡ texts text before ++ texts text after
+unfolding texts
+texts-parted text [] after = refl
+texts-parted text (first ∷ before) after =
+    ap (λ l. text first ++ l) (texts-parted text before after) ∙ sym (append_assoc (text first) (texts text before) (texts text after))

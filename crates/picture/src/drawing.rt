@@ -1,7 +1,8 @@
 //! A picture is written.
-ghost use Rattle.std.specs.Prelude.{◌≡◌, ◌≤◌, ℕ, List, [], IfOk, IfErr, IfSome, OnOk, Some};
+ghost use Rattle.std.specs.Prelude.{◌≡◌, ◌≤◌, ℕ, List, [], IfErr, IfSome, OnErr, OnOk, Some};
 ghost use Rattle.std.specs.Io.KnownBytes.{Appends};
 ghost use Rattle.files.specs.Failure.{IsOfWriting};
+ghost use Rattle.files.specs.Sending.{Begins};
 ghost use Rattle.picture.specs.declared.asides.Aside.{Aside as AnyAside};
 ghost use Rattle.picture.specs.Drawing.{picture_text, texts};
 ghost use Rattle.picture.specs.Lanes.{sessions_from};
@@ -15,26 +16,28 @@ use crate::row::rows_of;
 use crate::row_marks::marks_of;
 use crate::sheet::{Ground, Legend, Sheet};
 use crate::slices::Slices;
-use files::FileError;
+use files::{FileError, send};
 use history::{Output, Scheduled};
 use schema::{NoMemory, Scale};
 use std::alloc::Global;
 use std::fmt::Display;
 use std::io::Write;
 
-/// Writes the picture of a schedule of which this is told, as SVG, and gives the sink back. Use a `&mut` to a sink
-/// that is needed after a fault too. So many executors have the warehouses of the scale. A failure of the sink is
-/// `Failed` at record 1.
-pub fn write_picture<W: Write + Drop>(
+/// Writes the picture of a schedule of which this is told, as SVG, to the sink. So many executors have the
+/// warehouses of the scale. A failure of the sink is `Failed` at record 1; after an error the sink has got a
+/// beginning of the picture.
+pub fn write_picture<W: Write>(
     alloc: Global,
-    sink: W,
+    sink: &mut W,
     schedule: &[Scheduled],
     outputs: &[Output],
     scale: &Scale,
     executors: u32,
-) -> Result<W, FileError>
+) -> Result<(), FileError>
     requires { 1 ≤ executors }
-    ensures written { IfOk result (λ full. (asides : List AnyAside) × Appends (W.contents sink) (W.contents full)
+    ensures written { OnOk result ((asides : List AnyAside) × Appends (W.contents sink.old) (W.contents sink.new)
+        (picture_text (sessions_from [] schedule.now) executors (spec.rows_of 1 schedule.now outputs.now) asides)) }
+    ensures begun { OnErr result ((asides : List AnyAside) × Begins (W.contents sink.old) (W.contents sink.new)
         (picture_text (sessions_from [] schedule.now) executors (spec.rows_of 1 schedule.now outputs.now) asides)) }
     ensures failed { IfErr result IsOfWriting }
 {
@@ -49,15 +52,13 @@ pub fn write_picture<W: Write + Drop>(
     let width = lanes.width();
     let height = height(rows.len());
     let bottom = rows_end(rows.len());
-    let mut sink = sink;
     let mut line = String::new(alloc);
-    draw(&mut sink, &mut line, &Sheet { width, height })?;
-    draw(&mut sink, &mut line, &ground(false, 0, width, height))?;
-    draw(&mut sink, &mut line, &ground(true, 74, width, bottom))?;
-    draw_all(&mut sink, &mut line, asides.as_slice())?;
-    draw_all(&mut sink, &mut line, marks.as_slice())?;
-    draw(&mut sink, &mut line, &Legend { top: bottom + 24 })?;
-    Ok(sink)
+    draw(sink, &mut line, &Sheet { width, height })?;
+    draw(sink, &mut line, &ground(false, 0, width, height))?;
+    draw(sink, &mut line, &ground(true, 74, width, bottom))?;
+    draw_all(sink, &mut line, asides.as_slice())?;
+    draw_all(sink, &mut line, marks.as_slice())?;
+    draw(sink, &mut line, &Legend { top: bottom + 24 })
 }
 
 fn ground(striped: bool, top: u128, width: u128, bottom: u128) -> Ground
@@ -79,6 +80,8 @@ fn draw_all<W: Write, D: Display>(
 ) -> Result<(), FileError>
     ensures written { OnOk result ((text : D → List ℕ) → ((sign : D) → D.output sign ≡ Some (text sign))
         → Appends (W.contents sink.old) (W.contents sink.new) (texts text signs.now)) }
+    ensures begun { OnErr result ((text : D → List ℕ) → ((sign : D) → D.output sign ≡ Some (text sign))
+        → Begins (W.contents sink.old) (W.contents sink.new) (texts text signs.now)) }
     ensures failed { IfErr result IsOfWriting }
 {
     for sign in signs {
@@ -90,13 +93,14 @@ fn draw_all<W: Write, D: Display>(
 // Writes the text of a sign.
 fn draw<W: Write, D: Display>(sink: &mut W, line: &mut String, sign: &D) -> Result<(), FileError>
     ensures written { OnOk result (IfSome (D.output sign.now) (Appends (W.contents sink.old) (W.contents sink.new))) }
+    ensures begun { OnErr result (IfSome (D.output sign.now) (Begins (W.contents sink.old) (W.contents sink.new))) }
     ensures failed { IfErr result IsOfWriting }
 {
     line.clear();
     if write!(line, "{sign}").is_err() {
         return Err(FileError::NoMemory);
     }
-    match sink.write_all(line.as_bytes()) {
+    match send(sink, line.as_bytes()) {
         Ok(()) => Ok(()),
         Err(_) => Err(FileError::Failed(1)),
     }

@@ -1,6 +1,7 @@
 -- Files of records that end with their count.
-use Rattle.std.specs.Prelude.{◌≡◌, ℕ, List, [], ◌∷◌, ◌++◌, length, codes}
+use Rattle.std.specs.Prelude.{◌≡◌, ◌⊎◌, ℕ, List, [], ◌∷◌, ◌++◌, length, codes}
 use Rattle.std.specs.Fmt.{decimal}
+use Rattle.files.specs.Sending.{OfFirst}
 use Rattle.terminals.specs.Numbered.{AreNumbered}
 
 -- the end record after so many records
@@ -11,3 +12,7 @@ end_fields count = codes "END" ∷ decimal count ∷ []
 abbrev pub IsListing : {T : Type 0} → (ℕ → T → List (List ℕ) → Type 0) → List T → List (List (List ℕ)) → Type 0
 IsListing IsRecord items rows =
     (listed : List (List (List ℕ))) × AreNumbered IsRecord 0 items listed × (rows ≡ listed ++ (end_fields (length items) ∷ []))
+
+-- some first ones of these records, as many as one likes, or all
+abbrev pub BeginsListing : {T : Type 0} → (ℕ → T → List (List ℕ) → Type 0) → List T → List (List (List ℕ)) → Type 0
+BeginsListing {T} IsRecord items rows = OfFirst (λ (first : List T). AreNumbered IsRecord 0 first) items rows ⊎ IsListing IsRecord items rows

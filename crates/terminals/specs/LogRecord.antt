@@ -2,7 +2,7 @@
 use Rattle.std.specs.Prelude.{◌≡◌, ℕ, List, ◌∷◌, ◌++◌, length}
 use Rattle.std.specs.Fmt.{decimal}
 use Rattle.commit_log.specs.declared.entry.Entry.{Entry}
-use Rattle.terminals.specs.Listing.{IsListing}
+use Rattle.terminals.specs.Listing.{BeginsListing, IsListing}
 use Rattle.terminals.specs.ReplyFields.{IsReply}
 use Rattle.terminals.specs.RequestFields.{IsRequest}
 
@@ -15,3 +15,7 @@ IsLogRecord place entry fields =
 -- the records of a log: one for each entry, from place 0 on, and then the end record
 abbrev pub IsLog : List Entry → List (List (List ℕ)) → Type 0
 IsLog entries rows = IsListing IsLogRecord entries rows
+
+-- some first ones of them, or all
+abbrev pub BeginsLog : List Entry → List (List (List ℕ)) → Type 0
+BeginsLog entries rows = BeginsListing IsLogRecord entries rows

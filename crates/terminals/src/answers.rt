@@ -1,8 +1,7 @@
-ghost use Rattle.std.specs.Prelude.{◌≡◌, ℕ, List, ◌++◌, IfOk, IfErr, OnOk};
-ghost use Rattle.std.specs.Io.KnownBytes.{Appends};
+ghost use Rattle.std.specs.Prelude.{◌≡◌, ℕ, List, ◌++◌, IfOk, IfErr, OnErr, OnOk};
 ghost use Rattle.csv.specs.Records.{fields_of};
 ghost use Rattle.files.specs.Failure.{IsOfWriting};
-ghost use Rattle.files.specs.Written.{csv_text};
+ghost use Rattle.files.specs.Sending.{BeginsToWrite, OfFirst, Writes};
 ghost use Rattle.terminals.specs.Answers.{IsAnswer, AreAnswers, refusal_fields};
 
 use crate::reply;
@@ -27,25 +26,26 @@ pub fn answer_record(
     Ok(row.into_byte_record())
 }
 
-/// Writes the records of a session's answers, which stand in the order of their requests, and gives the
-/// sink back. Use a `&mut` to a sink that is needed after a fault too.
-pub fn write_answers<W: Write + Drop>(
+/// Writes the records of a session's answers, which stand in the order of their requests, to the sink. After
+/// an error the sink has got a beginning of their text.
+pub fn write_answers<W: Write>(
     alloc: Global,
-    sink: W,
+    sink: &mut W,
     session: u32,
     answers: &[Answer],
-) -> Result<W, FileError>
-    ensures written { IfOk result (λ full. (rows : List (List (List ℕ))) × AreAnswers session answers.now rows × Appends (W.contents sink) (W.contents full) (csv_text rows)) }
+) -> Result<(), FileError>
+    ensures written { OnOk result (Writes (W.contents sink.old) (W.contents sink.new) (AreAnswers session answers.now)) }
+    ensures begun { OnErr result (BeginsToWrite (W.contents sink.old) (W.contents sink.new) (OfFirst (AreAnswers session) answers.now)) }
     ensures failed { IfErr result IsOfWriting }
 {
-    let mut writer = RecordWriter::new(sink);
+    let mut writer = RecordWriter::new(alloc);
     let mut row = NewRecord::new(alloc);
     for (number, answer) in answers.iter().enumerate() {
         row.clear();
         put_answer(&mut row, session, number as u64, answer)?;
-        writer.write(&row)?;
+        writer.write(sink, &row)?;
     }
-    writer.finish()
+    writer.finish(sink)
 }
 
 /// Adds the fields of an answer.

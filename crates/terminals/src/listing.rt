@@ -1,13 +1,12 @@
-ghost use Rattle.std.specs.Prelude.{◌≡◌, ◌≢◌, ◌<◌, ◌-◌, ◌^◌, ℕ, List, [], ◌∷◌, ◌++◌, length, Some, None, IfOk, IfErr, IfSome, IfNone, OnOk, MatchResult};
-ghost use Rattle.std.specs.Io.KnownBytes.{Appends};
+ghost use Rattle.std.specs.Prelude.{◌≡◌, ◌≢◌, ◌<◌, ◌-◌, ◌^◌, ℕ, List, [], ◌∷◌, ◌++◌, length, Some, None, IfOk, IfErr, IfSome, IfNone, OnErr, OnOk, MatchResult};
 ghost use Rattle.files.specs.FieldRead.{Taking, taking};
 ghost use Rattle.files.specs.FirstFault.{TellsFault};
 ghost use Rattle.files.specs.Failure.{IsOfText, IsOfWriting};
 ghost use Rattle.files.specs.Place.{input, HasLeft, HasRead, IsCsv, record_fields, record_number};
 ghost use Rattle.files.specs.Taken.{fault_of, Takes};
-ghost use Rattle.files.specs.Written.{csv_text};
+ghost use Rattle.files.specs.Sending.{BeginsToWrite, Writes};
 ghost use Rattle.terminals.specs.FirstFault.{IsReadAs, ReachesEnd, listing_fault};
-ghost use Rattle.terminals.specs.Listing.{IsListing, end_fields};
+ghost use Rattle.terminals.specs.Listing.{BeginsListing, IsListing, end_fields};
 
 use files::{FaultKind, Fields, FileError, Input, NewRecord, RecordWriter, Records};
 use schema::NoMemory;
@@ -114,21 +113,23 @@ pub trait Told {
         ensures { OnOk result ((fields : List (List ℕ)) × is_record place self.now fields × (row.new ≡ row.old ++ fields)) };
 }
 
-/// Writes the record of each item, and then the end record, and gives the sink back.
-pub fn write<T: Told, W: Write + Drop>(alloc: Global, sink: W, items: &[T]) -> Result<W, FileError>
-    ensures written { IfOk result (λ full. (rows : List (List (List ℕ))) × IsListing T.is_record items.now rows × Appends (W.contents sink) (W.contents full) (csv_text rows)) }
+/// Writes the record of each item, and then the end record, to the sink. After an error the sink has got a
+/// beginning of their text.
+pub fn write<T: Told, W: Write>(alloc: Global, sink: &mut W, items: &[T]) -> Result<(), FileError>
+    ensures written { OnOk result (Writes (W.contents sink.old) (W.contents sink.new) (IsListing T.is_record items.now)) }
+    ensures begun { OnErr result (BeginsToWrite (W.contents sink.old) (W.contents sink.new) (BeginsListing T.is_record items.now)) }
     ensures failed { IfErr result IsOfWriting }
 {
-    let mut writer = RecordWriter::new(sink);
+    let mut writer = RecordWriter::new(alloc);
     let mut row = NewRecord::new(alloc);
     for (place, item) in items.iter().enumerate() {
         row.clear();
         item.put(place as u64, &mut row)?;
-        writer.write(&row)?;
+        writer.write(sink, &row)?;
     }
     row.clear();
     row.push("END")?;
     row.push_number(items.len() as u64)?;
-    writer.write(&row)?;
-    writer.finish()
+    writer.write(sink, &row)?;
+    writer.finish(sink)
 }

@@ -1,6 +1,5 @@
-ghost use Rattle.std.specs.Prelude.{◌≡◌, ◌≢◌, ◌<◌, ◌-◌, ◌+◌, ◌^◌, ◌==◌, ℕ, List, ◌∷◌, ◌++◌, length, Some, None, IfOk, IfErr, IfSome, IfNone, OnOk, MatchResult, if◌then◌else◌};
+ghost use Rattle.std.specs.Prelude.{◌≡◌, ◌≢◌, ◌<◌, ◌-◌, ◌+◌, ◌^◌, ◌==◌, ℕ, List, ◌∷◌, ◌++◌, length, Some, None, IfOk, IfErr, IfSome, IfNone, OnErr, OnOk, MatchResult, if◌then◌else◌};
 ghost use Rattle.std.specs.Fmt.{decimal};
-ghost use Rattle.std.specs.Io.KnownBytes.{Appends};
 ghost use Rattle.csv.specs.Records.{fields_of};
 ghost use Rattle.files.specs.Columns.{found, take_word};
 ghost use Rattle.files.specs.FieldRead.{taking, whole_read};
@@ -8,9 +7,9 @@ ghost use Rattle.files.specs.Failure.{IsOfText, IsOfWriting};
 ghost use Rattle.files.specs.FirstFault.{TellsFault};
 ghost use Rattle.files.specs.Place.{IsCsv};
 ghost use Rattle.files.specs.Taken.{fields_left, fault_of, TakesWell, Takes};
-ghost use Rattle.files.specs.Written.{csv_text};
+ghost use Rattle.files.specs.Sending.{BeginsToWrite, Writes};
 ghost use Rattle.terminals.specs.FirstFault.{after_entry, log_fault, other_place, pass_over, IsCounted, IsAsked};
-ghost use Rattle.terminals.specs.LogRecord.{IsLog, IsLogRecord};
+ghost use Rattle.terminals.specs.LogRecord.{BeginsLog, IsLog, IsLogRecord};
 ghost use Rattle.terminals.specs.RequestFields.{IsRequest};
 
 use crate::listing::{Listed, Told};
@@ -144,10 +143,11 @@ pub fn log_record(alloc: Global, place: u32, entry: &Entry) -> Result<ByteRecord
     Ok(row.into_byte_record())
 }
 
-/// Writes a log: the record of each entry, whose place is its index, and then the end record. It gives
-/// the sink back. Use a `&mut` to a sink that is needed after a fault too.
-pub fn write_log<W: Write + Drop>(alloc: Global, sink: W, entries: &[Entry]) -> Result<W, FileError>
-    ensures written { IfOk result (λ full. (rows : List (List (List ℕ))) × IsLog entries.now rows × Appends (W.contents sink) (W.contents full) (csv_text rows)) }
+/// Writes a log to the sink: the record of each entry, whose place is its index, and then the end record.
+/// After an error the sink has got a beginning of their text.
+pub fn write_log<W: Write>(alloc: Global, sink: &mut W, entries: &[Entry]) -> Result<(), FileError>
+    ensures written { OnOk result (Writes (W.contents sink.old) (W.contents sink.new) (IsLog entries.now)) }
+    ensures begun { OnErr result (BeginsToWrite (W.contents sink.old) (W.contents sink.new) (BeginsLog entries.now)) }
     ensures failed { IfErr result IsOfWriting }
 {
     listing::write(alloc, sink, entries)

@@ -1,7 +1,6 @@
-ghost use Rattle.std.specs.Prelude.{◌≡◌, ℕ, List, ◌++◌, IfOk, IfErr, OnOk};
-ghost use Rattle.std.specs.Io.KnownBytes.{Appends};
+ghost use Rattle.std.specs.Prelude.{◌≡◌, ℕ, List, ◌++◌, IfErr, OnErr, OnOk};
 ghost use Rattle.files.specs.Failure.{IsOfWriting};
-ghost use Rattle.files.specs.Written.{csv_text};
+ghost use Rattle.files.specs.Sending.{BeginsToWrite, OfFirst, Writes};
 ghost use Rattle.terminals.specs.Outputs.{IsEventAnswer, IsOutput, AreOutputs};
 
 use crate::answers;
@@ -11,24 +10,25 @@ use schema::NoMemory;
 use std::alloc::Global;
 use std::io::Write;
 
-/// Writes a record for each output of a schedule, and gives the sink back. Use a `&mut` to a
-/// sink that is needed after a fault too.
-pub fn write_outputs<W: Write + Drop>(
+/// Writes a record for each output of a schedule to the sink. After an error the sink has got a beginning of
+/// their text.
+pub fn write_outputs<W: Write>(
     alloc: Global,
-    sink: W,
+    sink: &mut W,
     told: &[Output],
-) -> Result<W, FileError>
-    ensures written { IfOk result (λ full. (rows : List (List (List ℕ))) × AreOutputs told.now rows × Appends (W.contents sink) (W.contents full) (csv_text rows)) }
+) -> Result<(), FileError>
+    ensures written { OnOk result (Writes (W.contents sink.old) (W.contents sink.new) (AreOutputs told.now)) }
+    ensures begun { OnErr result (BeginsToWrite (W.contents sink.old) (W.contents sink.new) (OfFirst AreOutputs told.now)) }
     ensures failed { IfErr result IsOfWriting }
 {
-    let mut writer = RecordWriter::new(sink);
+    let mut writer = RecordWriter::new(alloc);
     let mut row = NewRecord::new(alloc);
     for one in told {
         row.clear();
         put_output(&mut row, one)?;
-        writer.write(&row)?;
+        writer.write(sink, &row)?;
     }
-    writer.finish()
+    writer.finish(sink)
 }
 
 // Adds the fields of an output.

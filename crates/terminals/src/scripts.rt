@@ -1,11 +1,10 @@
-ghost use Rattle.std.specs.Prelude.{◌≡◌, ◌<◌, ◌-◌, ◌^◌, ℕ, List, length, Some, None, IfOk, IfErr, MatchResult};
-ghost use Rattle.std.specs.Io.KnownBytes.{Appends};
+ghost use Rattle.std.specs.Prelude.{◌≡◌, ◌<◌, ◌-◌, ◌^◌, ℕ, List, length, Some, None, IfOk, IfErr, OnErr, OnOk, MatchResult};
 ghost use Rattle.files.specs.Failure.{IsOfText, IsOfWriting};
 ghost use Rattle.files.specs.FirstFault.{TellsFault};
 ghost use Rattle.files.specs.Place.{IsCsv};
-ghost use Rattle.files.specs.Written.{csv_text};
+ghost use Rattle.files.specs.Sending.{BeginsToWrite, Writes};
 ghost use Rattle.terminals.specs.FirstFault.{script_fault};
-ghost use Rattle.terminals.specs.Script.{IsScript};
+ghost use Rattle.terminals.specs.Script.{BeginsScript, IsScript};
 
 use crate::listing;
 use files::{FileError, Input};
@@ -31,14 +30,11 @@ pub fn read_script<R: Input + Drop>(alloc: Global, source: R) -> Result<Script, 
     }
 }
 
-/// Writes a script: the record of each request, and then the end record. It gives the sink back. Use a
-/// `&mut` to a sink that is needed after a fault too.
-pub fn write_script<W: Write + Drop>(
-    alloc: Global,
-    sink: W,
-    script: &Script,
-) -> Result<W, FileError>
-    ensures written { IfOk result (λ full. (rows : List (List (List ℕ))) × IsScript script.now rows × Appends (W.contents sink) (W.contents full) (csv_text rows)) }
+/// Writes a script to the sink: the record of each request, and then the end record. After an error the sink
+/// has got a beginning of their text.
+pub fn write_script<W: Write>(alloc: Global, sink: &mut W, script: &Script) -> Result<(), FileError>
+    ensures written { OnOk result (Writes (W.contents sink.old) (W.contents sink.new) (IsScript script.now)) }
+    ensures begun { OnErr result (BeginsToWrite (W.contents sink.old) (W.contents sink.new) (BeginsScript script.now)) }
     ensures failed { IfErr result IsOfWriting }
 {
     listing::write(alloc, sink, script.requests())

@@ -1,14 +1,18 @@
 -- The records of all answers, one session more at a time.
-use Rattle.std.proofs.Common.{◌≡◌, ℕ, suc, ◌+◌, ◌<◌, ◌≤◌, List, [], ◌∷◌, ◌++◌, length, take, get_or, Option, None, Some, refl, sym, ap, subst, ◌∙◌, arith, append_assoc, append-nil}
+use Rattle.std.proofs.Common.{◌≡◌, inl, inr, Result, Ok, Err, OnOk, OnErr, drop, take-append-drop, ℕ, suc, ◌+◌, ◌<◌, ◌≤◌, List, [], ◌∷◌, ◌++◌, length, take, get_or, Option, None, Some, refl, sym, ap, subst, ◌∙◌, arith, append_assoc, append-nil}
 use Rattle.std.proofs.lemmas.List.{take_more, length-take-le}
 use Rattle.std.specs.List.{slice_get}
 use Rattle.std.specs.Option.{option_map}
 use Rattle.std.specs.Io.KnownBytes.{Appends}
+use Rattle.std.proofs.KnownBytes.{Appends-nil, Appends-trans}
 use Rattle.requests.specs.declared.answer.Answer.{Answer}
-use Rattle.files.specs.Written.{record_text, csv_text}
-use Rattle.terminals.specs.Answers.{AreAnswers}
-use Rattle.tpcc.specs.Edges.{Writes}
-use Rattle.tpcc.specs.Run.{AreAllAnswers}
+use Rattle.files.specs.Sending.{Begins, BeginsToWrite, OfFirst, Writes}
+use Rattle.files.specs.Written.{csv_text}
+use Rattle.files.proofs.Sent.{begins_after, begins_none, sends_all}
+use Rattle.files.proofs.Texts.{csv_text-append}
+use Rattle.terminals.specs.Answers.{AreAnswers, IsAnswer}
+use Rattle.terminals.proofs.Numbered.{numbered-none}
+use Rattle.tpcc.specs.Run.{AreAllAnswers, BeginAllAnswers}
 
 answers-push : (session : ℕ) (before : List (List Answer)) (rows : List (List (List ℕ))) (told : List Answer) (these : List (List (List ℕ)))
     → AreAllAnswers session before rows → AreAnswers (session + length before) told these → AreAllAnswers session (before ++ told ∷ []) (rows ++ these)
@@ -21,29 +25,10 @@ answers-push session (first ∷ before) rows told these are one =
     let e : session + suc (length before) ≡ session + 1 + length before = omega arith in
     (are.0, are.1 ++ these, are.2, answers-push (session + 1) before are.1 told these are.3 (subst P e one), ap (λ l. l ++ these) are.4 ∙ append_assoc are.0 are.1 these)
 
-csv_text-append : (rows more : List (List (List ℕ))) → csv_text (rows ++ more) ≡ csv_text rows ++ csv_text more
-unfolding csv_text
-csv_text-append [] more = refl
-csv_text-append (fields ∷ rows) more =
-    ap (λ l. record_text fields ++ l) (csv_text-append rows more) ∙ sym (append_assoc (record_text fields) (csv_text rows) (csv_text more))
-
-appends-more : (sink old new : Option (List ℕ)) (text more : List ℕ) → Appends sink old text → Appends old new more → Appends sink new (text ++ more)
-appends-more None old new text more before one = tt
-appends-more (Some bytes) None new text more before one = absurd before
-appends-more (Some bytes) (Some held) None text more before one = absurd one
-appends-more (Some bytes) (Some held) (Some all) text more before one = one ∙ ap (λ l. l ++ more) before ∙ append_assoc bytes text more
-
 -- nothing is printed at first
-no_text : csv_text [] ≡ []
-unfolding csv_text
-no_text = refl
-
-appends-none : (sink : Option (List ℕ)) (text : List ℕ) → text ≡ [] → Appends sink sink text
-appends-none None text e = tt
-appends-none (Some bytes) text e = sym (ap (λ l. bytes ++ l) e ∙ append-nil bytes)
-
 pub prints-none : (sink : Option (List ℕ)) → Writes sink sink (AreAllAnswers 0 [])
-prints-none sink = ([], refl, appends-none sink (csv_text []) no_text)
+unfolding csv_text
+prints-none sink = ([], refl, Appends-nil sink)
 
 -- the answers to one session more
 pub prints-more : (sink old new : Option (List ℕ)) (answers : List (List Answer)) (i : ℕ) (told : List Answer) → i < length answers → told ≡ get_or answers i told
@@ -57,8 +42,56 @@ prints-more sink old new answers i told h e before one =
     let of_text : List ℕ → Type 0 = λ text. Appends sink new text in (
       before.0 ++ one.0,
       subst of_answers (sym all) (answers-push 0 (take i answers) before.0 told one.0 before.1 (subst of_session at one.1)),
-      subst of_text (sym (csv_text-append before.0 one.0)) (appends-more sink old new (csv_text before.0) (csv_text one.0) before.2 one.2),
+      subst of_text (sym (csv_text-append before.0 one.0)) (Appends-trans sink old new (csv_text before.0) (csv_text one.0) before.2 one.2),
     )
+
+-- some first answers to one session more, and of others none
+begun-push : (session : ℕ) (before : List (List Answer)) (rows : List (List (List ℕ))) (told : List Answer) (others : List (List Answer)) (these : List (List (List ℕ)))
+    → AreAllAnswers session before rows → OfFirst (AreAnswers (session + length before)) told these → BeginAllAnswers session (before ++ told ∷ others) (rows ++ these)
+begun-push session [] rows told others these are some =
+    let First : List (List (List ℕ)) → Type 0 = OfFirst (AreAnswers session) told in
+    let P : ℕ → Type 0 = λ n. OfFirst (AreAnswers n) told these in
+    let e : session + 0 ≡ session = omega arith in
+    inl (subst First (sym (ap (λ l. l ++ these) are)) (subst P e some))
+begun-push session (first ∷ before) rows told others these are some =
+    let P : ℕ → Type 0 = λ n. OfFirst (AreAnswers n) told these in
+    let e : session + suc (length before) ≡ session + 1 + length before = omega arith in
+    inr (are.0, are.1 ++ these, are.2, begun-push (session + 1) before are.1 told others these are.3 (subst P e some), ap (λ l. l ++ these) are.4 ∙ append_assoc are.0 are.1 these)
+
+all-begun : (session : ℕ) (answers : List (List Answer)) (rows : List (List (List ℕ))) → AreAllAnswers session answers rows → BeginAllAnswers session answers rows
+all-begun session [] rows are = are
+all-begun session (told ∷ others) rows are = inr (are.0, are.1, are.2, all-begun (session + 1) others are.1 are.3, are.4)
+
+none-begun : (session : ℕ) (answers : List (List Answer)) → BeginAllAnswers session answers []
+none-begun session [] = refl
+none-begun session (told ∷ others) = inl (0, numbered-none (IsAnswer session) 0)
+
+-- no answer is printed
+pub begins-none : (sink : Option (List ℕ)) (answers : List (List Answer)) → BeginsToWrite sink sink (BeginAllAnswers 0 answers)
+begins-none sink answers = ([], none-begun 0 answers, begins_none sink (csv_text []))
+
+-- the answers to some sessions, and some first ones to the next
+pub begins-more : (sink old new : Option (List ℕ)) (answers : List (List Answer)) (i : ℕ) (told : List Answer) → i < length answers → told ≡ get_or answers i told
+    → Writes sink old (AreAllAnswers 0 (take i answers)) → BeginsToWrite old new (OfFirst (AreAnswers i) told) → BeginsToWrite sink new (BeginAllAnswers 0 answers)
+begins-more sink old new answers i told h e before some =
+    let others = drop (i + 1) answers in
+    let up_to : i ≤ length answers = omega arith in
+    let at : i ≡ 0 + length (take i answers) = omega (arith, length-take-le i answers up_to) in
+    let parts : take i answers ++ (told ∷ others) ≡ answers =
+    sym (append_assoc (take i answers) (told ∷ []) others)
+    ∙ ap (λ l. l ++ others) (sym (take_more answers i told h ∙ ap (λ (l : List Answer). take i answers ++ (l ∷ [])) (sym e))) ∙ take-append-drop (i + 1) answers in
+    let of_session : ℕ → Type 0 = λ n. OfFirst (AreAnswers n) told some.0 in
+    let of_answers : List (List Answer) → Type 0 = λ l. BeginAllAnswers 0 l (before.0 ++ some.0) in (
+      before.0 ++ some.0,
+      subst of_answers parts (begun-push 0 (take i answers) before.0 told others some.0 before.1 (subst of_session at some.1)),
+      subst (Begins sink new) (sym (csv_text-append before.0 some.0)) (begins_after sink old new (csv_text before.0) (csv_text some.0) before.2 some.2),
+    )
+
+-- all or some of them
+pub begins-printed : {T E : Type 0} (printed : Result T E) (before after : Option (List ℕ)) (answers : List (List Answer))
+    → OnOk printed (Writes before after (AreAllAnswers 0 answers)) → OnErr printed (BeginsToWrite before after (BeginAllAnswers 0 answers)) → BeginsToWrite before after (BeginAllAnswers 0 answers)
+begins-printed (Ok done) before after answers all some = (all.0, all-begun 0 answers all.0 all.1, ([], sends_all before after (csv_text all.0) all.2))
+begins-printed (Err fault) before after answers all some = some
 
 -- lists that have the same lengths at each place are as many
 pub same_count : {X Y : Type 0} (xs : List (List X)) (ys : List (List Y)) → ((s : ℕ) → option_map length (slice_get xs s) ≡ option_map length (slice_get ys s)) → length xs ≡ length ys

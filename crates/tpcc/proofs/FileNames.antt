@@ -1,7 +1,5 @@
--- A file that was written gets its name, and what was printed is kept.
-use Rattle.std.proofs.Common.{◌≡◌, ℕ, List, Option, None, Some, subst}
-use Rattle.std.specs.Prelude.{Result, Ok, IfOk}
-use Rattle.tpcc.specs.declared.command_fault.CommandFault.{CommandFault}
+-- A file that was written gets its name, where all was printed.
+use Rattle.std.proofs.Common.{Result, Ok, OnOk, ◌≡◌, ℕ, List, Option, None, Some, subst}
 use Rattle.tpcc.specs.Edges.{NamesFile, HasWritten, IsNamed}
 
 module _ {F P : Type 0} (contents : F → Option (List ℕ)) where
@@ -17,6 +15,6 @@ module _ {F P : Type 0} (contents : F → Option (List ℕ)) where
   names_written file AreRows written named between named' same has is =
       subst (λ old. NamesFile contents file old named' AreRows) same (from_written file AreRows written between named' has is)
 
--- what is said of what was printed, where the sink was given back
-pub printed_well : {A : Type 0} (P : A → Type 0) (printed : Result A CommandFault) (full : A) → printed ≡ Ok full → IfOk printed P → P full
-printed_well P printed full is said = subst (λ r. IfOk r P) is said
+-- what is so where all was printed
+pub printed_well : {T E P : Type 0} (printed : Result T E) (t : T) → printed ≡ Ok t → OnOk printed P → P
+printed_well {T} {E} {P} printed t is well = let Well : Result T E → Type 0 = λ r. OnOk r P in subst Well is well

@@ -7,6 +7,7 @@ pub mod SourceLists
 pub mod GatheredTables
 pub mod SimulationEnds
 pub mod ReplayTellings
+pub mod CheckTellings
 pub mod BuiltCommands
 pub mod ParsedWords
 pub mod MixTexts

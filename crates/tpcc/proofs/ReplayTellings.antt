@@ -15,7 +15,7 @@ use Rattle.tpcc.specs.declared.command_fault.CommandFault.TheVariants as fault
 use Rattle.tpcc.specs.EarlyEnds.{IsOfReplaying}
 use Rattle.tpcc.specs.Edges.{Gives}
 use Rattle.tpcc.specs.Faults.{IsOfWritingSome, Tells, status_of}
-use Rattle.tpcc.specs.Replay.{TellsReplay, ReplayEnds}
+use Rattle.tpcc.specs.Replay.{TellsReplay, ReplayEnds, ReplaysSome}
 
 module _ {F : Type 0} (contents : F → Option (List ℕ)) (file : Option F) (s : ReplaySettings) (source : Option (List ℕ)) (source_lasts : Type 0) (log : Option (List ℕ)) (log_lasts : Type 0)
     (before after : Option (List ℕ)) (named named' : Option (List (Option (List ℕ)))) (told told' : Option (List CommandFault)) where
@@ -23,10 +23,10 @@ module _ {F : Type 0} (contents : F → Option (List ℕ)) (file : Option F) (s 
       → TellsReplay contents file before after named named' entries replay ended → told' ≡ told → ReplayEnds contents file s source source_lasts log log_lasts before after named named' told told' ended
   replay_ends opening entries (Equal last) ended is_dataset is_log is_replay tells same =
       subst (ReplayEnds contents file s source source_lasts log log_lasts before after named named' told told') (sym tells.0)
-      (last, record { opening = opening; is_dataset = is_dataset; entries = entries; is_log = is_log; is_replay = is_replay; printed = tells.1; no_fault = same }, tells.2)
+      (last, record { entries = entries; is_replayed = record { opening = opening; is_dataset = is_dataset; is_log = is_log; is_replay = is_replay }; printed = tells.1; no_fault = same }, tells.2)
   replay_ends opening entries (Differs place) ended is_dataset is_log is_replay tells same =
       subst (ReplayEnds contents file s source source_lasts log log_lasts before after named named' told told') (sym tells.0)
-      (place, record { opening = opening; is_dataset = is_dataset; entries = entries; is_log = is_log; is_replay = is_replay; printed = tells.1; no_fault = same }, tells.2)
+      (place, record { entries = entries; is_replayed = record { opening = opening; is_dataset = is_dataset; is_log = is_log; is_replay = is_replay }; printed = tells.1; no_fault = same }, tells.2)
 
   no_condition : (condition : ℕ) → IsOfReplaying s source source_lasts log log_lasts (fault.NotConsistent condition) → ⊥
   no_condition condition (inl a) = a
@@ -39,17 +39,17 @@ module _ {F : Type 0} (contents : F → Option (List ℕ)) (file : Option F) (s 
       none (Some path) a = a
 
   -- the same, where it ends early
-  pub replay_ends_early : (of : CommandFault) (ended : Status) → ended ≡ status_of of → IsOfReplaying s source source_lasts log log_lasts of → Tells told told' of → named' ≡ named
+  pub replay_ends_early : (of : CommandFault) (ended : Status) → ended ≡ status_of of → IsOfReplaying s source source_lasts log log_lasts of → Tells told told' of → named' ≡ named → ReplaysSome source log before after
       → ReplayEnds contents file s source source_lasts log log_lasts before after named named' told told' ended
-  replay_ends_early of ended is said tells same = subst (ReplayEnds contents file s source source_lasts log log_lasts before after named named' told told') (sym is) (by of said tells)
+  replay_ends_early of ended is said tells same some = subst (ReplayEnds contents file s source source_lasts log log_lasts before after named named' told told') (sym is) (by of said tells)
     where
       by : (f : CommandFault) → IsOfReplaying s source source_lasts log log_lasts f → Tells told told' f → ReplayEnds contents file s source source_lasts log log_lasts before after named named' told told' (status_of f)
       by (fault.NotConsistent condition) said tells = absurd (no_condition condition said)
-      by fault.NoMemory said tells = (same, record { fault = fault.NoMemory; said = said; tells = tells; ends = refl })
-      by (fault.File path f) said tells = (same, record { fault = fault.File path f; said = said; tells = tells; ends = refl })
-      by (fault.Failed path number) said tells = (same, record { fault = fault.Failed path number; said = said; tells = tells; ends = refl })
-      by (fault.BadMove place) said tells = (same, record { fault = fault.BadMove place; said = said; tells = tells; ends = refl })
-      by (fault.NoWarehouse warehouse) said tells = (same, record { fault = fault.NoWarehouse warehouse; said = said; tells = tells; ends = refl })
-      by fault.NoThread said tells = (same, record { fault = fault.NoThread; said = said; tells = tells; ends = refl })
-      by fault.Unsettled said tells = (same, record { fault = fault.Unsettled; said = said; tells = tells; ends = refl })
-      by fault.NotIdle said tells = (same, record { fault = fault.NotIdle; said = said; tells = tells; ends = refl })
+      by fault.NoMemory said tells = (same, some, record { fault = fault.NoMemory; said = said; tells = tells; ends = refl })
+      by (fault.File path f) said tells = (same, some, record { fault = fault.File path f; said = said; tells = tells; ends = refl })
+      by (fault.Failed path number) said tells = (same, some, record { fault = fault.Failed path number; said = said; tells = tells; ends = refl })
+      by (fault.BadMove place) said tells = (same, some, record { fault = fault.BadMove place; said = said; tells = tells; ends = refl })
+      by (fault.NoWarehouse warehouse) said tells = (same, some, record { fault = fault.NoWarehouse warehouse; said = said; tells = tells; ends = refl })
+      by fault.NoThread said tells = (same, some, record { fault = fault.NoThread; said = said; tells = tells; ends = refl })
+      by fault.Unsettled said tells = (same, some, record { fault = fault.Unsettled; said = said; tells = tells; ends = refl })
+      by fault.NotIdle said tells = (same, some, record { fault = fault.NotIdle; said = said; tells = tells; ends = refl })

@@ -1,24 +1,19 @@
 -- The files of scripts get their names, one more at a time.
 use Rattle.std.proofs.Common.{◌≡◌, ◌⊎◌, inl, inr, ℕ, suc, ◌+◌, ◌<◌, ◌≤◌, List, [], ◌∷◌, ◌++◌, length, take, drop, get_or, Option, Some, refl, sym, ap, subst, ◌∙◌, arith}
 use Rattle.std.proofs.lemmas.List.{take_more, length-take-le, take-append-drop}
-use Rattle.std.specs.Prelude.{Result, Ok, Err, OnErr}
 use Rattle.workload.specs.declared.sessions.Workload.{Workload}
 use Rattle.tpcc.specs.Edges.{NamesFile}
 use Rattle.std.specs.Borrow.{Bor}
 use Rattle.tpcc.specs.declared.command_fault.CommandFault.{CommandFault}
 use Rattle.tpcc.specs.declared.command_fault.CommandFault.TheVariants.{NoMemory}
 use Rattle.tpcc.specs.declared.settings.script.ScriptSettings.{ScriptSettings}
-use Rattle.tpcc.specs.Faults.{IsOfReading, IsOfWritingOneOf}
-use Rattle.tpcc.specs.Script.{AreDrawn, IsFaultOfHeader, IsOfMaking, NamesFirstScripts, NamesScripts}
-
--- what is so where it fails is so where it does
-pub on_any_err : {T E P : Type 0} (r : Result T E) → P → OnErr r P
-on_any_err (Ok x) p = tt
-on_any_err (Err e) p = p
+use Rattle.dataset.specs.FirstFault.{first_fault}
+use Rattle.tpcc.specs.Faults.{IsFirst, IsOfReading, IsOfWritingOneOf}
+use Rattle.tpcc.specs.Script.{AreDrawn, IsOfMaking, NamesFirstScripts, NamesScripts}
 
 -- one of the files that are made, or no memory, as a fault of the command
 pub of_making : (s : ScriptSettings) (source : Option (List ℕ)) (lasts : Type 0) (paths : List (Bor (List ℕ))) (f : CommandFault) → paths ≡ s.files.items → (f ≡ NoMemory) ⊎ IsOfWritingOneOf paths f → IsOfMaking s source lasts f
-of_making s source lasts paths f is (inl none) = inl (subst (IsOfReading s.«data».now source lasts IsFaultOfHeader) (sym none) tt)
+of_making s source lasts paths f is (inl none) = inl (subst (IsOfReading s.«data».now source lasts (IsFirst first_fault)) (sym none) tt)
 of_making s source lasts paths f is (inr said) = inr (inr (subst (λ l. IsOfWritingOneOf l f) is said))
 
 module _ {F : Type 0} (contents : F → Option (List ℕ)) (workload : Workload) where

@@ -11,7 +11,6 @@ use Rattle.dataset.specs.Records.{AreRecords}
 use Rattle.engine.specs.Faults.{AreWithin, IsFirstBad}
 use Rattle.range_moves.specs.declared.order.MoveOrder.{MoveOrder}
 use Rattle.requests.specs.declared.request.Request.{Request}
-use Rattle.files.specs.declared.fault.FileFault.{FileFault}
 use Rattle.terminals.specs.FirstFault.{log_fault, moves_fault, schedule_fault, script_fault}
 use Rattle.terminals.specs.Script.{IsScript}
 use Rattle.history.specs.declared.schedule.Scheduled.{Scheduled}
@@ -25,22 +24,9 @@ use Rattle.tpcc.specs.declared.settings.replay.ReplaySettings.{ReplaySettings}
 use Rattle.tpcc.specs.declared.settings.run.RunSettings.{RunSettings}
 use Rattle.tpcc.specs.declared.settings.sim.SimSettings.{SimSettings}
 use Rattle.tpcc.specs.Edges.{Gives}
-use Rattle.tpcc.specs.Faults.{IsOfReading, IsOfWriting, IsOfWritingSome, standard_output}
+use Rattle.tpcc.specs.Faults.{IsFirst, IsOfReading, IsOfWriting, IsOfWritingSome, standard_output}
 use Rattle.tpcc.specs.Run.{GivesMoves}
 use Rattle.tpcc.specs.Sim.{IsSimulation}
-
--- the first fault of the records of a log, of a script, of moves and of a schedule
-abbrev pub IsFaultOfLog : List (List (List ℕ)) → FileFault → Type 0
-IsFaultOfLog rows of = log_fault rows ≡ Some of
-
-abbrev pub IsFaultOfScript : List (List (List ℕ)) → FileFault → Type 0
-IsFaultOfScript rows of = script_fault rows ≡ Some of
-
-abbrev pub IsFaultOfMoves : List (List (List ℕ)) → FileFault → Type 0
-IsFaultOfMoves rows of = moves_fault rows ≡ Some of
-
-abbrev pub IsFaultOfSchedule : List (List (List ℕ)) → FileFault → Type 0
-IsFaultOfSchedule rows of = schedule_fault rows ≡ Some of
 
 -- what the source gives are tables
 abbrev pub GivesTables : Option (List ℕ) → Type 0
@@ -62,7 +48,7 @@ IsOfTelling s of = IsOfWriting standard_output of ⊎ IsOfWritingSome s.tables o
 abbrev pub IsOfReplaying : ReplaySettings → Option (List ℕ) → Type 0 → Option (List ℕ) → Type 0 → CommandFault → Type 0
 IsOfReplaying s «data» data_lasts log log_lasts of =
     IsOfReading s.«data».now «data» data_lasts IsFaultOf of
-    ⊎ (GivesTables «data» × IsOfReading s.log.now log log_lasts IsFaultOfLog of)
+    ⊎ (GivesTables «data» × IsOfReading s.log.now log log_lasts (IsFirst log_fault) of)
     ⊎ IsOfTelling s of
 
 -- ---- run
@@ -82,13 +68,13 @@ module _ {S : Type 0} (remaining : S → Option (List ℕ)) (lasts : S → Type 
     pub source : S
     pub is_source : source ≡ get_or sources place source
     pub before : GiveScripts (take place sources)
-    pub said : IsOfReading path.now (remaining source) (lasts source) IsFaultOfScript of
+    pub said : IsOfReading path.now (remaining source) (lasts source) (IsFirst script_fault) of
 
   -- the moves, if there are such
   abbrev pub IsOfMoves : Option (Bor (List ℕ)) → Option S → CommandFault → Type 0
   IsOfMoves None source of = ⊥
   IsOfMoves (Some path) None of = ⊥
-  IsOfMoves (Some path) (Some source) of = IsOfReading path.now (remaining source) (lasts source) IsFaultOfMoves of
+  IsOfMoves (Some path) (Some source) of = IsOfReading path.now (remaining source) (lasts source) (IsFirst moves_fault) of
 
   -- What is read: the dataset; or, as that are tables, a script; or, as all are scripts, the moves.
   abbrev pub IsOfAsking : RunSettings → Option (List ℕ) → Type 0 → List S → Option S → CommandFault → Type 0
@@ -150,6 +136,6 @@ IsOfShowing s of = IsOfWritingSome s.log of ⊎ IsOfWriting standard_output of �
 abbrev pub IsOfSimulating : SimSettings → Option (List ℕ) → Type 0 → Option (List ℕ) → Type 0 → CommandFault → Type 0
 IsOfSimulating s «data» data_lasts source source_lasts of =
     IsOfReading s.«data».now «data» data_lasts IsFaultOf of
-    ⊎ (GivesTables «data» × IsOfReading s.schedule.now source source_lasts IsFaultOfSchedule of)
+    ⊎ (GivesTables «data» × IsOfReading s.schedule.now source source_lasts (IsFirst schedule_fault) of)
     ⊎ IsOfPlaying «data» source s.executors (is_some s.tables) of
     ⊎ IsOfShowing s of

@@ -1,17 +1,12 @@
 -- What goes in and out at a command's edges: sources, files that get names, and faults that are told.
 use Rattle.std.specs.Prelude.{◌≡◌, ℕ, List, [], ◌∷◌, ◌++◌, Option, None, Some}
-use Rattle.std.specs.Io.KnownBytes.{Appends}
 use Rattle.files.specs.Place.{IsCsv}
-use Rattle.files.specs.Written.{csv_text}
+use Rattle.files.specs.Sending.{Writes}
 use Rattle.tpcc.specs.Shelf.{Shelves}
 
 -- where it is known what a source gives, that is the text of records of which this is said
 abbrev pub Gives : Option (List ℕ) → (List (List (List ℕ)) → Type 0) → Type 0
 Gives source AreRows = (text : List ℕ) → source ≡ Some text → (rows : List (List (List ℕ))) × IsCsv text rows × AreRows rows
-
--- where it is known what a sink holds, the text of records of which this is said was added to it
-abbrev pub Writes : Option (List ℕ) → Option (List ℕ) → (List (List (List ℕ)) → Type 0) → Type 0
-Writes before after AreRows = (rows : List (List (List ℕ))) × AreRows rows × Appends before after (csv_text rows)
 
 -- lines, and a line feed behind each
 abbrev pub lines_text : List (List ℕ) → List ℕ

@@ -69,6 +69,10 @@ fault_of_serving serve.Unsettled = fault.Unsettled
 abbrev pub OfRecords : Option (List ℕ) → (List (List (List ℕ)) → Type 0) → Type 0
 OfRecords source Are = (text : List ℕ) (rows : List (List (List ℕ))) → source ≡ Some text → IsCsv text rows → length rows < 2 ^ 64 - 1 → Are rows
 
+-- a fault is the first that such a definition finds in records
+abbrev pub IsFirst : (List (List (List ℕ)) → Option FileFault) → List (List (List ℕ)) → FileFault → Type 0
+IsFirst first rows of = first rows ≡ Some of
+
 -- What may go wrong with the file of that path, which is read and gives this: there is no memory; a read of it failed, which none
 -- does where it lasts; or its records have a fault of which this is said.
 abbrev pub IsOfReading : List ℕ → Option (List ℕ) → Type 0 → (List (List (List ℕ)) → FileFault → Type 0) → CommandFault → Type 0
@@ -87,11 +91,6 @@ IsOfWriting path _ = ⊥
 abbrev pub IsOfWritingSome : Option (Bor (List ℕ)) → CommandFault → Type 0
 IsOfWritingSome None of = ⊥
 IsOfWritingSome (Some path) of = IsOfWriting path.now of
-
--- the same of one that is whole and gets its name, if there is one
-abbrev pub IsOfNaming : {F : Type 0} → Option (Bor (List ℕ) × F) → CommandFault → Type 0
-IsOfNaming None of = ⊥
-IsOfNaming (Some whole) of = IsOfWriting whole.0.now of
 
 -- the same of one of the files of these paths
 pub record IsOfWritingOneOf (paths : List (Bor (List ℕ))) (of : CommandFault) : Type 0 where

@@ -8,7 +8,7 @@ use Rattle.tpcc.specs.declared.command_fault.CommandFault.{CommandFault}
 use Rattle.tpcc.specs.declared.status.Status.{Status}
 use Rattle.tpcc.specs.declared.status.Status.TheVariants as status
 use Rattle.tpcc.specs.Shelf.{Shelves}
-use Rattle.tpcc.specs.Edges.{Writes}
+use Rattle.files.specs.Sending.{Writes}
 use Rattle.tpcc.specs.declared.settings.populate.PopulateSettings.{PopulateSettings}
 use Rattle.tpcc.specs.Faults.{IsOfWriting, EndsEarly}
 

@@ -1,7 +1,8 @@
 -- What `tpcc replay` tells, and how it ends.
-use Rattle.std.specs.Prelude.{◌≡◌, ℕ, List, [], ◌∷◌, ◌++◌, length, Option, codes}
+use Rattle.std.specs.Prelude.{◌≡◌, ◌⊎◌, ℕ, List, [], ◌∷◌, ◌++◌, length, Option, codes}
 use Rattle.std.specs.Fmt.{decimal}
 use Rattle.std.specs.Io.KnownBytes.{Appends}
+use Rattle.files.specs.Sending.{Begins}
 use Rattle.schema.specs.Database.{Database}
 use Rattle.commit_log.specs.declared.entry.Entry.{Entry}
 use Rattle.commit_log.specs.declared.verdict.Replay.{Replay}
@@ -38,23 +39,33 @@ module _ {F : Type 0} (contents : F → Option (List ℕ)) (file : Option F) (be
   TellsReplay entries (Differs place) ended =
       (ended ≡ status.NotConsistent) × Appends before after (lines_text (found_text (found.Differs place) ∷ [])) × (named' ≡ named)
 
-module _ («data» log before after : Option (List ℕ)) (told told' : Option (List CommandFault)) where
-  -- the log's requests were carried out from the tables on that the source gives, with this result, and that was told
-  pub record Replays (replay : Replay) : Type 0 where
-    pub opening : Database
-    pub is_dataset : Gives «data» (AreRecords opening)
+-- the log's requests, which are those of these entries, were carried out from the tables on that the source gives, with this result
+pub record IsReplayed («data» log : Option (List ℕ)) (entries : List Entry) (replay : Replay) : Type 0 where
+  pub opening : Database
+  pub is_dataset : Gives «data» (AreRecords opening)
+  pub is_log : Gives log (IsLog entries)
+  pub is_replay : IsReplayOf opening entries replay
+
+module _ («data» log before after : Option (List ℕ)) where
+  -- they were, and that was told
+  pub record Replays (told told' : Option (List CommandFault)) (replay : Replay) : Type 0 where
     pub entries : List Entry
-    pub is_log : Gives log (IsLog entries)
-    pub is_replay : IsReplayOf opening entries replay
+    pub is_replayed : IsReplayed «data» log entries replay
     pub printed : Appends before after (lines_text (found_text (found_of entries replay) ∷ []))
     pub no_fault : told' ≡ told
+
+  -- nothing was told; or they were carried out, and of the line that tells it a beginning was told
+  abbrev pub ReplaysSome : Type 0
+  ReplaysSome =
+      (after ≡ before)
+      ⊎ ((entries : List Entry) × (replay : Replay) × IsReplayed «data» log entries replay × Begins before after (lines_text (found_text (found_of entries replay) ∷ [])))
 
 module _ {F : Type 0} (contents : F → Option (List ℕ)) (file : Option F) (s : ReplaySettings) («data» : Option (List ℕ)) (data_lasts : Type 0) (log : Option (List ℕ)) (log_lasts : Type 0)
     (before after : Option (List ℕ)) (named named' : Option (List (Option (List ℕ)))) (told told' : Option (List CommandFault)) where
   -- By the exit status: every entry is equal, and the file, if there is one, has got its name with the records of the machine's
-  -- last tables; an entry differs, and no file has got a name; or so it is, and a fault was told: that of
-  -- the dataset, of the log, or of what is written.
+  -- last tables; an entry differs, and no file has got a name; or so it is, and a fault was told, that of
+  -- the dataset, of the log, or of what is written, and of the line a beginning at most.
   abbrev pub ReplayEnds : Status → Type 0
   ReplayEnds status.Success = (last : Database) × Replays «data» log before after told told' (Equal last) × NamesFile contents file named named' (AreRecords last)
   ReplayEnds status.NotConsistent = (place : ℕ) × Replays «data» log before after told told' (Differs place) × (named' ≡ named)
-  ReplayEnds ended = (named' ≡ named) × EndsEarly (IsOfReplaying s «data» data_lasts log log_lasts) told told' ended
+  ReplayEnds ended = (named' ≡ named) × ReplaysSome «data» log before after × EndsEarly (IsOfReplaying s «data» data_lasts log log_lasts) told told' ended

@@ -15,13 +15,21 @@ use Rattle.terminals.specs.Moves.{AreMoves}
 use Rattle.terminals.specs.Script.{IsScript}
 use Rattle.terminals.specs.Answers.{AreAnswers}
 use Rattle.tpcc.specs.declared.command_fault.CommandFault.{CommandFault}
-use Rattle.tpcc.specs.Edges.{Gives, Writes, NamesFile}
+use Rattle.files.specs.Sending.{BeginsToWrite, OfFirst, Writes}
+use Rattle.tpcc.specs.Edges.{Gives, NamesFile}
 
 -- the records of the answers to each session from this one on: by sessions, and those of a session by number
 abbrev pub AreAllAnswers : ℕ → List (List Answer) → List (List (List ℕ)) → Type 0
 AreAllAnswers session [] rows = rows ≡ []
 AreAllAnswers session (told ∷ others) rows =
     (these : List (List (List ℕ))) × (rest : List (List (List ℕ))) × AreAnswers session told these × AreAllAnswers (session + 1) others rest × (rows ≡ these ++ rest)
+
+-- the records of the first of these answers: those of some sessions, and some first ones of the next
+abbrev pub BeginAllAnswers : ℕ → List (List Answer) → List (List (List ℕ)) → Type 0
+BeginAllAnswers session [] rows = rows ≡ []
+BeginAllAnswers session (told ∷ others) rows =
+    OfFirst (AreAnswers session) told rows
+    ⊎ ((these : List (List (List ℕ))) × (rest : List (List (List ℕ))) × AreAnswers session told these × BeginAllAnswers (session + 1) others rest × (rows ≡ these ++ rest))
 
 -- these are the moves that the source gives; if there is none, there are none
 abbrev pub GivesMoves : Option (Option (List ℕ)) → List MoveOrder → Type 0
@@ -41,25 +49,36 @@ pub record AreServed («data» : Option (List ℕ)) (sources : List (Option (Lis
   pub are_scripts : AllZip (λ source script. Gives source (IsScript script)) sources scripts
   pub outcome : IsOutcome opening scripts log last answers
 
-module _ {F : Type 0} (contents : F → Option (List ℕ)) («data» : Option (List ℕ)) (sources : List (Option (List ℕ))) (executors : ℕ) (moving : Option (Option (List ℕ))) (file tables : Option F) where
-  -- no file has got its name; or, where tables are asked for, the log may have, with what is in it where all went well
-  abbrev pub ServesSome : Option (List (Option (List ℕ))) → Option (List (Option (List ℕ))) → Type 0
-  ServesSome named named' =
-      (named' ≡ named)
-      ⊎ ((is_some tables ≡ true)
-      × ((log : List Entry) × (last : Database) × (answers : List (List Answer)) × AreServed «data» sources executors moving log last answers × NamesFile contents file named named' (IsLog log)))
+module _ {F : Type 0} (contents : F → Option (List ℕ)) (file tables : Option F) (before after : Option (List ℕ)) (named named' : Option (List (Option (List ℕ)))) where
+  -- The records of all answers were printed; and the files, of these two those that there are, have got their names, in turn: the log with
+  -- its records, and the tables with the records of the last tables.
+  pub record HandsOut (log : List Entry) (last : Database) (answers : List (List Answer)) : Type 0 where
+    pub printed : Writes before after (AreAllAnswers 0 answers)
+    pub with_log : Option (List (Option (List ℕ)))
+    pub logged : NamesFile contents file named with_log (IsLog log)
+    pub left : NamesFile contents tables with_log named' (AreRecords last)
 
-  module _ (before after : Option (List ℕ)) (named named' : Option (List (Option (List ℕ)))) (told told' : Option (List CommandFault)) where
-    -- The scripts that the sources give were served from the tables that `data` gives; the records of all answers were printed; and
-    -- the files, of these two those that there are, have got their names, in turn: the log with its records, and the tables with the
-    -- records of the last tables.
-    pub record Serves : Type 0 where
-      pub log : List Entry
-      pub last : Database
-      pub answers : List (List Answer)
-      pub are_served : AreServed «data» sources executors moving log last answers
-      pub printed : Writes before after (AreAllAnswers 0 answers)
-      pub with_log : Option (List (Option (List ℕ)))
-      pub logged : NamesFile contents file named with_log (IsLog log)
-      pub left : NamesFile contents tables with_log named' (AreRecords last)
-      pub no_fault : told' ≡ told
+  -- A beginning of these records was printed, and no file has got its name; or all were, and, as tables are asked for, the log has got its
+  -- name, if there is one.
+  abbrev pub HandsOutSome : List Entry → List (List Answer) → Type 0
+  HandsOutSome log answers =
+      (BeginsToWrite before after (BeginAllAnswers 0 answers) × (named' ≡ named))
+      ⊎ ((is_some tables ≡ true) × Writes before after (AreAllAnswers 0 answers) × NamesFile contents file named named' (IsLog log))
+
+module _ {F : Type 0} (contents : F → Option (List ℕ)) («data» : Option (List ℕ)) (sources : List (Option (List ℕ))) (executors : ℕ) (moving : Option (Option (List ℕ))) (file tables : Option F)
+    (before after : Option (List ℕ)) (named named' : Option (List (Option (List ℕ)))) where
+  -- nothing was printed, and no file has got its name; or the scripts were served, and some of what came of it was handed out
+  abbrev pub ServesSome : Type 0
+  ServesSome =
+      ((after ≡ before) × (named' ≡ named))
+      ⊎ ((log : List Entry) × (last : Database) × (answers : List (List Answer)) × AreServed «data» sources executors moving log last answers
+      × HandsOutSome contents file tables before after named named' log answers)
+
+  -- The scripts that the sources give were served from the tables that `data` gives, and all that came of it was handed out.
+  pub record Serves (told told' : Option (List CommandFault)) : Type 0 where
+    pub log : List Entry
+    pub last : Database
+    pub answers : List (List Answer)
+    pub are_served : AreServed «data» sources executors moving log last answers
+    pub handed_out : HandsOut contents file tables before after named named' log last answers
+    pub no_fault : told' ≡ told

@@ -16,8 +16,7 @@ use Rattle.tpcc.specs.declared.command_fault.CommandFault.TheVariants as fault
 use Rattle.tpcc.specs.declared.status.Status.{Status}
 use Rattle.tpcc.specs.declared.status.Status.TheVariants as status
 use Rattle.tpcc.specs.Edges.{NamesFile}
-use Rattle.files.specs.declared.fault.FileFault.{FileFault}
-use Rattle.tpcc.specs.Faults.{IsOfReading, IsOfWritingOneOf, EndsEarly}
+use Rattle.tpcc.specs.Faults.{IsFirst, IsOfReading, IsOfWritingOneOf, EndsEarly}
 
 -- where it is known what a source gives, that begins with the header of a dataset of this scale
 abbrev pub GivesScale : Option (List ℕ) → Scale → Type 0
@@ -42,14 +41,10 @@ abbrev pub IsNoWarehouse : Option ℕ → Scale → CommandFault → Type 0
 IsNoWarehouse home scale (fault.NoWarehouse warehouse) = (home ≡ Some warehouse) × (has_warehouse scale warehouse ≡ false)
 IsNoWarehouse home scale _ = ⊥
 
--- the first fault of a dataset's records
-abbrev pub IsFaultOfHeader : List (List (List ℕ)) → FileFault → Type 0
-IsFaultOfHeader rows of = first_fault rows ≡ Some of
-
 -- the dataset's header; or, as that tells a scale, that the scale has not the home warehouse; or one of the files that are made
 abbrev pub IsOfMaking : ScriptSettings → Option (List ℕ) → Type 0 → CommandFault → Type 0
 IsOfMaking s source lasts of =
-    IsOfReading s.«data».now source lasts IsFaultOfHeader of
+    IsOfReading s.«data».now source lasts (IsFirst first_fault) of
     ⊎ ((scale : Scale) × GivesScale source scale × IsNoWarehouse s.home scale of)
     ⊎ IsOfWritingOneOf s.files.items of
 

@@ -18,7 +18,8 @@ use Rattle.terminals.specs.Outputs.{AreOutputs}
 use Rattle.terminals.specs.Schedule.{IsSchedule}
 use Rattle.tpcc.specs.declared.command_fault.CommandFault.{CommandFault}
 use Rattle.tpcc.specs.Shelf.{Shelves}
-use Rattle.tpcc.specs.Edges.{Gives, Writes, NamesFile}
+use Rattle.files.specs.Sending.{BeginsToWrite, OfFirst, Writes}
+use Rattle.tpcc.specs.Edges.{Gives, NamesFile}
 
 -- this schedule, which its source gives, was simulated on the tables that `data` gives, with so many executors, and this came of it
 pub record IsSimulation («data» source : Option (List ℕ)) (executors : ℕ) (schedule : List Scheduled) (simulation : Simulation) : Type 0 where
@@ -39,27 +40,39 @@ module _ {F : Type 0} (contents : F → Option (List ℕ)) where
   NamesTables None named named' gathered = named' ≡ named
   NamesTables (Some file) named named' gathered = (last : Database) × (gathered ≡ Ok last) × NamesFile contents (Some file) named named' (AreRecords last)
 
-  -- no file has got its name; or the log has, and then the picture may have, with what is in them where all went well
-  abbrev pub SimulatesSome : Option (List ℕ) → Option (List ℕ) → ℕ → Option F → Option F → Option (List (Option (List ℕ))) → Option (List (Option (List ℕ))) → Type 0
-  SimulatesSome «data» source executors log picture named named' =
-      (named' ≡ named)
-      ⊎ ((schedule : List Scheduled) × (simulation : Simulation) × IsSimulation «data» source executors schedule simulation
-      × (with_log : Option (List (Option (List ℕ)))) × NamesFile contents log named with_log (IsLog simulation.log.items)
-      × ((named' ≡ with_log) ⊎ NamesPicture picture with_log named' executors schedule simulation.outputs.items))
-
-  module _ («data» source : Option (List ℕ)) (executors : ℕ) (log picture tables : Option F) (before after : Option (List ℕ))
-      (named named' : Option (List (Option (List ℕ)))) (told told' : Option (List CommandFault)) where
-    -- The schedule that its source gives was simulated on the tables that `data` gives; the records of all its outputs were printed; and
-    -- the files, of these three those that there are, have got their names, in turn: the log with the records of the simulation's log, the
-    -- picture with the drawing of its outputs, and the tables with the records of its tables.
-    pub record SimulatesAll : Type 0 where
-      pub schedule : List Scheduled
-      pub simulation : Simulation
-      pub is_simulation : IsSimulation «data» source executors schedule simulation
+  module _ (executors : ℕ) (schedule : List Scheduled) (simulation : Simulation) (log picture tables : Option F) (before after : Option (List ℕ)) (named named' : Option (List (Option (List ℕ)))) where
+    -- The records of all outputs of the simulation were printed; and the files, of these three those that there are, have got their names, in
+    -- turn: the log with the records of the simulation's log, the picture with the drawing of its outputs, and the tables with the records
+    -- of its tables.
+    pub record Shows : Type 0 where
       pub printed : Writes before after (AreOutputs simulation.outputs.items)
       pub with_log : Option (List (Option (List ℕ)))
       pub with_picture : Option (List (Option (List ℕ)))
       pub logged : NamesFile contents log named with_log (IsLog simulation.log.items)
       pub drawn : NamesPicture picture with_log with_picture executors schedule simulation.outputs.items
       pub gathered : NamesTables tables with_picture named' simulation.tables
+
+    -- A beginning of these records was printed, and no file has got its name; or all were, and the log has got its name, if there is one,
+    -- and then the picture may have.
+    abbrev pub ShowsSome : Type 0
+    ShowsSome =
+        (BeginsToWrite before after (OfFirst AreOutputs simulation.outputs.items) × (named' ≡ named))
+        ⊎ (Writes before after (AreOutputs simulation.outputs.items)
+        × (with_log : Option (List (Option (List ℕ)))) × NamesFile contents log named with_log (IsLog simulation.log.items)
+        × ((named' ≡ with_log) ⊎ NamesPicture picture with_log named' executors schedule simulation.outputs.items))
+
+  module _ («data» source : Option (List ℕ)) (executors : ℕ) (log picture tables : Option F) (before after : Option (List ℕ)) (named named' : Option (List (Option (List ℕ)))) where
+    -- nothing was printed, and no file has got its name; or the schedule was simulated, and some of what came of it was shown
+    abbrev pub SimulatesSome : Type 0
+    SimulatesSome =
+        ((after ≡ before) × (named' ≡ named))
+        ⊎ ((schedule : List Scheduled) × (simulation : Simulation) × IsSimulation «data» source executors schedule simulation
+        × ShowsSome executors schedule simulation log picture tables before after named named')
+
+    -- The schedule that its source gives was simulated on the tables that `data` gives, and all that came of it was shown.
+    pub record SimulatesAll (told told' : Option (List CommandFault)) : Type 0 where
+      pub schedule : List Scheduled
+      pub simulation : Simulation
+      pub is_simulation : IsSimulation «data» source executors schedule simulation
+      pub shows : Shows executors schedule simulation log picture tables before after named named'
       pub no_fault : told' ≡ told

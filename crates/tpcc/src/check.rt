@@ -1,6 +1,6 @@
-ghost use Rattle.std.specs.Prelude.{◌≡◌, List, Option, IfOk, IfErr};
+ghost use Rattle.std.specs.Prelude.{◌≡◌, List, Option, IfOk, IfErr, OnErr};
 ghost use Rattle.tpcc.specs.declared.command_fault.CommandFault as command_fault;
-ghost use Rattle.tpcc.specs.Check.{Checks, CheckEnds};
+ghost use Rattle.tpcc.specs.Check.{Checks, ChecksSome, CheckEnds};
 ghost use Rattle.tpcc.specs.EarlyEnds.{IsOfChecking};
 
 use crate::command_fault::CommandFault;
@@ -17,7 +17,8 @@ use std::io::Write;
 /// meets it, and gives the exit status.
 ///
 /// On `found` comes `1 ok` or `1 broken`, and so on to 12, where 11 is `11 skipped` unless the dataset is
-/// said to be fresh. Why a check ended early is told to `errors`: a fault of the file, or no memory.
+/// said to be fresh; a beginning of these lines at most where a check ends early. Why it does is told to
+/// `errors`: a fault of the file, or no memory.
 pub fn check_over<D: Input + Drop, A: Write, E: Report>(
     alloc: Global,
     settings: &CheckSettings,
@@ -42,6 +43,7 @@ fn check<'a, D: Input + Drop, A: Write>(
     found: &mut A,
 ) -> Result<bool, CommandFault<'a>>
     ensures checks { IfOk result (λ broken. (told : Option (List command_fault.CommandFault)) → Checks settings.entry.now.fresh (D.remaining «data») (A.contents found.old) (A.contents found.new) told told broken) }
+    ensures some { OnErr result (ChecksSome settings.entry.now.fresh (D.remaining «data») (A.contents found.old) (A.contents found.new)) }
     ensures fault { IfErr result (IsOfChecking settings.entry.now (D.remaining «data») (D.lasts «data»)) }
 {
     let tables = read_tables(alloc, settings.data, data)?;

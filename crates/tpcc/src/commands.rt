@@ -7,7 +7,8 @@ use crate::settings::Settings;
 use crate::status::Status;
 use crate::streams::STANDARD_OUTPUT;
 use crate::trouble::Trouble;
-use std::io::{Stderr, Stdout, Write};
+use files::send;
+use std::io::{Stderr, Stdout};
 use std::rt::{Clock, Files};
 use std::sync::Wait;
 use std::thread::Threads;
@@ -41,13 +42,13 @@ pub fn carry_out<R: Files + AllocGlobal + Clock + Threads + Wait + Sync>(
     }
 }
 
-// The exit status of a command that gives its sink back.
-fn ended<A: Drop>(end: Result<A, Status>) -> Status
+// The exit status of a command.
+fn ended(end: Result<(), Status>) -> Status
     ensures done { OnOk end (result ≡ Status.Success) }
     ensures early { IfErr end (λ status. result ≡ status) }
 {
     match end {
-        Ok(_) => Status::Success,
+        Ok(()) => Status::Success,
         Err(status) => status,
     }
 }
@@ -60,7 +61,7 @@ fn print_text<R: Files + AllocGlobal>(
     text: &str,
 ) -> Status {
     let trouble = Trouble::new();
-    match NotingWriter::new(stdout, &trouble).write_all(text.as_bytes()) {
+    match send(&mut NotingWriter::new(stdout, &trouble), text.as_bytes()) {
         Ok(()) => Status::Success,
         Err(error) => {
             let fault = trouble.not_opened(STANDARD_OUTPUT, &error);

@@ -5,6 +5,7 @@ use crate::command_fault::CommandFault;
 use crate::output::{NewFile, make};
 use crate::progress::{Meter, ProgressReader};
 use crate::trouble::Trouble;
+use files::Reader;
 use std::fs;
 use std::io::{IsTerminal, Stderr};
 use std::rt::Files;
@@ -19,7 +20,7 @@ pub struct Opener<'a, R> {
 }
 
 /// A file that is read, of which it is told on a terminal.
-pub type Watched<'a, F> = ProgressReader<'a, F, Stderr>;
+pub type Watched<'a, F> = ProgressReader<'a, Reader<F>, Stderr>;
 
 impl<'a, R: Files + AllocGlobal> Opener<'a, R> {
     /// Files of `rt`, of which is told on the standard error where that is a terminal, unless `quiet`.
@@ -38,9 +39,9 @@ impl<'a, R: Files + AllocGlobal> Opener<'a, R> {
 
     /// Opens a file that is read.
     pub fn open(&self, path: &'a str) -> Result<Watched<'a, R::File>, CommandFault<'a>> {
-        let file = self.trouble.opened(path, fs::open(self.rt, path))?;
+        let source = self.trouble.opened(path, fs::open(self.rt, path))?;
         let meter = Meter::new(path, "read", self.terminal);
-        Ok(ProgressReader::new(file, meter, self.trouble))
+        Ok(ProgressReader::new(Reader { source }, meter, self.trouble))
     }
 
     /// Opens the file that is read, if there is to be one.

@@ -2,7 +2,7 @@ use crate::escaped::Escaped;
 use crate::trouble::Trouble;
 use files::Input;
 use std::io;
-use std::io::{Read, Write};
+use std::io::Write;
 
 // It is told of each so many bytes.
 const STRIDE: u64 = 16_000_000;
@@ -61,8 +61,7 @@ impl<'a, W: Write + Drop> Meter<'a, W> {
     }
 }
 
-/// A reader of whose reading it is told on a terminal, and what the system says of it noted. A read of it may
-/// fail.
+/// A reader of whose reading it is told on a terminal, and what the system says of it noted.
 #[derive(Drop)]
 pub struct ProgressReader<'a, R, W> {
     source: R,
@@ -70,7 +69,7 @@ pub struct ProgressReader<'a, R, W> {
     trouble: &'a Trouble,
 }
 
-impl<'a, R: Read + Drop, W: Write + Drop> ProgressReader<'a, R, W> {
+impl<'a, R: Input + Drop, W: Write + Drop> ProgressReader<'a, R, W> {
     pub fn new(source: R, meter: Meter<'a, W>, trouble: &'a Trouble) -> Self {
         ProgressReader {
             source,
@@ -80,10 +79,10 @@ impl<'a, R: Read + Drop, W: Write + Drop> ProgressReader<'a, R, W> {
     }
 }
 
-impl<R: Read + Drop, W: Write + Drop> Input for ProgressReader<'_, R, W> {
+impl<R: Input + Drop, W: Write + Drop> Input for ProgressReader<'_, R, W> {
     ghost remaining = { λ reader. R.remaining reader.source };
 
-    ghost lasts = { λ _. ⊥ };
+    ghost lasts = { λ reader. R.lasts reader.source };
 
     fn read(&mut self, buf: &mut [u8]) -> io::Result<usize> {
         match self.source.read(buf) {

@@ -1,11 +1,13 @@
-ghost use Rattle.std.specs.Prelude.{◌≡◌, is_some, IfOk, IfErr, OnErr};
+ghost use Rattle.std.specs.Prelude.{◌≡◌, ◌∷◌, [], is_some, IfOk, IfErr, OnErr};
+ghost use Rattle.files.specs.Sending.{Begins};
+ghost use Rattle.terminals.specs.FirstFault.{log_fault};
 ghost use Rattle.terminals.specs.LogRecord.{IsLog};
-ghost use Rattle.tpcc.specs.Edges.{Gives};
-ghost use Rattle.tpcc.specs.EarlyEnds.{IsFaultOfLog, IsOfReplaying, IsOfTelling};
-ghost use Rattle.tpcc.specs.Faults.{IsOfReading};
+ghost use Rattle.tpcc.specs.Edges.{Gives, lines_text};
+ghost use Rattle.tpcc.specs.EarlyEnds.{IsOfReplaying, IsOfTelling};
+ghost use Rattle.tpcc.specs.Faults.{IsFirst, IsOfReading};
 ghost use Rattle.schema.specs.Database.{Database};
 ghost use Rattle.commit_log.specs.Replay.{IsReplayOf};
-ghost use Rattle.tpcc.specs.Replay.{TellsReplay, ReplayEnds};
+ghost use Rattle.tpcc.specs.Replay.{TellsReplay, ReplayEnds, ReplaysSome, found_of, found_text};
 
 use crate::command_fault::CommandFault;
 use crate::report::Report;
@@ -30,8 +32,8 @@ use terminals::read_log;
 /// `data` is read first, and then the log; the first fault decides, and then nothing was carried out. On
 /// `found` comes `equal N` where every entry is what the engine does, of which there are N, and then the
 /// tables are written to `tables` and get their name on `shelf`; else `differs P`, with the first place
-/// whose request is refused or whose reply is another. Why a replay ended early is told to `errors`: a
-/// fault of a file, or no memory.
+/// whose request is refused or whose reply is another; a beginning of this line at most where a replay ends
+/// early. Why it does is told to `errors`: a fault of a file, or no memory.
 pub fn replay_over<
     R: Clock,
     D: Input + Drop,
@@ -84,6 +86,7 @@ fn replay_log<
     requires { is_some tables ≡ is_some settings.now.tables }
     ensures ends { IfOk result (ReplayEnds T.contents tables settings.entry.now (D.remaining «data») (D.lasts «data») (L.remaining log) (L.lasts log) (A.contents found.old) (A.contents found.new) (N.named shelf.old) (N.named shelf.new) (E.told errors.old) (E.told errors.new)) }
     ensures named { OnErr result (N.named shelf.new ≡ N.named shelf.old) }
+    ensures some { OnErr result (ReplaysSome (D.remaining «data») (L.remaining log) (A.contents found.old) (A.contents found.new)) }
     ensures told { OnErr result (E.told errors.new ≡ E.told errors.old) }
     ensures fault { IfErr result (IsOfReplaying settings.entry.now (D.remaining «data») (D.lasts «data») (L.remaining log) (L.lasts log)) }
 {
@@ -130,6 +133,7 @@ fn tell<'a, A: Write, T: Write + Drop, N: Shelf<T>>(
     requires { is_some tables ≡ is_some settings.now.tables }
     ensures tells { IfOk result (TellsReplay T.contents tables (A.contents found.old) (A.contents found.new) (N.named shelf.old) (N.named shelf.new) entries.now came_to) }
     ensures named { OnErr result (N.named shelf.new ≡ N.named shelf.old) }
+    ensures begun { OnErr result (Begins (A.contents found.old) (A.contents found.new) (lines_text (found_text (found_of entries.now came_to) ∷ []))) }
     ensures fault { IfErr result (IsOfTelling settings.entry.now) }
 {
     match came_to {
@@ -169,7 +173,7 @@ fn read_entries<'a, L: Input + Drop>(
     log: L,
 ) -> Result<Vec<Entry>, CommandFault<'a>>
     ensures entries { IfOk result (λ entries. Gives (L.remaining log) (IsLog entries.items)) }
-    ensures fault { IfErr result (IsOfReading path.now (L.remaining log) (L.lasts log) IsFaultOfLog) }
+    ensures fault { IfErr result (IsOfReading path.now (L.remaining log) (L.lasts log) (IsFirst log_fault)) }
 {
     match read_log(alloc, log) {
         Ok(entries) => Ok(entries),

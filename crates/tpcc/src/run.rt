@@ -1,12 +1,13 @@
-ghost use Rattle.std.specs.Prelude.{◌≡◌, ◌⊎◌, ◌≤◌, length, map, is_some, IfOk, IfErr, OnErr};
+ghost use Rattle.std.specs.Prelude.{◌≡◌, ◌⊎◌, ◌≤◌, length, map, is_some, IfOk, IfErr, OnOk, OnErr};
 ghost use Rattle.std.specs.List.{AllZip};
 ghost use Rattle.std.specs.Option.{option_map};
 ghost use Rattle.terminals.specs.Answers.{AreAnswers};
 ghost use Rattle.terminals.specs.Script.{IsScript};
-ghost use Rattle.tpcc.specs.Edges.{Gives, Writes};
-ghost use Rattle.tpcc.specs.EarlyEnds.{IsOfMoves, IsOfRunning, IsOfScripts};
+ghost use Rattle.files.specs.Sending.{BeginsToWrite, OfFirst, Writes};
+ghost use Rattle.tpcc.specs.Edges.{Gives};
+ghost use Rattle.tpcc.specs.EarlyEnds.{IsOfAnswering, IsOfMoves, IsOfRunning, IsOfScripts};
 ghost use Rattle.tpcc.specs.Faults.{IsOfWriting, standard_output, EndsEarly};
-ghost use Rattle.tpcc.specs.Run.{AreAllAnswers, GivesMoves, Serves, ServesSome};
+ghost use Rattle.tpcc.specs.Run.{AreAllAnswers, BeginAllAnswers, GivesMoves, HandsOut, HandsOutSome, Serves, ServesSome};
 ghost use Rattle.tpcc.specs.Settings.{IsRunnable};
 
 use crate::command_fault::CommandFault;
@@ -18,7 +19,7 @@ use crate::streams::{STANDARD_OUTPUT, name_printed, read_tables, write_entries, 
 use crate::summary::Summary;
 use crate::tally::Tally;
 use crate::watch::Watch;
-use engine::{Answers, serve};
+use engine::{Answers, Outcome, serve};
 use files::Input;
 use range_moves::MoveOrder;
 use requests::Script;
@@ -43,7 +44,7 @@ pub fn run_over<
     R: Clock + Threads + Wait + Sync,
     D: Input + Drop,
     S: Input + Drop,
-    A: Write + Drop,
+    A: Write,
     F: Write + Drop,
     N: Shelf<F>,
     E: Report,
@@ -54,26 +55,26 @@ pub fn run_over<
     data: D,
     scripts: &mut [S],
     moves: Option<S>,
-    answers: A,
+    answers: &mut A,
     log: Option<F>,
     tables: Option<F>,
     shelf: &mut N,
     watch: Watch<'_, R>,
     errors: &mut E,
-) -> Result<A, Status>
+) -> Result<(), Status>
     requires limits { IsRunnable settings.now }
     requires sources { length scripts.old ≡ length settings.now.scripts.items }
     requires moves { is_some moves ≡ is_some settings.now.moves }
     requires log { is_some log ≡ is_some settings.now.log }
     requires tables { is_some tables ≡ is_some settings.now.tables }
-    ensures serves { IfOk result (λ full. Serves F.contents (D.remaining «data») (map S.remaining scripts.old) settings.now.executors (option_map S.remaining moves) log tables (A.contents answers) (A.contents full) (N.named shelf.old) (N.named shelf.new) (E.told errors.old) (E.told errors.new)) }
-    ensures some { OnErr result (ServesSome F.contents (D.remaining «data») (map S.remaining scripts.old) settings.now.executors (option_map S.remaining moves) log tables (N.named shelf.old) (N.named shelf.new)) }
+    ensures serves { OnOk result (Serves F.contents (D.remaining «data») (map S.remaining scripts.old) settings.now.executors (option_map S.remaining moves) log tables (A.contents answers.old) (A.contents answers.new) (N.named shelf.old) (N.named shelf.new) (E.told errors.old) (E.told errors.new)) }
+    ensures some { OnErr result (ServesSome F.contents (D.remaining «data») (map S.remaining scripts.old) settings.now.executors (option_map S.remaining moves) log tables (A.contents answers.old) (A.contents answers.new) (N.named shelf.old) (N.named shelf.new)) }
     ensures early { IfErr result (EndsEarly (IsOfRunning S.remaining S.lasts settings.now (D.remaining «data») (D.lasts «data») scripts.old moves) (E.told errors.old) (E.told errors.new)) }
 {
     match run(
         rt, alloc, settings, data, scripts, moves, answers, log, tables, shelf, watch, errors,
     ) {
-        Ok(full) => Ok(full),
+        Ok(()) => Ok(()),
         Err(fault) => Err(errors.report(fault)),
     }
 }
@@ -83,7 +84,7 @@ fn run<
     R: Clock + Threads + Wait + Sync,
     D: Input + Drop,
     S: Input + Drop,
-    A: Write + Drop,
+    A: Write,
     F: Write + Drop,
     N: Shelf<F>,
     E: Report,
@@ -94,20 +95,20 @@ fn run<
     data: D,
     scripts: &mut [S],
     moves: Option<S>,
-    answers: A,
+    answers: &mut A,
     log: Option<F>,
     tables: Option<F>,
     shelf: &mut N,
     mut watch: Watch<'_, R>,
     errors: &mut E,
-) -> Result<A, CommandFault<'a>>
+) -> Result<(), CommandFault<'a>>
     requires limits { IsRunnable settings.now }
     requires sources { length scripts.old ≡ length settings.now.scripts.items }
     requires moves { is_some moves ≡ is_some settings.now.moves }
     requires log { is_some log ≡ is_some settings.now.log }
     requires tables { is_some tables ≡ is_some settings.now.tables }
-    ensures serves { IfOk result (λ full. Serves F.contents (D.remaining «data») (map S.remaining scripts.old) settings.now.executors (option_map S.remaining moves) log tables (A.contents answers) (A.contents full) (N.named shelf.old) (N.named shelf.new) (E.told errors.old) (E.told errors.new)) }
-    ensures some { OnErr result (ServesSome F.contents (D.remaining «data») (map S.remaining scripts.old) settings.now.executors (option_map S.remaining moves) log tables (N.named shelf.old) (N.named shelf.new)) }
+    ensures serves { OnOk result (Serves F.contents (D.remaining «data») (map S.remaining scripts.old) settings.now.executors (option_map S.remaining moves) log tables (A.contents answers.old) (A.contents answers.new) (N.named shelf.old) (N.named shelf.new) (E.told errors.old) (E.told errors.new)) }
+    ensures some { OnErr result (ServesSome F.contents (D.remaining «data») (map S.remaining scripts.old) settings.now.executors (option_map S.remaining moves) log tables (A.contents answers.old) (A.contents answers.new) (N.named shelf.old) (N.named shelf.new)) }
     ensures told { OnErr result (E.told errors.new ≡ E.told errors.old) }
     ensures fault { IfErr result (IsOfRunning S.remaining S.lasts settings.now (D.remaining «data») (D.lasts «data») scripts.old moves) }
 {
@@ -129,10 +130,7 @@ fn run<
         Err(fault) => return Err(CommandFault::of_serving(fault)),
     };
     watch.end();
-    let log = write_entries(alloc, settings.log, log, outcome.log.as_slice(), shelf)?;
-    let printed = print_answers(alloc, answers, outcome.answers.as_slice());
-    let full = name_printed(printed, log, shelf)?;
-    write_tables(alloc, settings.tables, tables, &outcome.tables, shelf)?;
+    hand_out(alloc, settings, &outcome, answers, log, tables, shelf)?;
     sum_up(
         alloc,
         &watch,
@@ -140,7 +138,31 @@ fn run<
         outcome.answers.as_slice(),
         errors,
     );
-    Ok(full)
+    Ok(())
+}
+
+// Writes the log, prints the answers, gives the log its name, and then writes the tables and gives them
+// theirs.
+fn hand_out<'a, A: Write, F: Write + Drop, N: Shelf<F>>(
+    alloc: Global,
+    settings: &RunSettings<'a>,
+    outcome: &Outcome,
+    answers: &mut A,
+    log: Option<F>,
+    tables: Option<F>,
+    shelf: &mut N,
+) -> Result<(), CommandFault<'a>>
+    requires few { length outcome.now.answers.items ≤ 64 }
+    requires log { is_some log ≡ is_some settings.now.log }
+    requires tables { is_some tables ≡ is_some settings.now.tables }
+    ensures all { OnOk result (HandsOut F.contents log tables (A.contents answers.old) (A.contents answers.new) (N.named shelf.old) (N.named shelf.new) outcome.now.log.items outcome.now.tables outcome.now.answers.items) }
+    ensures some { OnErr result (HandsOutSome F.contents log tables (A.contents answers.old) (A.contents answers.new) (N.named shelf.old) (N.named shelf.new) outcome.now.log.items outcome.now.answers.items) }
+    ensures fault { IfErr result (IsOfAnswering settings.now) }
+{
+    let log = write_entries(alloc, settings.log, log, outcome.log.as_slice(), shelf)?;
+    let printed = print_answers(alloc, answers, outcome.answers.as_slice());
+    name_printed(printed, log, shelf)?;
+    write_tables(alloc, settings.tables, tables, &outcome.tables, shelf)
 }
 
 // The scripts of these paths.
@@ -184,35 +206,36 @@ fn read_orders<'a, S: Input + Drop>(
     }
 }
 
-// Prints the records of all answers, and gives the sink back.
-fn print_answers<A: Write + Drop>(
+// Prints the records of all answers. After an error a beginning of them was printed.
+fn print_answers<A: Write>(
     alloc: Global,
-    sink: A,
+    sink: &mut A,
     answers: &[Answers],
-) -> Result<A, CommandFault<'static>>
+) -> Result<(), CommandFault<'static>>
     requires { length answers.now ≤ 64 }
-    ensures printed { IfOk result (λ full. Writes (A.contents sink) (A.contents full) (AreAllAnswers 0 answers.now)) }
+    ensures printed { OnOk result (Writes (A.contents sink.old) (A.contents sink.new) (AreAllAnswers 0 answers.now)) }
+    ensures begun { OnErr result (BeginsToWrite (A.contents sink.old) (A.contents sink.new) (BeginAllAnswers 0 answers.now)) }
     ensures fault { IfErr result (IsOfWriting standard_output) }
 {
-    let mut sink = sink;
     for (session, told) in answers.iter().enumerate() {
-        sink = print_session(alloc, sink, session as u32, told)?;
+        print_session(alloc, sink, session as u32, told)?;
     }
-    Ok(sink)
+    Ok(())
 }
 
-// Prints the records of the answers to a session, and gives the sink back.
-fn print_session<A: Write + Drop>(
+// Prints the records of the answers to a session. After an error a beginning of them was printed.
+fn print_session<A: Write>(
     alloc: Global,
-    sink: A,
+    sink: &mut A,
     session: u32,
     told: &Answers,
-) -> Result<A, CommandFault<'static>>
-    ensures printed { IfOk result (λ full. Writes (A.contents sink) (A.contents full) (AreAnswers session told.now)) }
+) -> Result<(), CommandFault<'static>>
+    ensures printed { OnOk result (Writes (A.contents sink.old) (A.contents sink.new) (AreAnswers session told.now)) }
+    ensures begun { OnErr result (BeginsToWrite (A.contents sink.old) (A.contents sink.new) (OfFirst (AreAnswers session) told.now)) }
     ensures fault { IfErr result (IsOfWriting standard_output) }
 {
     match write_answers(alloc, sink, session, told.as_slice()) {
-        Ok(full) => Ok(full),
+        Ok(()) => Ok(()),
         Err(error) => Err(CommandFault::of_file(STANDARD_OUTPUT, error)),
     }
 }

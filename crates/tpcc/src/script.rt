@@ -1,6 +1,7 @@
 ghost use Rattle.std.specs.Prelude.{◌≡◌, ◌⊎◌, ◌≤◌, length, IfOk, IfErr, OnOk, OnErr};
-ghost use Rattle.tpcc.specs.Faults.{IsOfReading, IsOfWritingOneOf};
-ghost use Rattle.tpcc.specs.Script.{GivesScale, IsFaultOfHeader, IsNoWarehouse, IsOfMaking, MakesAll, MakesSome, NamesFirstScripts, NamesScripts, ScriptEnds, IsWorkload};
+ghost use Rattle.dataset.specs.FirstFault.{first_fault};
+ghost use Rattle.tpcc.specs.Faults.{IsFirst, IsOfReading, IsOfWritingOneOf};
+ghost use Rattle.tpcc.specs.Script.{GivesScale, IsNoWarehouse, IsOfMaking, MakesAll, MakesSome, NamesFirstScripts, NamesScripts, ScriptEnds, IsWorkload};
 ghost use Rattle.tpcc.specs.Settings.{HasFiles};
 
 use crate::command_fault::CommandFault;
@@ -66,7 +67,7 @@ fn read_header<'a, D: Input + Drop>(
     data: D,
 ) -> Result<Scale, CommandFault<'a>>
     ensures scale { IfOk result (GivesScale (D.remaining «data»)) }
-    ensures fault { IfErr result (IsOfReading path.now (D.remaining «data») (D.lasts «data») IsFaultOfHeader) }
+    ensures fault { IfErr result (IsOfReading path.now (D.remaining «data») (D.lasts «data») (IsFirst first_fault)) }
 {
     match read_scale(alloc, data) {
         Ok(scale) => Ok(scale),

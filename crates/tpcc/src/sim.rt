@@ -1,11 +1,13 @@
 ghost use Rattle.std.specs.Prelude.{◌≡◌, ◌⊎◌, is_some, IfOk, IfErr, OnOk, OnErr};
+ghost use Rattle.terminals.specs.FirstFault.{schedule_fault};
 ghost use Rattle.terminals.specs.Outputs.{AreOutputs};
 ghost use Rattle.terminals.specs.Schedule.{IsSchedule};
-ghost use Rattle.tpcc.specs.Edges.{Gives, Writes};
-ghost use Rattle.tpcc.specs.EarlyEnds.{IsFaultOfSchedule, IsOfGathering, IsOfSimulating};
-ghost use Rattle.tpcc.specs.Faults.{IsOfReading, IsOfWriting, IsOfWritingSome, standard_output, EndsEarly};
+ghost use Rattle.files.specs.Sending.{BeginsToWrite, OfFirst, Writes};
+ghost use Rattle.tpcc.specs.Edges.{Gives};
+ghost use Rattle.tpcc.specs.EarlyEnds.{IsOfGathering, IsOfShowing, IsOfSimulating};
+ghost use Rattle.tpcc.specs.Faults.{IsFirst, IsOfReading, IsOfWriting, IsOfWritingSome, standard_output, EndsEarly};
 ghost use Rattle.tpcc.specs.Settings.{HasExecutors};
-ghost use Rattle.tpcc.specs.Sim.{NamesPicture, NamesTables, SimulatesAll, SimulatesSome};
+ghost use Rattle.tpcc.specs.Sim.{NamesPicture, NamesTables, Shows, ShowsSome, SimulatesAll, SimulatesSome};
 
 use crate::command_fault::CommandFault;
 use crate::report::Report;
@@ -22,7 +24,7 @@ use schema::{Scale, Tables};
 use std::alloc::Global;
 use std::io::Write;
 use terminals::{read_schedule, write_outputs};
-use world::{GatherFault, OpenFault, simulate};
+use world::{GatherFault, OpenFault, Simulation, simulate};
 
 /// Simulates a schedule on the dataset, event by event. An error is the exit status.
 ///
@@ -31,12 +33,12 @@ use world::{GatherFault, OpenFault, simulate};
 /// record for each event; then the log gets its name on `shelf`, then the picture of what was printed is
 /// written to `picture` and gets its name, and so do the tables. There are none while a transaction is
 /// active or a move outstanding, or where there is no memory for them, which is no fault where none are asked
-/// for. `told` is given back. Why a simulation ended early is told to `errors`: a fault of a file, tables that
+/// for. Why a simulation ended early is told to `errors`: a fault of a file, tables that
 /// are not consistent, a transaction that is active or a move that is outstanding, or no memory.
 pub fn sim_over<
     D: Input + Drop,
     S: Input + Drop,
-    A: Write + Drop,
+    A: Write,
     F: Write + Drop,
     N: Shelf<F>,
     E: Report,
@@ -45,55 +47,47 @@ pub fn sim_over<
     settings: &SimSettings,
     data: D,
     schedule: S,
-    told: A,
+    told: &mut A,
     log: Option<F>,
     picture: Option<F>,
     tables: Option<F>,
     shelf: &mut N,
     errors: &mut E,
-) -> Result<A, Status>
+) -> Result<(), Status>
     requires executors { HasExecutors settings.now }
     requires log { is_some log ≡ is_some settings.now.log }
     requires picture { is_some picture ≡ is_some settings.now.picture }
     requires tables { is_some tables ≡ is_some settings.now.tables }
-    ensures simulates { IfOk result (λ full. SimulatesAll F.contents (D.remaining «data») (S.remaining schedule) settings.entry.now.executors log picture tables (A.contents told) (A.contents full) (N.named shelf.old) (N.named shelf.new) (E.told errors.old) (E.told errors.new)) }
-    ensures some { OnErr result (SimulatesSome F.contents (D.remaining «data») (S.remaining schedule) settings.entry.now.executors log picture (N.named shelf.old) (N.named shelf.new)) }
+    ensures simulates { OnOk result (SimulatesAll F.contents (D.remaining «data») (S.remaining schedule) settings.entry.now.executors log picture tables (A.contents told.old) (A.contents told.new) (N.named shelf.old) (N.named shelf.new) (E.told errors.old) (E.told errors.new)) }
+    ensures some { OnErr result (SimulatesSome F.contents (D.remaining «data») (S.remaining schedule) settings.entry.now.executors log picture tables (A.contents told.old) (A.contents told.new) (N.named shelf.old) (N.named shelf.new)) }
     ensures early { IfErr result (EndsEarly (IsOfSimulating settings.entry.now (D.remaining «data») (D.lasts «data») (S.remaining schedule) (S.lasts schedule)) (E.told errors.old) (E.told errors.new)) }
 {
     match sim(
         alloc, settings, data, schedule, told, log, picture, tables, shelf, errors,
     ) {
-        Ok(full) => Ok(full),
+        Ok(()) => Ok(()),
         Err(fault) => Err(errors.report(fault)),
     }
 }
 
-fn sim<
-    'a,
-    D: Input + Drop,
-    S: Input + Drop,
-    A: Write + Drop,
-    F: Write + Drop,
-    N: Shelf<F>,
-    E: Report,
->(
+fn sim<'a, D: Input + Drop, S: Input + Drop, A: Write, F: Write + Drop, N: Shelf<F>, E: Report>(
     alloc: Global,
     settings: &SimSettings<'a>,
     data: D,
     schedule: S,
-    told: A,
+    told: &mut A,
     log: Option<F>,
     picture: Option<F>,
     tables: Option<F>,
     shelf: &mut N,
     errors: &mut E,
-) -> Result<A, CommandFault<'a>>
+) -> Result<(), CommandFault<'a>>
     requires executors { HasExecutors settings.now }
     requires log { is_some log ≡ is_some settings.now.log }
     requires picture { is_some picture ≡ is_some settings.now.picture }
     requires tables { is_some tables ≡ is_some settings.now.tables }
-    ensures simulates { IfOk result (λ full. SimulatesAll F.contents (D.remaining «data») (S.remaining schedule) settings.entry.now.executors log picture tables (A.contents told) (A.contents full) (N.named shelf.old) (N.named shelf.new) (E.told errors.old) (E.told errors.new)) }
-    ensures some { OnErr result (SimulatesSome F.contents (D.remaining «data») (S.remaining schedule) settings.entry.now.executors log picture (N.named shelf.old) (N.named shelf.new)) }
+    ensures simulates { OnOk result (SimulatesAll F.contents (D.remaining «data») (S.remaining schedule) settings.entry.now.executors log picture tables (A.contents told.old) (A.contents told.new) (N.named shelf.old) (N.named shelf.new) (E.told errors.old) (E.told errors.new)) }
+    ensures some { OnErr result (SimulatesSome F.contents (D.remaining «data») (S.remaining schedule) settings.entry.now.executors log picture tables (A.contents told.old) (A.contents told.new) (N.named shelf.old) (N.named shelf.new)) }
     ensures told { OnErr result (E.told errors.new ≡ E.told errors.old) }
     ensures fault { IfErr result (IsOfSimulating settings.entry.now (D.remaining «data») (D.lasts «data») (S.remaining schedule) (S.lasts schedule)) }
 {
@@ -107,20 +101,55 @@ fn sim<
         Err(OpenFault::NotConsistent(number)) => return Err(CommandFault::NotConsistent(number)),
         Err(OpenFault::BadExecutors) => unreachable!(),
     };
+    show(
+        alloc,
+        settings,
+        schedule.as_slice(),
+        &scale,
+        &simulation,
+        told,
+        log,
+        picture,
+        tables,
+        shelf,
+    )
+}
+
+// Writes the log, prints what came of the schedule, gives the log its name, and then draws the picture and
+// writes the tables and gives them theirs.
+fn show<'a, A: Write, F: Write + Drop, N: Shelf<F>>(
+    alloc: Global,
+    settings: &SimSettings<'a>,
+    schedule: &[Scheduled],
+    scale: &Scale,
+    simulation: &Simulation,
+    told: &mut A,
+    log: Option<F>,
+    picture: Option<F>,
+    tables: Option<F>,
+    shelf: &mut N,
+) -> Result<(), CommandFault<'a>>
+    requires executors { HasExecutors settings.now }
+    requires log { is_some log ≡ is_some settings.now.log }
+    requires picture { is_some picture ≡ is_some settings.now.picture }
+    requires tables { is_some tables ≡ is_some settings.now.tables }
+    ensures all { OnOk result (Shows F.contents settings.entry.now.executors schedule.now simulation.now log picture tables (A.contents told.old) (A.contents told.new) (N.named shelf.old) (N.named shelf.new)) }
+    ensures some { OnErr result (ShowsSome F.contents settings.entry.now.executors schedule.now simulation.now log picture tables (A.contents told.old) (A.contents told.new) (N.named shelf.old) (N.named shelf.new)) }
+    ensures fault { IfErr result (λ fault. IsOfGathering (is_some settings.now.tables) simulation.now.tables fault ⊎ IsOfShowing settings.now fault) }
+{
     let log = write_entries(alloc, settings.log, log, simulation.log.as_slice(), shelf)?;
     let printed = print_outputs(alloc, told, simulation.outputs.as_slice());
-    let full = name_printed(printed, log, shelf)?;
+    name_printed(printed, log, shelf)?;
     draw(
         alloc,
         settings,
         picture,
-        schedule.as_slice(),
+        schedule,
         simulation.outputs.as_slice(),
-        &scale,
+        scale,
         shelf,
     )?;
-    name_gathered(alloc, settings.tables, tables, &simulation.tables, shelf)?;
-    Ok(full)
+    name_gathered(alloc, settings.tables, tables, &simulation.tables, shelf)
 }
 
 // The items of the schedule of that path.
@@ -130,7 +159,7 @@ fn read_items<'a, S: Input + Drop>(
     schedule: S,
 ) -> Result<Vec<Scheduled>, CommandFault<'a>>
     ensures items { IfOk result (λ items. Gives (S.remaining schedule) (IsSchedule items.items)) }
-    ensures fault { IfErr result (IsOfReading path.now (S.remaining schedule) (S.lasts schedule) IsFaultOfSchedule) }
+    ensures fault { IfErr result (IsOfReading path.now (S.remaining schedule) (S.lasts schedule) (IsFirst schedule_fault)) }
 {
     match read_schedule(alloc, schedule) {
         Ok(schedule) => Ok(schedule),
@@ -138,17 +167,18 @@ fn read_items<'a, S: Input + Drop>(
     }
 }
 
-// Prints what came of the schedule, and gives the sink back.
-fn print_outputs<A: Write + Drop>(
+// Prints what came of the schedule. After an error a beginning of it was printed.
+fn print_outputs<A: Write>(
     alloc: Global,
-    sink: A,
+    sink: &mut A,
     outputs: &[Output],
-) -> Result<A, CommandFault<'static>>
-    ensures printed { IfOk result (λ full. Writes (A.contents sink) (A.contents full) (AreOutputs outputs.now)) }
+) -> Result<(), CommandFault<'static>>
+    ensures printed { OnOk result (Writes (A.contents sink.old) (A.contents sink.new) (AreOutputs outputs.now)) }
+    ensures begun { OnErr result (BeginsToWrite (A.contents sink.old) (A.contents sink.new) (OfFirst AreOutputs outputs.now)) }
     ensures fault { IfErr result (IsOfWriting standard_output) }
 {
     match write_outputs(alloc, sink, outputs) {
-        Ok(full) => Ok(full),
+        Ok(()) => Ok(()),
         Err(error) => Err(CommandFault::of_file(STANDARD_OUTPUT, error)),
     }
 }
@@ -196,8 +226,16 @@ fn draw<'a, F: Write + Drop, N: Shelf<F>>(
     let Some(path) = settings.picture else {
         unreachable!()
     };
-    match write_picture(alloc, sink, schedule, outputs, scale, settings.executors) {
-        Ok(whole) => finished(path, whole, shelf),
+    let mut whole = sink;
+    match write_picture(
+        alloc,
+        &mut whole,
+        schedule,
+        outputs,
+        scale,
+        settings.executors,
+    ) {
+        Ok(()) => finished(path, whole, shelf),
         Err(error) => Err(CommandFault::of_file(path, error)),
     }
 }

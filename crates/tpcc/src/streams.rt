@@ -3,16 +3,17 @@ ghost use Rattle.std.specs.Prelude.{◌≡◌, ◌⊎◌, ◌++◌, ◌∷◌, [
 ghost use Rattle.std.specs.Io.KnownBytes.{Appends};
 ghost use Rattle.dataset.specs.FirstFault.{IsFaultOf};
 ghost use Rattle.dataset.specs.Records.{AreRecords};
+ghost use Rattle.files.specs.Sending.{Begins, Writes};
 ghost use Rattle.terminals.specs.LogRecord.{IsLog};
 ghost use Rattle.terminals.specs.Script.{IsScript};
 ghost use Rattle.tpcc.specs.Shelf.{Shelves};
-ghost use Rattle.tpcc.specs.Edges.{Gives, Writes, NamesFile, HasWritten, IsNamed, lines_text};
-ghost use Rattle.tpcc.specs.Faults.{IsOfNaming, IsOfReading, IsOfWriting, IsOfWritingSome, standard_output};
+ghost use Rattle.tpcc.specs.Edges.{Gives, NamesFile, HasWritten, IsNamed, lines_text};
+ghost use Rattle.tpcc.specs.Faults.{IsOfReading, IsOfWriting, IsOfWritingSome, standard_output};
 
 use crate::command_fault::CommandFault;
 use crate::shelf::Shelf;
 use commit_log::Entry;
-use files::Input;
+use files::{Input, send};
 use requests::Script;
 use schema::{NoMemory, Tables};
 use std::alloc::Global;
@@ -72,8 +73,9 @@ fn whole_log<'a, L: Write + Drop, N: Shelf<L>>(
     ensures same { N.named shelf.new ≡ N.named shelf.old }
     ensures fault { IfErr result (IsOfWriting path.now) }
 {
-    match write_log(alloc, sink, entries) {
-        Ok(whole) => settled(path, whole, shelf),
+    let mut whole = sink;
+    match write_log(alloc, &mut whole, entries) {
+        Ok(()) => settled(path, whole, shelf),
         Err(error) => Err(CommandFault::of_file(path, error)),
     }
 }
@@ -113,8 +115,9 @@ pub fn name_tables<'a, T: Write + Drop, N: Shelf<T>>(
     ensures err { OnErr result (N.named shelf.new ≡ N.named shelf.old) }
     ensures fault { IfErr result (IsOfWriting path.now) }
 {
-    match dataset::write(alloc, sink, tables) {
-        Ok(whole) => finished(path, whole, shelf),
+    let mut whole = sink;
+    match dataset::write(alloc, &mut whole, tables) {
+        Ok(()) => finished(path, whole, shelf),
         Err(error) => Err(CommandFault::of_file(path, error)),
     }
 }
@@ -132,8 +135,9 @@ pub fn write_requests<'a, T: Write + Drop, N: Shelf<T>>(
     ensures err { OnErr result (N.named shelf.new ≡ N.named shelf.old) }
     ensures fault { IfErr result (IsOfWriting path.now) }
 {
-    match write_script(alloc, sink, script) {
-        Ok(whole) => finished(path, whole, shelf),
+    let mut whole = sink;
+    match write_script(alloc, &mut whole, script) {
+        Ok(()) => finished(path, whole, shelf),
         Err(error) => Err(CommandFault::of_file(path, error)),
     }
 }
@@ -185,22 +189,19 @@ fn named<'a, F: Write + Drop, N: Shelf<F>>(
 }
 
 /// Gives the log its name, if there is one, where all was printed that it answers; else leaves it under
-/// its other name, since some of it may have been seen. The sink is given back.
-pub fn name_printed<'a, A: Drop, L: Write + Drop, N: Shelf<L>>(
-    printed: Result<A, CommandFault<'a>>,
+/// its other name, since some of it may have been seen.
+pub fn name_printed<'a, L: Write + Drop, N: Shelf<L>>(
+    printed: Result<(), CommandFault<'a>>,
     log: Option<(&'a str, L)>,
     shelf: &mut N,
-) -> Result<A, CommandFault<'a>>
-    ensures printed { IfOk result (λ full. printed.entry ≡ Ok full) }
+) -> Result<(), CommandFault<'a>>
+    ensures printed { OnOk result (printed.entry ≡ Ok tt) }
     ensures named { OnOk result (IsNamed L.contents log.entry (N.named shelf.old) (N.named shelf.new)) }
     ensures err { OnErr result (N.named shelf.new ≡ N.named shelf.old) }
-    ensures fault { IfErr result (λ fault. (printed.entry ≡ Err fault) ⊎ IsOfNaming log.entry fault) }
+    ensures fault { IfErr result (λ fault. (printed.entry ≡ Err fault) ⊎ IsOfWritingSome (option_map (λ named. named.0) log.entry) fault) }
 {
     match (printed, log) {
-        (Ok(full), Some((path, log))) => {
-            named(path, log, shelf)?;
-            Ok(full)
-        }
+        (Ok(()), Some((path, log))) => named(path, log, shelf),
         (Err(fault), Some((_, log))) => {
             shelf.leave(log);
             Err(fault)
@@ -209,17 +210,19 @@ pub fn name_printed<'a, A: Drop, L: Write + Drop, N: Shelf<L>>(
     }
 }
 
-/// Prints each of these on a line of its own. A failure is `Failed` at the last line.
+/// Prints each of these on a line of its own. A failure is `Failed` at the last line; after an error a
+/// beginning of the lines was printed.
 pub fn print_lines<A: Write, L: Display>(
     alloc: Global,
     sink: &mut A,
     lines: &[L],
 ) -> Result<(), CommandFault<'static>>
     ensures printed { OnOk result ((text : L → List ℕ) → ((line : L) → L.output line ≡ Some (text line)) → Appends (A.contents sink.old) (A.contents sink.new) (lines_text (map text lines.now))) }
+    ensures begun { OnErr result ((text : L → List ℕ) → ((line : L) → L.output line ≡ Some (text line)) → Begins (A.contents sink.old) (A.contents sink.new) (lines_text (map text lines.now))) }
     ensures fault { IfErr result (IsOfWriting standard_output) }
 {
     let text = text_of(alloc, lines)?;
-    match sink.write_all(text.as_bytes()) {
+    match send(sink, text.as_bytes()) {
         Ok(()) => Ok(()),
         Err(_) => Err(CommandFault::Failed {
             path: STANDARD_OUTPUT,

@@ -29,7 +29,8 @@ fn after_a_refusal_the_course_is_not_known(rt: HostRuntime) -> Result<(), Fail> 
         outputs.push(Output::Event(answer))?;
     }
     let scale = warehouses(alloc, 1)?.scale();
-    let text = write_picture(alloc, Vec::new(alloc), &schedule, &outputs, &scale, 1)?;
+    let mut text = Vec::new(alloc);
+    write_picture(alloc, &mut text, &schedule, &outputs, &scale, 1)?;
     let words = b">not known from here on</text>".as_slice();
     assert!(rt; text.windows(30).any(|part| part == words));
     Ok(())

@@ -33,3 +33,11 @@ fn a_source_that_fails_is_a_fault(rt: HostRuntime) {
         assert_eq!(rt; found, Some(FileError::Failed(record)));
     }
 }
+
+// A text in memory is read to its end.
+#[test]
+fn a_text_in_memory_is_read(rt: HostRuntime) {
+    let text: &[u8] = "L,1,1,10\nEND,1\n".as_bytes();
+    let found = read_script(rt.alloc(), text);
+    assert!(rt; found.is_ok());
+}

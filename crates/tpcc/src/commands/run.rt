@@ -45,7 +45,7 @@ pub fn carry_out<R: Files + AllocGlobal + Clock + Threads + Wait + Sync>(
             data,
             scripts.as_mut_slice(),
             moves,
-            NotingWriter::new(stdout, &trouble),
+            &mut NotingWriter::new(stdout, &trouble),
             log,
             tables,
             &mut Folders,

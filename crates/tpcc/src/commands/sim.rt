@@ -40,7 +40,7 @@ pub fn carry_out<R: Files + AllocGlobal>(
             settings,
             data,
             schedule,
-            NotingWriter::new(stdout, &trouble),
+            &mut NotingWriter::new(stdout, &trouble),
             log,
             picture,
             tables,

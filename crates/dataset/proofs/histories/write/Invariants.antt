@@ -2,8 +2,8 @@ use Rattle.std.proofs.Common.{take}
 use Rattle.std.specs.List.{zip}
 use Rattle.schema.specs.Scale.{district_keys}
 use Rattle.dataset.specs.Records.{payment_records}
-use Rattle.dataset.specs.Writing.{Writes}
+use Rattle.dataset.specs.Writing.{Puts}
 use Rattle.dataset.proofs.histories.write.Given as goal
 
 abbrev pub invariant-loop-place : goal.invariant-loop-place
-invariant-loop-place g l = Writes g.W.Write.contents l.fn.writer l.writer (payment_records (take l.place (zip (district_keys l.scale) l.lists)))
+invariant-loop-place g l = Puts (g.W.Write.contents l.fn.sink) (g.W.Write.contents l.sink) l.fn.writer.text l.writer.text (payment_records (take l.place (zip (district_keys l.scale) l.lists)))

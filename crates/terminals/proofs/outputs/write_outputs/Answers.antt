@@ -1,46 +1,67 @@
-use Rattle.std.proofs.Common.{◌≡◌, ◌≤◌, ◌<◌, ℕ, List, [], ◌∷◌, ◌++◌, length, subst, ap, ◌∙◌}
+use Rattle.std.proofs.Common.{◌≡◌, ◌≤◌, ◌<◌, ◌+◌, ℕ, List, [], ◌∷◌, ◌++◌, length, subst, ap, ◌∙◌}
 use Rattle.std.proofs.lemmas.List.{take_all}
-use Rattle.std.proofs.lemmas.Result.{IfOk-weaker}
-use Rattle.std.specs.Io.KnownBytes.{Appends}
-use Rattle.files.specs.Written.{record_text, csv_text, written}
-use Rattle.files.proofs.Texts.{appends-start, appends-push, appends-end}
+use Rattle.std.proofs.lemmas.Result.{on_err_weaker, on_ok_weaker}
+use Rattle.files.specs.Sending.{Begins, BeginsToWrite, OfFirst, Sends}
+use Rattle.files.specs.Written.{record_text}
+use Rattle.files.proofs.Sent.{on_any_err}
+use Rattle.files.proofs.Texts.{begins-end, begins-push, sends-push, sends-start, sent-end}
 use Rattle.history.specs.declared.schedule.Output.{Output}
 use Rattle.terminals.specs.Outputs.{IsOutput, AreOutputs}
 use Rattle.terminals.proofs.Listings.{listed-more}
 use Rattle.terminals.proofs.outputs.write_outputs.Goals as goal
 
 pub loop-one-init : goal.loop-one-init
-loop-one-init g c = (
-  c.new-writer.ensures.between,
-  [],
-  tt,
-  appends-start (g.W.Write.contents c.args.sink) (written g.W.Write.contents c.new-writer.result) c.new-writer.ensures.text,
-)
+loop-one-init g c = ([], tt, sends-start (g.W.Write.contents c.args.sink.now) c.new-writer.result.text (ap (λ w. w.text) c.new-writer.ensures))
 
 pub loop-one-preserved : goal.loop-one-preserved
 loop-one-preserved g c =
     let inv = c.loop-one.invariant in
     let i = c.loop-one.one-index in
-    let sink = g.W.Write.contents c.args.sink in
-    let old = written g.W.Write.contents c.loop-one.writer in
-    let new = written g.W.Write.contents c.write.new.self in
+    let contents = g.W.Write.contents in
     let there : i < length c.args.told.now = c.loop-one-test.true in
     let put = c.in_ok-put_output.ensures in
     let fields : c.put_output.new.row ≡ put.0 = put.2 ∙ ap (λ l. l ++ put.0) c.clear.ensures in
-    let adds : List (List ℕ) → Type 0 = λ f. Appends old new (record_text f) in
-    let text = subst adds fields (c.in_ok-write.ensures.text inv.0) in (
-      c.in_ok-write.ensures.between inv.0,
-      inv.1 ++ (put.0 ∷ []),
-      listed-more IsOutput i c.args.told.now inv.1 c.one-item.result put.0 there c.one-item.is inv.2 put.1,
-      appends-push sink old new inv.1 put.0 inv.3 text,
+    let Sent : List (List ℕ) → Type 0 = λ f. Sends (contents c.loop-one.sink) (contents c.write.new.sink) (c.loop-one.writer.text ++ record_text f) c.write.new.self.text in (
+      inv.0 ++ (put.0 ∷ []),
+      listed-more IsOutput i c.args.told.now inv.0 c.one-item.result put.0 there c.one-item.is inv.1 put.1,
+      sends-push _ _ _ inv.0 _ inv.2 put.0 c.write.new.self.text (subst Sent fields c.in_ok-write.ensures.sent),
     )
+
+-- the output has no record
+pub returns-in_err-put_output-clause-begun : goal.returns-in_err-put_output-clause-begun
+returns-in_err-put_output-clause-begun g c =
+    let inv = c.loop-one.invariant in
+    let early : BeginsToWrite (g.W.Write.contents c.args.sink.now) (g.W.Write.contents c.loop-one.sink) (OfFirst AreOutputs c.args.told.now) =
+    (inv.0, (c.loop-one.one-index, inv.1), (c.loop-one.writer.text, inv.2)) in
+    on_any_err _ early
+
+-- its record was not written
+pub returns-in_err-write-clause-begun : goal.returns-in_err-write-clause-begun
+returns-in_err-write-clause-begun g c =
+    let inv = c.loop-one.invariant in
+    let i = c.loop-one.one-index in
+    let contents = g.W.Write.contents in
+    let there : i < length c.args.told.now = c.loop-one-test.true in
+    let put = c.in_ok-put_output.ensures in
+    let fields : c.put_output.new.row ≡ put.0 = put.2 ∙ ap (λ l. l ++ put.0) c.clear.ensures in
+    let Begun : List (List ℕ) → Type 0 = λ f. Begins (contents c.loop-one.sink) (contents c.write.new.sink) (c.loop-one.writer.text ++ record_text f) in
+    let early : BeginsToWrite (g.W.Write.contents c.args.sink.now) (g.W.Write.contents c.write.new.sink) (OfFirst AreOutputs c.args.told.now) = (
+      inv.0 ++ (put.0 ∷ []),
+      (i + 1, listed-more IsOutput i c.args.told.now inv.0 c.one-item.result put.0 there c.one-item.is inv.1 put.1),
+      begins-push _ _ _ inv.0 _ inv.2 put.0 (subst Begun fields c.in_err-write.ensures.begun),
+    ) in
+    on_any_err _ early
 
 pub returns-clause-written : goal.returns-clause-written
 returns-clause-written g c =
     let inv = c.loop-one.invariant in
     let told = c.args.told.now in
-    let sink = g.W.Write.contents c.args.sink in
     let done : length told ≤ c.loop-one.one-index = c.loop-one-test.false in
-    let are : List Output → Type 0 = λ l. AreOutputs l inv.1 in
-    let all = subst are (take_all c.loop-one.one-index told done) inv.2 in
-    IfOk-weaker c.finish.result _ _ (λ full kept. (inv.1, all, appends-end sink (written g.W.Write.contents c.loop-one.writer) (g.W.Write.contents full) (csv_text inv.1) inv.3 kept)) c.finish.ensures.text
+    let are : List Output → Type 0 = λ l. AreOutputs l inv.0 in
+    let all = subst are (take_all c.loop-one.one-index told done) inv.1 in
+    on_ok_weaker c.finish.result (λ rest. (inv.0, all, sent-end _ _ _ inv.0 _ inv.2 rest)) c.finish.ensures.sent
+
+pub returns-clause-begun : goal.returns-clause-begun
+returns-clause-begun g c =
+    let inv = c.loop-one.invariant in
+    on_err_weaker c.finish.result (λ begun. (inv.0, (c.loop-one.one-index, inv.1), begins-end _ _ _ inv.0 _ inv.2 begun)) c.finish.ensures.begun

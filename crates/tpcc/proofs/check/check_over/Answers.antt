@@ -1,5 +1,6 @@
 use Rattle.std.proofs.Common.{◌≡◌, true, false, subst}
 use Rattle.tpcc.specs.Check.{Checks}
+use Rattle.tpcc.proofs.CheckTellings.{check_ends_early}
 use Rattle.tpcc.proofs.check.check_over.Goals as goal
 
 pub returns-in-Ok-true : goal.returns-in-Ok-true
@@ -15,3 +16,8 @@ returns-in-Ok-false g c =
     let met : c.in-Ok-false.field-0 ≡ false = cc in
     subst (Checks c.args.settings.now.fresh (g.D.Input.remaining c.args.data) (g.A.Write.contents c.args.found.now) (g.A.Write.contents c.check.new.found) told told)
     met (c.in-Ok-false.ensures.checks told)
+
+pub returns-in-Err : goal.returns-in-Err
+returns-in-Err g c =
+    check_ends_early c.args.settings.now (g.D.Input.remaining c.args.data) (g.D.Input.lasts c.args.data) (g.A.Write.contents c.args.found.now) (g.A.Write.contents c.check.new.found)
+    (g.E.Report.told c.args.errors.now) (g.E.Report.told c.report.new.self) c.in-Err.fault c.report.result c.report.ensures.status c.in-Err.ensures.some c.in-Err.ensures.fault c.report.ensures.tells

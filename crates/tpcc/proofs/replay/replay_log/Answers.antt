@@ -1,8 +1,11 @@
-use Rattle.std.proofs.Common.{inl, inr, List, sym, subst, ◌∙◌}
+use Rattle.std.proofs.Common.{inl, inr, List, [], ◌∷◌, refl, sym, subst, ◌∙◌}
 use Rattle.std.proofs.lemmas.Result.{err_from_is_err_and}
 use Rattle.commit_log.specs.declared.entry.Entry.{Entry}
 use Rattle.commit_log.specs.Replay.{IsReplayOf}
-use Rattle.tpcc.specs.Replay.{TellsReplay}
+use Rattle.files.specs.Sending.{Begins}
+use Rattle.files.proofs.Sent.{on_any_err}
+use Rattle.tpcc.specs.Edges.{lines_text}
+use Rattle.tpcc.specs.Replay.{IsReplayed, ReplaysSome, TellsReplay, found_of, found_text}
 use Rattle.tpcc.proofs.ReplayTellings.{replay_ends}
 use Rattle.tpcc.proofs.replay.replay_log.Goals as goal
 
@@ -29,6 +32,44 @@ returns-clause-ends g c =
     (subst Of c.as_slice.ensures.value c.in_ok-came_to.ensures)
     (subst Tells c.as_slice-3.ensures.value c.in_ok-status.ensures.tells)
     (c.sum_up.ensures ∙ c.begin.ensures)
+
+pub returns-in_err-opening-clause-some : goal.returns-in_err-opening-clause-some
+returns-in_err-opening-clause-some g c =
+    let found = g.A.Write.contents c.args.found.now in
+    let none : ReplaysSome (g.D.Input.remaining c.args.data) (g.L.Input.remaining c.args.log) found found = inl refl in
+    on_any_err c.from_residual.result none
+
+pub returns-in_err-entries-clause-some : goal.returns-in_err-entries-clause-some
+returns-in_err-entries-clause-some g c =
+    let found = g.A.Write.contents c.args.found.now in
+    let none : ReplaysSome (g.D.Input.remaining c.args.data) (g.L.Input.remaining c.args.log) found found = inl refl in
+    on_any_err c.from_residual-in_err-entries.result none
+
+pub returns-in_err-came_to-clause-some : goal.returns-in_err-came_to-clause-some
+returns-in_err-came_to-clause-some g c =
+    let found = g.A.Write.contents c.args.found.now in
+    let none : ReplaysSome (g.D.Input.remaining c.args.data) (g.L.Input.remaining c.args.log) found found = inl refl in
+    on_any_err c.from_residual-in_err-came_to.result none
+
+pub returns-in_err-status-clause-some : goal.returns-in_err-status-clause-some
+returns-in_err-status-clause-some g c =
+    let «data» = g.D.Input.remaining c.args.data in
+    let log = g.L.Input.remaining c.args.log in
+    let before = g.A.Write.contents c.args.found.now in
+    let after = g.A.Write.contents c.tell.new.found in
+    let opening = c.in_ok-opening.opening in
+    let came_to = c.in_ok-came_to.came_to in
+    let entries = c.in_ok-entries.entries.items in
+    let Of : List Entry → Type 0 = λ l. IsReplayOf opening l came_to in
+    let Told : List Entry → Type 0 = λ l. Begins before after (lines_text (found_text (found_of l came_to) ∷ [])) in
+    let is : IsReplayed «data» log entries came_to = record {
+      opening = opening;
+      is_dataset = c.in_ok-opening.ensures.tables;
+      is_log = c.in_ok-entries.ensures.entries;
+      is_replay = subst Of c.as_slice.ensures.value c.in_ok-came_to.ensures;
+    } in
+    let some : ReplaysSome «data» log before after = inr (entries, came_to, is, subst Told c.as_slice-3.ensures.value c.in_err-status.ensures.begun) in
+    on_any_err c.from_residual-in_err-status.result some
 
 pub returns-in_err-opening-clause-fault : goal.returns-in_err-opening-clause-fault
 returns-in_err-opening-clause-fault g c =

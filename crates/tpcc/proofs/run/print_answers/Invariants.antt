@@ -1,6 +1,6 @@
 -- The answers to so many sessions are printed.
 use Rattle.std.proofs.Common.{take}
-use Rattle.tpcc.specs.Edges.{Writes}
+use Rattle.files.specs.Sending.{Writes}
 use Rattle.tpcc.specs.Run.{AreAllAnswers}
 use Rattle.tpcc.proofs.run.print_answers.Given as goal
 

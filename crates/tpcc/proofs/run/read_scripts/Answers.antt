@@ -6,8 +6,7 @@ use Rattle.std.proofs.lemmas.Result.{err_from_is_err_and}
 use Rattle.requests.specs.declared.request.Request.{Request}
 use Rattle.terminals.specs.FirstFault.{script_fault}
 use Rattle.terminals.specs.Script.{IsScript}
-use Rattle.tpcc.specs.EarlyEnds.{IsFaultOfScript}
-use Rattle.tpcc.specs.Faults.{IsOfReading}
+use Rattle.tpcc.specs.Faults.{IsFirst, IsOfReading}
 use Rattle.tpcc.proofs.FaultsOfSources.{of_records}
 use Rattle.tpcc.specs.Edges.{Gives}
 use Rattle.tpcc.proofs.SourceLists.{next_source, read_more}
@@ -53,7 +52,7 @@ returns-in-Err-clause-fault g c =
     let there : i < length old = omega arith in
     let at : i < length paths = omega (arith, there, c.requires) in
     let next = next_source old now i source there here c.loop-session.invariant.others c.index-sources-session.is in
-    let Said : g.row.S.Denot → Type 0 = λ s. IsOfReading path.now (g.S.Input.remaining s) (g.S.Input.lasts s) IsFaultOfScript c.of_file.result in
+    let Said : g.row.S.Denot → Type 0 = λ s. IsOfReading path.now (g.S.Input.remaining s) (g.S.Input.lasts s) (IsFirst script_fault) c.of_file.result in
     inr (record {
       place = i;
       path_there = at;

@@ -7,7 +7,8 @@ use Rattle.requests.specs.Check.{IsAccepted}
 use Rattle.requests.specs.declared.request.Request.{Request}
 use Rattle.terminals.specs.Script.{IsScript}
 use Rattle.tpcc.specs.Script.{AreDrawn, NamesScripts}
-use Rattle.tpcc.proofs.ScriptFiles.{names-first, on_any_err, scripts-more}
+use Rattle.files.proofs.Sent.{on_any_err}
+use Rattle.tpcc.proofs.ScriptFiles.{names-first, scripts-more}
 use Rattle.tpcc.proofs.script.write_scripts.Goals as goal
 
 pub returns-in_err-script-clause-some : goal.returns-in_err-script-clause-some

@@ -1,5 +1,5 @@
 use Rattle.tpcc.proofs.FaultsOfSources.{of_sink}
 use Rattle.tpcc.proofs.streams.whole_log.Goals as goal
 
-pub returns-in-Err-clause-fault : goal.returns-in-Err-clause-fault
-returns-in-Err-clause-fault g c = of_sink _ c.in-Err.error c.of_file.result c.of_file.ensures c.in-Err.ensures.failed
+pub returns-clause-fault : goal.returns-clause-fault
+returns-clause-fault g c = of_sink _ c.in-Err.error c.of_file.result c.of_file.ensures c.in-Err.ensures.failed

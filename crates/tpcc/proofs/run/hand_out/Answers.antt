@@ -1,0 +1,82 @@
+use Rattle.std.proofs.Common.{ℕ, List, Option, inl, inr, sym, subst, ◌∙◌}
+use Rattle.std.proofs.lemmas.Result.{err_from_is_err_and, IfErr-weaker, on_err_weaker, on_ok_weaker}
+use Rattle.commit_log.specs.declared.entry.Entry.{Entry}
+use Rattle.requests.specs.declared.answer.Answer.{Answer}
+use Rattle.files.specs.Sending.{BeginsToWrite, Writes}
+use Rattle.files.proofs.Sent.{on_any_err}
+use Rattle.terminals.specs.LogRecord.{IsLog}
+use Rattle.tpcc.specs.Edges.{HasWritten, NamesFile}
+use Rattle.tpcc.specs.Run.{AreAllAnswers, BeginAllAnswers, HandsOutSome}
+use Rattle.tpcc.proofs.AnswerRecords.{begins-none, begins-printed}
+use Rattle.tpcc.proofs.FaultsOfSources.{both_on_err, log_or_output, of_printing}
+use Rattle.tpcc.proofs.FileNames.{names_written, printed_well}
+use Rattle.tpcc.proofs.run.hand_out.Goals as goal
+
+-- the log was not written: nothing is printed
+pub returns-in_err-log-clause-some : goal.returns-in_err-log-clause-some
+returns-in_err-log-clause-some g c =
+    let before = g.A.Write.contents c.args.answers.now in
+    let answers = c.args.outcome.now.answers.items in
+    let names = g.N.Shelf.named in
+    let some : HandsOutSome g.F.Write.contents c.args.log c.args.tables before before (names c.args.shelf.now) (names c.write_entries.new.shelf) c.args.outcome.now.log.items answers =
+    inl (begins-none before answers, c.in_err-log.ensures.same) in
+    on_any_err c.from_residual.result some
+
+-- not all was printed, or the log has not got its name
+pub returns-in_err-name_printed-clause-some : goal.returns-in_err-name_printed-clause-some
+returns-in_err-name_printed-clause-some g c =
+    let before = g.A.Write.contents c.args.answers.now in
+    let after = g.A.Write.contents c.print_answers-printed.new.sink in
+    let names = g.N.Shelf.named in
+    let Prints : List (List Answer) → Type 0 = λ l. BeginsToWrite before after (BeginAllAnswers 0 l) in
+    let printed = begins-printed c.print_answers-printed.result before after c.as_slice-2.result.now c.print_answers-printed.ensures.printed c.print_answers-printed.ensures.begun in
+    let some : HandsOutSome g.F.Write.contents c.args.log c.args.tables before after (names c.args.shelf.now) (names c.name_printed.new.shelf) c.args.outcome.now.log.items c.args.outcome.now.answers.items =
+    inl (subst Prints c.as_slice-2.ensures.value printed, c.in_err-name_printed.ensures.err ∙ c.in_ok-log.ensures.same) in
+    on_any_err c.from_residual-in_err-name_printed.result some
+
+-- the tables were not written
+pub returns-clause-some : goal.returns-clause-some
+returns-clause-some g c =
+    let before = g.A.Write.contents c.args.answers.now in
+    let after = g.A.Write.contents c.print_answers-printed.new.sink in
+    let names = g.N.Shelf.named in
+    let log = c.args.outcome.now.log.items in
+    let Prints : List (List Answer) → Type 0 = λ l. Writes before after (AreAllAnswers 0 l) in
+    let printed = subst Prints c.as_slice-2.ensures.value (printed_well c.print_answers-printed.result tt c.in_ok-name_printed.ensures.printed c.print_answers-printed.ensures.printed) in
+    let Logs : List Entry → Type 0 = λ l. HasWritten g.F.Write.contents c.args.log (IsLog l) c.in_ok-log.log in
+    let with_log = names c.name_printed.new.shelf in
+    let logged : NamesFile g.F.Write.contents c.args.log (names c.args.shelf.now) with_log (IsLog log) =
+    names_written g.F.Write.contents c.args.log (IsLog log) c.in_ok-log.log (names c.args.shelf.now) (names c.write_entries.new.shelf) with_log
+    c.in_ok-log.ensures.same (subst Logs c.as_slice.ensures.value c.in_ok-log.ensures.written) c.in_ok-name_printed.ensures.named in
+    let Named : Option (List (Option (List ℕ))) → Type 0 = λ named. NamesFile g.F.Write.contents c.args.log (names c.args.shelf.now) named (IsLog log) in
+    on_err_weaker c.write_tables.result (λ early. inr (early.0, printed, subst Named (sym early.1) logged)) (both_on_err _ _ c.write_tables.result c.write_tables.ensures.asked c.write_tables.ensures.err)
+
+pub returns-clause-all : goal.returns-clause-all
+returns-clause-all g c =
+    let before = g.A.Write.contents c.args.answers.now in
+    let after = g.A.Write.contents c.print_answers-printed.new.sink in
+    let names = g.N.Shelf.named in
+    let log = c.args.outcome.now.log.items in
+    let Prints : List (List Answer) → Type 0 = λ l. Writes before after (AreAllAnswers 0 l) in
+    let Logs : List Entry → Type 0 = λ l. HasWritten g.F.Write.contents c.args.log (IsLog l) c.in_ok-log.log in
+    let with_log = names c.name_printed.new.shelf in
+    on_ok_weaker c.write_tables.result (λ left. record {
+      printed = subst Prints c.as_slice-2.ensures.value (printed_well c.print_answers-printed.result tt c.in_ok-name_printed.ensures.printed c.print_answers-printed.ensures.printed);
+      with_log = with_log;
+      logged = names_written g.F.Write.contents c.args.log (IsLog log) c.in_ok-log.log (names c.args.shelf.now) (names c.write_entries.new.shelf) with_log
+          c.in_ok-log.ensures.same (subst Logs c.as_slice.ensures.value c.in_ok-log.ensures.written) c.in_ok-name_printed.ensures.named;
+      left = left;
+    }) c.write_tables.ensures.named
+
+pub returns-in_err-log-clause-fault : goal.returns-in_err-log-clause-fault
+returns-in_err-log-clause-fault g c =
+    let p = err_from_is_err_and c.from_residual.result c.from_residual.ensures.1 in
+    rw (p.1, p.2) (inl c.in_err-log.ensures.fault)
+
+pub returns-in_err-name_printed-clause-fault : goal.returns-in_err-name_printed-clause-fault
+returns-in_err-name_printed-clause-fault g c =
+    let p = err_from_is_err_and c.from_residual-in_err-name_printed.result c.from_residual-in_err-name_printed.ensures.1 in
+    rw (p.1, p.2) (log_or_output (of_printing c.print_answers-printed.result _ c.args.settings.now.log _ c.print_answers-printed.ensures.fault c.in_ok-log.ensures.path c.in_err-name_printed.ensures.fault))
+
+pub returns-clause-fault : goal.returns-clause-fault
+returns-clause-fault g c = IfErr-weaker c.write_tables.result _ _ (λ of said. inr (inr said)) c.write_tables.ensures.fault

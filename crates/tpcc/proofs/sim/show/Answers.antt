@@ -1,0 +1,120 @@
+use Rattle.std.proofs.Common.{◌⊎◌, ℕ, List, Option, inl, inr, is_some, sym, subst, ◌∙◌}
+use Rattle.std.proofs.lemmas.Result.{err_from_is_err_and, IfErr-weaker, on_err_weaker, on_ok_weaker}
+use Rattle.commit_log.specs.declared.entry.Entry.{Entry}
+use Rattle.history.specs.declared.schedule.Output.{Output}
+use Rattle.files.specs.Sending.{BeginsToWrite, OfFirst, Writes}
+use Rattle.files.proofs.Sent.{on_any_err}
+use Rattle.terminals.specs.LogRecord.{IsLog}
+use Rattle.terminals.specs.Outputs.{AreOutputs}
+use Rattle.tpcc.specs.declared.command_fault.CommandFault.{CommandFault}
+use Rattle.tpcc.specs.EarlyEnds.{IsOfGathering, IsOfShowing}
+use Rattle.tpcc.specs.Edges.{HasWritten, NamesFile}
+use Rattle.tpcc.specs.Faults.{IsOfWritingSome}
+use Rattle.tpcc.specs.Sim.{NamesPicture, ShowsSome}
+use Rattle.tpcc.proofs.FaultsOfSources.{log_or_output, of_printing}
+use Rattle.tpcc.proofs.FileNames.{names_written, printed_well}
+use Rattle.tpcc.proofs.SimulationEnds.{outputs-begun, no_output}
+use Rattle.tpcc.proofs.sim.show.Goals as goal
+
+-- the log was not written: nothing is printed
+pub returns-in_err-log-clause-some : goal.returns-in_err-log-clause-some
+returns-in_err-log-clause-some g c =
+    let before = g.A.Write.contents c.args.told.now in
+    let names = g.N.Shelf.named in
+    let some : ShowsSome g.F.Write.contents c.args.settings.now.executors c.args.schedule.now c.args.simulation.now c.args.log c.args.picture c.args.tables before before
+    (names c.args.shelf.now) (names c.write_entries.new.shelf) = inl (no_output before c.args.simulation.now.outputs.items, c.in_err-log.ensures.same) in
+    on_any_err c.from_residual.result some
+
+-- not all was printed, or the log has not got its name
+pub returns-in_err-name_printed-clause-some : goal.returns-in_err-name_printed-clause-some
+returns-in_err-name_printed-clause-some g c =
+    let before = g.A.Write.contents c.args.told.now in
+    let after = g.A.Write.contents c.print_outputs-printed.new.sink in
+    let names = g.N.Shelf.named in
+    let Prints : List Output → Type 0 = λ l. BeginsToWrite before after (OfFirst AreOutputs l) in
+    let printed = outputs-begun c.print_outputs-printed.result before after c.as_slice-2.result.now c.print_outputs-printed.ensures.printed c.print_outputs-printed.ensures.begun in
+    let some : ShowsSome g.F.Write.contents c.args.settings.now.executors c.args.schedule.now c.args.simulation.now c.args.log c.args.picture c.args.tables before after
+    (names c.args.shelf.now) (names c.name_printed.new.shelf) = inl (subst Prints c.as_slice-2.ensures.value printed, c.in_err-name_printed.ensures.err ∙ c.in_ok-log.ensures.same) in
+    on_any_err c.from_residual-in_err-name_printed.result some
+
+-- the picture was not drawn
+pub returns-in_err-draw-clause-some : goal.returns-in_err-draw-clause-some
+returns-in_err-draw-clause-some g c =
+    let before = g.A.Write.contents c.args.told.now in
+    let after = g.A.Write.contents c.print_outputs-printed.new.sink in
+    let names = g.N.Shelf.named in
+    let log = c.args.simulation.now.log.items in
+    let Prints : List Output → Type 0 = λ l. Writes before after (AreOutputs l) in
+    let printed = subst Prints c.as_slice-2.ensures.value (printed_well c.print_outputs-printed.result tt c.in_ok-name_printed.ensures.printed c.print_outputs-printed.ensures.printed) in
+    let Logs : List Entry → Type 0 = λ l. HasWritten g.F.Write.contents c.args.log (IsLog l) c.in_ok-log.log in
+    let with_log = names c.name_printed.new.shelf in
+    let logged : NamesFile g.F.Write.contents c.args.log (names c.args.shelf.now) with_log (IsLog log) =
+    names_written g.F.Write.contents c.args.log (IsLog log) c.in_ok-log.log (names c.args.shelf.now) (names c.write_entries.new.shelf) with_log
+    c.in_ok-log.ensures.same (subst Logs c.as_slice.ensures.value c.in_ok-log.ensures.written) c.in_ok-name_printed.ensures.named in
+    let some : ShowsSome g.F.Write.contents c.args.settings.now.executors c.args.schedule.now c.args.simulation.now c.args.log c.args.picture c.args.tables before after
+    (names c.args.shelf.now) (names c.draw.new.shelf) = inr (printed, with_log, logged, inl c.in_err-draw.ensures.err) in
+    on_any_err c.from_residual-in_err-draw.result some
+
+-- the tables were not written
+pub returns-clause-some : goal.returns-clause-some
+returns-clause-some g c =
+    let before = g.A.Write.contents c.args.told.now in
+    let after = g.A.Write.contents c.print_outputs-printed.new.sink in
+    let names = g.N.Shelf.named in
+    let log = c.args.simulation.now.log.items in
+    let Prints : List Output → Type 0 = λ l. Writes before after (AreOutputs l) in
+    let printed = subst Prints c.as_slice-2.ensures.value (printed_well c.print_outputs-printed.result tt c.in_ok-name_printed.ensures.printed c.print_outputs-printed.ensures.printed) in
+    let Logs : List Entry → Type 0 = λ l. HasWritten g.F.Write.contents c.args.log (IsLog l) c.in_ok-log.log in
+    let with_log = names c.name_printed.new.shelf in
+    let logged : NamesFile g.F.Write.contents c.args.log (names c.args.shelf.now) with_log (IsLog log) =
+    names_written g.F.Write.contents c.args.log (IsLog log) c.in_ok-log.log (names c.args.shelf.now) (names c.write_entries.new.shelf) with_log
+    c.in_ok-log.ensures.same (subst Logs c.as_slice.ensures.value c.in_ok-log.ensures.written) c.in_ok-name_printed.ensures.named in
+    let Draws : List Output → Type 0 = λ l. NamesPicture g.F.Write.contents c.args.picture with_log (names c.draw.new.shelf) c.args.settings.now.executors c.args.schedule.now l in
+    let drawn = subst Draws c.as_slice-3.ensures.value c.in_ok-draw.ensures.named in
+    let Named : Option (List (Option (List ℕ))) → Type 0 = λ named. NamesPicture g.F.Write.contents c.args.picture with_log named c.args.settings.now.executors c.args.schedule.now c.args.simulation.now.outputs.items in
+    on_err_weaker c.name_gathered.result (λ still. inr (printed, with_log, logged, inr (subst Named (sym still) drawn))) c.name_gathered.ensures.err
+
+pub returns-clause-all : goal.returns-clause-all
+returns-clause-all g c =
+    let before = g.A.Write.contents c.args.told.now in
+    let after = g.A.Write.contents c.print_outputs-printed.new.sink in
+    let names = g.N.Shelf.named in
+    let log = c.args.simulation.now.log.items in
+    let Prints : List Output → Type 0 = λ l. Writes before after (AreOutputs l) in
+    let Logs : List Entry → Type 0 = λ l. HasWritten g.F.Write.contents c.args.log (IsLog l) c.in_ok-log.log in
+    let with_log = names c.name_printed.new.shelf in
+    let Draws : List Output → Type 0 = λ l. NamesPicture g.F.Write.contents c.args.picture with_log (names c.draw.new.shelf) c.args.settings.now.executors c.args.schedule.now l in
+    on_ok_weaker c.name_gathered.result (λ gathered. record {
+      printed = subst Prints c.as_slice-2.ensures.value (printed_well c.print_outputs-printed.result tt c.in_ok-name_printed.ensures.printed c.print_outputs-printed.ensures.printed);
+      with_log = with_log;
+      with_picture = names c.draw.new.shelf;
+      logged = names_written g.F.Write.contents c.args.log (IsLog log) c.in_ok-log.log (names c.args.shelf.now) (names c.write_entries.new.shelf) with_log
+          c.in_ok-log.ensures.same (subst Logs c.as_slice.ensures.value c.in_ok-log.ensures.written) c.in_ok-name_printed.ensures.named;
+      drawn = subst Draws c.as_slice-3.ensures.value c.in_ok-draw.ensures.named;
+      gathered = gathered;
+    }) c.name_gathered.ensures.named
+
+pub returns-in_err-log-clause-fault : goal.returns-in_err-log-clause-fault
+returns-in_err-log-clause-fault g c =
+    let p = err_from_is_err_and c.from_residual.result c.from_residual.ensures.1 in
+    rw (p.1, p.2) (inr (inl c.in_err-log.ensures.fault))
+
+pub returns-in_err-name_printed-clause-fault : goal.returns-in_err-name_printed-clause-fault
+returns-in_err-name_printed-clause-fault g c =
+    let p = err_from_is_err_and c.from_residual-in_err-name_printed.result c.from_residual-in_err-name_printed.ensures.1 in
+    rw (p.1, p.2) (inr (log_or_output (of_printing c.print_outputs-printed.result _ c.args.settings.now.log _ c.print_outputs-printed.ensures.fault c.in_ok-log.ensures.path c.in_err-name_printed.ensures.fault)))
+
+pub returns-in_err-draw-clause-fault : goal.returns-in_err-draw-clause-fault
+returns-in_err-draw-clause-fault g c =
+    let p = err_from_is_err_and c.from_residual-in_err-draw.result c.from_residual-in_err-draw.ensures.1 in
+    rw (p.1, p.2) (inr (inr (inr (inl c.in_err-draw.ensures.fault))))
+
+pub returns-clause-fault : goal.returns-clause-fault
+returns-clause-fault g c =
+    let settings = c.args.settings.now in
+    let by : (of : CommandFault) → IsOfWritingSome settings.tables of ⊎ IsOfGathering (is_some settings.tables) c.args.simulation.now.tables of
+    → IsOfGathering (is_some settings.tables) c.args.simulation.now.tables of ⊎ IsOfShowing settings of = λ of said. elim said [
+      | inl written ↦ inr (inr (inr (inr written)))
+      | inr gathering ↦ inl gathering
+    ] in
+    IfErr-weaker c.name_gathered.result _ _ by c.name_gathered.ensures.fault
