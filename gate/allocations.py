@@ -1,7 +1,7 @@
 """Refuses each allocation of the program in turn: gate/allocations.py PROGRAM
 
-`tpcc run` and `tpcc sim` serve a few requests on a small set, `run` while the warehouse moves, once for each of their
-allocations, with that one refused.
+`tpcc run` and `tpcc sim` serve a few requests on a small set, `run` while the warehouse moves, `sim` also where an action waits,
+once for each of their allocations, with that one refused.
 Each must end with status 4 and `tpcc: no memory`, or with answers that are all done or refused for want of memory (12) or as
 died (11); then `replay` and `check` of what was written must agree with it. A log is there whole or not at all. Where it is
 there all answers are printed, also where there is no memory for the tables, which has to be among the runs; where it is not no
@@ -32,6 +32,8 @@ REQUESTS = [
     "L,1,1,20",
     f"D,1,7,{MOMENT}",
 ]
+# A schedule in which an action of an order waits for a younger reader.
+WAITING = f"{ROOT}/scenarios/an_order_waits_for_a_younger_reader/schedule.csv"
 # The name under which the log is written.
 OTHER_NAME = "log.csv.tpcc-0"
 AT_ONCE = 4 * (os.cpu_count() or 1)
@@ -179,6 +181,7 @@ def main():
         sweeps = [
             Sweep(program, room, refuser, "run", [dataset, script, script, "--moves", moves], 2 * len(REQUESTS)),
             Sweep(program, room, refuser, "sim", [dataset, schedule], len(REQUESTS)),
+            Sweep(program, room, refuser, "sim", [f"{ROOT}/examples/two-warehouses.csv", WAITING, "--executors", "1"], 2),
         ]
         return 0 if all([it.whole() for it in sweeps]) else 1
 

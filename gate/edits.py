@@ -1,10 +1,13 @@
-"""The wrong programs of the crates: what is read of them before any prover runs, and the further ones.
+"""The wrong programs of the crates: what is read of them before any prover runs, whose turn it is, and the further ones.
 
-A wrong program is an edit of a crate's code that the prover must refuse. Those of `must-fail/` are tried by `rt ci`, in every
-run; those of `wrong-programs/`, which are written alike, by `further` alone.
+A wrong program is an edit of a crate's code that the prover must refuse. Those of `must-fail/` are tried by `rt ci`: in a run of
+the gate those of the crates that have changed, and of the others each third crate's in turn. Those of `wrong-programs/`, which
+are written alike, are tried by `further` alone.
 """
 
+import contextlib
 import os
+import re
 import shutil
 import subprocess
 import tempfile
@@ -12,6 +15,7 @@ from concurrent.futures import ThreadPoolExecutor
 
 KINDS = ["must-fail", "wrong-programs"]
 LANES = 4
+TURNS = 3
 
 
 def edits_of(crate):
@@ -52,6 +56,45 @@ def faults(root, crates):
     """Returns a line for each edit that has a fault."""
     told = [(name, edit, fault_of(f"{root}/crates/{name}", edit)) for name in crates for edit in edits_of(f"{root}/crates/{name}")]
     return [f"crates/{name}/{edit}: {fault}" for name, edit, fault in told if fault]
+
+
+def told_by_git(root, *words):
+    """Returns what git tells, or nothing where it tells nothing."""
+    told = subprocess.run(["git", *words], cwd=root, capture_output=True, text=True, check=False)
+    return told.stdout.strip() if told.returncode == 0 else ""
+
+
+def changed(root):
+    """Returns the names of the crates of which a commit has changed something, in the six hours before the commit that stands here."""
+    if told_by_git(root, "rev-parse", "--is-shallow-repository") != "false":
+        return set()
+    second = told_by_git(root, "show", "-s", "--format=%ct")
+    since = f"--since=@{int(second) - 6 * 60 * 60}"
+    files = told_by_git(root, "log", since, "--format=", "--name-only", "--", "crates").splitlines()
+    return {found[1] for file in files if (found := re.match(r"crates/(\w+)/(src|specs|proofs|must-fail)/", file))}
+
+
+def in_turn(root, crates):
+    """Returns the crates whose edits are tried in a run of the commit that stands here: those that have changed, and every third of
+    those that have edits, which third by the commit's name. (A check of the whole crate comes before its first edit, and costs more than
+    the edits.)"""
+    having = [name for name in crates if ls(f"{root}/crates/{name}/must-fail")]
+    turn = int(told_by_git(root, "rev-parse", "HEAD") or "0", 16) % TURNS
+    new = changed(root)
+    return [name for number, name in enumerate(having) if number % TURNS == turn or name in new]
+
+
+@contextlib.contextmanager
+def only_edits_of(root, names, crates):
+    """Gives a copy of what `rt ci` reads here, in which only these crates have must-fail edits."""
+    with tempfile.TemporaryDirectory(prefix="gate-") as room:
+        shutil.copytree(f"{root}/crates", f"{room}/crates", ignore=shutil.ignore_patterns("out", "wrong-programs"))
+        for file in ["crates.txt", "HANDLES"]:
+            shutil.copy(f"{root}/{file}", room)
+        for name in crates:
+            if name not in names:
+                shutil.rmtree(f"{room}/crates/{name}/must-fail", ignore_errors=True)
+        yield room
 
 
 def further(root, crates):

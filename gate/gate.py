@@ -1,12 +1,13 @@
 """Passes the tests: ./gate.sh [--anew] [--whole] [--record NAME]
 
 First come the definitions that documents quote and list, a look at each edit, and the examples by a program that is built without its
-proofs. Then `rt ci` proves every crate and its tests from nothing, has the prover refuse every must-fail edit, and runs the tests
-and the stored run. Last, all scenarios are run by the program that was proved, and each of its allocations is refused in turn. The
+proofs. Then `rt ci` proves every crate and its tests from nothing, has the prover refuse must-fail edits, and runs the tests
+and the stored run: the edits of the crates that changed in the six hours before this commit, and of each third crate in turn, which
+third by the commit's name. Last, all scenarios are run by the program that was proved, and each of its allocations is refused in turn. The
 last line is `rt ci`'s: N passed, 0 failed. The exit status is 0 where all is well.
 
-With --whole the prover has to refuse the crates' further wrong programs too, those of wrong-programs/, which takes about as long
-again; each crate of them counts as one that passed or failed.
+With --whole the prover has to refuse the must-fail edits of all crates, as where `rt ci` is called by itself, and their further wrong
+programs too, those of wrong-programs/, which takes some three times as long; each crate of these counts as one that passed or failed.
 
 Where the toolchain's `rt ci` keeps what it passed before on this machine, it does not do that again, of the same files over the
 same libraries; with --anew it does. Where it keeps nothing it does all in every run, and --anew asks for nothing more. (It keeps
@@ -19,13 +20,14 @@ early, by Ctrl-C or SIGTERM. With --record a run that came to its end writes its
 import argparse
 import os
 import re
+import shutil
 import signal
 import subprocess
 import sys
 import time
 
 from costs import Costs, record
-from edits import faults, further
+from edits import faults, further, in_turn, only_edits_of
 
 ROOT = os.path.dirname(os.path.dirname(os.path.abspath(__file__)))
 PROGRAM = "crates/tpcc/out/tpcc"
@@ -47,9 +49,9 @@ def crates():
 class Progress:
     """Says after each part of `rt ci` how many of how many crates have passed it."""
 
-    def __init__(self):
+    def __init__(self, root):
         named = crates()
-        has = lambda it, *words: subprocess.run(["grep", "-rqF", *words], cwd=f"{ROOT}/crates/{it}", stderr=subprocess.DEVNULL).returncode == 0
+        has = lambda it, *words: subprocess.run(["grep", "-rqF", *words], cwd=f"{root}/crates/{it}", stderr=subprocess.DEVNULL).returncode == 0
         self.parts = {
             "proofs": (re.compile(r"rt: \w+ (proved|is kept)"), len(named)),
             "tests": (re.compile(r"rt: \w+: its tests are proved"), sum(has(it, "#[test]", "src") for it in named)),
@@ -74,10 +76,10 @@ def words_for(anew):
     return ["--anew"] if anew and keeps else []
 
 
-def prove(words):
-    """Runs `rt ci`, and returns how many passed and failed."""
-    progress, verdict = Progress(), (0, 1)
-    with subprocess.Popen(["rt", "ci", *words], cwd=ROOT, stdout=subprocess.PIPE, text=True, errors="replace") as ran:
+def prove(root, words):
+    """Runs `rt ci` there, and returns how many passed and failed."""
+    progress, verdict = Progress(root), (0, 1)
+    with subprocess.Popen(["rt", "ci", *words], cwd=root, stdout=subprocess.PIPE, text=True, errors="replace") as ran:
         try:
             for line in ran.stdout:
                 found = VERDICT.fullmatch(line.strip())
@@ -91,6 +93,18 @@ def prove(words):
             ran.terminate()
             raise
     return verdict if ran.returncode == 0 else (verdict[0], max(verdict[1], 1))
+
+
+def prove_in_turn(words):
+    """Runs `rt ci` over a copy that has the must-fail edits whose turn it is, and takes the program from there."""
+    names = in_turn(ROOT, crates())
+    say(f"must-fail edits of these crates are tried in this run: {', '.join(names)}")
+    with only_edits_of(ROOT, names, crates()) as room:
+        counts = prove(room, words)
+        if not counts[1]:
+            os.makedirs(f"{ROOT}/{os.path.dirname(PROGRAM)}", exist_ok=True)
+            shutil.copy(f"{room}/{PROGRAM}", f"{ROOT}/{PROGRAM}")
+    return counts
 
 
 def passes(what, *words):
@@ -113,8 +127,9 @@ def run(anew, whole):
         return 0, 1
     if not passes("part 1 of 4: the examples by a program that is built without its proofs", "scenarios/run", *examples):
         return 0, 1
-    say("part 2 of 4: every crate and its tests proved from nothing; every must-fail edit; the tests")
-    passed, failed = prove(words_for(anew))
+    say("part 2 of 4: every crate and its tests proved from nothing; must-fail edits; the tests")
+    words = words_for(anew)
+    passed, failed = prove(ROOT, words) if whole else prove_in_turn(words)
     if not failed:
         failed += not passes("part 3 of 4: all scenarios by the program that was proved", "scenarios/run", "--program", PROGRAM)
         failed += not passes("part 4 of 4: each allocation of that program refused in turn", "gate/allocations.py", PROGRAM)
@@ -134,7 +149,7 @@ def commit():
 def main():
     words = argparse.ArgumentParser(prog="gate.sh", description=__doc__, formatter_class=argparse.RawDescriptionHelpFormatter)
     words.add_argument("--anew", action="store_true", help="do also what the toolchain keeps of earlier runs on this machine")
-    words.add_argument("--whole", action="store_true", help="have the prover refuse the further wrong programs too")
+    words.add_argument("--whole", action="store_true", help="have the prover refuse the edits of all crates, and the further wrong programs too")
     words.add_argument("--record", metavar="NAME", help="write the costs of this run into docs/COSTS.md under this name")
     words = words.parse_args()
     signal.signal(signal.SIGTERM, signal.default_int_handler)

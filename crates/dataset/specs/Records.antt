@@ -205,6 +205,6 @@ AreSpelt fields texts = AllZip IsSpelt fields texts
 unfoldable pub AreRecords : Database → List (List (List ℕ)) → Type 0
 AreRecords t rows = AllZip AreSpelt (records t) rows
 
--- these are the first of them, as many as one likes
+-- these are some number of the first of them
 abbrev pub AreFirstRecords : Database → List (List (List ℕ)) → Type 0
 AreFirstRecords t rows = OfFirst (λ (first : List (List Field)). AllZip AreSpelt first) (records t) rows

@@ -1,14 +1,11 @@
 -- A session comes to its next request, asks it, and has the answer.
-use Rattle.std.proofs.Common.{◌≡◌, ℕ, ◌≤◌, Bool, true, false, List, [], ◌∷◌, ◌++◌, length, take, Some, Ok, inr, sym, ap, subst, ◌∙◌, arith}
+use Rattle.std.proofs.Common.{◌≡◌, ℕ, ◌≤◌, Bool, true, false, List, [], ◌∷◌, ◌++◌, length, take, Some, Result, Ok, Err, inr, sym, ap, subst, ◌∙◌, arith}
 use Rattle.std.specs.List.{slice_get}
 use Rattle.std.proofs.lemmas.List.{take_all}
 use Rattle.schema.specs.declared.scale.Scale.{Scale}
 use Rattle.requests.specs.declared.request.Request.{Request}
-use Rattle.requests.specs.declared.reply.Reply.{Reply}
 use Rattle.requests.specs.declared.refusal.Refusal.{Refusal}
 use Rattle.requests.specs.declared.refusal.Refusal.TheVariants as refusal
-use Rattle.requests.specs.declared.answer.Answer.{Answer}
-use Rattle.requests.specs.declared.answer.Answer.TheVariants.{Done, Refused}
 use Rattle.requests.specs.Check.{check_of}
 use Rattle.commit_log.specs.declared.entry.Entry.{Entry}
 use Rattle.commit_log.specs.declared.mine.Item.{Item}
@@ -22,7 +19,7 @@ use Rattle.engine.proofs.OneMoreRequest.{next_done, next_refused, nothing_asked,
 
 module _ (scale : Scale) (scripts : List (List Request)) (script : List Request) where
   -- before the first request
-  pub ready_first : (seat : Seating) (pass : Passing) (answers : List Answer) (room : ℕ) → slice_get scripts pass.session ≡ Some script → seat.session ≡ pass.session → pass.mine ≡ []
+  pub ready_first : (seat : Seating) (pass : Passing) (answers : List (Result ℕ Refusal)) (room : ℕ) → slice_get scripts pass.session ≡ Some script → seat.session ≡ pass.session → pass.mine ≡ []
       → answers ≡ [] → length script ≤ room → IsReady scale scripts (resting script seat pass answers false) room
   ready_first seat pass answers room script_is seat_is new none room_is = record {
     script_is = script_is;
@@ -33,8 +30,8 @@ module _ (scale : Scale) (scripts : List (List Request)) (script : List Request)
   }
 
   -- its next request is refused
-  pub ready_refused : (seat : Seating) (pass : Passing) (answers after : List Answer) (room later : ℕ) (is_full : Bool) (why : Refusal) → IsReady scale scripts (resting script seat pass answers is_full) room
-      → IsRefusedNext scale (resting script seat pass answers is_full) why → after ≡ answers ++ Refused why ∷ [] → room ≤ later → IsReady scale scripts (resting script seat pass after is_full) later
+  pub ready_refused : (seat : Seating) (pass : Passing) (answers after : List (Result ℕ Refusal)) (room later : ℕ) (is_full : Bool) (why : Refusal) → IsReady scale scripts (resting script seat pass answers is_full) room
+      → IsRefusedNext scale (resting script seat pass answers is_full) why → after ≡ answers ++ Err why ∷ [] → room ≤ later → IsReady scale scripts (resting script seat pass after is_full) later
   ready_refused seat pass answers after room later is_full why h refused pushed grown = record {
     script_is = h.script_is;
     seat_is = h.seat_is;
@@ -45,7 +42,7 @@ module _ (scale : Scale) (scripts : List (List Request)) (script : List Request)
   }
 
   -- its next request is asked
-  pub asks_next : (seat after : Seating) (pass : Passing) (answers : List Answer) (room number : ℕ) (is_full : Bool) (request : Request) → IsReady scale scripts (resting script seat pass answers is_full) room
+  pub asks_next : (seat after : Seating) (pass : Passing) (answers : List (Result ℕ Refusal)) (room number : ℕ) (is_full : Bool) (request : Request) → IsReady scale scripts (resting script seat pass answers is_full) room
       → is_full ≡ false → slice_get script (length answers) ≡ Some request → check_of scale request ≡ Ok tt → number ≡ length answers
       → after ≡ seating seat.session (asking number request pass.seen pass.mine) → IsAsked scale scripts (waiting script after answers) room
   asks_next seat after pass answers room number is_full request h not_full next accepted number_is after_is =
@@ -59,11 +56,11 @@ module _ (scale : Scale) (scripts : List (List Request)) (script : List Request)
       })
 
   -- what was asked is to be asked again, or is refused, or done
-  module _ (seat : Seating) (pass : Passing) (answers after : List Answer) (room later : ℕ) (h : IsAsked scale scripts (waiting script seat answers) room) (session : pass.session ≡ seat.session) where
+  module _ (seat : Seating) (pass : Passing) (answers after : List (Result ℕ Refusal)) (room later : ℕ) (h : IsAsked scale scripts (waiting script seat answers) room) (session : pass.session ≡ seat.session) where
     script_here : slice_get scripts pass.session ≡ Some script
     script_here = ap (slice_get scripts) session ∙ h.script_is
 
-    pub ready_again : (why : Refusal) → IsToldBy seat.asking pass (Refused why) → IsReady scale scripts (resting script seat pass answers false) room
+    pub ready_again : (why : Refusal) → IsToldBy seat.asking pass (Err why) → IsReady scale scripts (resting script seat pass answers false) room
     ready_again why told = record {
       script_is = script_here;
       seat_is = sym session;
@@ -72,15 +69,15 @@ module _ (scale : Scale) (scripts : List (List Request)) (script : List Request)
       room_is = h.room_is;
     }
 
-    so_refused : (why : Refusal) (known : ℕ) → IsToldBy seat.asking pass (Refused why) → MayBeRefused known seat.asking.request why → after ≡ answers ++ Refused why ∷ []
+    so_refused : (why : Refusal) (known : ℕ) → IsToldBy seat.asking pass (Err why) → MayBeRefused known seat.asking.request why → after ≡ answers ++ Err why ∷ []
         → ServedSoFar scale script pass.mine pass.seen known after
     so_refused why known told may pushed =
         subst (ServedSoFar scale script pass.mine pass.seen known) (sym pushed)
-        (subst (λ (m : List Item). ServedSoFar scale script m pass.seen known (answers ++ Refused why ∷ [])) (sym told.1)
-        (subst (λ (n : ℕ). ServedSoFar scale script seat.asking.mine n known (answers ++ Refused why ∷ [])) (sym told.0)
+        (subst (λ (m : List Item). ServedSoFar scale script m pass.seen known (answers ++ Err why ∷ [])) (sym told.1)
+        (subst (λ (n : ℕ). ServedSoFar scale script seat.asking.mine n known (answers ++ Err why ∷ [])) (sym told.0)
         (next_refused scale script answers seat.asking.request h.request_is seat.asking.mine seat.asking.seen 0 known why h.so_far (omega arith) (inr (h.accepted, may)))))
 
-    pub told_full : (why : Refusal) → 16777216 ≤ pass.reached → IsToldBy seat.asking pass (Refused why) → after ≡ answers ++ Refused why ∷ [] → room ≤ later
+    pub told_full : (why : Refusal) → 16777216 ≤ pass.reached → IsToldBy seat.asking pass (Err why) → after ≡ answers ++ Err why ∷ [] → room ≤ later
         → IsReady scale scripts (resting script seat pass after true) later
     told_full why full told pushed grown = record {
       script_is = script_here;
@@ -90,7 +87,7 @@ module _ (scale : Scale) (scripts : List (List Request)) (script : List Request)
       room_is = let room_is = h.room_is in omega (arith, room_is, grown);
     }
 
-    pub told_refused : (why : Refusal) → MayBeRefused 0 seat.asking.request why → IsToldBy seat.asking pass (Refused why) → after ≡ answers ++ Refused why ∷ [] → room ≤ later
+    pub told_refused : (why : Refusal) → MayBeRefused 0 seat.asking.request why → IsToldBy seat.asking pass (Err why) → after ≡ answers ++ Err why ∷ [] → room ≤ later
         → IsReady scale scripts (resting script seat pass after false) later
     told_refused why may told pushed grown = record {
       script_is = script_here;
@@ -100,43 +97,43 @@ module _ (scale : Scale) (scripts : List (List Request)) (script : List Request)
       room_is = let room_is = h.room_is in omega (arith, room_is, grown);
     }
 
-    pub told_done : (place : ℕ) (reply : Reply) → IsToldBy seat.asking pass (Done place reply) → after ≡ answers ++ Done place reply ∷ [] → room ≤ later
+    pub told_done : (place : ℕ) → IsToldBy seat.asking pass (Ok place) → after ≡ answers ++ Ok place ∷ [] → room ≤ later
         → IsReady scale scripts (resting script seat pass after false) later
-    told_done place reply told pushed grown =
-        let x = item place seat.asking.number seat.asking.request reply in
+    told_done place told pushed grown =
+        let reply = told.2 in
         let mine : pass.mine ≡ seat.asking.mine ++ item place (length answers) seat.asking.request reply ∷ [] =
-        told.2 ∙ ap (λ (n : ℕ). seat.asking.mine ++ item place n seat.asking.request reply ∷ []) h.number_is in
+        told.3 ∙ ap (λ (n : ℕ). seat.asking.mine ++ item place n seat.asking.request reply ∷ []) h.number_is in
         record {
           script_is = script_here;
           seat_is = sym session;
           so_far = subst (ServedSoFar scale script pass.mine pass.seen 0) (sym pushed)
-              (subst (λ (m : List Item). ServedSoFar scale script m pass.seen 0 (answers ++ Done place reply ∷ [])) (sym mine)
-              (subst (λ (n : ℕ). ServedSoFar scale script (seat.asking.mine ++ item place (length answers) seat.asking.request reply ∷ []) n 0 (answers ++ Done place reply ∷ [])) (sym told.1)
+              (subst (λ (m : List Item). ServedSoFar scale script m pass.seen 0 (answers ++ Ok place ∷ [])) (sym mine)
+              (subst (λ (n : ℕ). ServedSoFar scale script (seat.asking.mine ++ item place (length answers) seat.asking.request reply ∷ []) n 0 (answers ++ Ok place ∷ [])) (sym told.1)
               (next_done scale script answers seat.asking.request h.request_is seat.asking.mine seat.asking.seen 0 0 place reply h.so_far (omega arith) told.0 h.accepted)));
           full = λ is. absurd cc;
           room_is = let room_is = h.room_is in omega (arith, room_is, grown);
         }
 
     -- whatever the answer is
-    pub told_any : (answer : Answer) → IsToldBy seat.asking pass answer → after ≡ answers ++ answer ∷ [] → room ≤ later → IsReady scale scripts (resting script seat pass after (says_full answer)) later
-    told_any (Done place reply) told pushed grown = told_done place reply told pushed grown
-    told_any (Refused refusal.LogFull) told pushed grown = told_full refusal.LogFull told.2 told pushed grown
-    told_any (Refused refusal.NoMemory) told pushed grown = told_refused refusal.NoMemory tt told pushed grown
-    told_any (Refused (refusal.Died group holder)) told pushed grown = told_refused (refusal.Died group holder) told.2 told pushed grown
-    told_any (Refused refusal.BadWarehouse) told pushed grown = absurd told.2
-    told_any (Refused refusal.BadDistrict) told pushed grown = absurd told.2
-    told_any (Refused refusal.BadLines) told pushed grown = absurd told.2
-    told_any (Refused refusal.BadQuantity) told pushed grown = absurd told.2
-    told_any (Refused refusal.BadSupply) told pushed grown = absurd told.2
-    told_any (Refused refusal.BadAmount) told pushed grown = absurd told.2
-    told_any (Refused refusal.BadThreshold) told pushed grown = absurd told.2
-    told_any (Refused refusal.BadCarrier) told pushed grown = absurd told.2
-    told_any (Refused refusal.Busy) told pushed grown = absurd told.2
-    told_any (Refused refusal.SessionBusy) told pushed grown = absurd told.2
-    told_any (Refused refusal.Closed) told pushed grown = absurd told.2
+    pub told_any : (answer : Result ℕ Refusal) → IsToldBy seat.asking pass answer → after ≡ answers ++ answer ∷ [] → room ≤ later → IsReady scale scripts (resting script seat pass after (says_full answer)) later
+    told_any (Ok place) told pushed grown = told_done place told pushed grown
+    told_any (Err refusal.LogFull) told pushed grown = told_full refusal.LogFull told.2 told pushed grown
+    told_any (Err refusal.NoMemory) told pushed grown = told_refused refusal.NoMemory tt told pushed grown
+    told_any (Err (refusal.Died group holder)) told pushed grown = told_refused (refusal.Died group holder) told.2 told pushed grown
+    told_any (Err refusal.BadWarehouse) told pushed grown = absurd told.2
+    told_any (Err refusal.BadDistrict) told pushed grown = absurd told.2
+    told_any (Err refusal.BadLines) told pushed grown = absurd told.2
+    told_any (Err refusal.BadQuantity) told pushed grown = absurd told.2
+    told_any (Err refusal.BadSupply) told pushed grown = absurd told.2
+    told_any (Err refusal.BadAmount) told pushed grown = absurd told.2
+    told_any (Err refusal.BadThreshold) told pushed grown = absurd told.2
+    told_any (Err refusal.BadCarrier) told pushed grown = absurd told.2
+    told_any (Err refusal.Busy) told pushed grown = absurd told.2
+    told_any (Err refusal.SessionBusy) told pushed grown = absurd told.2
+    told_any (Err refusal.Closed) told pushed grown = absurd told.2
 
   -- the script is at its end, and the session is compared with the log
-  pub audited : (seat : Seating) (pass : Passing) (answers : List Answer) (room session : ℕ) (is_full : Bool) (log : List Entry) → IsReady scale scripts (resting script seat pass answers is_full) room
+  pub audited : (seat : Seating) (pass : Passing) (answers : List (Result ℕ Refusal)) (room session : ℕ) (is_full : Bool) (log : List Entry) → IsReady scale scripts (resting script seat pass answers is_full) room
       → pass.session ≡ session → length answers ≡ length script → pass.mine ≡ items_of pass.session log → pass.reached ≤ length log
       → (other : List Request) → slice_get scripts session ≡ Some other → Served scale other answers (items_of session log) (length log)
   audited seat pass answers room session is_full log h session_is all mine reached other found =

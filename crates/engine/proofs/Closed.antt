@@ -1,11 +1,11 @@
 -- The executors have ended: what the log, the sessions and the slices tell makes the outcome.
-use Rattle.std.proofs.Common.{◌≡◌, ℕ, zero, suc, ◌<◌, ◌≤◌, List, [], ◌∷◌, length, Some, sym, ap, subst, ◌∙◌}
+use Rattle.std.proofs.Common.{◌≡◌, ℕ, zero, suc, ◌<◌, ◌≤◌, List, [], ◌∷◌, length, Some, Result, sym, ap, subst, ◌∙◌}
 use Rattle.std.specs.List.{slice_get, slice_index_or, All}
 use Rattle.std.proofs.lemmas.List.Elements.{All-map}
 use Rattle.schema.specs.Database.{Database, IsWithinScale}
 use Rattle.partitions.specs.Parts.{Shared, shared_of}
 use Rattle.requests.specs.declared.request.Request.{Request}
-use Rattle.requests.specs.declared.answer.Answer.{Answer}
+use Rattle.requests.specs.declared.refusal.Refusal.{Refusal}
 use Rattle.requests.specs.Check.{IsAccepted}
 use Rattle.machine.specs.Machine.{replies, tables_after}
 use Rattle.commit_log.specs.declared.entry.Entry.{Entry}
@@ -29,7 +29,7 @@ of_all P xs n x all at = subst P (stands_at xs n x at) (all n x (within xs n x a
     stands_at (z ∷ ys) (suc k) y h = stands_at ys k y h
 
 -- The log is as it was when the executors had ended, however often it was looked at since.
-pub closed : (opening : Database) (scripts : List (List Request)) (answers : List (List Answer)) (ended served idle settled entries : List Entry) (catalog : Shared) (slices : List Sliced) (tables : Database)
+pub closed : (opening : Database) (scripts : List (List Request)) (answers : List (List (Result ℕ Refusal))) (ended served idle settled entries : List Entry) (catalog : Shared) (slices : List Sliced) (tables : Database)
     → catalog ≡ shared_of opening → IsWithinScale opening
     → served ≡ ended → idle ≡ served → settled ≡ idle → entries ≡ settled
     → length answers ≡ length scripts → ServedEach opening.scale scripts ended answers

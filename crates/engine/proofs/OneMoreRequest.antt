@@ -1,5 +1,5 @@
 -- A session asks one request more.
-use Rattle.std.proofs.Common.{◌≡◌, ℕ, zero, suc, ◌+◌, ◌<◌, ◌≤◌, true, false, cond, eqb, List, [], ◌∷◌, ◌++◌, length, Some, Ok, inl, inr, length-append, get_or, take, refl, sym, ap, subst, ◌∙◌, arith}
+use Rattle.std.proofs.Common.{◌≡◌, ℕ, zero, suc, ◌+◌, ◌<◌, ◌≤◌, true, false, cond, eqb, List, [], ◌∷◌, ◌++◌, length, Some, Result, Ok, Err, inl, inr, length-append, get_or, take, refl, sym, ap, subst, ◌∙◌, arith}
 use Rattle.std.specs.List.{slice_get}
 use Rattle.std.proofs.lemmas.Bool.Decides.{nat_tests}
 use Rattle.std.proofs.Math.Seq.{take-suc}
@@ -9,8 +9,6 @@ use Rattle.schema.specs.declared.scale.Scale.{Scale}
 use Rattle.requests.specs.declared.request.Request.{Request}
 use Rattle.requests.specs.declared.reply.Reply.{Reply}
 use Rattle.requests.specs.declared.refusal.Refusal.{Refusal}
-use Rattle.requests.specs.declared.answer.Answer.{Answer}
-use Rattle.requests.specs.declared.answer.Answer.TheVariants.{Done, Refused}
 use Rattle.commit_log.specs.declared.mine.Item.{Item}
 use Rattle.commit_log.specs.Items.{item}
 use Rattle.requests.specs.Check.{check_of}
@@ -55,15 +53,15 @@ stays xs x y n h =
 -- ---- one request more
 
 -- an answer says the same when the session has logged more, and knows the log to reach further
-answers_still : (scale : Scale) (reached further : ℕ) (mine rest : List Item) (k : ℕ) (request : Request) (answer : Answer) → reached ≤ further
+answers_still : (scale : Scale) (reached further : ℕ) (mine rest : List Item) (k : ℕ) (request : Request) (answer : Result ℕ Refusal) → reached ≤ further
     → IsAnswerTo scale reached mine k request answer → IsAnswerTo scale further (mine ++ rest) k request answer
-answers_still scale reached further mine rest k request (Done place reply) grown h = (h.0, Contains-append_left mine rest (item place k request reply) h.1)
-answers_still scale reached further mine rest k request (Refused refusal) grown h = longer scale reached further request refusal grown h
+answers_still scale reached further mine rest k request (Ok place) grown h = (h.0, h.1, Contains-append_left mine rest (item place k request h.1) h.2)
+answers_still scale reached further mine rest k request (Err refusal) grown h = longer scale reached further request refusal grown h
 
-answers_further : (scale : Scale) (reached further : ℕ) (mine : List Item) (k : ℕ) (request : Request) (answer : Answer) → reached ≤ further
+answers_further : (scale : Scale) (reached further : ℕ) (mine : List Item) (k : ℕ) (request : Request) (answer : Result ℕ Refusal) → reached ≤ further
     → IsAnswerTo scale reached mine k request answer → IsAnswerTo scale further mine k request answer
-answers_further scale reached further mine k request (Done place reply) grown h = h
-answers_further scale reached further mine k request (Refused refusal) grown h = longer scale reached further request refusal grown h
+answers_further scale reached further mine k request (Ok place) grown h = h
+answers_further scale reached further mine k request (Err refusal) grown h = longer scale reached further request refusal grown h
 
 evenly : {X Y : Type 0} (xs : List X) (x : X) (ys : List Y) (y : Y) → length xs ≡ length ys → length (xs ++ x ∷ []) ≡ length (ys ++ y ∷ [])
 evenly xs x ys y even = length-append xs (x ∷ []) ∙ ap (λ n. n + 1) even ∙ sym (length-append ys (y ∷ []))
@@ -74,78 +72,78 @@ served_begun scale reached = record {
   answered = refl;
   each = λ k request answer asked told. absurd cc;
   logged = λ x c. let low = c.1 in absurd (omega arith);
-  ascending = λ j k place later reply next below first second. absurd cc;
+  ascending = λ j k place later below first second. absurd cc;
 }
 
-done_more : (scale : Scale) (script : List Request) (answers : List Answer) (mine : List Item) (reached further seen place : ℕ) (request : Request) (reply : Reply)
+done_more : (scale : Scale) (script : List Request) (answers : List (Result ℕ Refusal)) (mine : List Item) (reached further seen place : ℕ) (request : Request) (reply : Reply)
     → Served scale script answers mine reached → HasSeen seen answers → reached ≤ further → seen ≤ place
-    → IsAnswerTo scale further (mine ++ item place (length script) request reply ∷ []) (length script) request (Done place reply)
-    → Served scale (script ++ request ∷ []) (answers ++ Done place reply ∷ []) (mine ++ item place (length script) request reply ∷ []) further
+    → IsAnswerTo scale further (mine ++ item place (length script) request reply ∷ []) (length script) request (Ok place)
+    → Served scale (script ++ request ∷ []) (answers ++ Ok place ∷ []) (mine ++ item place (length script) request reply ∷ []) further
 done_more scale script answers mine reached further seen place request reply h saw grown behind so =
     let x = item place (length script) request reply in
     let even = h.answered in
     record {
-      answered = evenly answers (Done place reply) script request even;
+      answered = evenly answers (Ok place) script request even;
       each = λ k r a asked told.
           by_end (IsAnswerTo scale further (mine ++ x ∷ []) k r a) script request r k asked
-          (λ k_is r_is. by_end (IsAnswerTo scale further (mine ++ x ∷ []) k r a) answers (Done place reply) a k told
+          (λ k_is r_is. by_end (IsAnswerTo scale further (mine ++ x ∷ []) k r a) answers (Ok place) a k told
           (λ _ a_is. subst (λ n. IsAnswerTo scale further (mine ++ x ∷ []) n r a) (sym k_is)
           (subst (λ q. IsAnswerTo scale further (mine ++ x ∷ []) (length script) q a) r_is
           (subst (IsAnswerTo scale further (mine ++ x ∷ []) (length script) request) a_is so)))
           (λ low _. absurd (omega arith)))
-          (λ low before. by_end (IsAnswerTo scale further (mine ++ x ∷ []) k r a) answers (Done place reply) a k told
+          (λ low before. by_end (IsAnswerTo scale further (mine ++ x ∷ []) k r a) answers (Ok place) a k told
           (λ k_is _. absurd (omega arith))
           (λ _ old. answers_still scale reached further mine (x ∷ []) k r a grown (h.each k r a before old)));
       logged = λ y c.
-          elim (Contains-push_cases mine x y c) as (λ _. slice_get (answers ++ Done place reply ∷ []) y.number ≡ Some (Done y.place y.reply)) [
-            | inl before ↦ stays answers (Done place reply) (Done y.place y.reply) y.number (h.logged y before)
-            | inr is ↦ subst (λ (z : Item). slice_get (answers ++ Done place reply ∷ []) z.number ≡ Some (Done z.place z.reply)) is
-                (subst (λ n. slice_get (answers ++ Done place reply ∷ []) n ≡ Some (Done place reply)) even (stands answers (Done place reply)))
+          elim (Contains-push_cases mine x y c) as (λ _. slice_get (answers ++ Ok place ∷ []) y.number ≡ Some (Ok y.place)) [
+            | inl before ↦ stays answers (Ok place) (Ok y.place) y.number (h.logged y before)
+            | inr is ↦ subst (λ (z : Item). slice_get (answers ++ Ok place ∷ []) z.number ≡ Some (Ok z.place)) is
+                (subst (λ n. slice_get (answers ++ Ok place ∷ []) n ≡ Some (Ok place)) even (stands answers (Ok place)))
           ];
-      ascending = λ j k earlier later r next below first second.
-          by_end (earlier < later) answers (Done place reply) (Done earlier r) j first
-          (λ j_is _. by_end (earlier < later) answers (Done place reply) (Done later next) k second
+      ascending = λ j k earlier later below first second.
+          by_end (earlier < later) answers (Ok place) (Ok earlier) j first
+          (λ j_is _. by_end (earlier < later) answers (Ok place) (Ok later) k second
           (λ k_is _. absurd (omega arith)) (λ low _. absurd (omega arith)))
-          (λ _ before. by_end (earlier < later) answers (Done place reply) (Done later next) k second
-          (λ _ is. let placed : place ≡ later = cc in let low : earlier < seen = saw j earlier r before in omega arith)
-          (λ _ after. h.ascending j k earlier later r next below before after));
+          (λ _ before. by_end (earlier < later) answers (Ok place) (Ok later) k second
+          (λ _ is. let placed : place ≡ later = cc in let low : earlier < seen = saw j earlier before in omega arith)
+          (λ _ after. h.ascending j k earlier later below before after));
     }
 
-refused_more : (scale : Scale) (script : List Request) (answers : List Answer) (mine : List Item) (reached further : ℕ) (request : Request) (refusal : Refusal)
+refused_more : (scale : Scale) (script : List Request) (answers : List (Result ℕ Refusal)) (mine : List Item) (reached further : ℕ) (request : Request) (refusal : Refusal)
     → Served scale script answers mine reached → reached ≤ further
-    → IsAnswerTo scale further mine (length script) request (Refused refusal)
-    → Served scale (script ++ request ∷ []) (answers ++ Refused refusal ∷ []) mine further
+    → IsAnswerTo scale further mine (length script) request (Err refusal)
+    → Served scale (script ++ request ∷ []) (answers ++ Err refusal ∷ []) mine further
 refused_more scale script answers mine reached further request refusal h grown so =
     let even = h.answered in
     record {
-      answered = evenly answers (Refused refusal) script request even;
+      answered = evenly answers (Err refusal) script request even;
       each = λ k r a asked told.
           by_end (IsAnswerTo scale further mine k r a) script request r k asked
-          (λ k_is r_is. by_end (IsAnswerTo scale further mine k r a) answers (Refused refusal) a k told
+          (λ k_is r_is. by_end (IsAnswerTo scale further mine k r a) answers (Err refusal) a k told
           (λ _ a_is. subst (λ n. IsAnswerTo scale further mine n r a) (sym k_is)
           (subst (λ q. IsAnswerTo scale further mine (length script) q a) r_is
           (subst (IsAnswerTo scale further mine (length script) request) a_is so)))
           (λ low _. absurd (omega arith)))
-          (λ low before. by_end (IsAnswerTo scale further mine k r a) answers (Refused refusal) a k told
+          (λ low before. by_end (IsAnswerTo scale further mine k r a) answers (Err refusal) a k told
           (λ k_is _. absurd (omega arith))
           (λ _ old. answers_further scale reached further mine k r a grown (h.each k r a before old)));
-      logged = λ y c. stays answers (Refused refusal) (Done y.place y.reply) y.number (h.logged y c);
-      ascending = λ j k earlier later r next below first second.
-          by_end (earlier < later) answers (Refused refusal) (Done earlier r) j first
+      logged = λ y c. stays answers (Err refusal) (Ok y.place) y.number (h.logged y c);
+      ascending = λ j k earlier later below first second.
+          by_end (earlier < later) answers (Err refusal) (Ok earlier) j first
           (λ _ is. absurd cc)
-          (λ _ before. by_end (earlier < later) answers (Refused refusal) (Done later next) k second
+          (λ _ before. by_end (earlier < later) answers (Err refusal) (Ok later) k second
           (λ _ is. absurd cc)
-          (λ _ after. h.ascending j k earlier later r next below before after));
+          (λ _ after. h.ascending j k earlier later below before after));
     }
 
-seen_still : (answers : List Answer) (refusal : Refusal) (before after : ℕ) → after ≡ before → HasSeen before answers → HasSeen after (answers ++ Refused refusal ∷ [])
-seen_still answers refusal before after same saw k there r at =
-    by_end (there < after) answers (Refused refusal) (Done there r) k at
+seen_still : (answers : List (Result ℕ Refusal)) (refusal : Refusal) (before after : ℕ) → after ≡ before → HasSeen before answers → HasSeen after (answers ++ Err refusal ∷ [])
+seen_still answers refusal before after same saw k there at =
+    by_end (there < after) answers (Err refusal) (Ok there) k at
     (λ _ is. absurd cc)
-    (λ _ told. let low : there < before = saw k there r told in omega arith)
+    (λ _ told. let low : there < before = saw k there told in omega arith)
 
 -- What a session was served, when the log has come to reach further.
-pub served_further : (scale : Scale) (script : List Request) (answers : List Answer) (mine : List Item) (reached further : ℕ) → reached ≤ further
+pub served_further : (scale : Scale) (script : List Request) (answers : List (Result ℕ Refusal)) (mine : List Item) (reached further : ℕ) → reached ≤ further
     → Served scale script answers mine reached → Served scale script answers mine further
 served_further scale script answers mine reached further grown h = record {
   answered = h.answered;
@@ -169,15 +167,15 @@ at_index (y ∷ ys) (suc n) x h = at_index ys n x h
 -- ---- the script of a session
 
 -- no request was asked yet
-pub nothing_asked : (scale : Scale) (script : List Request) (mine : List Item) (seen reached : ℕ) (answers : List Answer) → mine ≡ [] → answers ≡ [] → ServedSoFar scale script mine seen reached answers
+pub nothing_asked : (scale : Scale) (script : List Request) (mine : List Item) (seen reached : ℕ) (answers : List (Result ℕ Refusal)) → mine ≡ [] → answers ≡ [] → ServedSoFar scale script mine seen reached answers
 nothing_asked scale script mine seen reached answers new none =
     subst (ServedSoFar scale script mine seen reached) (sym none) (subst (λ (m : List Item). ServedSoFar scale script m seen reached []) (sym new) (record {
       few = omega arith;
       served = served_begun scale reached;
-      has_seen = λ k place reply at. absurd cc;
+      has_seen = λ k place at. absurd cc;
     }))
 
-module _ (scale : Scale) (script : List Request) (answers : List Answer) (request : Request) (next : slice_get script (length answers) ≡ Some request) where
+module _ (scale : Scale) (script : List Request) (answers : List (Result ℕ Refusal)) (request : Request) (next : slice_get script (length answers) ≡ Some request) where
   below : length answers < length script
   below = within script (length answers) request next
 
@@ -185,36 +183,36 @@ module _ (scale : Scale) (script : List Request) (answers : List Answer) (reques
   taken = length-take-le (length answers) script (omega (arith, below))
 
   -- with one answer more, the requests that were asked are one more
-  one_more : (answer : Answer) → take (length (answers ++ answer ∷ [])) script ≡ take (length answers) script ++ request ∷ []
+  one_more : (answer : Result ℕ Refusal) → take (length (answers ++ answer ∷ [])) script ≡ take (length answers) script ++ request ∷ []
   one_more answer = ap (λ (n : ℕ). take n script) (length-append answers (answer ∷ [])) ∙ take-next script (length answers) request below (at_index script (length answers) request next)
 
-  few_still : (answer : Answer) → length (answers ++ answer ∷ []) ≤ length script
+  few_still : (answer : Result ℕ Refusal) → length (answers ++ answer ∷ []) ≤ length script
   few_still answer = let more = length-append answers (answer ∷ []) in let low = below in omega (arith, more, low)
 
   -- it was done
   pub next_done : (mine : List Item) (seen reached further place : ℕ) (reply : Reply) → ServedSoFar scale script mine seen reached answers → reached ≤ further → seen ≤ place
       → check_of scale request ≡ Ok tt
-      → ServedSoFar scale script (mine ++ item place (length answers) request reply ∷ []) (place + 1) further (answers ++ Done place reply ∷ [])
+      → ServedSoFar scale script (mine ++ item place (length answers) request reply ∷ []) (place + 1) further (answers ++ Ok place ∷ [])
   next_done mine seen reached further place reply h grown behind accepted =
       let asked = take (length answers) script in
       let x = item place (length asked) request reply in
-      let so = done_more scale asked answers mine reached further seen place request reply h.served h.has_seen grown behind (accepted, Contains-push mine x) in
+      let so = done_more scale asked answers mine reached further seen place request reply h.served h.has_seen grown behind (accepted, reply, Contains-push mine x) in
       record {
-        few = few_still (Done place reply);
-        served = subst (λ (rs : List Request). Served scale rs (answers ++ Done place reply ∷ []) (mine ++ item place (length answers) request reply ∷ []) further) (sym (one_more (Done place reply)))
-            (subst (λ (n : ℕ). Served scale (asked ++ request ∷ []) (answers ++ Done place reply ∷ []) (mine ++ item place n request reply ∷ []) further) taken so);
-        has_seen = λ k there r at.
-            by_end (there < place + 1) answers (Done place reply) (Done there r) k at
+        few = few_still (Ok place);
+        served = subst (λ (rs : List Request). Served scale rs (answers ++ Ok place ∷ []) (mine ++ item place (length answers) request reply ∷ []) further) (sym (one_more (Ok place)))
+            (subst (λ (n : ℕ). Served scale (asked ++ request ∷ []) (answers ++ Ok place ∷ []) (mine ++ item place n request reply ∷ []) further) taken so);
+        has_seen = λ k there at.
+            by_end (there < place + 1) answers (Ok place) (Ok there) k at
             (λ _ is. let placed : place ≡ there = cc in omega arith)
-            (λ _ before. let low : there < seen = h.has_seen k there r before in omega arith);
+            (λ _ before. let low : there < seen = h.has_seen k there before in omega arith);
       }
 
   -- it was refused
   pub next_refused : (mine : List Item) (seen reached further : ℕ) (why : Refusal) → ServedSoFar scale script mine seen reached answers → reached ≤ further
-      → IsRefusal scale further request why → ServedSoFar scale script mine seen further (answers ++ Refused why ∷ [])
+      → IsRefusal scale further request why → ServedSoFar scale script mine seen further (answers ++ Err why ∷ [])
   next_refused mine seen reached further why h grown rightly = record {
-    few = few_still (Refused why);
-    served = subst (λ (rs : List Request). Served scale rs (answers ++ Refused why ∷ []) mine further) (sym (one_more (Refused why)))
+    few = few_still (Err why);
+    served = subst (λ (rs : List Request). Served scale rs (answers ++ Err why ∷ []) mine further) (sym (one_more (Err why)))
         (refused_more scale (take (length answers) script) answers mine reached further request why h.served grown rightly);
     has_seen = seen_still answers why seen seen refl h.has_seen;
   }

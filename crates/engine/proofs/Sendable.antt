@@ -3,11 +3,14 @@ use denote.RattleType.{RattleType}
 use denote.Ref.{NamedLft}
 use denote.Param.Send.{IsSend, IsSync, sendable, view_send}
 use denote.Param.SendFields.{declared_send, declared_sync, variants_send}
+use denote.Builtin.{u32}
 use Rattle.std.proofs.Crossing.{crosses, Box-send, Vec-send, Vec-sync, Deque-send}
 use Rattle.queues.specs.contracts.sender.Sender as Sender
 use Rattle.queues.proofs.Sendable.{Taker-send, Sender-send}
 use Rattle.routing.proofs.Sendable.{SharedRouting-sync}
-use Rattle.requests.proofs.Sendable.{Answer-send, Script-sync}
+use Rattle.std.specs.contracts.result.Result as Result
+use Rattle.requests.specs.contracts.refusal.Refusal as Refusal
+use Rattle.requests.proofs.Sendable.{Script-sync}
 use Rattle.commit_log.proofs.Sendable.{Log-send, Pass-send, SessionSeat-send}
 use Rattle.executor.proofs.Sendable.{Errand-send, Settle-send, Undo-send, Phase-send, Keeper-send, Post-send}
 use Rattle.executor.specs.contracts.post.Post as Post
@@ -26,6 +29,19 @@ use Rattle.engine.specs.contracts.message.Message as Message
 use Rattle.engine.specs.contracts.moves.Moves as Moves
 use Rattle.engine.specs.contracts.place.Place as Place
 use Rattle.engine.specs.contracts.place.Session as Session
+
+-- an answer: a place in the log, or a refusal
+Refusal-send : IsSend Refusal.the_row
+Refusal-send = search sendable depth 80
+
+Answer-send : IsSend (Result.the_row u32 Refusal.the_row)
+Answer-send = variants_send (Result.enum u32 Refusal.the_row) (
+  (search sendable depth 20, tt),
+  (
+    (Refusal-send, tt),
+    tt,
+  ),
+)
 
 Bed-sync : IsSync Bed.the_row
 Bed-sync = declared_sync Bed.the_type (search (crosses, sendable) depth 20, (search (crosses, sendable) depth 20, tt))

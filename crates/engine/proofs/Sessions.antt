@@ -1,9 +1,9 @@
 -- The sessions, one after the other.
-use Rattle.std.proofs.Common.{◌≡◌, ℕ, zero, suc, ◌+◌, ◌<◌, ◌≤◌, List, [], ◌∷◌, ◌++◌, length, get_or, Some, refl, sym, ap, subst, ◌∙◌, arith, length-append}
+use Rattle.std.proofs.Common.{◌≡◌, ℕ, zero, suc, ◌+◌, ◌<◌, ◌≤◌, List, [], ◌∷◌, ◌++◌, length, get_or, Some, Result, refl, sym, ap, subst, ◌∙◌, arith, length-append}
 use Rattle.std.specs.List.{slice_get}
 use Rattle.schema.specs.declared.scale.Scale.{Scale}
 use Rattle.requests.specs.declared.request.Request.{Request}
-use Rattle.requests.specs.declared.answer.Answer.{Answer}
+use Rattle.requests.specs.declared.refusal.Refusal.{Refusal}
 use Rattle.commit_log.specs.declared.entry.Entry.{Entry}
 use Rattle.commit_log.specs.Items.{items_of}
 use Rattle.commit_log.specs.Passing.{Passing, Seating, new_pass, new_seat}
@@ -64,7 +64,7 @@ none_next first session entries before here s from up =
 -- ---- sessions that were served
 
 -- one script more that was served its answers
-pub each_next : (scale : Scale) (scripts : List (List Request)) (entries : List Entry) (answers after : List (List Answer)) (k : ℕ) (script : List Request) (told : List Answer)
+pub each_next : (scale : Scale) (scripts : List (List Request)) (entries : List Entry) (answers after : List (List (Result ℕ Refusal))) (k : ℕ) (script : List Request) (told : List (Result ℕ Refusal))
     → ServedEach scale scripts entries answers → length answers ≡ k → slice_get scripts k ≡ Some script
     → Served scale script told (items_of k entries) (length entries) → after ≡ answers ++ told ∷ [] → ServedEach scale scripts entries after
 each_next scale scripts entries answers after k script told before count asked served pushed =

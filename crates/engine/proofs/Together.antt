@@ -1,5 +1,5 @@
 -- What every session was served makes the outcome.
-use Rattle.std.proofs.Common.{◌≡◌, ℕ, zero, suc, ◌+◌, ◌<◌, ◌≤◌, ◌==◌, true, false, if◌then◌else◌, List, [], ◌∷◌, ◌++◌, length, Some, None, Ok, Err, inl, inr, refl, sym, ap, subst, ◌∙◌, arith}
+use Rattle.std.proofs.Common.{◌≡◌, ℕ, zero, suc, ◌+◌, ◌<◌, ◌≤◌, ◌==◌, true, false, if◌then◌else◌, List, [], ◌∷◌, ◌++◌, length, Some, None, Result, Ok, Err, inl, inr, refl, sym, ap, subst, ◌∙◌, arith}
 use Rattle.std.specs.List.{slice_get, Contains}
 use Rattle.std.specs.Option.{option_map, option_and_then}
 use Rattle.std.proofs.lemmas.Bool.Decides.{nat_tests}
@@ -10,8 +10,6 @@ use Rattle.requests.specs.declared.request.Request.{Request}
 use Rattle.requests.specs.declared.reply.Reply.{Reply}
 use Rattle.requests.specs.declared.refusal.Refusal.{Refusal}
 use Rattle.requests.specs.declared.refusal.Refusal.TheVariants as refusal
-use Rattle.requests.specs.declared.answer.Answer.{Answer}
-use Rattle.requests.specs.declared.answer.Answer.TheVariants.{Done, Refused}
 use Rattle.requests.specs.Check.{check_of}
 use Rattle.commit_log.specs.declared.entry.Entry.{Entry}
 use Rattle.commit_log.specs.Log.{IsLegal}
@@ -147,7 +145,7 @@ longer scale reached entries request why grown (inr (accepted, reason)) = inr (a
     still refusal.SessionBusy r = r
     still refusal.Closed r = r
 
-pub together : (opening : Database) (scripts : List (List Request)) (entries : List Entry) (last : Database) (answers : List (List Answer))
+pub together : (opening : Database) (scripts : List (List Request)) (entries : List Entry) (last : Database) (answers : List (List (Result ℕ Refusal)))
     → IsLegal opening entries last → length answers ≡ length scripts
     → ((place : ℕ) (e : Entry) → slice_get entries place ≡ Some e → e.session < 64)
     → ServedEach opening.scale scripts entries answers
@@ -171,34 +169,34 @@ together opening scripts entries last answers legal even known each others =
                   | None ↦ λ f. refl
                 ] refl
           ] refl;
-      done = λ s k place reply at.
-          let told = at_parts answers s k (Done place reply) at in
+      done = λ s k place at.
+          let told = at_parts answers s k (Ok place) at in
           let script = partner answers scripts s told.0 even told.1 in
           let h = each s script.0 told.0 script.1 told.1 in
-          let request = partner told.0 script.0 k (Done place reply) h.answered told.2 in
-          let stands = h.each k request.0 (Done place reply) request.1 told.2 in
-          (request.0, at_both scripts script.0 s k script.1 ∙ request.1, stands_in_log s entries place k request.0 reply stands.1);
+          let request = partner told.0 script.0 k (Ok place) h.answered told.2 in
+          let stands = h.each k request.0 (Ok place) request.1 told.2 in
+          (request.0, at_both scripts script.0 s k script.1 ∙ request.1, stands.1, stands_in_log s entries place k request.0 stands.1 stands.2);
       logged = λ place entry at.
           let x = item place entry.number entry.request entry.reply in
           let listed : Contains (items_of entry.session entries) x = logged_by_session entries place entry at in
           let low : entry.session < 64 = known place entry at in
-          by_order entry.session (length scripts) (item_at answers entry.session entry.number ≡ Some (Done place entry.reply))
+          by_order entry.session (length scripts) (item_at answers entry.session entry.number ≡ Some (Ok place))
           (λ below.
           let script = reaches scripts entry.session below in
           let told = partner scripts answers entry.session script.0 (sym even) script.1 in
           let h = each entry.session script.0 told.0 script.1 told.1 in
           at_both answers told.0 entry.session entry.number told.1 ∙ h.logged x listed)
           (λ above. absurd (none entry.session x (others entry.session above low) listed));
-      ascending = λ s j k place later reply next below first second.
-          let told = at_parts answers s j (Done place reply) first in
+      ascending = λ s j k place later below first second.
+          let told = at_parts answers s j (Ok place) first in
           let script = partner answers scripts s told.0 even told.1 in
           let h = each s script.0 told.0 script.1 told.1 in
-          h.ascending j k place later reply next below told.2 (sym (at_both answers told.0 s k told.1) ∙ second);
+          h.ascending j k place later below told.2 (sym (at_both answers told.0 s k told.1) ∙ second);
       refused = λ s k request refusal asked at.
-          let told = at_parts answers s k (Refused refusal) at in
+          let told = at_parts answers s k (Err refusal) at in
           let script = at_parts scripts s k request asked in
           let h = each s script.0 told.0 script.1 told.1 in
-          h.each k request (Refused refusal) script.2 told.2;
+          h.each k request (Err refusal) script.2 told.2;
       checked = λ s k request refusal asked refuses.
           let script = at_parts scripts s k request asked in
           let told = partner scripts answers s script.0 (sym even) script.1 in
@@ -213,8 +211,8 @@ together opening scripts entries last answers legal even known each others =
     by_order zero (suc b) G less more = less (omega arith)
     by_order (suc a) (suc b) G less more = by_order a b G (λ l. less (omega arith)) (λ m. more (omega arith))
 
-    refuses_so : (scale : Scale) (reached : ℕ) (mine : List Item) (k : ℕ) (request : Request) (refusal : Refusal) (answer : Answer)
-        → check_of scale request ≡ Err refusal → IsAnswerTo scale reached mine k request answer → answer ≡ Refused refusal
-    refuses_so scale reached mine k request refusal (Done place reply) refuses h = let accepted = h.0 in absurd cc
-    refuses_so scale reached mine k request refusal (Refused other) refuses (inl so) = cc
-    refuses_so scale reached mine k request refusal (Refused other) refuses (inr so) = let accepted : check_of scale request ≡ Ok tt = so.0 in absurd cc
+    refuses_so : (scale : Scale) (reached : ℕ) (mine : List Item) (k : ℕ) (request : Request) (refusal : Refusal) (answer : Result ℕ Refusal)
+        → check_of scale request ≡ Err refusal → IsAnswerTo scale reached mine k request answer → answer ≡ Err refusal
+    refuses_so scale reached mine k request refusal (Ok place) refuses h = let accepted = h.0 in absurd cc
+    refuses_so scale reached mine k request refusal (Err other) refuses (inl so) = cc
+    refuses_so scale reached mine k request refusal (Err other) refuses (inr so) = let accepted : check_of scale request ≡ Ok tt = so.0 in absurd cc

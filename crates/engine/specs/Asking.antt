@@ -1,13 +1,10 @@
 -- A session that asks the requests of its script, one after another.
-use Rattle.std.specs.Prelude.{◌≡◌, ℕ, ◌<◌, ◌≤◌, Bool, true, false, List, take, length, Some, Ok, if◌then◌else◌}
+use Rattle.std.specs.Prelude.{◌≡◌, ℕ, ◌<◌, ◌≤◌, Bool, true, false, List, take, length, Some, Result, Ok, Err, if◌then◌else◌}
 use Rattle.std.specs.List.{slice_get}
 use Rattle.schema.specs.declared.scale.Scale.{Scale}
 use Rattle.requests.specs.declared.request.Request.{Request}
-use Rattle.requests.specs.declared.reply.Reply.{Reply}
 use Rattle.requests.specs.declared.refusal.Refusal.{Refusal}
-use Rattle.requests.specs.declared.answer.Answer.{Answer}
 use Rattle.requests.specs.declared.refusal.Refusal.TheVariants.{LogFull}
-use Rattle.requests.specs.declared.answer.Answer.TheVariants.{Done, Refused}
 use Rattle.requests.specs.Check.{check_of}
 use Rattle.commit_log.specs.declared.mine.Item.{Item}
 use Rattle.commit_log.specs.Passing.{Passing, Seating}
@@ -15,19 +12,19 @@ use Rattle.engine.specs.Outcome.{IsRefusal}
 use Rattle.engine.specs.Served.{Served}
 
 -- every place that was answered is one that the session has seen
-abbrev pub HasSeen : ℕ → List Answer → Type 0
-HasSeen seen answers = (k place : ℕ) (reply : Reply) → slice_get answers k ≡ Some (Done place reply) → place < seen
+abbrev pub HasSeen : ℕ → List (Result ℕ Refusal) → Type 0
+HasSeen seen answers = (k place : ℕ) → slice_get answers k ≡ Some (Ok place) → place < seen
 
 -- The session was asked the first requests of this script, as many as there are answers, which say what came of them: it has logged
 -- `mine`, has seen so many entries, and knows the log to have reached so many.
-pub record ServedSoFar (scale : Scale) (script : List Request) (mine : List Item) (seen reached : ℕ) (answers : List Answer) : Type 0 where
+pub record ServedSoFar (scale : Scale) (script : List Request) (mine : List Item) (seen reached : ℕ) (answers : List (Result ℕ Refusal)) : Type 0 where
   pub few : length answers ≤ length script
   pub served : Served scale (take (length answers) script) answers mine reached
   pub has_seen : HasSeen seen answers
 
 -- whether an answer says that the log is full
-abbrev pub says_full : Answer → Bool
-says_full (Refused LogFull) = true
+abbrev pub says_full : Result ℕ Refusal → Bool
+says_full (Err LogFull) = true
 says_full _ = false
 
 -- how far a session has to know the log to have reached: only where the log was full for it
@@ -40,10 +37,10 @@ pub record Resting : Type 0 where
   pub script : List Request
   pub seat : Seating
   pub pass : Passing
-  pub answers : List Answer
+  pub answers : List (Result ℕ Refusal)
   pub is_full : Bool
 
-abbrev pub resting : List Request → Seating → Passing → List Answer → Bool → Resting
+abbrev pub resting : List Request → Seating → Passing → List (Result ℕ Refusal) → Bool → Resting
 resting script seat pass answers is_full = record { script = script; seat = seat; pass = pass; answers = answers; is_full = is_full }
 
 -- Its pass is here, and its requests so far are answered. There is room for all answers.
@@ -58,9 +55,9 @@ pub record IsReady (scale : Scale) (scripts : List (List Request)) (s : Resting)
 pub record Waiting : Type 0 where
   pub script : List Request
   pub seat : Seating
-  pub answers : List Answer
+  pub answers : List (Result ℕ Refusal)
 
-abbrev pub waiting : List Request → Seating → List Answer → Waiting
+abbrev pub waiting : List Request → Seating → List (Result ℕ Refusal) → Waiting
 waiting script seat answers = record { script = script; seat = seat; answers = answers }
 
 -- Its pass goes with the request: its seat tells what it asked, and what the pass was then.

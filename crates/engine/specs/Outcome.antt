@@ -1,5 +1,5 @@
 -- What serving scripts of requests comes to.
-use Rattle.std.specs.Prelude.{◌≡◌, ◌⊎◌, ℕ, ◌<◌, List, length, Option, Some, Ok, Err}
+use Rattle.std.specs.Prelude.{◌≡◌, ◌⊎◌, ℕ, ◌<◌, List, length, Option, Some, Result, Ok, Err}
 use Rattle.std.specs.List.{slice_get}
 use Rattle.std.specs.Option.{option_map, option_and_then}
 use Rattle.schema.specs.declared.scale.Scale.{Scale}
@@ -7,8 +7,6 @@ use Rattle.schema.specs.Database.{Database}
 use Rattle.requests.specs.declared.request.Request.{Request}
 use Rattle.requests.specs.declared.reply.Reply.{Reply}
 use Rattle.requests.specs.declared.refusal.Refusal.{Refusal}
-use Rattle.requests.specs.declared.answer.Answer.{Answer}
-use Rattle.requests.specs.declared.answer.Answer.TheVariants.{Done, Refused}
 use Rattle.requests.specs.Check.{check_of}
 use Rattle.commit_log.specs.declared.entry.Entry.{Entry}
 use Rattle.commit_log.specs.Items.{entry_of}
@@ -24,18 +22,19 @@ item_at lists s k = option_and_then (λ list. slice_get list k) (slice_get lists
 abbrev pub IsRefusal : Scale → ℕ → Request → Refusal → Type 0
 IsRefusal scale entries request refusal = (check_of scale request ≡ Err refusal) ⊎ ((check_of scale request ≡ Ok tt) × MayBeRefused entries request refusal)
 
--- Script s is session s, and its request at place k has the number k.
-pub record IsOutcome (opening : Database) (scripts : List (List Request)) (log : List Entry) (last : Database) (answers : List (List Answer)) : Type 0 where
+-- Script s is session s, and its request at place k has the number k. It is answered by a place in the log, where the reply stands, or by why it
+-- was refused.
+pub record IsOutcome (opening : Database) (scripts : List (List Request)) (log : List Entry) (last : Database) (answers : List (List (Result ℕ Refusal))) : Type 0 where
   -- the log's replies are those of a machine from the opening, and the tables are its last
   pub legal : IsLegal opening log last
   -- every request has one answer
   pub answered : (s : ℕ) → option_map length (slice_get answers s) ≡ option_map length (slice_get scripts s)
-  -- what was answered done stands in the log, at its place
-  pub done : (s k place : ℕ) (reply : Reply) → item_at answers s k ≡ Some (Done place reply)
-      → (request : Request) × (item_at scripts s k ≡ Some request) × (slice_get log place ≡ Some (entry_of s k request reply))
-  -- and every entry was answered so
-  pub logged : (place : ℕ) (entry : Entry) → slice_get log place ≡ Some entry → item_at answers entry.session entry.number ≡ Some (Done place entry.reply)
+  -- where a place answers a request, its entry stands there
+  pub done : (s k place : ℕ) → item_at answers s k ≡ Some (Ok place)
+      → (request : Request) × (item_at scripts s k ≡ Some request) × (reply : Reply) × (slice_get log place ≡ Some (entry_of s k request reply))
+  -- and the place of every entry answers its request
+  pub logged : (place : ℕ) (entry : Entry) → slice_get log place ≡ Some entry → item_at answers entry.session entry.number ≡ Some (Ok place)
   -- the places of one script ascend
-  pub ascending : (s j k place later : ℕ) (reply next : Reply) → j < k → item_at answers s j ≡ Some (Done place reply) → item_at answers s k ≡ Some (Done later next) → place < later
-  pub refused : (s k : ℕ) (request : Request) (refusal : Refusal) → item_at scripts s k ≡ Some request → item_at answers s k ≡ Some (Refused refusal) → IsRefusal opening.scale (length log) request refusal
-  pub checked : (s k : ℕ) (request : Request) (refusal : Refusal) → item_at scripts s k ≡ Some request → check_of opening.scale request ≡ Err refusal → item_at answers s k ≡ Some (Refused refusal)
+  pub ascending : (s j k place later : ℕ) → j < k → item_at answers s j ≡ Some (Ok place) → item_at answers s k ≡ Some (Ok later) → place < later
+  pub refused : (s k : ℕ) (request : Request) (refusal : Refusal) → item_at scripts s k ≡ Some request → item_at answers s k ≡ Some (Err refusal) → IsRefusal opening.scale (length log) request refusal
+  pub checked : (s k : ℕ) (request : Request) (refusal : Refusal) → item_at scripts s k ≡ Some request → check_of opening.scale request ≡ Err refusal → item_at answers s k ≡ Some (Err refusal)

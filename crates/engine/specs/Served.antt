@@ -1,11 +1,10 @@
 -- What a session that asks a script comes to.
-use Rattle.std.specs.Prelude.{◌≡◌, ℕ, ◌<◌, List, length, Some, Ok, Contains}
+use Rattle.std.specs.Prelude.{◌≡◌, ℕ, ◌<◌, List, length, Some, Result, Ok, Err, Contains}
 use Rattle.std.specs.List.{slice_get}
 use Rattle.schema.specs.declared.scale.Scale.{Scale}
 use Rattle.requests.specs.declared.request.Request.{Request}
 use Rattle.requests.specs.declared.reply.Reply.{Reply}
-use Rattle.requests.specs.declared.answer.Answer.{Answer}
-use Rattle.requests.specs.declared.answer.Answer.TheVariants.{Done, Refused}
+use Rattle.requests.specs.declared.refusal.Refusal.{Refusal}
 use Rattle.requests.specs.Check.{check_of}
 use Rattle.commit_log.specs.declared.mine.Item.{Item}
 use Rattle.commit_log.specs.declared.entry.Entry.{Entry}
@@ -13,24 +12,24 @@ use Rattle.commit_log.specs.Items.{item, items_of}
 use Rattle.engine.specs.Outcome.{IsRefusal}
 
 -- What an answer says of a request, when the session has logged `mine`, and has seen the log reach so many entries:
--- done, and then its check accepts it and it is logged so; or refused, for a reason that holds.
-abbrev pub IsAnswerTo : Scale → ℕ → List Item → ℕ → Request → Answer → Type 0
-IsAnswerTo scale reached mine number request (Done place reply) = (check_of scale request ≡ Ok tt) × Contains mine (item place number request reply)
-IsAnswerTo scale reached mine number request (Refused refusal) = IsRefusal scale reached request refusal
+-- the place at which it is logged, and then its check accepts it; or that it was refused, for a reason that holds.
+abbrev pub IsAnswerTo : Scale → ℕ → List Item → ℕ → Request → Result ℕ Refusal → Type 0
+IsAnswerTo scale reached mine number request (Ok place) = (check_of scale request ≡ Ok tt) × (reply : Reply) × Contains mine (item place number request reply)
+IsAnswerTo scale reached mine number request (Err refusal) = IsRefusal scale reached request refusal
 
 -- A session was asked this script from its beginning, and gave these answers; `mine` is all that it has logged.
-pub record Served (scale : Scale) (script : List Request) (answers : List Answer) (mine : List Item) (reached : ℕ) : Type 0 where
+pub record Served (scale : Scale) (script : List Request) (answers : List (Result ℕ Refusal)) (mine : List Item) (reached : ℕ) : Type 0 where
   -- every request has one answer
   pub answered : length answers ≡ length script
   -- which says what came of it
-  pub each : (k : ℕ) (request : Request) (answer : Answer) → slice_get script k ≡ Some request → slice_get answers k ≡ Some answer → IsAnswerTo scale reached mine k request answer
+  pub each : (k : ℕ) (request : Request) (answer : Result ℕ Refusal) → slice_get script k ≡ Some request → slice_get answers k ≡ Some answer → IsAnswerTo scale reached mine k request answer
   -- whatever it has logged was answered so
-  pub logged : (x : Item) → Contains mine x → slice_get answers x.number ≡ Some (Done x.place x.reply)
+  pub logged : (x : Item) → Contains mine x → slice_get answers x.number ≡ Some (Ok x.place)
   -- and the places ascend
-  pub ascending : (j k place later : ℕ) (reply next : Reply) → j < k → slice_get answers j ≡ Some (Done place reply) → slice_get answers k ≡ Some (Done later next) → place < later
+  pub ascending : (j k place later : ℕ) → j < k → slice_get answers j ≡ Some (Ok place) → slice_get answers k ≡ Some (Ok later) → place < later
 
 -- each script was served its answers, and what its session logged is what stands of it in the log of these entries
-abbrev pub ServedEach : Scale → List (List Request) → List Entry → List (List Answer) → Type 0
+abbrev pub ServedEach : Scale → List (List Request) → List Entry → List (List (Result ℕ Refusal)) → Type 0
 ServedEach scale scripts entries answers =
-    (s : ℕ) (script : List Request) (told : List Answer) → slice_get scripts s ≡ Some script → slice_get answers s ≡ Some told
+    (s : ℕ) (script : List Request) (told : List (Result ℕ Refusal)) → slice_get scripts s ≡ Some script → slice_get answers s ≡ Some told
     → Served scale script told (items_of s entries) (length entries)

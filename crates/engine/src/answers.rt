@@ -1,37 +1,34 @@
 ghost use Rattle.std.specs.Prelude.{◌≡◌};
 
-use requests::Answer;
+use requests::Refusal;
 use std::marker::Model;
 
-/// The answers to the requests of one script, by the requests' numbers.
+/// The answers to the requests of one script, by the requests' numbers: the place in the log of a request's entry, where its reply
+/// stands, or why it was refused.
 #[derive(Drop)]
 pub struct Answers {
-    answers: Vec<Answer>,
+    answers: Vec<Result<u32, Refusal>>,
 }
 
 impl Model for Answers {
-    ghost use Rattle.std.specs.Prelude.{List};
-    ghost use Rattle.std.specs.Coded.{coded_list};
-    ghost use Rattle.requests.specs.declared.answer.Answer.{Answer};
-    ghost use Rattle.requests.specs.contracts.answer.Answer as answer;
+    ghost use Rattle.std.specs.Prelude.{List, Result, ℕ};
+    ghost use Rattle.requests.specs.declared.refusal.Refusal.{Refusal};
 
-    ghost Value = { List Answer };
-
-    ghost coded = { coded_list answer.the_row.coded };
+    ghost Value = { List (Result ℕ Refusal) };
 
     ghost view = { λ a. a.answers.items };
 }
 
 impl Answers {
     // These answers.
-    pub(crate) fn of(answers: Vec<Answer>) -> Answers
+    pub(crate) fn of(answers: Vec<Result<u32, Refusal>>) -> Answers
         ensures { result ≡ answers.items }
     {
         Answers { answers }
     }
 
     /// The answers, by the numbers of their requests.
-    pub fn as_slice(&self) -> &[Answer]
+    pub fn as_slice(&self) -> &[Result<u32, Refusal>]
         ensures { result.now ≡ self.now }
     {
         self.answers.as_slice()

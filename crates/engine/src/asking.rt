@@ -1,5 +1,5 @@
 //! A session and its script: between two requests, and while one is under way.
-ghost use Rattle.std.specs.Prelude.{◌≡◌, [], length, false, Some, Ok, IfSome, IsTrue, slice_get};
+ghost use Rattle.std.specs.Prelude.{◌≡◌, [], length, false, Some, Ok, Err, IfSome, IsTrue, slice_get};
 ghost use Rattle.requests.specs.Check.{check_of};
 ghost use Rattle.commit_log.specs.Items.{items_of};
 ghost use Rattle.executor.specs.Answers.{IsToldBy};
@@ -10,7 +10,7 @@ ghost use Rattle.engine.specs.Served.{Served};
 use crate::{Answers, ServeNames};
 use commit_log::{Log, Pass, SessionSeat};
 use executor::{Journey, Told};
-use requests::{Answer, Refusal, Request, Script, check};
+use requests::{Refusal, Request, Script, check};
 use schema::{NoMemory, Scale};
 use std::alloc::Global;
 use std::marker::Model;
@@ -24,7 +24,7 @@ pub(crate) struct Ready<'a, J: ServeNames> {
     seat: SessionSeat<J>,
     pass: Pass<J>,
     // There is room for the answers to all requests.
-    answers: Vec<Answer>,
+    answers: Vec<Result<u32, Refusal>>,
     // How often its next request may still be asked.
     tries_left: u32,
     // Whether the log was full when it asked: it asks no more then.
@@ -49,7 +49,7 @@ impl<'a, J: ServeNames> Model for Ready<'a, J> {
 pub(crate) struct Asked<'a, J: ServeNames> {
     script: &'a Script,
     seat: SessionSeat<J>,
-    answers: Vec<Answer>,
+    answers: Vec<Result<u32, Refusal>>,
     tries_left: u32,
 }
 
@@ -135,7 +135,7 @@ impl<'a, J: ServeNames> Ready<'a, J> {
             tries_left: _,
             is_full,
         } = self;
-        answers.push_reserved(Answer::Refused(refusal));
+        answers.push_reserved(Err(refusal));
         Ready {
             script,
             seat,
@@ -179,11 +179,7 @@ impl<'a, J: ServeNames> Ready<'a, J> {
         let age = ages.fetch_add(1, Ordering::SeqCst);
         match Journey::begin(alloc, age, slot, number, request, pass) {
             Ok(journey) => Next::Asks(asked, journey),
-            Err(pass) => Next::Ready(asked.answered(
-                pass,
-                Answer::Refused(Refusal::NoMemory),
-                tries,
-            )),
+            Err(pass) => Next::Ready(asked.answered(pass, Err(Refusal::NoMemory), tries)),
         }
     }
 
@@ -236,7 +232,7 @@ impl<'a, J: ServeNames> Asked<'a, J> {
     }
 
     // The pass has come back with this answer.
-    fn answered(self, pass: Pass<J>, answer: Answer, tries: u32) -> Ready<'a, J>
+    fn answered(self, pass: Pass<J>, answer: Result<u32, Refusal>, tries: u32) -> Ready<'a, J>
         requires session { pass.session ≡ self.seat.session }
         requires told { IsToldBy self.seat.asking pass answer }
     {
@@ -270,20 +266,17 @@ impl<'a, J: ServeNames> Asked<'a, J> {
 }
 
 // Whether a request with this answer is asked again: it died, or there was no memory.
-fn is_asked_again(answer: &Answer) -> bool
-    ensures { IsTrue result → (why : Refusal) × (answer.now ≡ Answer.Refused why) }
+fn is_asked_again(answer: &Result<u32, Refusal>) -> bool
+    ensures { IsTrue result → (why : Refusal) × (answer.now ≡ Err why) }
 {
-    matches!(
-        answer,
-        Answer::Refused(Refusal::Died { .. } | Refusal::NoMemory)
-    )
+    matches!(answer, Err(Refusal::Died { .. } | Refusal::NoMemory))
 }
 
 // Whether an answer says that the log is full.
-fn says_full(answer: &Answer) -> bool
+fn says_full(answer: &Result<u32, Refusal>) -> bool
     ensures { result ≡ spec.says_full answer.now }
 {
-    matches!(answer, Answer::Refused(Refusal::LogFull))
+    matches!(answer, Err(Refusal::LogFull))
 }
 
 /// The W_ID of the warehouse whose terminal asks.

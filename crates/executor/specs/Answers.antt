@@ -1,8 +1,7 @@
 -- What an answer tells, and what goes back with it.
-use Rattle.std.specs.Prelude.{◌≡◌, ◌≤◌, ◌+◌, ℕ, Bool, true, false, List, [], ◌∷◌, ◌++◌, All, Contains}
-use Rattle.requests.specs.declared.answer.Answer.{Answer}
-use Rattle.requests.specs.declared.answer.Answer.TheVariants.{Done, Refused}
+use Rattle.std.specs.Prelude.{◌≡◌, ◌≤◌, ◌+◌, ℕ, Bool, true, false, List, [], ◌∷◌, ◌++◌, All, Contains, Result, Ok, Err}
 use Rattle.requests.specs.declared.request.Request.{Request}
+use Rattle.requests.specs.declared.reply.Reply.{Reply}
 use Rattle.requests.specs.declared.refusal.Refusal.{Refusal}
 use Rattle.requests.specs.declared.refusal.Refusal.TheVariants.{Died, NoMemory, LogFull}
 use Rattle.groups.specs.Footprint.{footprint, groups_of}
@@ -15,14 +14,15 @@ use Rattle.executor.specs.Journeys.{CanAllBeSettled, CanAllBeUndone}
 
 -- ---- the answer
 
--- an answer on its way: the transaction's age, the number of the request in its session, the session's pass, and the answer
+-- an answer on its way: the transaction's age, the number of the request in its session, the session's pass, and the answer, which is the
+-- place of the transaction's entry in the log, or why it was refused
 pub record Telling : Type 0 where
   pub age : ℕ
   pub number : ℕ
   pub pass : Passing
-  pub answer : Answer
+  pub answer : Result ℕ Refusal
 
-abbrev pub telling : ℕ → ℕ → Passing → Answer → Telling
+abbrev pub telling : ℕ → ℕ → Passing → Result ℕ Refusal → Telling
 telling age number pass answer = record { age = age; number = number; pass = pass; answer = answer }
 
 -- For what a request may be refused that is under way, where the log has reached so many entries: there was no memory; or the log has its
@@ -35,10 +35,10 @@ MayBeRefused entries request _ = ⊥
 
 -- What the pass has seen and logged is what it had when the session asked this, and the answer: an entry behind all that it had
 -- seen; or nothing more, where it was refused, and it may be refused for this.
-abbrev pub IsToldBy : Asking → Passing → Answer → Type 0
-IsToldBy asks pass (Done place shown) =
-    (asks.seen ≤ place) × (pass.seen ≡ place + 1) × (pass.mine ≡ asks.mine ++ item place asks.number asks.request shown ∷ [])
-IsToldBy asks pass (Refused why) = (pass.seen ≡ asks.seen) × (pass.mine ≡ asks.mine) × MayBeRefused pass.reached asks.request why
+abbrev pub IsToldBy : Asking → Passing → Result ℕ Refusal → Type 0
+IsToldBy asks pass (Ok place) =
+    (asks.seen ≤ place) × (pass.seen ≡ place + 1) × (shown : Reply) × (pass.mine ≡ asks.mine ++ item place asks.number asks.request shown ∷ [])
+IsToldBy asks pass (Err why) = (pass.seen ≡ asks.seen) × (pass.mine ≡ asks.mine) × MayBeRefused pass.reached asks.request why
 
 -- an answer is to the request that its session asked with the pass, and the pass tells it
 pub record CarriesAnswer (t : Telling) : Type 0 where

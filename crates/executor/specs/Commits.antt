@@ -1,14 +1,12 @@
 -- A transaction is logged.
-use Rattle.std.specs.Prelude.{◌≡◌, ◌⊎◌, ◌<◌, ◌≤◌, ℕ, Bool, true, false, List, [], ◌∷◌, ◌++◌, All, length, map}
+use Rattle.std.specs.Prelude.{◌≡◌, ◌⊎◌, ◌<◌, ◌≤◌, ◌↔◌, ℕ, Bool, true, false, List, [], ◌∷◌, ◌++◌, All, length, map, Ok, Err}
 use Rattle.schema.specs.Database.{Database}
 use Rattle.requests.specs.declared.request.Request.{Request}
 use Rattle.requests.specs.declared.reply.Reply.{Reply}
 use Rattle.requests.specs.declared.reply.Reply.TheVariants as reply
-use Rattle.requests.specs.declared.answer.Answer.TheVariants.{Done, Refused}
 use Rattle.requests.specs.declared.refusal.Refusal.{Refusal}
 use Rattle.requests.specs.declared.refusal.Refusal.TheVariants as refusal
 use Rattle.requests.specs.Check.{IsAccepted}
-use Rattle.requests.specs.Replies.{ShowsLines}
 use Rattle.tickets.specs.Claims.{Claiming, all_claims}
 use Rattle.commit_log.specs.declared.entry.Entry.{Entry}
 use Rattle.commit_log.specs.declared.log_book.AppendFault.{AppendFault}
@@ -63,18 +61,16 @@ entry_committed c = entry_of c.pass.session c.number c.request c.shown
 -- It is logged at this place: its session is told so, and its claims go back, as they are then.
 abbrev pub logging : Committing → ℕ → Releasing
 logging c place =
-    releasing (telling c.age c.number (after_item c.pass (item place c.number c.request c.shown)) (Done place c.shown))
+    releasing (telling c.age c.number (after_item c.pass (item place c.number c.request c.shown)) (Ok place))
     (returning c.slot (is_settled c.shown) (map (claims_logged c.shown) c.held)) c.keeper
 
 -- it is refused: its session is told so, with this pass, and what its actions did is taken back
 abbrev pub refusing : Committing → Passing → Refusal → Releasing
-refusing c pass why = releasing (telling c.age c.number pass (Refused why)) (returning c.slot false c.held) c.keeper
+refusing c pass why = releasing (telling c.age c.number pass (Err why)) (returning c.slot false c.held) c.keeper
 
--- The log has the entry more, at its end; or it refused it, and is as it was. A full log refuses every entry; but there may be no
--- memory for an answer that shows the lines of an order.
+-- The log has the entry more, at its end; or it refused it, and is as it was. A full log refuses every entry as such, and no other does.
 abbrev pub Commits : Committing → List Entry → Releasing → List Entry → Type 0
 Commits c old release new =
     ((length old < 16777216) × ((release ≡ logging c (length old)) × (new ≡ old ++ entry_committed c ∷ [])))
-    ⊎ ((why : AppendFault) × ((why ≡ fault.LogFull → 16777216 ≤ length old)
-    × ((16777216 ≤ length old → (why ≡ fault.LogFull) ⊎ ShowsLines c.shown)
-    × ((release ≡ refusing c (after_refusal why (length old) c.pass) (why_refused why)) × (new ≡ old)))))
+    ⊎ ((why : AppendFault) × (((why ≡ fault.LogFull) ↔ (16777216 ≤ length old))
+    × ((release ≡ refusing c (after_refusal why (length old) c.pass) (why_refused why)) × (new ≡ old))))

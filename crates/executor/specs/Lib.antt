@@ -1,7 +1,6 @@
 pub mod Courses
 pub mod Journeys
 pub mod Transactions
-pub mod Verdicts
 pub mod Carrying
 pub mod Phases
 pub mod Reports

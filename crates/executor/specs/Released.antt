@@ -1,6 +1,5 @@
 -- A transaction that is over: its answer, and what its actions give back.
-use Rattle.std.specs.Prelude.{◌≡◌, ℕ, Bool, true, false, List, [], ◌∷◌, ◌++◌}
-use Rattle.requests.specs.declared.answer.Answer.TheVariants.{Refused}
+use Rattle.std.specs.Prelude.{◌≡◌, ℕ, Bool, true, false, List, [], ◌∷◌, ◌++◌, Err}
 use Rattle.requests.specs.declared.refusal.Refusal.{Refusal}
 use Rattle.tickets.specs.Claims.{Claiming}
 use Rattle.executor.specs.declared.release.GivenBack.{GivenBack}
@@ -21,4 +20,4 @@ IsGivenBack old new given = (claims : List Claiming) × ((old ≡ returning new.
 
 -- the transaction is refused for this, and what its actions did is taken back
 abbrev pub refused : Keeping → Transacting → List (List Claiming) → Refusal → Releasing
-refused keeper t held why = releasing (telling t.age t.number t.pass (Refused why)) (returning t.slot false held) keeper
+refused keeper t held why = releasing (telling t.age t.number t.pass (Err why)) (returning t.slot false held) keeper

@@ -12,7 +12,7 @@ ghost use Rattle.executor.specs.Journeys.{AreUndoneBy, IsAskedBy};
 ghost use Rattle.executor.specs.Transactions.{transacting};
 
 use crate::journey::Transaction;
-use crate::release::{Returns, Verdict};
+use crate::release::Returns;
 use crate::{CourseNames, HeldClaims, Keeper, Release, Told};
 use commit_log::{AppendFault, Entry, Log, Pass};
 use requests::{Refusal, Reply, Request};
@@ -100,10 +100,6 @@ impl<J: CourseNames> Commit<J> {
             held,
             keeper,
         } = self;
-        let Ok(shown) = transaction.matter.reply.try_clone() else {
-            return Release::refused(keeper, transaction, held, Refusal::NoMemory);
-        };
-        let is_settled = is_settled(&shown);
         let Transaction {
             age,
             slot,
@@ -115,8 +111,9 @@ impl<J: CourseNames> Commit<J> {
             session: pass.session(),
             number,
             request: matter.take_request(),
-            reply: shown,
+            reply: matter.take_reply(),
         };
+        let is_settled = is_settled(&entry.reply);
         let mut held = held;
         match append(log, &mut held, pass, entry) {
             Ok((place, pass)) => Release {
@@ -124,8 +121,7 @@ impl<J: CourseNames> Commit<J> {
                     age,
                     number,
                     pass,
-                    verdict: Verdict::Done(place),
-                    matter,
+                    answer: Ok(place),
                 },
                 returns: Returns::new(slot, is_settled, held),
                 keeper,
@@ -135,8 +131,7 @@ impl<J: CourseNames> Commit<J> {
                     age,
                     number,
                     pass,
-                    verdict: Verdict::Refused(why_refused(fault)),
-                    matter,
+                    answer: Err(why_refused(fault)),
                 },
                 returns: Returns::new(slot, false, held),
                 keeper,

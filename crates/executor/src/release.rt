@@ -6,14 +6,15 @@ ghost use Rattle.executor.specs.Courses.{KeepsWhole};
 ghost use Rattle.executor.specs.Released.{IsGivenBack, IsGivenFor, refused};
 ghost use Rattle.executor.specs.Transactions.{transacting};
 
-use crate::journey::{Matter, Transaction};
+use crate::journey::Transaction;
 use crate::{CourseNames, HeldClaims, Keeper, Settle, Undo};
 use commit_log::Pass;
-use requests::{Answer, Refusal};
+use requests::Refusal;
 use std::marker::Model;
 use tickets::Claims;
 
-/// An answer on its way to its session, with the session's pass.
+/// An answer on its way to its session, with the session's pass: the place in the log at which the transaction's entry stands, with
+/// its reply, or why it was refused.
 ///
 /// Contracts see the transaction's age, the number of the request in its session, the pass, and the answer. It keeps that the
 /// pass has seen and logged what it had when the session asked, and this answer; and that a request that is refused may be
@@ -23,16 +24,7 @@ pub struct Told<J: CourseNames> {
     pub(crate) age: u64,
     pub(crate) number: u32,
     pub(crate) pass: Pass<J>,
-    pub(crate) verdict: Verdict,
-    pub(crate) matter: Box<Matter>,
-}
-
-/// What became of a transaction.
-#[derive(Drop)]
-pub(crate) enum Verdict {
-    /// It is logged at this place, with the reply of its matter.
-    Done(u32),
-    Refused(Refusal),
+    pub(crate) answer: Result<u32, Refusal>,
 }
 
 impl<J: CourseNames> Model for Told<J> {
@@ -41,11 +33,10 @@ impl<J: CourseNames> Model for Told<J> {
     ghost Value = { Telling };
 
     ghost use Rattle.executor.specs.Answers.{CarriesAnswer, telling};
-    ghost use Rattle.executor.specs.Verdicts.{answer_of};
 
-    ghost view = { λ t. telling t.age t.number t.pass (answer_of t.verdict t.matter.value.reply) };
+    ghost view = { λ t. telling t.age t.number t.pass t.answer };
 
-    ghost invariant = { λ t. CarriesAnswer (telling t.age t.number t.pass (answer_of t.verdict t.matter.value.reply)) };
+    ghost invariant = { λ t. CarriesAnswer (telling t.age t.number t.pass t.answer) };
 }
 
 impl<J: CourseNames> Told<J> {
@@ -64,25 +55,12 @@ impl<J: CourseNames> Told<J> {
     }
 
     /// Its parts: the pass, and the answer to the request that the session asked with it.
-    pub fn into_parts(self) -> (Pass<J>, Answer)
+    pub fn into_parts(self) -> (Pass<J>, Result<u32, Refusal>)
         ensures pass { result.0 ≡ self.pass }
         ensures answer { result.1 ≡ self.answer }
         ensures told { IsToldBy self.pass.asks self.pass self.answer }
     {
-        let Told {
-            pass,
-            verdict,
-            mut matter,
-            ..
-        } = self;
-        let answer = match verdict {
-            Verdict::Done(place) => Answer::Done {
-                place,
-                reply: matter.take_reply(),
-            },
-            Verdict::Refused(why) => Answer::Refused(why),
-        };
-        (pass, answer)
+        (self.pass, self.answer)
     }
 }
 
@@ -209,15 +187,14 @@ impl<J: CourseNames> Release<J> {
             age,
             slot,
             number,
-            matter,
+            matter: _,
             pass,
         } = transaction;
         let told = Told {
             age,
             number,
             pass,
-            verdict: Verdict::Refused(why),
-            matter,
+            answer: Err(why),
         };
         Release {
             told,

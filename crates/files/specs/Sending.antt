@@ -21,6 +21,6 @@ Writes before after AreRows = (rows : List (List (List ℕ))) × AreRows rows ×
 abbrev pub BeginsToWrite : Option (List ℕ) → Option (List ℕ) → (List (List (List ℕ)) → Type 0) → Type 0
 BeginsToWrite before after AreRows = (rows : List (List (List ℕ))) × AreRows rows × Begins before after (csv_text rows)
 
--- of these items the first ones, as many as one likes, have these records
+-- some number of the first of these items have these records
 abbrev pub OfFirst : {T : Type 0} → (List T → List (List (List ℕ)) → Type 0) → List T → List (List (List ℕ)) → Type 0
 OfFirst AreRecords items rows = (count : ℕ) × AreRecords (take count items) rows

@@ -52,13 +52,14 @@ impl RecordWriter {
     pub fn write<W: Write>(&mut self, sink: &mut W, row: &NewRecord) -> Result<(), FileError>
         ensures sent { OnOk result (Sends (W.contents sink.old) (W.contents sink.new) (self.old.text ++ record_text row.now) self.new.text) }
         ensures begun { OnErr result (Begins (W.contents sink.old) (W.contents sink.new) (self.old.text ++ record_text row.now)) }
+        ensures none { OnErr result (self.new.text ≡ []) }
         ensures number { self.old.number < 2 ^ 64 - 1 → self.new.number ≡ self.old.number + 1 }
         ensures faults { IfErr result (λ fault. (fault ≡ FileError.NoMemory) ⊎ (fault ≡ FileError.Failed self.new.number)) }
         ensures writing { IfErr result IsOfWriting }
     {
         self.number = self.number.saturating_add(1);
         if self.writer.write_byte_record(row.as_byte_record()).is_err() {
-            self.writer = writer_into(Vec::new(self.alloc));
+            begin_anew(&mut self.writer, self.alloc);
             return Err(FileError::NoMemory);
         }
         if self.writer.get_ref().len() < CHUNK {
@@ -112,6 +113,15 @@ impl RecordWriter {
             Err(_) => Err(AllocError),
         }
     }
+}
+
+// Forgets what was gathered, with a record that has begun. A writer has 8 KiB in place, and a function in which
+// one is made clears them whenever it is called: so this is no part of `write`.
+fn begin_anew(writer: &mut Writer<Vec<u8>>, alloc: Global)
+    ensures none { gathered writer.new ≡ [] }
+    ensures between { IsBetweenRecords writer.new }
+{
+    *writer = writer_into(Vec::new(alloc));
 }
 
 // A writer of records behind that text.

@@ -1,6 +1,7 @@
 -- The fields of answers.
-use Rattle.std.specs.Prelude.{◌≡◌, ℕ, List, [], ◌∷◌, codes}
+use Rattle.std.specs.Prelude.{◌≡◌, ◌<◌, ℕ, List, [], ◌∷◌, length, slice_get, codes, Some, Result, Ok, Err}
 use Rattle.std.specs.Fmt.{decimal}
+use Rattle.commit_log.specs.declared.entry.Entry.{Entry}
 use Rattle.requests.specs.Group.{group_text}
 use Rattle.requests.specs.Refusal.{refusal_number}
 use Rattle.requests.specs.declared.answer.Answer.{Answer}
@@ -26,6 +27,16 @@ IsAnswer session number (Done place reply) fields =
 IsAnswer session number (Refused refusal) fields =
     fields ≡ decimal session ∷ decimal number ∷ codes "refused" ∷ refusal_fields refusal
 
--- the records of a session's answers, of which the first answers the request of number 0
-abbrev pub AreAnswers : ℕ → List Answer → List (List (List ℕ)) → Type 0
-AreAnswers session answers rows = AreNumbered (IsAnswer session) 0 answers rows
+-- the fields of the answer to the request of that number of a session: with the reply of the log's entry at this place, or refused
+abbrev pub IsAnswerIn : List Entry → ℕ → ℕ → Result ℕ Refusal → List (List ℕ) → Type 0
+IsAnswerIn log session number (Ok place) fields =
+    (entry : Entry) × (slice_get log place ≡ Some entry) × IsAnswer session number (Done place entry.reply) fields
+IsAnswerIn log session number (Err refusal) fields = IsAnswer session number (Refused refusal) fields
+
+-- the records of a session's answers in this log, of which the first answers the request of number 0
+abbrev pub AreAnswers : List Entry → ℕ → List (Result ℕ Refusal) → List (List (List ℕ)) → Type 0
+AreAnswers log session answers rows = AreNumbered (IsAnswerIn log session) 0 answers rows
+
+-- wherever a place answers, the log has an entry there
+abbrev pub AreInLog : List Entry → List (Result ℕ Refusal) → Type 0
+AreInLog log answers = (k place : ℕ) → slice_get answers k ≡ Some (Ok place) → place < length log

@@ -13,6 +13,6 @@ abbrev pub IsListing : {T : Type 0} → (ℕ → T → List (List ℕ) → Type 
 IsListing IsRecord items rows =
     (listed : List (List (List ℕ))) × AreNumbered IsRecord 0 items listed × (rows ≡ listed ++ (end_fields (length items) ∷ []))
 
--- some first ones of these records, as many as one likes, or all
+-- some number of the first of these records, or all
 abbrev pub BeginsListing : {T : Type 0} → (ℕ → T → List (List ℕ) → Type 0) → List T → List (List (List ℕ)) → Type 0
 BeginsListing {T} IsRecord items rows = OfFirst (λ (first : List T). AreNumbered IsRecord 0 first) items rows ⊎ IsListing IsRecord items rows

@@ -1,13 +1,15 @@
-ghost use Rattle.std.specs.Prelude.{◌≡◌, ℕ, List, ◌++◌, IfOk, IfErr, OnErr, OnOk};
+ghost use Rattle.std.specs.Prelude.{◌≡◌, ◌<◌, ℕ, List, ◌++◌, length, IfOk, IfErr, OnErr, OnOk};
 ghost use Rattle.csv.specs.Records.{fields_of};
 ghost use Rattle.files.specs.Failure.{IsOfWriting};
 ghost use Rattle.files.specs.Sending.{BeginsToWrite, OfFirst, Writes};
-ghost use Rattle.terminals.specs.Answers.{IsAnswer, AreAnswers, refusal_fields};
+ghost use Rattle.requests.specs.declared.answer.Answer.TheVariants.{Done, Refused};
+ghost use Rattle.terminals.specs.Answers.{IsAnswer, IsAnswerIn, AreAnswers, AreInLog, refusal_fields};
 
 use crate::reply;
+use commit_log::Entry;
 use csv::ByteRecord;
 use files::{FileError, NewRecord, RecordWriter};
-use requests::{Answer, Refusal};
+use requests::{Answer, Refusal, Reply};
 use schema::NoMemory;
 use std::alloc::Global;
 use std::io::Write;
@@ -26,26 +28,46 @@ pub fn answer_record(
     Ok(row.into_byte_record())
 }
 
-/// Writes the records of a session's answers, which stand in the order of their requests, to the sink. After
-/// an error the sink has got a beginning of their text.
+/// Writes the records of a session's answers, which stand in the order of their requests, to the sink: `Ok` has
+/// the place of the entry in the log, whose reply is written, and `Err` why the request was refused. After an
+/// error the sink has got a beginning of their text.
 pub fn write_answers<W: Write>(
     alloc: Global,
     sink: &mut W,
     session: u32,
-    answers: &[Answer],
+    answers: &[Result<u32, Refusal>],
+    log: &[Entry],
 ) -> Result<(), FileError>
-    ensures written { OnOk result (Writes (W.contents sink.old) (W.contents sink.new) (AreAnswers session answers.now)) }
-    ensures begun { OnErr result (BeginsToWrite (W.contents sink.old) (W.contents sink.new) (OfFirst (AreAnswers session) answers.now)) }
+    requires { AreInLog log.now answers.now }
+    ensures written { OnOk result (Writes (W.contents sink.old) (W.contents sink.new) (AreAnswers log.now session answers.now)) }
+    ensures begun { OnErr result (BeginsToWrite (W.contents sink.old) (W.contents sink.new) (OfFirst (AreAnswers log.now session) answers.now)) }
     ensures failed { IfErr result IsOfWriting }
 {
     let mut writer = RecordWriter::new(alloc);
     let mut row = NewRecord::new(alloc);
     for (number, answer) in answers.iter().enumerate() {
         row.clear();
-        put_answer(&mut row, session, number as u64, answer)?;
+        put_answer_in(&mut row, session, number as u64, answer, log)?;
         writer.write(sink, &row)?;
     }
     writer.finish(sink)
+}
+
+// Adds the fields of the answer to a request that stands at this place of the log, or was refused.
+fn put_answer_in(
+    row: &mut NewRecord,
+    session: u32,
+    number: u64,
+    answer: &Result<u32, Refusal>,
+    log: &[Entry],
+) -> Result<(), NoMemory>
+    requires { IfOk answer.now (λ place. place < length log.now) }
+    ensures { OnOk result ((fields : List (List ℕ)) × IsAnswerIn log.now session number answer.now fields × (row.new ≡ row.old ++ fields)) }
+{
+    match answer {
+        Ok(place) => put_done(row, session, number, *place, &log[*place as usize].reply),
+        Err(refusal) => put_refused(row, session, number, *refusal),
+    }
 }
 
 /// Adds the fields of an answer.
@@ -57,19 +79,42 @@ pub fn put_answer(
 ) -> Result<(), NoMemory>
     ensures { OnOk result ((fields : List (List ℕ)) × IsAnswer session number answer.now fields × (row.new ≡ row.old ++ fields)) }
 {
+    match answer {
+        Answer::Done { place, reply } => put_done(row, session, number, *place, reply),
+        Answer::Refused(refusal) => put_refused(row, session, number, *refusal),
+    }
+}
+
+// Adds the fields of the answer to a request that was carried out.
+fn put_done(
+    row: &mut NewRecord,
+    session: u32,
+    number: u64,
+    place: u32,
+    reply: &Reply,
+) -> Result<(), NoMemory>
+    ensures { OnOk result ((fields : List (List ℕ)) × IsAnswer session number (Done place reply.now) fields × (row.new ≡ row.old ++ fields)) }
+{
     row.push_number(u64::from(session))?;
     row.push_number(number)?;
-    match answer {
-        Answer::Done { place, reply } => {
-            row.push("done")?;
-            row.push_number(u64::from(*place))?;
-            reply::put(row, reply)
-        }
-        Answer::Refused(refusal) => {
-            row.push("refused")?;
-            put_refusal(row, *refusal)
-        }
-    }
+    row.push("done")?;
+    row.push_number(u64::from(place))?;
+    reply::put(row, reply)
+}
+
+// Adds the fields of the answer to a request that was refused.
+fn put_refused(
+    row: &mut NewRecord,
+    session: u32,
+    number: u64,
+    refusal: Refusal,
+) -> Result<(), NoMemory>
+    ensures { OnOk result ((fields : List (List ℕ)) × IsAnswer session number (Refused refusal) fields × (row.new ≡ row.old ++ fields)) }
+{
+    row.push_number(u64::from(session))?;
+    row.push_number(number)?;
+    row.push("refused")?;
+    put_refusal(row, refusal)
 }
 
 // Adds the fields of a refusal: its number, and why it died, if it did.

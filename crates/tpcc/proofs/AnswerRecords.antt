@@ -1,97 +1,103 @@
 -- The records of all answers, one session more at a time.
-use Rattle.std.proofs.Common.{◌≡◌, inl, inr, Result, Ok, Err, OnOk, OnErr, drop, take-append-drop, ℕ, suc, ◌+◌, ◌<◌, ◌≤◌, List, [], ◌∷◌, ◌++◌, length, take, get_or, Option, None, Some, refl, sym, ap, subst, ◌∙◌, arith, append_assoc, append-nil}
+use Rattle.std.proofs.Common.{◌≡◌, inl, inr, Result, Ok, Err, OnOk, OnErr, drop, take-append-drop, ℕ, zero, suc, ◌+◌, ◌<◌, ◌≤◌, List, [], ◌∷◌, ◌++◌, length, take, get_or, Option, None, Some, refl, sym, ap, subst, ◌∙◌, arith, append_assoc, append-nil}
 use Rattle.std.proofs.lemmas.List.{take_more, length-take-le}
 use Rattle.std.specs.List.{slice_get}
-use Rattle.std.specs.Option.{option_map}
+use Rattle.std.specs.Option.{option_map, option_and_then}
 use Rattle.std.specs.Io.KnownBytes.{Appends}
 use Rattle.std.proofs.KnownBytes.{Appends-nil, Appends-trans}
-use Rattle.requests.specs.declared.answer.Answer.{Answer}
+use Rattle.schema.specs.Database.{Database}
+use Rattle.requests.specs.declared.refusal.Refusal.{Refusal}
+use Rattle.requests.specs.declared.request.Request.{Request}
+use Rattle.commit_log.specs.declared.entry.Entry.{Entry}
+use Rattle.commit_log.specs.Items.{entry_of}
 use Rattle.files.specs.Sending.{Begins, BeginsToWrite, OfFirst, Writes}
 use Rattle.files.specs.Written.{csv_text}
 use Rattle.files.proofs.Sent.{begins_after, begins_none, sends_all}
 use Rattle.files.proofs.Texts.{csv_text-append}
-use Rattle.terminals.specs.Answers.{AreAnswers, IsAnswer}
+use Rattle.terminals.specs.Answers.{AreAnswers, AreInLog, IsAnswerIn}
 use Rattle.terminals.proofs.Numbered.{numbered-none}
-use Rattle.tpcc.specs.Run.{AreAllAnswers, BeginAllAnswers}
+use Rattle.engine.specs.Outcome.{IsOutcome, item_at}
+use Rattle.tpcc.specs.Run.{AreAllAnswers, AreAllInLog, BeginAllAnswers}
 
-answers-push : (session : ℕ) (before : List (List Answer)) (rows : List (List (List ℕ))) (told : List Answer) (these : List (List (List ℕ)))
-    → AreAllAnswers session before rows → AreAnswers (session + length before) told these → AreAllAnswers session (before ++ told ∷ []) (rows ++ these)
-answers-push session [] rows told these are one =
-    let P : ℕ → Type 0 = λ n. AreAnswers n told these in
-    let e : session + 0 ≡ session = omega arith in
-    (these, [], subst P e one, refl, ap (λ l. l ++ these) are ∙ sym (append-nil these))
-answers-push session (first ∷ before) rows told these are one =
-    let P : ℕ → Type 0 = λ n. AreAnswers n told these in
-    let e : session + suc (length before) ≡ session + 1 + length before = omega arith in
-    (are.0, are.1 ++ these, are.2, answers-push (session + 1) before are.1 told these are.3 (subst P e one), ap (λ l. l ++ these) are.4 ∙ append_assoc are.0 are.1 these)
+module _ (log : List Entry) where
+  answers-push : (session : ℕ) (before : List (List (Result ℕ Refusal))) (rows : List (List (List ℕ))) (told : List (Result ℕ Refusal)) (these : List (List (List ℕ)))
+      → AreAllAnswers log session before rows → AreAnswers log (session + length before) told these → AreAllAnswers log session (before ++ told ∷ []) (rows ++ these)
+  answers-push session [] rows told these are one =
+      let P : ℕ → Type 0 = λ n. AreAnswers log n told these in
+      let e : session + 0 ≡ session = omega arith in
+      (these, [], subst P e one, refl, ap (λ l. l ++ these) are ∙ sym (append-nil these))
+  answers-push session (first ∷ before) rows told these are one =
+      let P : ℕ → Type 0 = λ n. AreAnswers log n told these in
+      let e : session + suc (length before) ≡ session + 1 + length before = omega arith in
+      (are.0, are.1 ++ these, are.2, answers-push (session + 1) before are.1 told these are.3 (subst P e one), ap (λ l. l ++ these) are.4 ∙ append_assoc are.0 are.1 these)
 
--- nothing is printed at first
-pub prints-none : (sink : Option (List ℕ)) → Writes sink sink (AreAllAnswers 0 [])
-unfolding csv_text
-prints-none sink = ([], refl, Appends-nil sink)
+  -- nothing is printed at first
+  pub prints-none : (sink : Option (List ℕ)) → Writes sink sink (AreAllAnswers log 0 [])
+  unfolding csv_text
+  prints-none sink = ([], refl, Appends-nil sink)
 
--- the answers to one session more
-pub prints-more : (sink old new : Option (List ℕ)) (answers : List (List Answer)) (i : ℕ) (told : List Answer) → i < length answers → told ≡ get_or answers i told
-    → Writes sink old (AreAllAnswers 0 (take i answers)) → Writes old new (AreAnswers i told) → Writes sink new (AreAllAnswers 0 (take (i + 1) answers))
-prints-more sink old new answers i told h e before one =
-    let all : take (i + 1) answers ≡ take i answers ++ (told ∷ []) = take_more answers i told h ∙ ap (λ (l : List Answer). take i answers ++ (l ∷ [])) (sym e) in
-    let up_to : i ≤ length answers = omega arith in
-    let at : i ≡ 0 + length (take i answers) = omega (arith, length-take-le i answers up_to) in
-    let of_session : ℕ → Type 0 = λ n. AreAnswers n told one.0 in
-    let of_answers : List (List Answer) → Type 0 = λ l. AreAllAnswers 0 l (before.0 ++ one.0) in
-    let of_text : List ℕ → Type 0 = λ text. Appends sink new text in (
-      before.0 ++ one.0,
-      subst of_answers (sym all) (answers-push 0 (take i answers) before.0 told one.0 before.1 (subst of_session at one.1)),
-      subst of_text (sym (csv_text-append before.0 one.0)) (Appends-trans sink old new (csv_text before.0) (csv_text one.0) before.2 one.2),
-    )
+  -- the answers to one session more
+  pub prints-more : (sink old new : Option (List ℕ)) (answers : List (List (Result ℕ Refusal))) (i : ℕ) (told : List (Result ℕ Refusal)) → i < length answers → told ≡ get_or answers i told
+      → Writes sink old (AreAllAnswers log 0 (take i answers)) → Writes old new (AreAnswers log i told) → Writes sink new (AreAllAnswers log 0 (take (i + 1) answers))
+  prints-more sink old new answers i told h e before one =
+      let all : take (i + 1) answers ≡ take i answers ++ (told ∷ []) = take_more answers i told h ∙ ap (λ (l : List (Result ℕ Refusal)). take i answers ++ (l ∷ [])) (sym e) in
+      let up_to : i ≤ length answers = omega arith in
+      let at : i ≡ 0 + length (take i answers) = omega (arith, length-take-le i answers up_to) in
+      let of_session : ℕ → Type 0 = λ n. AreAnswers log n told one.0 in
+      let of_answers : List (List (Result ℕ Refusal)) → Type 0 = λ l. AreAllAnswers log 0 l (before.0 ++ one.0) in
+      let of_text : List ℕ → Type 0 = λ text. Appends sink new text in (
+        before.0 ++ one.0,
+        subst of_answers (sym all) (answers-push 0 (take i answers) before.0 told one.0 before.1 (subst of_session at one.1)),
+        subst of_text (sym (csv_text-append before.0 one.0)) (Appends-trans sink old new (csv_text before.0) (csv_text one.0) before.2 one.2),
+      )
 
--- some first answers to one session more, and of others none
-begun-push : (session : ℕ) (before : List (List Answer)) (rows : List (List (List ℕ))) (told : List Answer) (others : List (List Answer)) (these : List (List (List ℕ)))
-    → AreAllAnswers session before rows → OfFirst (AreAnswers (session + length before)) told these → BeginAllAnswers session (before ++ told ∷ others) (rows ++ these)
-begun-push session [] rows told others these are some =
-    let First : List (List (List ℕ)) → Type 0 = OfFirst (AreAnswers session) told in
-    let P : ℕ → Type 0 = λ n. OfFirst (AreAnswers n) told these in
-    let e : session + 0 ≡ session = omega arith in
-    inl (subst First (sym (ap (λ l. l ++ these) are)) (subst P e some))
-begun-push session (first ∷ before) rows told others these are some =
-    let P : ℕ → Type 0 = λ n. OfFirst (AreAnswers n) told these in
-    let e : session + suc (length before) ≡ session + 1 + length before = omega arith in
-    inr (are.0, are.1 ++ these, are.2, begun-push (session + 1) before are.1 told others these are.3 (subst P e some), ap (λ l. l ++ these) are.4 ∙ append_assoc are.0 are.1 these)
+  -- some first answers to one session more, and of others none
+  begun-push : (session : ℕ) (before : List (List (Result ℕ Refusal))) (rows : List (List (List ℕ))) (told : List (Result ℕ Refusal)) (others : List (List (Result ℕ Refusal))) (these : List (List (List ℕ)))
+      → AreAllAnswers log session before rows → OfFirst (AreAnswers log (session + length before)) told these → BeginAllAnswers log session (before ++ told ∷ others) (rows ++ these)
+  begun-push session [] rows told others these are some =
+      let First : List (List (List ℕ)) → Type 0 = OfFirst (AreAnswers log session) told in
+      let P : ℕ → Type 0 = λ n. OfFirst (AreAnswers log n) told these in
+      let e : session + 0 ≡ session = omega arith in
+      inl (subst First (sym (ap (λ l. l ++ these) are)) (subst P e some))
+  begun-push session (first ∷ before) rows told others these are some =
+      let P : ℕ → Type 0 = λ n. OfFirst (AreAnswers log n) told these in
+      let e : session + suc (length before) ≡ session + 1 + length before = omega arith in
+      inr (are.0, are.1 ++ these, are.2, begun-push (session + 1) before are.1 told others these are.3 (subst P e some), ap (λ l. l ++ these) are.4 ∙ append_assoc are.0 are.1 these)
 
-all-begun : (session : ℕ) (answers : List (List Answer)) (rows : List (List (List ℕ))) → AreAllAnswers session answers rows → BeginAllAnswers session answers rows
-all-begun session [] rows are = are
-all-begun session (told ∷ others) rows are = inr (are.0, are.1, are.2, all-begun (session + 1) others are.1 are.3, are.4)
+  all-begun : (session : ℕ) (answers : List (List (Result ℕ Refusal))) (rows : List (List (List ℕ))) → AreAllAnswers log session answers rows → BeginAllAnswers log session answers rows
+  all-begun session [] rows are = are
+  all-begun session (told ∷ others) rows are = inr (are.0, are.1, are.2, all-begun (session + 1) others are.1 are.3, are.4)
 
-none-begun : (session : ℕ) (answers : List (List Answer)) → BeginAllAnswers session answers []
-none-begun session [] = refl
-none-begun session (told ∷ others) = inl (0, numbered-none (IsAnswer session) 0)
+  none-begun : (session : ℕ) (answers : List (List (Result ℕ Refusal))) → BeginAllAnswers log session answers []
+  none-begun session [] = refl
+  none-begun session (told ∷ others) = inl (0, numbered-none (IsAnswerIn log session) 0)
 
--- no answer is printed
-pub begins-none : (sink : Option (List ℕ)) (answers : List (List Answer)) → BeginsToWrite sink sink (BeginAllAnswers 0 answers)
-begins-none sink answers = ([], none-begun 0 answers, begins_none sink (csv_text []))
+  -- no answer is printed
+  pub begins-none : (sink : Option (List ℕ)) (answers : List (List (Result ℕ Refusal))) → BeginsToWrite sink sink (BeginAllAnswers log 0 answers)
+  begins-none sink answers = ([], none-begun 0 answers, begins_none sink (csv_text []))
 
--- the answers to some sessions, and some first ones to the next
-pub begins-more : (sink old new : Option (List ℕ)) (answers : List (List Answer)) (i : ℕ) (told : List Answer) → i < length answers → told ≡ get_or answers i told
-    → Writes sink old (AreAllAnswers 0 (take i answers)) → BeginsToWrite old new (OfFirst (AreAnswers i) told) → BeginsToWrite sink new (BeginAllAnswers 0 answers)
-begins-more sink old new answers i told h e before some =
-    let others = drop (i + 1) answers in
-    let up_to : i ≤ length answers = omega arith in
-    let at : i ≡ 0 + length (take i answers) = omega (arith, length-take-le i answers up_to) in
-    let parts : take i answers ++ (told ∷ others) ≡ answers =
-    sym (append_assoc (take i answers) (told ∷ []) others)
-    ∙ ap (λ l. l ++ others) (sym (take_more answers i told h ∙ ap (λ (l : List Answer). take i answers ++ (l ∷ [])) (sym e))) ∙ take-append-drop (i + 1) answers in
-    let of_session : ℕ → Type 0 = λ n. OfFirst (AreAnswers n) told some.0 in
-    let of_answers : List (List Answer) → Type 0 = λ l. BeginAllAnswers 0 l (before.0 ++ some.0) in (
-      before.0 ++ some.0,
-      subst of_answers parts (begun-push 0 (take i answers) before.0 told others some.0 before.1 (subst of_session at some.1)),
-      subst (Begins sink new) (sym (csv_text-append before.0 some.0)) (begins_after sink old new (csv_text before.0) (csv_text some.0) before.2 some.2),
-    )
+  -- the answers to some sessions, and some first ones to the next
+  pub begins-more : (sink old new : Option (List ℕ)) (answers : List (List (Result ℕ Refusal))) (i : ℕ) (told : List (Result ℕ Refusal)) → i < length answers → told ≡ get_or answers i told
+      → Writes sink old (AreAllAnswers log 0 (take i answers)) → BeginsToWrite old new (OfFirst (AreAnswers log i) told) → BeginsToWrite sink new (BeginAllAnswers log 0 answers)
+  begins-more sink old new answers i told h e before some =
+      let others = drop (i + 1) answers in
+      let up_to : i ≤ length answers = omega arith in
+      let at : i ≡ 0 + length (take i answers) = omega (arith, length-take-le i answers up_to) in
+      let parts : take i answers ++ (told ∷ others) ≡ answers =
+      sym (append_assoc (take i answers) (told ∷ []) others)
+      ∙ ap (λ l. l ++ others) (sym (take_more answers i told h ∙ ap (λ (l : List (Result ℕ Refusal)). take i answers ++ (l ∷ [])) (sym e))) ∙ take-append-drop (i + 1) answers in
+      let of_session : ℕ → Type 0 = λ n. OfFirst (AreAnswers log n) told some.0 in
+      let of_answers : List (List (Result ℕ Refusal)) → Type 0 = λ l. BeginAllAnswers log 0 l (before.0 ++ some.0) in (
+        before.0 ++ some.0,
+        subst of_answers parts (begun-push 0 (take i answers) before.0 told others some.0 before.1 (subst of_session at some.1)),
+        subst (Begins sink new) (sym (csv_text-append before.0 some.0)) (begins_after sink old new (csv_text before.0) (csv_text some.0) before.2 some.2),
+      )
 
--- all or some of them
-pub begins-printed : {T E : Type 0} (printed : Result T E) (before after : Option (List ℕ)) (answers : List (List Answer))
-    → OnOk printed (Writes before after (AreAllAnswers 0 answers)) → OnErr printed (BeginsToWrite before after (BeginAllAnswers 0 answers)) → BeginsToWrite before after (BeginAllAnswers 0 answers)
-begins-printed (Ok done) before after answers all some = (all.0, all-begun 0 answers all.0 all.1, ([], sends_all before after (csv_text all.0) all.2))
-begins-printed (Err fault) before after answers all some = some
+  -- all or some of them
+  pub begins-printed : {T E : Type 0} (printed : Result T E) (before after : Option (List ℕ)) (answers : List (List (Result ℕ Refusal)))
+      → OnOk printed (Writes before after (AreAllAnswers log 0 answers)) → OnErr printed (BeginsToWrite before after (BeginAllAnswers log 0 answers)) → BeginsToWrite before after (BeginAllAnswers log 0 answers)
+  begins-printed (Ok done) before after answers all some = (all.0, all-begun 0 answers all.0 all.1, ([], sends_all before after (csv_text all.0) all.2))
+  begins-printed (Err fault) before after answers all some = some
 
 -- lists that have the same lengths at each place are as many
 pub same_count : {X Y : Type 0} (xs : List (List X)) (ys : List (List Y)) → ((s : ℕ) → option_map length (slice_get xs s) ≡ option_map length (slice_get ys s)) → length xs ≡ length ys
@@ -99,3 +105,23 @@ same_count [] [] h = refl
 same_count [] (y ∷ ys) h = let no : None ≡ Some (length y) = h 0 in absurd cc
 same_count (x ∷ xs) [] h = let no : Some (length x) ≡ None = h 0 in absurd cc
 same_count (x ∷ xs) (y ∷ ys) h = ap suc (same_count xs ys (λ s. h (suc s)))
+
+-- what an index finds at a place stands there
+pub indexed : {X : Type 0} (xs : List X) (n : ℕ) (x : X) → n < length xs → x ≡ get_or xs n x → slice_get xs n ≡ Some x
+indexed [] n x low is = absurd (omega arith)
+indexed (y ∷ ys) zero x low is = ap Some (sym is)
+indexed (y ∷ ys) (suc n) x low is = indexed ys n x (omega arith) is
+
+-- what stands at a place is below the length
+below_length : {X : Type 0} (xs : List X) (n : ℕ) (x : X) → slice_get xs n ≡ Some x → n < length xs
+below_length [] n x at = absurd cc
+below_length (y ∷ ys) zero x at = omega arith
+below_length (y ∷ ys) (suc n) x at = let rest : n < length ys = below_length ys n x at in omega arith
+
+-- the answers of an outcome name places of its log
+pub outcome_in_log : (opening : Database) (scripts : List (List Request)) (log : List Entry) (last : Database) (answers : List (List (Result ℕ Refusal))) → IsOutcome opening scripts log last answers
+    → AreAllInLog log answers
+outcome_in_log opening scripts log last answers outcome session told told_is k place at =
+    let there : item_at answers session k ≡ Some (Ok place) = ap (option_and_then (λ (l : List (Result ℕ Refusal)). slice_get l k)) told_is ∙ at in
+    let stands = outcome.done session k place there in
+    below_length log place (entry_of session k stands.0 stands.2) stands.3

@@ -1,10 +1,10 @@
 -- How `tpcc run` ends well, and what has its name where it ends early.
-use Rattle.std.specs.Prelude.{◌≡◌, ◌⊎◌, ℕ, ◌+◌, true, List, [], ◌∷◌, ◌++◌, Option, None, Some, is_some}
-use Rattle.std.specs.List.{AllZip}
+use Rattle.std.specs.Prelude.{◌≡◌, ◌⊎◌, ℕ, ◌+◌, true, List, [], ◌∷◌, ◌++◌, Option, None, Some, is_some, Result}
+use Rattle.std.specs.List.{AllZip, slice_get}
 use Rattle.schema.specs.Database.{Database}
 use Rattle.schema.specs.Consistency.{Consistent}
 use Rattle.requests.specs.declared.request.Request.{Request}
-use Rattle.requests.specs.declared.answer.Answer.{Answer}
+use Rattle.requests.specs.declared.refusal.Refusal.{Refusal}
 use Rattle.commit_log.specs.declared.entry.Entry.{Entry}
 use Rattle.range_moves.specs.declared.order.MoveOrder.{MoveOrder}
 use Rattle.engine.specs.Faults.{AreWithin}
@@ -13,23 +13,27 @@ use Rattle.dataset.specs.Records.{AreRecords}
 use Rattle.terminals.specs.LogRecord.{IsLog}
 use Rattle.terminals.specs.Moves.{AreMoves}
 use Rattle.terminals.specs.Script.{IsScript}
-use Rattle.terminals.specs.Answers.{AreAnswers}
+use Rattle.terminals.specs.Answers.{AreAnswers, AreInLog}
 use Rattle.tpcc.specs.declared.command_fault.CommandFault.{CommandFault}
 use Rattle.files.specs.Sending.{BeginsToWrite, OfFirst, Writes}
 use Rattle.tpcc.specs.Edges.{Gives, NamesFile}
 
--- the records of the answers to each session from this one on: by sessions, and those of a session by number
-abbrev pub AreAllAnswers : ℕ → List (List Answer) → List (List (List ℕ)) → Type 0
-AreAllAnswers session [] rows = rows ≡ []
-AreAllAnswers session (told ∷ others) rows =
-    (these : List (List (List ℕ))) × (rest : List (List (List ℕ))) × AreAnswers session told these × AreAllAnswers (session + 1) others rest × (rows ≡ these ++ rest)
+-- wherever a place answers a request, the log has an entry there
+abbrev pub AreAllInLog : List Entry → List (List (Result ℕ Refusal)) → Type 0
+AreAllInLog log answers = (session : ℕ) (told : List (Result ℕ Refusal)) → slice_get answers session ≡ Some told → AreInLog log told
 
--- the records of the first of these answers: those of some sessions, and some first ones of the next
-abbrev pub BeginAllAnswers : ℕ → List (List Answer) → List (List (List ℕ)) → Type 0
-BeginAllAnswers session [] rows = rows ≡ []
-BeginAllAnswers session (told ∷ others) rows =
-    OfFirst (AreAnswers session) told rows
-    ⊎ ((these : List (List (List ℕ))) × (rest : List (List (List ℕ))) × AreAnswers session told these × BeginAllAnswers (session + 1) others rest × (rows ≡ these ++ rest))
+-- the records of the answers to each session from this one on, with the replies of this log: by sessions, and those of a session by number
+abbrev pub AreAllAnswers : List Entry → ℕ → List (List (Result ℕ Refusal)) → List (List (List ℕ)) → Type 0
+AreAllAnswers log session [] rows = rows ≡ []
+AreAllAnswers log session (told ∷ others) rows =
+    (these : List (List (List ℕ))) × (rest : List (List (List ℕ))) × AreAnswers log session told these × AreAllAnswers log (session + 1) others rest × (rows ≡ these ++ rest)
+
+-- the records of the first of these answers: those of some sessions, and some number of the first of the next
+abbrev pub BeginAllAnswers : List Entry → ℕ → List (List (Result ℕ Refusal)) → List (List (List ℕ)) → Type 0
+BeginAllAnswers log session [] rows = rows ≡ []
+BeginAllAnswers log session (told ∷ others) rows =
+    OfFirst (AreAnswers log session) told rows
+    ⊎ ((these : List (List (List ℕ))) × (rest : List (List (List ℕ))) × AreAnswers log session told these × BeginAllAnswers log (session + 1) others rest × (rows ≡ these ++ rest))
 
 -- these are the moves that the source gives; if there is none, there are none
 abbrev pub GivesMoves : Option (Option (List ℕ)) → List MoveOrder → Type 0
@@ -38,7 +42,7 @@ GivesMoves (Some source) moves = Gives source (AreMoves moves)
 
 -- The scripts that the sources give were served by so many executors from the tables that `data` gives, with this log, these last tables and
 -- these answers; and there can be each of the moves.
-pub record AreServed («data» : Option (List ℕ)) (sources : List (Option (List ℕ))) (executors : ℕ) (moving : Option (Option (List ℕ))) (log : List Entry) (last : Database) (answers : List (List Answer)) : Type 0 where
+pub record AreServed («data» : Option (List ℕ)) (sources : List (Option (List ℕ))) (executors : ℕ) (moving : Option (Option (List ℕ))) (log : List Entry) (last : Database) (answers : List (List (Result ℕ Refusal))) : Type 0 where
   pub opening : Database
   pub is_dataset : Gives «data» (AreRecords opening)
   pub consistent : Consistent opening
@@ -52,18 +56,18 @@ pub record AreServed («data» : Option (List ℕ)) (sources : List (Option (Lis
 module _ {F : Type 0} (contents : F → Option (List ℕ)) (file tables : Option F) (before after : Option (List ℕ)) (named named' : Option (List (Option (List ℕ)))) where
   -- The records of all answers were printed; and the files, of these two those that there are, have got their names, in turn: the log with
   -- its records, and the tables with the records of the last tables.
-  pub record HandsOut (log : List Entry) (last : Database) (answers : List (List Answer)) : Type 0 where
-    pub printed : Writes before after (AreAllAnswers 0 answers)
+  pub record HandsOut (log : List Entry) (last : Database) (answers : List (List (Result ℕ Refusal))) : Type 0 where
+    pub printed : Writes before after (AreAllAnswers log 0 answers)
     pub with_log : Option (List (Option (List ℕ)))
     pub logged : NamesFile contents file named with_log (IsLog log)
     pub left : NamesFile contents tables with_log named' (AreRecords last)
 
   -- A beginning of these records was printed, and no file has got its name; or all were, and, as tables are asked for, the log has got its
   -- name, if there is one.
-  abbrev pub HandsOutSome : List Entry → List (List Answer) → Type 0
+  abbrev pub HandsOutSome : List Entry → List (List (Result ℕ Refusal)) → Type 0
   HandsOutSome log answers =
-      (BeginsToWrite before after (BeginAllAnswers 0 answers) × (named' ≡ named))
-      ⊎ ((is_some tables ≡ true) × Writes before after (AreAllAnswers 0 answers) × NamesFile contents file named named' (IsLog log))
+      (BeginsToWrite before after (BeginAllAnswers log 0 answers) × (named' ≡ named))
+      ⊎ ((is_some tables ≡ true) × Writes before after (AreAllAnswers log 0 answers) × NamesFile contents file named named' (IsLog log))
 
 module _ {F : Type 0} (contents : F → Option (List ℕ)) («data» : Option (List ℕ)) (sources : List (Option (List ℕ))) (executors : ℕ) (moving : Option (Option (List ℕ))) (file tables : Option F)
     (before after : Option (List ℕ)) (named named' : Option (List (Option (List ℕ)))) where
@@ -71,14 +75,14 @@ module _ {F : Type 0} (contents : F → Option (List ℕ)) («data» : Option (L
   abbrev pub ServesSome : Type 0
   ServesSome =
       ((after ≡ before) × (named' ≡ named))
-      ⊎ ((log : List Entry) × (last : Database) × (answers : List (List Answer)) × AreServed «data» sources executors moving log last answers
+      ⊎ ((log : List Entry) × (last : Database) × (answers : List (List (Result ℕ Refusal))) × AreServed «data» sources executors moving log last answers
       × HandsOutSome contents file tables before after named named' log answers)
 
   -- The scripts that the sources give were served from the tables that `data` gives, and all that came of it was handed out.
   pub record Serves (told told' : Option (List CommandFault)) : Type 0 where
     pub log : List Entry
     pub last : Database
-    pub answers : List (List Answer)
+    pub answers : List (List (Result ℕ Refusal))
     pub are_served : AreServed «data» sources executors moving log last answers
     pub handed_out : HandsOut contents file tables before after named named' log last answers
     pub no_fault : told' ≡ told

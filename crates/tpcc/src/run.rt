@@ -1,13 +1,13 @@
 ghost use Rattle.std.specs.Prelude.{◌≡◌, ◌⊎◌, ◌≤◌, length, map, is_some, IfOk, IfErr, OnOk, OnErr};
 ghost use Rattle.std.specs.List.{AllZip};
 ghost use Rattle.std.specs.Option.{option_map};
-ghost use Rattle.terminals.specs.Answers.{AreAnswers};
+ghost use Rattle.terminals.specs.Answers.{AreAnswers, AreInLog};
 ghost use Rattle.terminals.specs.Script.{IsScript};
 ghost use Rattle.files.specs.Sending.{BeginsToWrite, OfFirst, Writes};
 ghost use Rattle.tpcc.specs.Edges.{Gives};
 ghost use Rattle.tpcc.specs.EarlyEnds.{IsOfAnswering, IsOfMoves, IsOfRunning, IsOfScripts};
 ghost use Rattle.tpcc.specs.Faults.{IsOfWriting, standard_output, EndsEarly};
-ghost use Rattle.tpcc.specs.Run.{AreAllAnswers, BeginAllAnswers, GivesMoves, HandsOut, HandsOutSome, Serves, ServesSome};
+ghost use Rattle.tpcc.specs.Run.{AreAllAnswers, AreAllInLog, BeginAllAnswers, GivesMoves, HandsOut, HandsOutSome, Serves, ServesSome};
 ghost use Rattle.tpcc.specs.Settings.{IsRunnable};
 
 use crate::command_fault::CommandFault;
@@ -19,6 +19,7 @@ use crate::streams::{STANDARD_OUTPUT, name_printed, read_tables, write_entries, 
 use crate::summary::Summary;
 use crate::tally::Tally;
 use crate::watch::Watch;
+use commit_log::Entry;
 use engine::{Answers, Outcome, serve};
 use files::Input;
 use range_moves::MoveOrder;
@@ -36,7 +37,7 @@ use terminals::{read_moves, read_script, write_answers};
 /// `data` is read first, then the scripts in turn, and then the moves; the first fault decides, and then
 /// nothing was run.
 /// The log is written to `log` and is on the disk first; then the answers go to `answers`, by session and
-/// number; then the log gets its name on `shelf`, and then the tables as they are left are written to `tables`
+/// number, with the replies of the log; then the log gets its name on `shelf`, and then the tables as they are left are written to `tables`
 /// and get theirs. `watch` looks on while they are served, and what it all came to is summed up to `errors`,
 /// if that sums up. Why a run ended early is told to `errors`: a fault of a file, a move that there can't be,
 /// tables that are not consistent, no thread, something that was not back at the end, or no memory.
@@ -131,13 +132,7 @@ fn run<
     };
     watch.end();
     hand_out(alloc, settings, &outcome, answers, log, tables, shelf)?;
-    sum_up(
-        alloc,
-        &watch,
-        scripts.as_slice(),
-        outcome.answers.as_slice(),
-        errors,
-    );
+    sum_up(alloc, &watch, scripts.as_slice(), &outcome, errors);
     Ok(())
 }
 
@@ -153,14 +148,16 @@ fn hand_out<'a, A: Write, F: Write + Drop, N: Shelf<F>>(
     shelf: &mut N,
 ) -> Result<(), CommandFault<'a>>
     requires few { length outcome.now.answers.items ≤ 64 }
+    requires placed { AreAllInLog outcome.now.log.items outcome.now.answers.items }
     requires log { is_some log ≡ is_some settings.now.log }
     requires tables { is_some tables ≡ is_some settings.now.tables }
     ensures all { OnOk result (HandsOut F.contents log tables (A.contents answers.old) (A.contents answers.new) (N.named shelf.old) (N.named shelf.new) outcome.now.log.items outcome.now.tables outcome.now.answers.items) }
     ensures some { OnErr result (HandsOutSome F.contents log tables (A.contents answers.old) (A.contents answers.new) (N.named shelf.old) (N.named shelf.new) outcome.now.log.items outcome.now.answers.items) }
     ensures fault { IfErr result (IsOfAnswering settings.now) }
 {
-    let log = write_entries(alloc, settings.log, log, outcome.log.as_slice(), shelf)?;
-    let printed = print_answers(alloc, answers, outcome.answers.as_slice());
+    let entries = outcome.log.as_slice();
+    let log = write_entries(alloc, settings.log, log, entries, shelf)?;
+    let printed = print_answers(alloc, answers, outcome.answers.as_slice(), entries);
     name_printed(printed, log, shelf)?;
     write_tables(alloc, settings.tables, tables, &outcome.tables, shelf)
 }
@@ -211,14 +208,16 @@ fn print_answers<A: Write>(
     alloc: Global,
     sink: &mut A,
     answers: &[Answers],
+    log: &[Entry],
 ) -> Result<(), CommandFault<'static>>
-    requires { length answers.now ≤ 64 }
-    ensures printed { OnOk result (Writes (A.contents sink.old) (A.contents sink.new) (AreAllAnswers 0 answers.now)) }
-    ensures begun { OnErr result (BeginsToWrite (A.contents sink.old) (A.contents sink.new) (BeginAllAnswers 0 answers.now)) }
+    requires few { length answers.now ≤ 64 }
+    requires placed { AreAllInLog log.now answers.now }
+    ensures printed { OnOk result (Writes (A.contents sink.old) (A.contents sink.new) (AreAllAnswers log.now 0 answers.now)) }
+    ensures begun { OnErr result (BeginsToWrite (A.contents sink.old) (A.contents sink.new) (BeginAllAnswers log.now 0 answers.now)) }
     ensures fault { IfErr result (IsOfWriting standard_output) }
 {
     for (session, told) in answers.iter().enumerate() {
-        print_session(alloc, sink, session as u32, told)?;
+        print_session(alloc, sink, session as u32, told, log)?;
     }
     Ok(())
 }
@@ -229,12 +228,14 @@ fn print_session<A: Write>(
     sink: &mut A,
     session: u32,
     told: &Answers,
+    log: &[Entry],
 ) -> Result<(), CommandFault<'static>>
-    ensures printed { OnOk result (Writes (A.contents sink.old) (A.contents sink.new) (AreAnswers session told.now)) }
-    ensures begun { OnErr result (BeginsToWrite (A.contents sink.old) (A.contents sink.new) (OfFirst (AreAnswers session) told.now)) }
+    requires { AreInLog log.now told.now }
+    ensures printed { OnOk result (Writes (A.contents sink.old) (A.contents sink.new) (AreAnswers log.now session told.now)) }
+    ensures begun { OnErr result (BeginsToWrite (A.contents sink.old) (A.contents sink.new) (OfFirst (AreAnswers log.now session) told.now)) }
     ensures fault { IfErr result (IsOfWriting standard_output) }
 {
-    match write_answers(alloc, sink, session, told.as_slice()) {
+    match write_answers(alloc, sink, session, told.as_slice(), log) {
         Ok(()) => Ok(()),
         Err(error) => Err(CommandFault::of_file(STANDARD_OUTPUT, error)),
     }
@@ -245,7 +246,7 @@ fn sum_up<R: Clock, E: Report>(
     alloc: Global,
     watch: &Watch<'_, R>,
     scripts: &[Script],
-    answers: &[Answers],
+    outcome: &Outcome,
     errors: &mut E,
 )
     ensures { E.told errors.new ≡ E.told errors.old }
@@ -254,7 +255,7 @@ fn sum_up<R: Clock, E: Report>(
         return;
     }
     // Where there is no memory for it there is no summary.
-    let Ok(tally) = tally_of(alloc, scripts, answers) else {
+    let Ok(tally) = tally_of(alloc, scripts, outcome) else {
         return;
     };
     if let Ok(times) = watch.sorted_times(alloc) {
@@ -267,10 +268,15 @@ fn sum_up<R: Clock, E: Report>(
 }
 
 // How the requests of all scripts ended.
-fn tally_of(alloc: Global, scripts: &[Script], answers: &[Answers]) -> Result<Tally, NoMemory> {
+fn tally_of(alloc: Global, scripts: &[Script], outcome: &Outcome) -> Result<Tally, NoMemory> {
     let mut tally = Tally::new(alloc);
-    for (script, told) in scripts.iter().zip(answers) {
-        tally.add(&Tally::of_answers(alloc, script.requests(), told.as_slice())?)?;
+    for (script, told) in scripts.iter().zip(outcome.answers.as_slice()) {
+        tally.add(&Tally::of_answers(
+            alloc,
+            script.requests(),
+            told.as_slice(),
+            outcome.log.as_slice(),
+        )?)?;
     }
     Ok(tally)
 }

@@ -1,9 +1,10 @@
 ghost use Rattle.std.specs.Prelude.{◌≡◌, ◌<◌, ◌==◌, ◌++◌, ◌&&◌, [], IfOk, OnOk, map, count_by};
 ghost use Rattle.std.specs.List.{zip};
-ghost use Rattle.tpcc.specs.Tally.{kind_number, reply_number, answer_number};
+ghost use Rattle.std.specs.Option.{option_map};
+ghost use Rattle.tpcc.specs.Tally.{kind_number, reply_number, entry_number, answer_number};
 
 use commit_log::Entry;
-use requests::{Answer, Reply, Request};
+use requests::{Refusal, Reply, Request};
 use schema::NoMemory;
 use std::alloc::Global;
 
@@ -31,18 +32,19 @@ impl Tally {
         }
     }
 
-    /// Of requests that were answered so, one after the other.
+    /// Of requests that were answered so, one after the other: by the place of an entry of this log, or refused.
     pub fn of_answers(
         alloc: Global,
         requests: &[Request],
-        answers: &[Answer],
+        answers: &[Result<u32, Refusal>],
+        log: &[Entry],
     ) -> Result<Tally, NoMemory>
         ensures kinds { IfOk result (λ tally. tally.kinds.items ≡ map kind_number requests.now) }
-        ensures ends { IfOk result (λ tally. tally.ends.items ≡ map answer_number answers.now) }
+        ensures ends { IfOk result (λ tally. tally.ends.items ≡ map (answer_number log.now) answers.now) }
     {
         Ok(Tally {
             kinds: kinds_of(alloc, requests)?,
-            ends: ends_of(alloc, answers)?,
+            ends: ends_of(alloc, answers, log)?,
         })
     }
 
@@ -90,12 +92,16 @@ fn kinds_of(alloc: Global, requests: &[Request]) -> Result<Vec<u8>, NoMemory>
     requests.iter().map(|it| kind_number(it)).collect(alloc)
 }
 
-fn ends_of(alloc: Global, answers: &[Answer]) -> Result<Vec<u8>, NoMemory>
-    ensures { IfOk result (λ ends. ends.items ≡ map answer_number answers.now) }
+fn ends_of(
+    alloc: Global,
+    answers: &[Result<u32, Refusal>],
+    log: &[Entry],
+) -> Result<Vec<u8>, NoMemory>
+    ensures { IfOk result (λ ends. ends.items ≡ map (answer_number log.now) answers.now) }
 {
     let mut ends = Vec::with_capacity(alloc, answers.len())?;
     for answer in answers {
-        ends.push(answer_number(answer))?;
+        ends.push(answer_number(answer, log))?;
     }
     Ok(ends)
 }
@@ -134,13 +140,24 @@ fn kind_number(request: &Request) -> u8
 }
 
 #[tactic(auto, unfolding(crate::specs::Tally::answer_number))]
-fn answer_number(answer: &Answer) -> u8
-    ensures end { result ≡ answer_number answer.now }
+fn answer_number(answer: &Result<u32, Refusal>, log: &[Entry]) -> u8
+    ensures end { result ≡ answer_number log.now answer.now }
     ensures few { result < ENDS }
 {
     match answer {
-        Answer::Done { reply, .. } => reply_number(reply),
-        Answer::Refused(refusal) => 1 + refusal.number(),
+        Ok(place) => entry_number(log.get(*place as usize)),
+        Err(refusal) => 1 + refusal.number(),
+    }
+}
+
+#[tactic(auto, unfolding(crate::specs::Tally::entry_number))]
+fn entry_number(entry: Option<&Entry>) -> u8
+    ensures end { result ≡ entry_number (option_map (λ e. e.now) entry.entry) }
+    ensures few { result < 2 }
+{
+    match entry {
+        Some(entry) => reply_number(&entry.reply),
+        None => 0,
     }
 }
 

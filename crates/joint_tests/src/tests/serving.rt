@@ -1,6 +1,6 @@
 use super::*;
 use engine::{Gate, MoveOrder, Outcome, ServeFault, serve};
-use requests::{Answer, Script};
+use requests::Script;
 use std::alloc::Global;
 use std::process::Abort;
 use std::sync::Wait;
@@ -40,7 +40,7 @@ fn done_in(outcome: &Outcome) -> usize {
     let mut count: usize = 0;
     for answers in &outcome.answers {
         for answer in answers.as_slice() {
-            if matches!(answer, Answer::Done { .. }) {
+            if answer.is_ok() {
                 count = count.saturating_add(1);
             }
         }

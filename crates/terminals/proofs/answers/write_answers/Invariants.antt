@@ -6,5 +6,5 @@ use Rattle.terminals.proofs.answers.write_answers.Given as goal
 
 abbrev pub invariant-loop-number : goal.invariant-loop-number
 invariant-loop-number g l =
-    (rows : List (List (List ℕ))) × AreAnswers l.session (take l.number l.answers) rows
+    (rows : List (List (List ℕ))) × AreAnswers l.log l.session (take l.number l.answers) rows
     × Sends (g.W.Write.contents l.fn.sink) (g.W.Write.contents l.sink) (csv_text rows) l.writer.text

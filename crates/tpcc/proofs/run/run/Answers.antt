@@ -10,7 +10,7 @@ use Rattle.files.proofs.Sent.{on_any_err}
 use Rattle.tpcc.specs.declared.command_fault.CommandFault.{CommandFault}
 use Rattle.tpcc.specs.EarlyEnds.{IsOfScripts, IsOfServing}
 use Rattle.tpcc.specs.Run.{AreServed, ServesSome}
-use Rattle.tpcc.proofs.AnswerRecords.{same_count}
+use Rattle.tpcc.proofs.AnswerRecords.{outcome_in_log, same_count}
 use Rattle.tpcc.proofs.ServeFaults.{of_tables}
 use Rattle.tpcc.proofs.run.run.Goals as goal
 
@@ -34,6 +34,11 @@ hand_out-requires-clause-few g c =
     let paths : length c.in_ok-scripts.scripts.items ≡ length c.args.settings.now.scripts.items = c.in_ok-scripts.ensures.count ∙ ap length c.deref.ensures.value in
     let few : length c.args.settings.now.scripts.items ≤ 64 = c.requires.limits.0.1 in
     omega arith
+
+pub hand_out-requires-clause-placed : goal.hand_out-requires-clause-placed
+hand_out-requires-clause-placed g c =
+    let outcome = c.in-Ok.outcome in
+    outcome_in_log c.in_ok-opening.opening c.as_slice-2.result.now outcome.log.items outcome.tables outcome.answers.items c.in-Ok.ensures.outcome
 
 pub returns-in_err-hand_out-clause-some : goal.returns-in_err-hand_out-clause-some
 returns-in_err-hand_out-clause-some g c =

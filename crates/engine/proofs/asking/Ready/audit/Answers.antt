@@ -1,5 +1,5 @@
-use Rattle.std.proofs.Common.{◌≡◌, List, length, ap, subst, sym, ◌∙◌, arith, vec_capacity}
-use Rattle.requests.specs.declared.answer.Answer.{Answer}
+use Rattle.std.proofs.Common.{◌≡◌, ℕ, List, Result, length, ap, subst, sym, ◌∙◌, arith, vec_capacity}
+use Rattle.requests.specs.declared.refusal.Refusal.{Refusal}
 use Rattle.commit_log.specs.Items.{items_of}
 use Rattle.engine.specs.Served.{Served}
 use Rattle.engine.proofs.Asked.{audited}
@@ -14,6 +14,6 @@ returns-clause-served g c = λ script found.
     let session_is = sym c.session.ensures ∙ c.if-session.false in
     let same = ap length c.requests.ensures.value in
     let all : length own.answers.items ≡ length own.script.now = omega (arith, c.if-len-requests.false, c.len.ensures, own.answers.ok.0, same) in
-    subst (λ (answers : List Answer). Served scale script answers (items_of c.args.session log) (length log)) (sym c.of.ensures)
+    subst (λ (answers : List (Result ℕ Refusal)). Served scale script answers (items_of c.args.session log) (length log)) (sym c.of.ensures)
     (audited scale g.J.ServeNames.scripts own.script.now own.seat own.pass own.answers.items (vec_capacity own.answers) c.args.session own.is_full log c.self.invariant
     session_is all told.mine told.reached script found)

@@ -8,4 +8,4 @@ use Rattle.executor.proofs.committing.Commit.commit.Goals as goal
 pub new-requires : goal.new-requires
 new-requires g c =
     subst (λ b. AreGiven b c.append.new.held) (sym c.is_settled-is_settled.ensures)
-    (subst (λ (h : List (List Claiming)). AreGiven (is_settled c.in-Ok.shown) h) (sym c.in-Ok-append.ensures.held) (all_logged_given c.in-Ok.shown c.self.inside.transaction.age c.self.inside.held c.self.invariant.undone))
+    (subst (λ (h : List (List Claiming)). AreGiven (is_settled c.take_reply.result) h) (sym c.in-Ok.ensures.held) (all_logged_given c.take_reply.result c.self.inside.transaction.age c.self.inside.held c.self.invariant.undone))
