@@ -14,7 +14,7 @@ use Rattle.files.specs.Sending.{Begins, BeginsToWrite, OfFirst, Writes}
 use Rattle.files.specs.Written.{csv_text}
 use Rattle.files.proofs.Sent.{begins_after, begins_none, sends_all}
 use Rattle.files.proofs.Texts.{csv_text-append}
-use Rattle.terminals.specs.Answers.{AreAnswers, AreInLog, IsAnswerIn}
+use Rattle.terminals.specs.Answers.{AreAnswers, IsAnswerIn}
 use Rattle.terminals.proofs.Numbered.{numbered-none}
 use Rattle.engine.specs.Outcome.{IsOutcome, item_at}
 use Rattle.tpcc.specs.Run.{AreAllAnswers, AreAllInLog, BeginAllAnswers}
