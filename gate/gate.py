@@ -1,10 +1,10 @@
 """Passes the tests: ./gate.sh [--anew] [--whole] [--record NAME]
 
 First come the definitions that documents quote and list, a look at each edit, and the examples by a program that is built without its
-proofs. Then `rt ci` proves every crate and its tests from nothing, has the prover refuse must-fail edits, and runs the tests
-and the stored run: the edits of the crates that changed in the six hours before this commit, and of each third crate in turn, which
-third by the commit's name. Last, all scenarios are run by the program that was proved, and each of its allocations is refused in turn. The
-last line is `rt ci`'s: N passed, 0 failed. The exit status is 0 where all is well.
+proofs. Then `rt ci` proves every crate and its tests from nothing, runs the tests and the stored run, and has the prover refuse
+must-fail edits: those of the crates that changed in the six hours before this commit, and of each third crate in turn, which third
+by the commit's name. Last, all scenarios are run by the program that was proved, and each of its allocations is refused in turn.
+The last line is `rt ci`'s: N passed, 0 failed. The exit status is 0 where all is well.
 
 With --whole the prover has to refuse the must-fail edits of all crates, as where `rt ci` is called by itself, and their further wrong
 programs too, those of wrong-programs/, which takes some three times as long; each crate of these counts as one that passed or failed.
