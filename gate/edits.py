@@ -1,7 +1,7 @@
 """The wrong programs of the crates: what is read of them before any prover runs, whose turn it is, and the further ones.
 
 A wrong program is an edit of a crate's code that the prover must refuse. Those of `must-fail/` are tried by `rt ci`: in a run of
-the gate those of the crates that have changed, and of the others each third crate's in turn. Those of `wrong-programs/`, which
+the gate those of the crates that have changed, and of the others each fifth crate's in turn. Those of `wrong-programs/`, which
 are written alike, are tried by `further` alone.
 """
 
@@ -15,7 +15,9 @@ from concurrent.futures import ThreadPoolExecutor
 
 KINDS = ["must-fail", "wrong-programs"]
 LANES = 4
-TURNS = 3
+TURNS = 5
+HOURS = 3
+DEAR = {"engine", "tpcc"}
 
 
 def edits_of(crate):
@@ -65,23 +67,23 @@ def told_by_git(root, *words):
 
 
 def changed(root):
-    """Returns the names of the crates of which a commit has changed something, in the six hours before the commit that stands here."""
+    """Returns the names of the crates of which a commit has changed something, in the hours before the commit that stands here."""
     if told_by_git(root, "rev-parse", "--is-shallow-repository") != "false":
         return set()
     second = told_by_git(root, "show", "-s", "--format=%ct")
-    since = f"--since=@{int(second) - 6 * 60 * 60}"
+    since = f"--since=@{int(second) - HOURS * 60 * 60}"
     files = told_by_git(root, "log", since, "--format=", "--name-only", "--", "crates").splitlines()
     return {found[1] for file in files if (found := re.match(r"crates/(\w+)/(src|specs|proofs|must-fail)/", file))}
 
 
 def in_turn(root, crates):
-    """Returns the crates whose edits are tried in a run of the commit that stands here: those that have changed, and every third of
-    those that have edits, which third by the commit's name. (A check of the whole crate comes before its first edit, and costs more than
-    the edits.)"""
+    """Returns the crates whose edits are tried in a run of the commit that stands here: those that have changed, and every fifth of
+    those that have edits, which fifth by the commit's name. A check of the whole crate comes before its first edit, and costs more than
+    the edits: so the two crates whose checks are the dearest, and which have an edit each, are tried in their turn alone."""
     having = [name for name in crates if ls(f"{root}/crates/{name}/must-fail")]
     turn = int(told_by_git(root, "rev-parse", "HEAD") or "0", 16) % TURNS
     new = changed(root)
-    return [name for number, name in enumerate(having) if number % TURNS == turn or name in new]
+    return [name for number, name in enumerate(having) if number % TURNS == turn or name in new - DEAR]
 
 
 @contextlib.contextmanager

@@ -31,6 +31,6 @@ fn repeats(plain: &mut Plain, entry: &Entry) -> Result<bool, NoMemory>
     if check(&plain.tables().scale(), &entry.request).is_err() {
         return Ok(false);
     }
-    let (reply, _) = plain.step(&entry.request)?;
+    let reply = plain.step(&entry.request)?;
     Ok(reply.is(&entry.reply))
 }

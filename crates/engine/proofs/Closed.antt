@@ -2,6 +2,7 @@
 use Rattle.std.proofs.Common.{◌≡◌, ℕ, zero, suc, ◌<◌, ◌≤◌, List, [], ◌∷◌, length, Some, Result, sym, ap, subst, ◌∙◌}
 use Rattle.std.specs.List.{slice_get, slice_index_or, All}
 use Rattle.std.proofs.lemmas.List.Elements.{All-map}
+use Rattle.std.proofs.lemmas.Option.{slice_get_within}
 use Rattle.schema.specs.Database.{Database, IsWithinScale}
 use Rattle.partitions.specs.Parts.{Shared, shared_of}
 use Rattle.requests.specs.declared.request.Request.{Request}
@@ -15,13 +16,12 @@ use Rattle.slices.specs.Sliced.{Sliced, joined}
 use Rattle.engine.specs.Closing.{AreSettled}
 use Rattle.engine.specs.Outcome.{IsOutcome}
 use Rattle.engine.specs.Served.{ServedEach}
-use Rattle.engine.proofs.OneMoreRequest.{within}
 use Rattle.engine.proofs.Settled.{settled_tables}
 use Rattle.engine.proofs.Together.{together}
 
 -- what stands at a place has what all have
 of_all : {X : Type 0} (P : X → Type 0) (xs : List X) (n : ℕ) (x : X) → All P xs → slice_get xs n ≡ Some x → P x
-of_all P xs n x all at = subst P (stands_at xs n x at) (all n x (within xs n x at))
+of_all P xs n x all at = subst P (stands_at xs n x at) (all n x (slice_get_within xs n x at))
   where
     stands_at : {Y : Type 0} (ys : List Y) (k : ℕ) (y : Y) → slice_get ys k ≡ Some y → slice_index_or ys k y ≡ y
     stands_at [] k y h = absurd cc

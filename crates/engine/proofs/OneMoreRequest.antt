@@ -4,6 +4,7 @@ use Rattle.std.specs.List.{slice_get}
 use Rattle.std.proofs.lemmas.Bool.Decides.{nat_tests}
 use Rattle.std.proofs.Math.Seq.{take-suc}
 use Rattle.std.proofs.lemmas.List.{length-take-le}
+use Rattle.std.proofs.lemmas.Option.{get_or_from_slice_get, slice_get_within}
 use Rattle.std.proofs.lemmas.List.Elements.{Contains-append_left, Contains-push_cases, Contains-push}
 use Rattle.schema.specs.declared.scale.Scale.{Scale}
 use Rattle.requests.specs.declared.request.Request.{Request}
@@ -26,11 +27,6 @@ slice_get-push [] x (suc n) = let e : eqb (suc n) 0 ≡ false = grind (arith, na
 slice_get-push (y ∷ ys) x zero = let e : eqb 0 (suc (length ys)) ≡ false = grind (arith, nat_tests) in rw e refl
 slice_get-push (y ∷ ys) x (suc n) = let e : eqb (suc n) (suc (length ys)) ≡ eqb n (length ys) = grind (arith, nat_tests) in slice_get-push ys x n ∙ rw e refl
 
-pub within : {X : Type 0} (xs : List X) (n : ℕ) (x : X) → slice_get xs n ≡ Some x → n < length xs
-within [] n x h = absurd cc
-within (y ∷ ys) zero x h = omega arith
-within (y ∷ ys) (suc n) x h = let rest : n < length ys = within ys n x h in omega arith
-
 -- it is the new one, or one of before
 pub by_end : {X : Type 0} (G : Type 0) (xs : List X) (x y : X) (n : ℕ) → slice_get (xs ++ x ∷ []) n ≡ Some y
     → (n ≡ length xs → x ≡ y → G) → (n < length xs → slice_get xs n ≡ Some y → G) → G
@@ -38,7 +34,7 @@ by_end G xs x y n h new old =
     let at : cond (eqb n (length xs)) (Some x) (slice_get xs n) ≡ Some y = sym (slice_get-push xs x n) ∙ h in
     elim (eqb n (length xs)) as (λ b. eqb n (length xs) ≡ b → cond b (Some x) (slice_get xs n) ≡ Some y → G) [
       | true ↦ λ t e. new (grind (arith, nat_tests)) cc
-      | false ↦ λ t e. old (within xs n y e) e
+      | false ↦ λ t e. old (slice_get_within xs n y e) e
     ] refl at
 
 stands : {X : Type 0} (xs : List X) (x : X) → slice_get (xs ++ x ∷ []) (length xs) ≡ Some x
@@ -46,7 +42,7 @@ stands xs x = let here : eqb (length xs) (length xs) ≡ true = grind (arith, na
 
 stays : {X : Type 0} (xs : List X) (x y : X) (n : ℕ) → slice_get xs n ≡ Some y → slice_get (xs ++ x ∷ []) n ≡ Some y
 stays xs x y n h =
-    let low : n < length xs = within xs n y h in
+    let low : n < length xs = slice_get_within xs n y h in
     let other : eqb n (length xs) ≡ false = grind (arith, nat_tests) in
     slice_get-push xs x n ∙ rw other h
 
@@ -158,12 +154,6 @@ take-next xs n x below is =
     let next : n + 1 ≡ suc n = omega arith in
     ap (λ m. take m xs) next ∙ take-suc xs n x below ∙ ap (λ y. take n xs ++ y ∷ []) (sym is)
 
--- what stands at a place is what an index finds there
-at_index : {X : Type 0} (xs : List X) (n : ℕ) (x : X) → slice_get xs n ≡ Some x → x ≡ get_or xs n x
-at_index [] n x h = absurd cc
-at_index (y ∷ ys) zero x h = cc
-at_index (y ∷ ys) (suc n) x h = at_index ys n x h
-
 -- ---- the script of a session
 
 -- no request was asked yet
@@ -177,14 +167,14 @@ nothing_asked scale script mine seen reached answers new none =
 
 module _ (scale : Scale) (script : List Request) (answers : List (Result ℕ Refusal)) (request : Request) (next : slice_get script (length answers) ≡ Some request) where
   below : length answers < length script
-  below = within script (length answers) request next
+  below = slice_get_within script (length answers) request next
 
   taken : length (take (length answers) script) ≡ length answers
   taken = length-take-le (length answers) script (omega (arith, below))
 
   -- with one answer more, the requests that were asked are one more
   one_more : (answer : Result ℕ Refusal) → take (length (answers ++ answer ∷ [])) script ≡ take (length answers) script ++ request ∷ []
-  one_more answer = ap (λ (n : ℕ). take n script) (length-append answers (answer ∷ [])) ∙ take-next script (length answers) request below (at_index script (length answers) request next)
+  one_more answer = ap (λ (n : ℕ). take n script) (length-append answers (answer ∷ [])) ∙ take-next script (length answers) request below (sym (get_or_from_slice_get script (length answers) request request next))
 
   few_still : (answer : Result ℕ Refusal) → length (answers ++ answer ∷ []) ≤ length script
   few_still answer = let more = length-append answers (answer ∷ []) in let low = below in omega (arith, more, low)

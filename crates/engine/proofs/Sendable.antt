@@ -10,7 +10,7 @@ use Rattle.queues.proofs.Sendable.{Taker-send, Sender-send}
 use Rattle.routing.proofs.Sendable.{SharedRouting-sync}
 use Rattle.std.specs.contracts.result.Result as Result
 use Rattle.requests.specs.contracts.refusal.Refusal as Refusal
-use Rattle.requests.proofs.Sendable.{Script-sync}
+use Rattle.requests.proofs.Sendable.{Refusal-send, Script-sync}
 use Rattle.commit_log.proofs.Sendable.{Log-send, Pass-send, SessionSeat-send}
 use Rattle.executor.proofs.Sendable.{Errand-send, Settle-send, Undo-send, Phase-send, Keeper-send, Post-send}
 use Rattle.executor.specs.contracts.post.Post as Post
@@ -31,9 +31,6 @@ use Rattle.engine.specs.contracts.place.Place as Place
 use Rattle.engine.specs.contracts.place.Session as Session
 
 -- an answer: a place in the log, or a refusal
-Refusal-send : IsSend Refusal.the_row
-Refusal-send = search sendable depth 80
-
 Answer-send : IsSend (Result.the_row u32 Refusal.the_row)
 Answer-send = variants_send (Result.enum u32 Refusal.the_row) (
   (search sendable depth 20, tt),

@@ -3,6 +3,7 @@ use Rattle.std.proofs.Common.{◌≡◌, ◌≢◌, ◌⊎◌, inl, inr, ⊎_eli
 use Rattle.std.specs.Prelude.{All}
 use Rattle.std.specs.List.{Contains, slice_get}
 use Rattle.std.proofs.lemmas.List.{append-nil, length-map}
+use Rattle.std.proofs.lemmas.Option.{slice_get-get_or}
 use Rattle.std.proofs.lemmas.List.Elements.{All-contains, All-head, All-tail, All-weaker, Contains-get_or}
 use Rattle.schema.specs.Database.{Database, IsWithinScale}
 use Rattle.schema.specs.declared.scale.Scale.{Scale}
@@ -114,11 +115,6 @@ settled_still opening last home old new home_is tables_are h = record {
 
 -- ---- all slices
 
-at_index : {X : Type 0} (xs : List X) (n : ℕ) (d : X) → n < length xs → slice_get xs n ≡ Some (get_or xs n d)
-at_index [] n d h = absurd (omega arith)
-at_index (x ∷ xs) zero d h = refl
-at_index (x ∷ xs) (suc n) d h = at_index xs n d (omega arith)
-
 part_at : (slices : List Sliced) (place : ℕ) (s : Sliced) → slice_get slices place ≡ Some s → get_or (map part_in slices) place (part_in s) ≡ part_in s
 part_at [] place s h = refl
 part_at (x ∷ slices) zero s h = let is : x ≡ s = cc in ap part_in is
@@ -128,7 +124,7 @@ pub settled_slices : (opening last : Database) (slices : List Sliced) → AreSet
 settled_slices opening last slices h = record {
   many = h.many;
   each = λ place d low.
-      let s = h.each place (get_or slices place d) (at_index slices place d low) in
+      let s = h.each place (get_or slices place d) (slice_get-get_or slices place d low) in
       record { home = s.back.home_is; scale = ap (λ (c : Shared). c.scale) s.back.shared_is; items = ap (λ (c : Shared). c.items) s.back.shared_is };
 }
 

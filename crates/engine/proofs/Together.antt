@@ -40,11 +40,6 @@ partner (a ∷ xs) [] n x even h = absurd (omega arith)
 partner (a ∷ xs) (b ∷ ys) zero x even h = (b, refl)
 partner (a ∷ xs) (b ∷ ys) (suc n) x even h = partner xs ys n x (omega arith) h
 
-within : {X : Type 0} (xs : List X) (n : ℕ) (x : X) → slice_get xs n ≡ Some x → n < length xs
-within [] n x h = absurd cc
-within (y ∷ ys) zero x h = omega arith
-within (y ∷ ys) (suc n) x h = let rest : n < length ys = within ys n x h in omega arith
-
 pub reaches : {X : Type 0} (xs : List X) (n : ℕ) → n < length xs → (x : X) × (slice_get xs n ≡ Some x)
 reaches [] n h = absurd (omega arith)
 reaches (x ∷ xs) zero h = (x, refl)

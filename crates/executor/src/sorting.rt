@@ -1,5 +1,5 @@
 //! What came of the actions of a phase is sorted out.
-ghost use Rattle.std.specs.Prelude.{◌≡◌, ◌≤◌, ◌+◌, ◌++◌, [], length, vec_capacity, None, IfSome};
+ghost use Rattle.std.specs.Prelude.{◌≡◌, ◌≤◌, ◌+◌, ◌∷◌, ◌++◌, [], length, vec_capacity, None, IfSome};
 ghost use Rattle.executor.specs.Sorted as spec;
 ghost use Rattle.executor.specs.Sorted.{found_in, held_in, refusal_of};
 
@@ -73,9 +73,7 @@ impl<J: CourseNames> Sorted<J> {
         let refusal = match ran {
             Ran::Done(claims, one) => {
                 held.put(claims);
-                if refusal.is_none() {
-                    found.push_reserved(one);
-                }
+                keep(&mut found, one, &refusal);
                 refusal
             }
             Ran::Died { group, holder } => match refusal {
@@ -92,5 +90,16 @@ impl<J: CourseNames> Sorted<J> {
             found,
             refusal,
         }
+    }
+}
+
+// What an action found stands behind what others found, unless the transaction is refused.
+fn keep(found: &mut Vec<Found>, one: Found, refusal: &Option<Refusal>)
+    requires { refusal.now ≡ None → length found.old.items + 1 ≤ vec_capacity found.old }
+    ensures found { refusal.now ≡ None → found.new.items ≡ found.old.items ++ one ∷ [] }
+    ensures room { refusal.now ≡ None → vec_capacity found.new ≡ vec_capacity found.old }
+{
+    if refusal.is_none() {
+        found.push_reserved(one);
     }
 }

@@ -1,5 +1,5 @@
 -- What each event does to a history that fits.
-use Rattle.std.proofs.Common.{◌≡◌, ℕ, ◌+◌, ◌<◌, List, [], ◌∷◌, ◌++◌, zero, suc, length, map, take, Option, None, refl, sym, ◌∙◌, ap, subst, arith, length-append, add-zero, zero-add}
+use Rattle.std.proofs.Common.{◌≡◌, ℕ, ◌+◌, ◌<◌, List, [], ◌∷◌, ◌++◌, zero, suc, length, map, take, Option, None, Ok, Err, refl, sym, ◌∙◌, ap, subst, arith, length-append, add-zero, zero-add}
 use Rattle.std.specs.List.{All, slice_get}
 use Rattle.std.proofs.lemmas.List.Elements.{All-head, All-tail, All-push, All-weaker}
 use Rattle.schema.specs.Database.{Database}
@@ -16,7 +16,7 @@ use Rattle.history.specs.declared.event.EventAnswer.TheVariants.{Accepted, Order
 use Rattle.history.specs.History.{Step, step, Transaction, Unanswered, noted, noted_all, noted_entry, transactions, with_entry, with_answer, opened}
 use Rattle.history.specs.Fits.{Fits, Recorded, IsLoggedBelow, NamesEntries}
 use Rattle.history.specs.Laws.{EmptyHistoryFits, UnansweredInAnyOrder, IsQuiet, QuietEventFits, AdmissionFits, EntryFits, AnswerFits, with_place}
-use Rattle.history.proofs.Recorded.{Recorded-quiet, Recorded-order, Recorded-admit, Recorded-entry, Recorded-answer, slice_get-last}
+use Rattle.history.proofs.Recorded.{Recorded-quiet, Recorded-order, Recorded-admit, Recorded-entry, Recorded-answer, answer_below, slice_get-last}
 
 -- ---- one step more
 
@@ -59,7 +59,8 @@ below_more n Sent h = tt
 below_more n Full h = tt
 below_more n (Logged place) h = omega (arith, h)
 below_more n Moved h = tt
-below_more n (Answered session number answer) h = tt
+below_more n (Answered session number (Ok place)) h = omega (arith, h)
+below_more n (Answered session number (Err refusal)) h = tt
 below_more n Nothing h = tt
 
 -- ---- the laws
@@ -133,7 +134,8 @@ quiet_notes log at (Submit session number request) Nothing ts h = (refl, tt)
 quiet_notes log at (Order order) Nothing ts h = (refl, tt)
 quiet_notes log at (Take executor) Nothing ts h = (refl, tt)
 quiet_notes log at (Send executor) Nothing ts h = (refl, tt)
-quiet_notes log at (Submit session number request) (Answered other n answer) ts h = (refl, tt)
+quiet_notes log at (Submit session number request) (Answered other n (Err refusal)) ts h = (refl, tt)
+quiet_notes log at (Submit session number request) (Answered other n (Ok place)) ts h = absurd h
 quiet_notes log at (Order order) (Answered other n answer) ts h = absurd h
 quiet_notes log at (Take executor) (Answered other n answer) ts h = absurd h
 quiet_notes log at (Send executor) (Answered other n answer) ts h = absurd h
@@ -166,7 +168,7 @@ answer_fits opening history log tables admitted pending executor u answer answer
     let n = length history in
     let ts = transactions log history in
     one_more opening history log tables admitted admitted (u ∷ pending) pending
-    (step (Send executor) (Answered u.session u.number answer)) (map (with_answer u.session n answer) ts) refl tt
+    (step (Send executor) (Answered u.session u.number answer)) (map (with_answer u.session n answer) ts) refl (answer_below log n ts admitted u pending u.session u.number answer answers h.recorded)
     (Recorded-answer log n ts admitted u pending answer answers h.recorded) h
 
 pub entry_fits : EntryFits

@@ -1,5 +1,5 @@
 -- What each event does to the record of the transactions.
-use Rattle.std.proofs.Common.{◌≡◌, ◌≢◌, ℕ, ◌+◌, ◌<◌, ◌≤◌, List, [], ◌∷◌, ◌++◌, length, get_or, Option, Some, None, zero, suc, refl, sym, ◌∙◌, ap, subst, arith, ⊎_elim, length-append, add-zero, zero-add}
+use Rattle.std.proofs.Common.{◌≡◌, ◌≢◌, ℕ, ◌+◌, ◌<◌, ◌≤◌, List, [], ◌∷◌, ◌++◌, length, get_or, Option, Some, None, Result, Ok, Err, zero, suc, refl, sym, ◌∙◌, ap, subst, arith, ⊎_elim, length-append, add-zero, zero-add}
 use Rattle.std.specs.Prelude.{Bool, true, false, if◌then◌else◌, ◌==◌, ◌&&◌, IsTrue, map, count_by, is_none, cond}
 use Rattle.std.specs.List.{All, slice_get, sum_by, filter}
 use Rattle.std.specs.List.Sorted.{IsPermutation}
@@ -11,11 +11,11 @@ use Rattle.std.proofs.lemmas.Bool.{eq-eqb, ne_eqb, eqb-true}
 use Rattle.std.proofs.lemmas.Bool.Decides.{eqb_tells}
 use Rattle.std.proofs.lemmas.Option.{slice_get_within}
 use Rattle.requests.specs.declared.request.Request.{Request}
-use Rattle.requests.specs.declared.answer.Answer.{Answer}
-use Rattle.requests.specs.declared.answer.Answer.TheVariants.{Done, Refused}
+use Rattle.requests.specs.declared.refusal.Refusal.{Refusal}
 use Rattle.commit_log.specs.declared.entry.Entry.{Entry}
+use Rattle.history.specs.declared.event.EventAnswer.TheVariants.{Answered}
 use Rattle.history.specs.History.{Transaction, Acknowledged, Unanswered, InOrder, Precedes, AgesFrom, AreUnanswered, AreOfDifferentSessions, HasEntries, IsAnswerOf, IsTold, holds, is_open, is_of, first_of, unanswered, unanswered_of, with_entry, with_answer, opened}
-use Rattle.history.specs.Fits.{Recorded}
+use Rattle.history.specs.Fits.{IsLoggedBelow, Recorded}
 use Rattle.history.specs.Laws.{new_one, with_place, IsAnswerTo}
 
 -- ---- tests, lists and counts
@@ -194,7 +194,7 @@ Recorded-admit log n ts admitted pending session number request none h =
     record {
       whole = record {
         entries = All-push (λ t. HasEntries log t t.entries) ts t h.whole.entries tt;
-        told = All-push (λ t. IsTold log t.entries t.told) ts t h.whole.told tt;
+        told = All-push (λ t. IsTold t.entries t.told) ts t h.whole.told tt;
         once = λ place here. omega (arith, h.whole.once place here, sum_by_push (holds place) ts t);
       };
       order = All-push (λ a. All (λ b. InOrder a.told a.entries b) (ts ++ t ∷ [])) ts t
@@ -253,14 +253,6 @@ HasEntries-more : (log more : List Entry) (t : Transaction) (es : List ℕ) → 
 HasEntries-more log more t [] h = tt
 HasEntries-more log more t (place ∷ []) h = (h.0, (slice_get-front log more place h.0 h.1.0, h.1.1))
 HasEntries-more log more t (place ∷ other ∷ places) h = h
-
-IsAnswerOf-more : (log more : List Entry) (es : List ℕ) (answer : Answer) → IsAnswerOf log es answer → IsAnswerOf (log ++ more) es answer
-IsAnswerOf-more log more es (Done place reply) h = (h.0, (h.1.0, (slice_get-front log more place h.1.0 h.1.1.0, h.1.1.1)))
-IsAnswerOf-more log more es (Refused refusal) h = h
-
-IsTold-more : (log more : List Entry) (es : List ℕ) (told : Option Acknowledged) → IsTold log es told → IsTold (log ++ more) es told
-IsTold-more log more es None h = tt
-IsTold-more log more es (Some told) h = IsAnswerOf-more log more es told.answer h
 
 -- the places of a transaction's entries are in the log
 entries_below : (log : List Entry) (t : Transaction) (es : List ℕ) → HasEntries log t es → All (λ p. p < length log) es
@@ -352,9 +344,9 @@ Recorded-entry log n ts admitted u pending entry session_is number_is request_is
             subst (λ es. HasEntries more t es) (sym (given t open' (empty k d in' open')))
             (entry, (last, (session_is ∙ sym (open_is s t open').0, (number_is ∙ sym (ap (λ (x : Unanswered). x.number) is), request_is ∙ sym (ap (λ (x : Unanswered). x.request) is))))))
             (λ closed. subst (λ es. HasEntries more t es) (sym (kept t closed)) (HasEntries-more log (entry ∷ []) t t.entries (h.whole.entries k d in'))));
-        told = All-map (λ t. IsTold more t.entries t.told) f ts (λ k d in'. let t = get_or ts k d in by_bool (is_open s t)
-            (λ open'. subst (λ told. IsTold more (f t).entries told) (sym (open_is s t open').1) tt)
-            (λ closed. subst (λ es. IsTold more es t.told) (sym (kept t closed)) (IsTold-more log (entry ∷ []) t.entries t.told (h.whole.told k d in'))));
+        told = All-map (λ t. IsTold t.entries t.told) f ts (λ k d in'. let t = get_or ts k d in by_bool (is_open s t)
+            (λ open'. subst (λ told. IsTold (f t).entries told) (sym (open_is s t open').1) tt)
+            (λ closed. subst (λ es. IsTold es t.told) (sym (kept t closed)) (h.whole.told k d in')));
         once = λ place below. ⊎_elim
             (λ (same : ((p == place) ≡ true) × (p ≡ place)).
             let nowhere : sum_by (holds p) ts ≡ 0 = sum_none (holds p) ts (λ k d in'. count_none p (get_or ts k d).entries (entries_below log (get_or ts k d) (get_or ts k d).entries (h.whole.entries k d in'))) in
@@ -391,24 +383,24 @@ same_order None es b c s e h = tt
 same_order (Some told) es b c s e h = λ later'. subst (λ ys. Precedes es ys) (sym e) (h (subst (λ n. told.at < n) s later'))
 
 -- what was told is what was told before, or now
-told_now : ℕ → Answer → Option Acknowledged
+told_now : ℕ → Result ℕ Refusal → Option Acknowledged
 told_now at answer = Some (record { at = at; answer = answer })
 
 -- an answer leaves the open transactions of other sessions
-other_open : (session x n : ℕ) (answer : Answer) → session ≢ x → (t : Transaction) → is_open x (with_answer session n answer t) ≡ is_open x t
+other_open : (session x n : ℕ) (answer : Result ℕ Refusal) → session ≢ x → (t : Transaction) → is_open x (with_answer session n answer t) ≡ is_open x t
 unfolding told_now
 other_open session x n answer apart t = by_bool (is_open session t)
     (λ open'. let not_x : (t.session == x) ≡ false = ne_eqb t.session x (λ e. apart (sym (open_is session t open').0 ∙ e)) in ap (λ (b : Bool). b && is_none (if is_open session t then told_now n answer else t.told)) not_x ∙ sym (ap (λ (b : Bool). b && is_none t.told) not_x))
     (λ closed. ap (λ (b : Bool). (t.session == x) && is_none (if b then told_now n answer else t.told)) closed)
 
 -- and closes the session's own
-closed_one : (session n : ℕ) (answer : Answer) (t : Transaction) → is_open session (with_answer session n answer t) ≡ false
+closed_one : (session n : ℕ) (answer : Result ℕ Refusal) (t : Transaction) → is_open session (with_answer session n answer t) ≡ false
 unfolding told_now
 closed_one session n answer t = by_bool (is_open session t)
     (λ open'. ap (λ (b : Bool). (t.session == session) && is_none (if b then told_now n answer else t.told)) open' ∙ and_false (t.session == session))
     (λ closed. ap (λ (b : Bool). (t.session == session) && is_none (if b then told_now n answer else t.told)) closed ∙ closed)
 
-other_answer : (session x n : ℕ) (answer : Answer) → session ≢ x → (ts : List Transaction) → unanswered_of x (map (with_answer session n answer) ts) ≡ unanswered_of x ts
+other_answer : (session x n : ℕ) (answer : Result ℕ Refusal) → session ≢ x → (ts : List Transaction) → unanswered_of x (map (with_answer session n answer) ts) ≡ unanswered_of x ts
 other_answer session x n answer apart [] = refl
 other_answer session x n answer apart (t ∷ ts) =
     let g = with_answer session n answer in
@@ -418,18 +410,40 @@ other_answer session x n answer apart (t ∷ ts) =
     (λ open'. ap (map unanswered) (filter_yes (is_open x) (g t) (map g ts) (same ∙ open')) ∙ ap (λ l. unanswered t ∷ l) rest ∙ sym (ap (map unanswered) (filter_yes (is_open x) t ts open')))
     (λ closed. ap (map unanswered) (filter_no (is_open x) (g t) (map g ts) (same ∙ closed)) ∙ rest ∙ sym (ap (map unanswered) (filter_no (is_open x) t ts closed)))
 
-own_answer : (session n : ℕ) (answer : Answer) (ts : List Transaction) → unanswered_of session (map (with_answer session n answer) ts) ≡ []
+own_answer : (session n : ℕ) (answer : Result ℕ Refusal) (ts : List Transaction) → unanswered_of session (map (with_answer session n answer) ts) ≡ []
 own_answer session n answer [] = refl
 own_answer session n answer (t ∷ ts) =
     let g = with_answer session n answer in
     ap (map unanswered) (filter_no (is_open session) (g t) (map g ts) (closed_one session n answer t)) ∙ own_answer session n answer ts
 
-answered_so : (log : List Entry) (t : Transaction) (u : Unanswered) (answer : Answer) → HasEntries log t t.entries → first_of t.entries ≡ u.entry → IsAnswerTo log u answer → IsAnswerOf log t.entries answer
-answered_so log t u (Done place reply) has is h = (first_some log t t.entries place has (is ∙ h.0), h.1)
-answered_so log t u (Refused refusal) has is h = first_none t.entries (is ∙ h)
+answered_so : (log : List Entry) (t : Transaction) (u : Unanswered) (answer : Result ℕ Refusal) → HasEntries log t t.entries → first_of t.entries ≡ u.entry → IsAnswerTo u answer → IsAnswerOf t.entries answer
+answered_so log t u (Ok place) has is h = first_some log t t.entries place has (is ∙ h)
+answered_so log t u (Err refusal) has is h = first_none t.entries (is ∙ h)
 
-pub Recorded-answer : (log : List Entry) (n : ℕ) (ts : List Transaction) (admitted : ℕ) (u : Unanswered) (pending : List Unanswered) (answer : Answer)
-    → IsAnswerTo log u answer → Recorded log n ts admitted (u ∷ pending)
+-- where the only open transaction of a session has an entry, that is in the log
+open_entry : (log : List Entry) (u : Unanswered) (place : ℕ) (ts : List Transaction) → All (λ t. HasEntries log t t.entries) ts → unanswered_of u.session ts ≡ u ∷ []
+    → u.entry ≡ Some place → place < length log
+open_entry log u place [] has is at = absurd cc
+open_entry log u place (t ∷ ts) has is at =
+    let s = u.session in
+    by_bool (is_open s t)
+    (λ open'.
+    let first : unanswered t ∷ map unanswered (filter (is_open s) ts) ≡ u ∷ [] = ap (map unanswered) (sym (filter_yes (is_open s) t ts open')) ∙ is in
+    let same : unanswered t ≡ u = cc in
+    let own = All-head (λ t. HasEntries log t t.entries) t ts has in
+    let only : t.entries ≡ place ∷ [] = first_some log t t.entries place own (ap (λ (x : Unanswered). x.entry) same ∙ at) in
+    All-head (λ p. p < length log) place [] (subst (All (λ p. p < length log)) only (entries_below log t t.entries own)))
+    (λ closed. open_entry log u place ts (All-tail (λ t. HasEntries log t t.entries) t ts has) (ap (map unanswered) (sym (filter_no (is_open s) t ts closed)) ∙ is) at)
+
+-- an answer to an open transaction names no place that the log lacks
+pub answer_below : (log : List Entry) (n : ℕ) (ts : List Transaction) (admitted : ℕ) (u : Unanswered) (pending : List Unanswered) (session number : ℕ) (answer : Result ℕ Refusal)
+    → IsAnswerTo u answer → Recorded log n ts admitted (u ∷ pending) → IsLoggedBelow (length log) (Answered session number answer)
+answer_below log n ts admitted u pending session number (Ok place) is h =
+    open_entry log u place ts h.whole.entries (the_one ts u pending h.unanswered h.apart).1.0 is
+answer_below log n ts admitted u pending session number (Err refusal) is h = tt
+
+pub Recorded-answer : (log : List Entry) (n : ℕ) (ts : List Transaction) (admitted : ℕ) (u : Unanswered) (pending : List Unanswered) (answer : Result ℕ Refusal)
+    → IsAnswerTo u answer → Recorded log n ts admitted (u ∷ pending)
     → Recorded log (n + 1) (map (with_answer u.session n answer) ts) admitted pending
 unfolding told_now
 Recorded-answer log n ts admitted u pending answer answers h =
@@ -440,9 +454,9 @@ Recorded-answer log n ts admitted u pending answer answers h =
     record {
       whole = record {
         entries = All-map (λ t. HasEntries log t t.entries) g ts h.whole.entries;
-        told = All-map (λ t. IsTold log t.entries t.told) g ts (λ k d in'. let t = get_or ts k d in by_bool (is_open s t)
-            (λ open'. subst (λ told. IsTold log t.entries told) (sym (ap (λ (b : Bool). if b then told_now n answer else t.told) open')) (answered_so log t u answer (h.whole.entries k d in') (ap (λ (x : Unanswered). x.entry) (is_u k d in' open')) answers))
-            (λ closed. subst (λ told. IsTold log t.entries told) (sym (ap (λ (b : Bool). if b then told_now n answer else t.told) closed)) (h.whole.told k d in')));
+        told = All-map (λ t. IsTold t.entries t.told) g ts (λ k d in'. let t = get_or ts k d in by_bool (is_open s t)
+            (λ open'. subst (λ told. IsTold t.entries told) (sym (ap (λ (b : Bool). if b then told_now n answer else t.told) open')) (answered_so log t u answer (h.whole.entries k d in') (ap (λ (x : Unanswered). x.entry) (is_u k d in' open')) answers))
+            (λ closed. subst (λ told. IsTold t.entries told) (sym (ap (λ (b : Bool). if b then told_now n answer else t.told) closed)) (h.whole.told k d in')));
         once = λ place below. sum_by-map_same (holds place) g (λ t. refl) ts ∙ h.whole.once place below;
       };
       order = All-map (λ a. All (λ b. InOrder a.told a.entries b) (map g ts)) g ts (λ k d in'. let a = get_or ts k d in by_bool (is_open s a)

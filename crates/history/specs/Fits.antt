@@ -1,5 +1,5 @@
 -- When a history fits an opening, a log, the tables that are committed, and the transactions under way.
-use Rattle.std.specs.Prelude.{◌≡◌, ℕ, ◌<◌, List, length, take}
+use Rattle.std.specs.Prelude.{◌≡◌, ℕ, ◌<◌, List, length, take, IfOk}
 use Rattle.std.specs.List.{All}
 use Rattle.schema.specs.Database.{Database}
 use Rattle.schema.specs.Consistency.{Consistent}
@@ -7,12 +7,13 @@ use Rattle.machine.specs.Machine.{tables_after}
 use Rattle.commit_log.specs.declared.entry.Entry.{Entry}
 use Rattle.commit_log.specs.Log.{requests_of, IsLegal}
 use Rattle.history.specs.declared.event.EventAnswer.{EventAnswer}
-use Rattle.history.specs.declared.event.EventAnswer.TheVariants.{Logged}
+use Rattle.history.specs.declared.event.EventAnswer.TheVariants.{Logged, Answered}
 use Rattle.history.specs.History.{Step, Transaction, Unanswered, Whole, InLogOrder, AgesFrom, AreOfDifferentSessions, AreUnanswered, transactions}
 
 -- where it tells a place of the log, it is one of these
 abbrev pub IsLoggedBelow : ℕ → EventAnswer → Type 0
 IsLoggedBelow n (Logged place) = place < n
+IsLoggedBelow n (Answered session number answer) = IfOk answer (λ place. place < n)
 IsLoggedBelow n answer = Unit {0}
 
 -- each answer that names a place of the log names one of its entries

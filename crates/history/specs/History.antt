@@ -1,10 +1,8 @@
 -- What a list of events with their answers tells of the transactions.
-use Rattle.std.specs.Prelude.{◌≡◌, ℕ, ◌+◌, ◌<◌, ◌==◌, ◌&&◌, Bool, if◌then◌else◌, List, [], ◌∷◌, ◌++◌, map, length, count_by, Option, Some, None, is_none}
+use Rattle.std.specs.Prelude.{◌≡◌, ℕ, ◌+◌, ◌<◌, ◌==◌, ◌&&◌, Bool, if◌then◌else◌, List, [], ◌∷◌, ◌++◌, map, length, count_by, Option, Some, None, is_none, Result, Ok, Err}
 use Rattle.std.specs.List.{All, slice_get, sum_by, filter}
 use Rattle.requests.specs.declared.request.Request.{Request}
-use Rattle.requests.specs.declared.reply.Reply.{Reply}
-use Rattle.requests.specs.declared.answer.Answer.{Answer}
-use Rattle.requests.specs.declared.answer.Answer.TheVariants.{Done, Refused}
+use Rattle.requests.specs.declared.refusal.Refusal.{Refusal}
 use Rattle.commit_log.specs.declared.entry.Entry.{Entry}
 use Rattle.history.specs.declared.event.Event.{Event}
 use Rattle.history.specs.declared.event.Event.TheVariants.{Submit, Send}
@@ -22,10 +20,11 @@ step event answer = record { event = event; answer = answer }
 
 -- ---- transactions
 
--- when a transaction was answered, as the place in the history of the event that answered it, and how
+-- when a transaction was answered, as the place in the history of the event that answered it, and how: with the place of its
+-- entry in the log, or with why it was refused
 pub record Acknowledged : Type 0 where
   pub at : ℕ
-  pub answer : Answer
+  pub answer : Result ℕ Refusal
 
 -- A transaction, as a history tells of it: its age, whose it is, what was asked, the place in the history of the event
 -- that opened it, the places in the log of its entries, and its answer.
@@ -59,7 +58,7 @@ abbrev pub with_entry : ℕ → ℕ → Transaction → Transaction
 with_entry session place t = record t { entries = if is_open session t then t.entries ++ place ∷ [] else t.entries }
 
 -- and so is this answer
-abbrev pub with_answer : ℕ → ℕ → Answer → Transaction → Transaction
+abbrev pub with_answer : ℕ → ℕ → Result ℕ Refusal → Transaction → Transaction
 with_answer session at answer t = record t { told = if is_open session t then Some (record { at = at; answer = answer }) else t.told }
 
 -- the transactions once the log's entry at this place, where there is one, is that of its session's open transaction
@@ -98,19 +97,15 @@ HasEntries log t [] = Unit {0}
 HasEntries log t (place ∷ []) = HasEntry log t place
 HasEntries log t (place ∷ other ∷ places) = ⊥
 
--- an entry stands at this place, with this reply
-abbrev pub HasReply : List Entry → ℕ → Reply → Type 0
-HasReply log place reply = (entry : Entry) × ((slice_get log place ≡ Some entry) × (entry.reply ≡ reply))
-
--- who is done has its one entry at the place that the answer names, with the reply, and who is refused has none
-abbrev pub IsAnswerOf : List Entry → List ℕ → Answer → Type 0
-IsAnswerOf log entries (Done place reply) = (entries ≡ place ∷ []) × HasReply log place reply
-IsAnswerOf log entries (Refused refusal) = entries ≡ []
+-- who is done has its one entry at the place that the answer names, and who is refused has none
+abbrev pub IsAnswerOf : List ℕ → Result ℕ Refusal → Type 0
+IsAnswerOf entries (Ok place) = entries ≡ place ∷ []
+IsAnswerOf entries (Err refusal) = entries ≡ []
 
 -- where a transaction has an answer, its entries are those that the answer calls for
-abbrev pub IsTold : List Entry → List ℕ → Option Acknowledged → Type 0
-IsTold log entries None = Unit {0}
-IsTold log entries (Some told) = IsAnswerOf log entries told.answer
+abbrev pub IsTold : List ℕ → Option Acknowledged → Type 0
+IsTold entries None = Unit {0}
+IsTold entries (Some told) = IsAnswerOf entries told.answer
 
 -- how often a transaction has the entry at this place
 abbrev pub holds : ℕ → Transaction → ℕ
@@ -119,7 +114,7 @@ holds place t = count_by (λ p. p == place) t.entries
 -- Each entry is that of exactly one transaction, each transaction has at most one, and its answer is that entry's.
 pub record Whole (log : List Entry) (ts : List Transaction) : Type 0 where
   pub entries : All (λ t. HasEntries log t t.entries) ts
-  pub told : All (λ t. IsTold log t.entries t.told) ts
+  pub told : All (λ t. IsTold t.entries t.told) ts
   pub once : (place : ℕ) → place < length log → sum_by (holds place) ts ≡ 1
 
 -- ---- who was answered first stands first

@@ -1,18 +1,17 @@
 -- What each event does to a history that fits.
-use Rattle.std.specs.Prelude.{◌≡◌, ℕ, ◌+◌, List, [], ◌∷◌, ◌++◌, length, Some, None, count_by}
+use Rattle.std.specs.Prelude.{◌≡◌, ℕ, ◌+◌, List, [], ◌∷◌, ◌++◌, length, Some, None, Result, Ok, Err, count_by}
 use Rattle.std.specs.List.Sorted.{IsPermutation}
 use Rattle.schema.specs.Database.{Database}
 use Rattle.schema.specs.Consistency.{Consistent}
 use Rattle.requests.specs.declared.request.Request.{Request}
-use Rattle.requests.specs.declared.answer.Answer.{Answer}
-use Rattle.requests.specs.declared.answer.Answer.TheVariants.{Done, Refused}
+use Rattle.requests.specs.declared.refusal.Refusal.{Refusal}
 use Rattle.machine.specs.Machine.{transaction}
 use Rattle.commit_log.specs.declared.entry.Entry.{Entry}
 use Rattle.history.specs.declared.event.Event.{Event}
 use Rattle.history.specs.declared.event.Event.TheVariants.{Submit, Send}
 use Rattle.history.specs.declared.event.EventAnswer.{EventAnswer}
 use Rattle.history.specs.declared.event.EventAnswer.TheVariants.{Accepted, Ordered, Took, Sent, Full, Logged, Moved, Answered, Nothing}
-use Rattle.history.specs.History.{Step, step, Unanswered, HasReply, is_of}
+use Rattle.history.specs.History.{Step, step, Unanswered, is_of}
 use Rattle.history.specs.Fits.{Fits}
 
 -- before any event, consistent tables and an empty log fit, with no transaction
@@ -34,7 +33,7 @@ IsQuiet event Sent = Unit {0}
 IsQuiet event Full = Unit {0}
 IsQuiet event Moved = Unit {0}
 IsQuiet event Nothing = Unit {0}
-IsQuiet (Submit session number request) (Answered other n answer) = Unit {0}
+IsQuiet (Submit session number request) (Answered other n (Err refusal)) = Unit {0}
 IsQuiet event answer = ⊥
 
 -- after an event that tells nothing of a transaction, what fitted still fits
@@ -80,16 +79,16 @@ EntryFits =
     → Fits opening (history ++ step (Send executor) (Logged (length log)) ∷ []) (log ++ entry ∷ []) (transaction tables entry.request).tables admitted
     (with_place (length log) u ∷ pending)
 
--- the answer is the transaction's: the place and the reply of its entry, or a refusal where it has none
-abbrev pub IsAnswerTo : List Entry → Unanswered → Answer → Type 0
-IsAnswerTo log u (Done place reply) = (u.entry ≡ Some place) × HasReply log place reply
-IsAnswerTo log u (Refused refusal) = u.entry ≡ None
+-- the answer is the transaction's: the place of its entry, or a refusal where it has none
+abbrev pub IsAnswerTo : Unanswered → Result ℕ Refusal → Type 0
+IsAnswerTo u (Ok place) = u.entry ≡ Some place
+IsAnswerTo u (Err refusal) = u.entry ≡ None
 
--- after an answer that is the entry's, or a refusal where there is none, the transaction is among those without an
+-- after an answer with the place of the entry, or a refusal where there is none, the transaction is among those without an
 -- answer no more
 abbrev pub AnswerFits : Type 0
 AnswerFits =
     (opening : Database) (history : List Step) (log : List Entry) (tables : Database) (admitted : ℕ) (pending : List Unanswered)
-    (executor : ℕ) (u : Unanswered) (answer : Answer)
-    → IsAnswerTo log u answer → Fits opening history log tables admitted (u ∷ pending)
+    (executor : ℕ) (u : Unanswered) (answer : Result ℕ Refusal)
+    → IsAnswerTo u answer → Fits opening history log tables admitted (u ∷ pending)
     → Fits opening (history ++ step (Send executor) (Answered u.session u.number answer) ∷ []) log tables admitted pending

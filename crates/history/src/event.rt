@@ -1,5 +1,5 @@
 use range_moves::MoveOrder;
-use requests::{Answer, Request};
+use requests::{Refusal, Request};
 
 /// What happens in the engine, one at a time. Each is one atomic step.
 #[derive(Clone, Debug, PartialEq, Eq, Drop)]
@@ -43,11 +43,12 @@ pub enum EventAnswer {
     },
     /// An item was sent: the last report of the move that was outstanding.
     Moved,
-    /// The session's request of this number was answered, at once or by its transaction.
+    /// The session's request of this number was answered, at once or by its transaction: with the place of its entry in
+    /// the log, where its reply stands, or with why it was refused.
     Answered {
         session: u32,
         number: u32,
-        answer: Answer,
+        answer: Result<u32, Refusal>,
     },
     /// The event can't happen, and nothing changed.
     Nothing,

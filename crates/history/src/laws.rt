@@ -27,8 +27,7 @@ pub fn entry_fits()
     ensures { EntryFits }
 {}
 
-/// An unanswered transaction is answered with the place and the reply of its entry, or is refused where it
-/// has none.
+/// An unanswered transaction is answered with the place of its entry, or is refused where it has none.
 pub fn answer_fits()
     ensures { AnswerFits }
 {}

@@ -20,18 +20,17 @@ use schema::{
 };
 use std::alloc::Global;
 
-/// Carries out a New-Order (clause 2.4): the reply, which is made twice before anything changes, and the tables are those
-/// that its definition gives. A fault and want of memory change nothing.
+/// Carries out a New-Order (clause 2.4): the reply and the tables are those that its definition gives. A fault and want of
+/// memory change nothing.
 pub(crate) fn place_order(
     alloc: Global,
     tables: &mut Tables,
     latest: &mut LatestOrders,
     order: &NewOrder,
-) -> Result<(Reply, Reply), NoMemory>
+) -> Result<Reply, NoMemory>
     requires within { IsOrderWithin order.now }
     requires latest { FitsLatest latest.old tables.old }
-    ensures reply { IfOk result (λ replies. replies.0 ≡ (spec.new_order tables.old order.now).reply) }
-    ensures same { IfOk result (λ replies. replies.1 ≡ replies.0) }
+    ensures reply { IfOk result (λ reply. reply ≡ (spec.new_order tables.old order.now).reply) }
     ensures tables { OnOk result (tables.new ≡ (spec.new_order tables.old order.now).tables) }
     ensures latest { FitsLatest latest.new tables.new }
     ensures err { OnErr result (tables.new ≡ tables.old) }
@@ -39,27 +38,27 @@ pub(crate) fn place_order(
     // For its contract: what the tables have is of the scale.
     tables.scale();
     let Some(warehouse) = tables.warehouse(order.home.w_id) else {
-        return Ok(rolled_back(Fault::NoCustomer));
+        return Ok(Reply::RolledBack(Fault::NoCustomer));
     };
     let Some(district) = tables.district(order.home) else {
-        return Ok(rolled_back(Fault::NoCustomer));
+        return Ok(Reply::RolledBack(Fault::NoCustomer));
     };
     let Some(customer) = tables.customer(customer_of(order.home, order.c_id)) else {
-        return Ok(rolled_back(Fault::NoCustomer));
+        return Ok(Reply::RolledBack(Fault::NoCustomer));
     };
     let o_id = district.next_o_id.get();
     if !has_items(tables, order.lines.as_slice()) {
-        return Ok(rolled_back(Fault::NoItem {
+        return Ok(Reply::RolledBack(Fault::NoItem {
             last: customer.last.copy(),
             credit: customer.credit,
             o_id,
         }));
     }
     let Some(new_district) = district_ordered(district) else {
-        return Ok(rolled_back(Fault::Range));
+        return Ok(Reply::RolledBack(Fault::Range));
     };
     let Some(placed) = place_lines(alloc, tables, order)? else {
-        return Ok(rolled_back(Fault::Range));
+        return Ok(Reply::RolledBack(Fault::Range));
     };
     let LinesPlaced {
         rows,
@@ -67,21 +66,8 @@ pub(crate) fn place_order(
         stocks,
     } = placed;
     let shown = new_order_reply(order, warehouse, district, customer, rows.as_slice(), shown);
-    let copy = shown.try_clone()?;
     post(tables, latest, order, o_id, new_district, rows, stocks)?;
-    Ok((
-        Reply::Done(Shown::NewOrder(shown)),
-        Reply::Done(Shown::NewOrder(copy)),
-    ))
-}
-
-// The reply to an order that was rolled back, twice.
-fn rolled_back(fault: Fault) -> (Reply, Reply)
-    ensures reply { result.0 ≡ Reply.RolledBack fault }
-    ensures same { result.1 ≡ Reply.RolledBack fault }
-{
-    let copy = fault.copy();
-    (Reply::RolledBack(fault), Reply::RolledBack(copy))
+    Ok(Reply::Done(Shown::NewOrder(shown)))
 }
 
 // Changes all rows of an order at once: what may want memory comes first.

@@ -7,11 +7,12 @@ ghost use Rattle.machine.specs.Payment as spec;
 use crate::choosing::chosen;
 use amounts::Cents;
 use indexes::NameIndex;
-use requests::{Fault, Payment, PaymentReply, Reply, Shown};
+use requests::{Fault, Payment, PaymentReply, Reply, Shown, ShownData};
 use schema::{
     Credit, Customer, CustomerKey, District, DistrictKey, History, NoMemory, Tables, Text,
     Warehouse, prepend_data,
 };
+use std::alloc::Global;
 
 /// The warehouse's row after a payment, or `None` where its sum leaves its range.
 pub fn warehouse_paid(row: &Warehouse, amount: Cents) -> Option<Warehouse>
@@ -100,15 +101,20 @@ pub fn history_row(
     }
 }
 
-/// What a payment shows of its customer's row after it.
-pub fn payment_reply(key: CustomerKey, row: &Customer) -> PaymentReply
-    ensures { result ≡ spec.payment_reply key row.now }
+/// What a payment shows of its customer's row after it. Only what it shows of C_DATA, for bad credit, takes memory.
+pub fn payment_reply(
+    alloc: Global,
+    key: CustomerKey,
+    row: &Customer,
+) -> Result<PaymentReply, NoMemory>
+    ensures reply { IfOk result (λ reply. reply ≡ spec.payment_reply key row.now) }
+    ensures err { OnErr result (row.now.credit ≡ Credit.Bad) }
 {
     let data = match row.credit {
-        Credit::Good => Text::new(),
-        Credit::Bad => row.data.prefix(),
+        Credit::Good => ShownData::empty(),
+        Credit::Bad => ShownData::new(alloc, row.data.prefix())?,
     };
-    PaymentReply {
+    Ok(PaymentReply {
         c_id: key.c_id,
         first: row.first.copy(),
         middle: row.middle.copy(),
@@ -117,11 +123,12 @@ pub fn payment_reply(key: CustomerKey, row: &Customer) -> PaymentReply
         discount: row.discount,
         balance: row.balance,
         data,
-    }
+    })
 }
 
 /// Carries out a payment.
 pub(crate) fn pay(
+    alloc: Global,
     tables: &mut Tables,
     names: &NameIndex,
     payment: &Payment,
@@ -152,7 +159,9 @@ pub(crate) fn pay(
     let Some(customer) = customer_paid(customer, key, payment.home, payment.amount) else {
         return Ok(Reply::RolledBack(Fault::Range));
     };
-    post(tables, payment, key, row, warehouse, district, customer)
+    let reply = payment_reply(alloc, key, &customer)?;
+    post(tables, payment, key, row, warehouse, district, customer)?;
+    Ok(Reply::Done(Shown::Payment(reply)))
 }
 
 // Changes all rows of a payment at once: what may want memory comes first.
@@ -164,21 +173,18 @@ fn post(
     warehouse: Warehouse,
     district: District,
     customer: Customer,
-) -> Result<Reply, NoMemory>
+) -> Result<(), NoMemory>
     requires warehouse_is_there { IsTrue (map.contains_key tables.old.warehouses payment.now.home.w_id) }
     requires district_is_there { IsTrue (map.contains_key tables.old.districts payment.now.home) }
     requires customer_is_there { IsTrue (map.contains_key tables.old.customers key) }
     requires payer_is_the_customer { row.customer ≡ key }
-    ensures reply { IfOk result (λ reply. reply ≡
-        (spec.posted tables.old payment.now key row (Some warehouse) (Some district) (Some customer)).reply) }
-    ensures tables { OnOk result (tables.new ≡
+    ensures ok { OnOk result (tables.new ≡
         (spec.posted tables.old payment.now key row (Some warehouse) (Some district) (Some customer)).tables) }
     ensures err { OnErr result (tables.new ≡ tables.old) }
 {
-    let reply = payment_reply(key, &customer);
     tables.push_history(payment.home, row)?;
     tables.replace_warehouse(payment.home.w_id, warehouse);
     tables.replace_district(payment.home, district);
     tables.replace_customer(key, customer);
-    Ok(Reply::Done(Shown::Payment(reply)))
+    Ok(())
 }

@@ -1,6 +1,5 @@
 ghost use Rattle.std.specs.Prelude.{◌≡◌, IfOk, OnOk, OnErr};
 ghost use Rattle.requests.specs.Check.{IsAccepted};
-ghost use Rattle.requests.specs.Replies.{ShowsLines};
 ghost use Rattle.machine.specs.Machine.{transaction};
 
 use crate::{delivery, new_order, order_status, payment, stock_level};
@@ -65,12 +64,10 @@ impl Plain {
     }
 
     /// Carries out one request, all of it or nothing: the reply and the tables are those that the
-    /// definition of its transaction gives. The reply is given twice, for who asked and for the log:
-    /// what takes memory is made before anything changes. Want of memory changes nothing.
-    pub fn step(&mut self, request: &Request) -> Result<(Reply, Reply), NoMemory>
+    /// definition of its transaction gives. Want of memory changes nothing.
+    pub fn step(&mut self, request: &Request) -> Result<Reply, NoMemory>
         requires { IsAccepted self.old.scale request.now }
-        ensures reply { IfOk result (λ replies. replies.0 ≡ (transaction self.old request.now).reply) }
-        ensures same { IfOk result (λ replies. replies.1 ≡ replies.0) }
+        ensures reply { IfOk result (λ reply. reply ≡ (transaction self.old request.now).reply) }
         ensures tables { OnOk result (self.new ≡ (transaction self.old request.now).tables) }
         ensures err { OnErr result (self.new ≡ self.old) }
     {
@@ -79,35 +76,15 @@ impl Plain {
             Request::NewOrder(asked) => {
                 new_order::place_order(self.alloc, tables, &mut self.latest, asked)
             }
-            Request::Payment(asked) => Ok(twice(payment::pay(tables, &self.names, asked)?)),
+            Request::Payment(asked) => payment::pay(self.alloc, tables, &self.names, asked),
             Request::OrderStatus(asked) => {
-                let told = order_status::tell(
-                    self.alloc,
-                    tables,
-                    &self.names,
-                    &self.latest,
-                    asked,
-                )?;
-                let copy = told.try_clone()?;
-                Ok((told, copy))
+                order_status::tell(self.alloc, tables, &self.names, &self.latest, asked)
             }
-            Request::Delivery(asked) => Ok(twice(delivery::deliver(tables, asked))),
+            Request::Delivery(asked) => Ok(delivery::deliver(tables, asked)),
             Request::StockLevel(asked) => {
                 let shown = stock_level::stock_level_reply(self.alloc, tables, asked)?;
-                Ok(twice(Reply::Done(Shown::StockLevel(shown))))
+                Ok(Reply::Done(Shown::StockLevel(shown)))
             }
         }
     }
-}
-
-// A reply and a copy of it, which takes no memory.
-fn twice(reply: Reply) -> (Reply, Reply)
-    requires { ShowsLines reply → ⊥ }
-    ensures reply { result.0 ≡ reply }
-    ensures same { result.1 ≡ reply }
-{
-    let Ok(copy) = reply.try_clone() else {
-        unreachable!();
-    };
-    (reply, copy)
 }

@@ -1,11 +1,11 @@
 -- The rows of a picture.
-use Rattle.std.specs.Prelude.{ℕ, ◌+◌, true, false, Bool, List, [], ◌∷◌, ◌++◌}
+use Rattle.std.specs.Prelude.{ℕ, ◌+◌, true, false, Bool, List, [], ◌∷◌, ◌++◌, Option, Some, None, Result, Ok, Err, slice_get}
 use Rattle.requests.specs.declared.request.Request.{Request}
 use Rattle.requests.specs.declared.request.Request.TheVariants as request
 use Rattle.requests.specs.declared.reply.Reply.{Reply}
 use Rattle.requests.specs.declared.reply.Reply.TheVariants.{RolledBack}
-use Rattle.requests.specs.declared.answer.Answer.{Answer}
-use Rattle.requests.specs.declared.answer.Answer.TheVariants as answer
+use Rattle.requests.specs.declared.refusal.Refusal.{Refusal}
+use Rattle.commit_log.specs.declared.entry.Entry.{Entry}
 use Rattle.history.specs.declared.event.Event.{Event as AnyEvent}
 use Rattle.history.specs.declared.event.Event.TheVariants as event
 use Rattle.history.specs.declared.event.EventAnswer.{EventAnswer}
@@ -38,44 +38,49 @@ deed_of (event.Order order) = deed.Order order
 deed_of (event.Take executor) = deed.Take executor
 deed_of (event.Send executor) = deed.Send executor
 
--- whether the request was rolled back
+-- whether it was rolled back
 abbrev pub is_rolled_back : Reply → Bool
 is_rolled_back (RolledBack fault) = true
 is_rolled_back reply = false
 
--- an answer, as it is told: its session, its number, and its place or its refusal
-abbrev pub told_of_answer : ℕ → ℕ → Answer → Told
-told_of_answer session number (answer.Done place reply) = told.Done session number place (is_rolled_back reply)
-told_of_answer session number (answer.Refused refusal) = told.Refused session number refusal
+-- whether the transaction of an entry was rolled back
+abbrev pub entry_is_rolled_back : Option Entry → Bool
+entry_is_rolled_back (Some entry) = is_rolled_back entry.reply
+entry_is_rolled_back None = false
+
+-- an answer, as it is told: its session, its number, and its place in the log, with how that transaction ended, or its refusal
+abbrev pub told_of_answer : List Entry → ℕ → ℕ → Result ℕ Refusal → Told
+told_of_answer log session number (Ok place) = told.Done session number place (entry_is_rolled_back (slice_get log place))
+told_of_answer log session number (Err refusal) = told.Refused session number refusal
 
 -- what is told of an event
-abbrev pub told_of_event : EventAnswer → Told
-told_of_event (came.Accepted age) = told.Accepted age
-told_of_event came.Ordered = told.Ordered
-told_of_event came.Took = told.Took
-told_of_event came.Sent = told.Sent
-told_of_event came.Full = told.Full
-told_of_event (came.Logged place) = told.Logged place
-told_of_event came.Moved = told.Moved
-told_of_event (came.Answered session number a) = told_of_answer session number a
-told_of_event came.Nothing = told.Nothing
+abbrev pub told_of_event : List Entry → EventAnswer → Told
+told_of_event log (came.Accepted age) = told.Accepted age
+told_of_event log came.Ordered = told.Ordered
+told_of_event log came.Took = told.Took
+told_of_event log came.Sent = told.Sent
+told_of_event log came.Full = told.Full
+told_of_event log (came.Logged place) = told.Logged place
+told_of_event log came.Moved = told.Moved
+told_of_event log (came.Answered session number answer) = told_of_answer log session number answer
+told_of_event log came.Nothing = told.Nothing
 
 -- what is told of an event, or how rounds ended
-abbrev pub told_of : Output → Told
-told_of (output.Event came) = told_of_event came
-told_of output.Quiet = told.Quiet
-told_of output.Limit = told.Limit
+abbrev pub told_of : List Entry → Output → Told
+told_of log (output.Event came) = told_of_event log came
+told_of log output.Quiet = told.Quiet
+told_of log output.Limit = told.Limit
 
 -- the row of an event of which this is told
-abbrev pub event_row : ℕ → AnyEvent → Output → Row
-event_row number event output = row.Event number (deed_of event) (told_of output)
+abbrev pub event_row : List Entry → ℕ → AnyEvent → Output → Row
+event_row log number event output = row.Event number (deed_of event) (told_of log output)
 
 -- a row for each output of rounds, up to how they ended
-abbrev pub rows_in_rounds : List Output → List Row
-rows_in_rounds [] = []
-rows_in_rounds (output.Event came ∷ outputs) = row.InRounds (told_of_event came) ∷ rows_in_rounds outputs
-rows_in_rounds (output.Quiet ∷ outputs) = row.InRounds told.Quiet ∷ []
-rows_in_rounds (output.Limit ∷ outputs) = row.InRounds told.Limit ∷ []
+abbrev pub rows_in_rounds : List Entry → List Output → List Row
+rows_in_rounds log [] = []
+rows_in_rounds log (output.Event came ∷ outputs) = row.InRounds (told_of_event log came) ∷ rows_in_rounds log outputs
+rows_in_rounds log (output.Quiet ∷ outputs) = row.InRounds told.Quiet ∷ []
+rows_in_rounds log (output.Limit ∷ outputs) = row.InRounds told.Limit ∷ []
 
 -- what is told after rounds ended
 abbrev pub after_rounds : List Output → List Output
@@ -84,10 +89,10 @@ after_rounds (output.Event came ∷ outputs) = after_rounds outputs
 after_rounds (output.Quiet ∷ outputs) = outputs
 after_rounds (output.Limit ∷ outputs) = outputs
 
--- The rows of a schedule whose first item has this number: each event has its row with what is told of it, in order;
--- rounds have a row, and one for each of their outputs.
-abbrev pub rows_of : ℕ → List Scheduled → List Output → List Row
-rows_of number [] outputs = []
-rows_of number (scheduled.Event event ∷ schedule) [] = []
-rows_of number (scheduled.Event event ∷ schedule) (first ∷ outputs) = event_row number event first ∷ rows_of (number + 1) schedule outputs
-rows_of number (scheduled.Rounds ∷ schedule) outputs = row.Rounds number ∷ (rows_in_rounds outputs ++ rows_of (number + 1) schedule (after_rounds outputs))
+-- The rows of a schedule whose first item has this number, which was played with this log: each event has its row with what is told of
+-- it, in order; rounds have a row, and one for each of their outputs.
+abbrev pub rows_of : List Entry → ℕ → List Scheduled → List Output → List Row
+rows_of log number [] outputs = []
+rows_of log number (scheduled.Event event ∷ schedule) [] = []
+rows_of log number (scheduled.Event event ∷ schedule) (first ∷ outputs) = event_row log number event first ∷ rows_of log (number + 1) schedule outputs
+rows_of log number (scheduled.Rounds ∷ schedule) outputs = row.Rounds number ∷ (rows_in_rounds log outputs ++ rows_of log (number + 1) schedule (after_rounds outputs))

@@ -16,6 +16,7 @@ use crate::row::rows_of;
 use crate::row_marks::marks_of;
 use crate::sheet::{Ground, Legend, Sheet};
 use crate::slices::Slices;
+use commit_log::Entry;
 use files::{FileError, send};
 use history::{Output, Scheduled};
 use schema::{NoMemory, Scale};
@@ -23,25 +24,26 @@ use std::alloc::Global;
 use std::fmt::Display;
 use std::io::Write;
 
-/// Writes the picture of a schedule of which this is told, as SVG, to the sink. So many executors have the
-/// warehouses of the scale. A failure of the sink is `Failed` at record 1; after an error the sink has got a
+/// Writes the picture of a schedule of which this is told, as SVG, to the sink: places that answers name are
+/// those of the log, and so many executors have the warehouses of the scale. A failure of the sink is `Failed` at record 1; after an error the sink has got a
 /// beginning of the picture.
 pub fn write_picture<W: Write>(
     alloc: Global,
     sink: &mut W,
     schedule: &[Scheduled],
     outputs: &[Output],
+    log: &[Entry],
     scale: &Scale,
     executors: u32,
 ) -> Result<(), FileError>
     requires { 1 ≤ executors }
     ensures written { OnOk result ((asides : List AnyAside) × Appends (W.contents sink.old) (W.contents sink.new)
-        (picture_text (sessions_from [] schedule.now) executors (spec.rows_of 1 schedule.now outputs.now) asides)) }
+        (picture_text (sessions_from [] schedule.now) executors (spec.rows_of log.now 1 schedule.now outputs.now) asides)) }
     ensures begun { OnErr result ((asides : List AnyAside) × Begins (W.contents sink.old) (W.contents sink.new)
-        (picture_text (sessions_from [] schedule.now) executors (spec.rows_of 1 schedule.now outputs.now) asides)) }
+        (picture_text (sessions_from [] schedule.now) executors (spec.rows_of log.now 1 schedule.now outputs.now) asides)) }
     ensures failed { IfErr result IsOfWriting }
 {
-    let rows = rows_of(alloc, schedule, outputs)?;
+    let rows = rows_of(alloc, schedule, outputs, log)?;
     let lanes = lanes_of(alloc, schedule, executors)?;
     let heads = heads_of(alloc, &lanes, rows.len())?;
     let asides = match Slices::open(alloc, scale, executors)? {

@@ -1,10 +1,11 @@
 //! The rows of a picture: what was scheduled, and what is told of it.
-ghost use Rattle.std.specs.Prelude.{◌≡◌, ◌++◌, IfOk, OnOk};
+ghost use Rattle.std.specs.Prelude.{◌≡◌, ◌++◌, IfOk, OnOk, slice_get};
 ghost use Rattle.picture.specs.Rows as spec;
 
+use commit_log::Entry;
 use history::{Event, EventAnswer, Output, Scheduled};
 use range_moves::MoveOrder;
-use requests::{Answer, Refusal, Reply, Request};
+use requests::{Refusal, Reply, Request};
 use schema::NoMemory;
 use std::alloc::Global;
 
@@ -76,13 +77,14 @@ pub enum Row {
     InRounds { told: Told },
 }
 
-/// The rows of a schedule of which this is told, in order.
+/// The rows of a schedule of which this is told, in order. Places that answers name are those of the log.
 pub fn rows_of(
     alloc: Global,
     schedule: &[Scheduled],
     outputs: &[Output],
+    log: &[Entry],
 ) -> Result<Vec<Row>, NoMemory>
-    ensures { IfOk result (λ rows. rows.items ≡ spec.rows_of 1 schedule.now outputs.now) }
+    ensures { IfOk result (λ rows. rows.items ≡ spec.rows_of log.now 1 schedule.now outputs.now) }
 {
     let mut rows = Vec::new(alloc);
     let mut left = outputs;
@@ -93,12 +95,12 @@ pub fn rows_of(
                 let Some((first, others)) = left.split_first() else {
                     break;
                 };
-                rows.push(event_row(number, event, first))?;
+                rows.push(event_row(log, number, event, first))?;
                 left = others;
             }
             Scheduled::Rounds => {
                 rows.push(Row::Rounds { number })?;
-                left = put_rounds(&mut rows, left)?;
+                left = put_rounds(&mut rows, left, log)?;
             }
         }
     }
@@ -106,24 +108,28 @@ pub fn rows_of(
 }
 
 // The row of an event.
-fn event_row(number: u64, event: &Event, output: &Output) -> Row
-    ensures { result ≡ spec.event_row number event.now output.now }
+fn event_row(log: &[Entry], number: u64, event: &Event, output: &Output) -> Row
+    ensures { result ≡ spec.event_row log.now number event.now output.now }
 {
     Row::Event {
         number,
         deed: deed_of(event),
-        told: told_of(output),
+        told: told_of(log, output),
     }
 }
 
 // Adds what is told of rounds, up to their end, and gives what is told later.
-fn put_rounds<'a>(rows: &mut Vec<Row>, outputs: &'a [Output]) -> Result<&'a [Output], NoMemory>
-    ensures rows { OnOk result (rows.new.items ≡ rows.old.items ++ spec.rows_in_rounds outputs.now) }
+fn put_rounds<'a>(
+    rows: &mut Vec<Row>,
+    outputs: &'a [Output],
+    log: &[Entry],
+) -> Result<&'a [Output], NoMemory>
+    ensures rows { OnOk result (rows.new.items ≡ rows.old.items ++ spec.rows_in_rounds log.now outputs.now) }
     ensures later { IfOk result (λ later. later.now ≡ spec.after_rounds outputs.now) }
 {
     for (index, output) in outputs.iter().enumerate() {
         rows.push(Row::InRounds {
-            told: told_of(output),
+            told: told_of(log, output),
         })?;
         if !matches!(output, Output::Event(_)) {
             return Ok(&outputs[index + 1..]);
@@ -167,18 +173,18 @@ fn kind_of(request: &Request) -> Kind
     }
 }
 
-fn told_of(output: &Output) -> Told
-    ensures { result ≡ spec.told_of output.now }
+fn told_of(log: &[Entry], output: &Output) -> Told
+    ensures { result ≡ spec.told_of log.now output.now }
 {
     match output {
-        Output::Event(answer) => told_of_event(answer),
+        Output::Event(answer) => told_of_event(log, answer),
         Output::Quiet => Told::Quiet,
         Output::Limit => Told::Limit,
     }
 }
 
-fn told_of_event(answer: &EventAnswer) -> Told
-    ensures { result ≡ spec.told_of_event answer.now }
+fn told_of_event(log: &[Entry], answer: &EventAnswer) -> Told
+    ensures { result ≡ spec.told_of_event log.now answer.now }
 {
     match answer {
         EventAnswer::Accepted { age } => Told::Accepted { age: *age },
@@ -192,25 +198,35 @@ fn told_of_event(answer: &EventAnswer) -> Told
             session,
             number,
             answer,
-        } => told_of_answer(*session, *number, answer),
+        } => told_of_answer(log, *session, *number, answer),
         EventAnswer::Nothing => Told::Nothing,
     }
 }
 
-fn told_of_answer(session: u32, number: u32, answer: &Answer) -> Told
-    ensures { result ≡ spec.told_of_answer session number answer.now }
+fn told_of_answer(log: &[Entry], session: u32, number: u32, answer: &Result<u32, Refusal>) -> Told
+    ensures { result ≡ spec.told_of_answer log.now session number answer.now }
 {
     match answer {
-        Answer::Done { place, reply } => Told::Done {
+        Ok(place) => Told::Done {
             session,
             number,
             place: *place,
-            rolled_back: matches!(reply, Reply::RolledBack(_)),
+            rolled_back: is_rolled_back(log, *place),
         },
-        Answer::Refused(refusal) => Told::Refused {
+        Err(refusal) => Told::Refused {
             session,
             number,
             refusal: *refusal,
         },
+    }
+}
+
+// Whether the transaction at this place of the log was rolled back.
+fn is_rolled_back(log: &[Entry], place: u32) -> bool
+    ensures { result ≡ spec.entry_is_rolled_back (slice_get log.now place) }
+{
+    match log.get(place as usize) {
+        Some(entry) => matches!(entry.reply, Reply::RolledBack(_)),
+        None => false,
     }
 }

@@ -3,7 +3,7 @@ use denote.RattleType.{RattleType}
 use denote.Param.{number}
 use denote.Param.Send.{IsSend, IsSync, sendable, view_send, view_sync}
 use denote.Param.SendFields.{declared_send, declared_sync, variants_send, variants_sync}
-use Rattle.std.proofs.Crossing.{Vec-send, Vec-sync}
+use Rattle.std.proofs.Crossing.{Box-send, Vec-send, Vec-sync}
 use Rattle.rows.proofs.Sendable.{Text-send, Text-sync}
 use Rattle.requests.specs.contracts.answer.Answer as Answer
 use Rattle.requests.specs.contracts.delivery.Delivery as Delivery
@@ -28,13 +28,14 @@ use Rattle.requests.specs.contracts.reply.Reply as Reply
 use Rattle.requests.specs.contracts.request.Choice as Choice
 use Rattle.requests.specs.contracts.request.Request as Request
 use Rattle.requests.specs.contracts.script.Script as Script
+use Rattle.requests.specs.contracts.shown_data.ShownData as ShownData
 use Rattle.requests.specs.contracts.stock_level.StockLevel as StockLevel
 use Rattle.requests.specs.contracts.stock_level.StockLevelReply as StockLevelReply
 
 pub Group-send : IsSend Group.the_row
 Group-send = search sendable depth 80
 
-Refusal-send : IsSend Refusal.the_row
+pub Refusal-send : IsSend Refusal.the_row
 Refusal-send = search sendable depth 80
 
 -- ---- requests
@@ -256,6 +257,9 @@ NewOrderReply-send = declared_send NewOrderReply.the_type (
   ),
 )
 
+ShownData-send : IsSend ShownData.the_row
+ShownData-send = view_send _ _ _ _ _ (declared_send ShownData.TheInside.the_type (search (Text-send, Box-send, sendable) depth 40, tt))
+
 pub PaymentReply-send : IsSend PaymentReply.the_row
 PaymentReply-send = declared_send PaymentReply.the_type (
   search sendable depth 40,
@@ -272,7 +276,7 @@ PaymentReply-send = declared_send PaymentReply.the_type (
             (
               search sendable depth 40,
               (
-                Text-send (number 200),
+                ShownData-send,
                 tt,
               ),
             ),

@@ -8,4 +8,5 @@ pub mod StockLevel
 pub mod Check
 pub mod Requests
 pub mod LastName
+pub mod ShownData
 pub mod Replies

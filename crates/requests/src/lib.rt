@@ -15,6 +15,7 @@ mod refusal;
 mod reply;
 mod request;
 mod script;
+mod shown_data;
 mod stock_level;
 
 pub use answer::Answer;
@@ -30,4 +31,5 @@ pub use refusal::Refusal;
 pub use reply::{Fault, Reply, Shown};
 pub use request::{Choice, Request};
 pub use script::{MOST_REQUESTS, Script};
+pub use shown_data::ShownData;
 pub use stock_level::{StockLevel, StockLevelReply};

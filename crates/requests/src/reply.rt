@@ -1,5 +1,5 @@
 ghost use Rattle.std.specs.Prelude.{◌≡◌, ◌↔◌, IfOk, IsTrue, OnErr};
-ghost use Rattle.requests.specs.Replies.{HasLines, ShowsLines};
+ghost use Rattle.requests.specs.Replies.{ReplyTakesMemory, TakesMemory};
 
 use crate::{DeliveryReply, NewOrderReply, OrderStatusReply, PaymentReply, StockLevelReply};
 use schema::{Credit, NoMemory, Text};
@@ -48,14 +48,14 @@ pub enum Shown {
 }
 
 impl Shown {
-    /// An equal value. Only the lines of an order take memory; `NoMemory` leaves nothing behind.
+    /// An equal value. Only the lines of an order and what is shown of C_DATA take memory; `NoMemory` leaves nothing behind.
     pub fn try_clone(&self) -> Result<Self, NoMemory>
         ensures copy { IfOk result (λ copy. copy ≡ self.now) }
-        ensures lines { OnErr result (HasLines self.now) }
+        ensures err { OnErr result (TakesMemory self.now) }
     {
         match self {
             Shown::NewOrder(shown) => Ok(Shown::NewOrder(shown.try_clone()?)),
-            Shown::Payment(shown) => Ok(Shown::Payment(shown.copy())),
+            Shown::Payment(shown) => Ok(Shown::Payment(shown.try_clone()?)),
             Shown::OrderStatus(shown) => Ok(Shown::OrderStatus(shown.try_clone()?)),
             Shown::Delivery(shown) => Ok(Shown::Delivery(*shown)),
             Shown::StockLevel(shown) => Ok(Shown::StockLevel(*shown)),
@@ -80,10 +80,10 @@ impl Reply {
         self == other
     }
 
-    /// An equal reply. Only the lines of an order take memory; `NoMemory` leaves nothing behind.
+    /// An equal reply. It takes memory where the reply does; `NoMemory` leaves nothing behind.
     pub fn try_clone(&self) -> Result<Self, NoMemory>
         ensures copy { IfOk result (λ copy. copy ≡ self.now) }
-        ensures lines { OnErr result (ShowsLines self.now) }
+        ensures err { OnErr result (ReplyTakesMemory self.now) }
     {
         match self {
             Reply::Done(shown) => Ok(Reply::Done(shown.try_clone()?)),

@@ -1,32 +1,45 @@
 -- The fields of what is told of a schedule.
-use Rattle.std.specs.Prelude.{◌≡◌, ℕ, List, [], ◌∷◌, codes}
+use Rattle.std.specs.Prelude.{◌≡◌, ℕ, List, [], ◌∷◌, All, length, codes}
 use Rattle.std.specs.Fmt.{decimal}
 use Rattle.std.specs.List.{AllZip}
+use Rattle.commit_log.specs.declared.entry.Entry.{Entry}
 use Rattle.history.specs.declared.event.EventAnswer.{EventAnswer}
 use Rattle.history.specs.declared.event.EventAnswer.TheVariants.{Accepted, Ordered, Took, Sent, Full, Logged, Moved, Answered, Nothing}
 use Rattle.history.specs.declared.schedule.Output.{Output}
 use Rattle.history.specs.declared.schedule.Output.TheVariants.{Event, Quiet, Limit}
-use Rattle.terminals.specs.Answers.{IsAnswer}
+use Rattle.history.specs.Fits.{IsLoggedBelow}
+use Rattle.terminals.specs.Answers.{IsAnswerIn}
 
--- the fields are what came of an event: a word, and after it the transaction's age, the log's place or the answer's fields
-abbrev pub IsEventAnswer : EventAnswer → List (List ℕ) → Type 0
-IsEventAnswer (Accepted age) fields = fields ≡ codes "accepted" ∷ decimal age ∷ []
-IsEventAnswer Ordered fields = fields ≡ codes "ordered" ∷ []
-IsEventAnswer Took fields = fields ≡ codes "took" ∷ []
-IsEventAnswer Sent fields = fields ≡ codes "sent" ∷ []
-IsEventAnswer Full fields = fields ≡ codes "full" ∷ []
-IsEventAnswer (Logged place) fields = fields ≡ codes "logged" ∷ decimal place ∷ []
-IsEventAnswer Moved fields = fields ≡ codes "moved" ∷ []
-IsEventAnswer (Answered session number answer) fields =
-    (answered : List (List ℕ)) × IsAnswer session number answer answered × (fields ≡ codes "answered" ∷ answered)
-IsEventAnswer Nothing fields = fields ≡ codes "nothing" ∷ []
+-- the fields are what came of an event: a word, and after it the transaction's age, the log's place or the fields of the answer, with the
+-- reply of its entry in this log
+abbrev pub IsEventAnswer : List Entry → EventAnswer → List (List ℕ) → Type 0
+IsEventAnswer log (Accepted age) fields = fields ≡ codes "accepted" ∷ decimal age ∷ []
+IsEventAnswer log Ordered fields = fields ≡ codes "ordered" ∷ []
+IsEventAnswer log Took fields = fields ≡ codes "took" ∷ []
+IsEventAnswer log Sent fields = fields ≡ codes "sent" ∷ []
+IsEventAnswer log Full fields = fields ≡ codes "full" ∷ []
+IsEventAnswer log (Logged place) fields = fields ≡ codes "logged" ∷ decimal place ∷ []
+IsEventAnswer log Moved fields = fields ≡ codes "moved" ∷ []
+IsEventAnswer log (Answered session number answer) fields =
+    (answered : List (List ℕ)) × IsAnswerIn log session number answer answered × (fields ≡ codes "answered" ∷ answered)
+IsEventAnswer log Nothing fields = fields ≡ codes "nothing" ∷ []
 
 -- the fields are what came of an event, or how rounds ended
-abbrev pub IsOutput : Output → List (List ℕ) → Type 0
-IsOutput (Event answer) fields = IsEventAnswer answer fields
-IsOutput Quiet fields = fields ≡ codes "quiet" ∷ []
-IsOutput Limit fields = fields ≡ codes "limit" ∷ []
+abbrev pub IsOutput : List Entry → Output → List (List ℕ) → Type 0
+IsOutput log (Event answer) fields = IsEventAnswer log answer fields
+IsOutput log Quiet fields = fields ≡ codes "quiet" ∷ []
+IsOutput log Limit fields = fields ≡ codes "limit" ∷ []
 
 -- the records of what is told, one after the other
-abbrev pub AreOutputs : List Output → List (List (List ℕ)) → Type 0
-AreOutputs told rows = AllZip IsOutput told rows
+abbrev pub AreOutputs : List Entry → List Output → List (List (List ℕ)) → Type 0
+AreOutputs log told rows = AllZip (IsOutput log) told rows
+
+-- where it names a place of the log, it is one of these
+abbrev pub IsToldBelow : ℕ → Output → Type 0
+IsToldBelow n (Event answer) = IsLoggedBelow n answer
+IsToldBelow n Quiet = Unit {0}
+IsToldBelow n Limit = Unit {0}
+
+-- wherever a place of the log is named, an entry stands there
+abbrev pub NameEntries : List Entry → List Output → Type 0
+NameEntries log told = All (IsToldBelow (length log)) told

@@ -53,8 +53,8 @@ pub fn write_answers<W: Write>(
     writer.finish(sink)
 }
 
-// Adds the fields of the answer to a request that stands at this place of the log, or was refused.
-fn put_answer_in(
+/// Adds the fields of the answer to a request that stands at this place of the log, or was refused.
+pub fn put_answer_in(
     row: &mut NewRecord,
     session: u32,
     number: u64,
@@ -70,8 +70,8 @@ fn put_answer_in(
     }
 }
 
-/// Adds the fields of an answer.
-pub fn put_answer(
+// Adds the fields of an answer.
+fn put_answer(
     row: &mut NewRecord,
     session: u32,
     number: u64,

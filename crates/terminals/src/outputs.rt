@@ -1,50 +1,60 @@
-ghost use Rattle.std.specs.Prelude.{◌≡◌, ℕ, List, ◌++◌, IfErr, OnErr, OnOk};
+ghost use Rattle.std.specs.Prelude.{◌≡◌, ℕ, List, ◌++◌, length, IfErr, OnErr, OnOk};
 ghost use Rattle.files.specs.Failure.{IsOfWriting};
 ghost use Rattle.files.specs.Sending.{BeginsToWrite, OfFirst, Writes};
-ghost use Rattle.terminals.specs.Outputs.{IsEventAnswer, IsOutput, AreOutputs};
+ghost use Rattle.history.specs.Fits.{IsLoggedBelow};
+ghost use Rattle.terminals.specs.Outputs.{IsEventAnswer, IsOutput, IsToldBelow, AreOutputs, NameEntries};
 
 use crate::answers;
+use commit_log::Entry;
 use files::{FileError, NewRecord, RecordWriter};
 use history::{EventAnswer, Output};
 use schema::NoMemory;
 use std::alloc::Global;
 use std::io::Write;
 
-/// Writes a record for each output of a schedule to the sink. After an error the sink has got a beginning of
-/// their text.
+/// Writes a record for each output of a schedule to the sink, with the replies of the log's entries where their
+/// places answer. After an error the sink has got a beginning of their text.
 pub fn write_outputs<W: Write>(
     alloc: Global,
     sink: &mut W,
     told: &[Output],
+    log: &[Entry],
 ) -> Result<(), FileError>
-    ensures written { OnOk result (Writes (W.contents sink.old) (W.contents sink.new) (AreOutputs told.now)) }
-    ensures begun { OnErr result (BeginsToWrite (W.contents sink.old) (W.contents sink.new) (OfFirst AreOutputs told.now)) }
+    requires { NameEntries log.now told.now }
+    ensures written { OnOk result (Writes (W.contents sink.old) (W.contents sink.new) (AreOutputs log.now told.now)) }
+    ensures begun { OnErr result (BeginsToWrite (W.contents sink.old) (W.contents sink.new) (OfFirst (AreOutputs log.now) told.now)) }
     ensures failed { IfErr result IsOfWriting }
 {
     let mut writer = RecordWriter::new(alloc);
     let mut row = NewRecord::new(alloc);
     for one in told {
         row.clear();
-        put_output(&mut row, one)?;
+        put_output(&mut row, one, log)?;
         writer.write(sink, &row)?;
     }
     writer.finish(sink)
 }
 
 // Adds the fields of an output.
-fn put_output(row: &mut NewRecord, told: &Output) -> Result<(), NoMemory>
-    ensures { OnOk result ((fields : List (List ℕ)) × IsOutput told.now fields × (row.new ≡ row.old ++ fields)) }
+fn put_output(row: &mut NewRecord, told: &Output, log: &[Entry]) -> Result<(), NoMemory>
+    requires { IsToldBelow (length log.now) told.now }
+    ensures { OnOk result ((fields : List (List ℕ)) × IsOutput log.now told.now fields × (row.new ≡ row.old ++ fields)) }
 {
     match told {
-        Output::Event(answer) => put_event_answer(row, answer),
+        Output::Event(answer) => put_event_answer(row, answer, log),
         Output::Quiet => row.push("quiet"),
         Output::Limit => row.push("limit"),
     }
 }
 
 // Adds the fields of what came of an event.
-fn put_event_answer(row: &mut NewRecord, answer: &EventAnswer) -> Result<(), NoMemory>
-    ensures { OnOk result ((fields : List (List ℕ)) × IsEventAnswer answer.now fields × (row.new ≡ row.old ++ fields)) }
+fn put_event_answer(
+    row: &mut NewRecord,
+    answer: &EventAnswer,
+    log: &[Entry],
+) -> Result<(), NoMemory>
+    requires { IsLoggedBelow (length log.now) answer.now }
+    ensures { OnOk result ((fields : List (List ℕ)) × IsEventAnswer log.now answer.now fields × (row.new ≡ row.old ++ fields)) }
 {
     match answer {
         EventAnswer::Accepted { age } => {
@@ -66,7 +76,7 @@ fn put_event_answer(row: &mut NewRecord, answer: &EventAnswer) -> Result<(), NoM
             answer,
         } => {
             row.push("answered")?;
-            answers::put_answer(row, *session, u64::from(*number), answer)
+            answers::put_answer_in(row, *session, u64::from(*number), answer, log)
         }
         EventAnswer::Nothing => row.push("nothing"),
     }

@@ -1,5 +1,5 @@
 //! The fields of a payment, and of its reply.
-ghost use Rattle.std.specs.Prelude.{◌≡◌, ℕ, List, ◌∷◌, ◌++◌, OnOk, codes};
+ghost use Rattle.std.specs.Prelude.{◌≡◌, ℕ, List, ◌∷◌, ◌++◌, IfOk, OnOk, codes};
 ghost use Rattle.files.specs.Columns.{take_columns};
 ghost use Rattle.files.specs.FieldRead.{taking};
 ghost use Rattle.files.specs.Taken.{Takes};
@@ -10,8 +10,9 @@ ghost use Rattle.terminals.specs.RequestColumns.{payment_columns};
 use crate::choice;
 use crate::request::{put_district, take_district};
 use files::{Fields, NewRecord, credit_word, moment_text};
-use requests::{Payment, PaymentReply};
+use requests::{Payment, PaymentReply, ShownData};
 use schema::NoMemory;
+use std::alloc::Global;
 
 /// How many fields a payment has, with its letter.
 pub const FIELDS: u64 = 8;
@@ -43,11 +44,11 @@ pub fn put(row: &mut NewRecord, payment: &Payment) -> Result<(), NoMemory>
 }
 
 /// Takes the fields of a payment's reply that come after its letter.
-pub fn take_reply(fields: &mut Fields) -> PaymentReply
-    ensures taken { Takes fields.old fields.new (λ said. codes "P" ∷ said ≡ payment_reply_fields result) }
-    ensures columns { taking fields.new ≡ take_columns payment_shown (taking fields.old) }
+pub fn take_reply(alloc: Global, fields: &mut Fields) -> Result<PaymentReply, NoMemory>
+    ensures taken { IfOk result (λ shown. Takes fields.old fields.new (λ said. codes "P" ∷ said ≡ payment_reply_fields shown)) }
+    ensures columns { OnOk result (taking fields.new ≡ take_columns payment_shown (taking fields.old)) }
 {
-    PaymentReply {
+    Ok(PaymentReply {
         c_id: fields.whole(0, u32::MAX),
         first: fields.text(),
         middle: fields.text(),
@@ -55,8 +56,8 @@ pub fn take_reply(fields: &mut Fields) -> PaymentReply
         credit: fields.credit(),
         discount: fields.rate(),
         balance: fields.cents(),
-        data: fields.text(),
-    }
+        data: ShownData::new(alloc, fields.text())?,
+    })
 }
 
 /// Adds the fields of a payment's reply, with its letter.

@@ -11,7 +11,8 @@ use schema::NoMemory;
 use std::alloc::Global;
 
 /// Takes the fields of a reply that come after its letter. `None` where the letter is unknown, or what
-/// comes after `X` is no fault, which is noted as `WrongShape`. Only the lines of an order take memory.
+/// comes after `X` is no fault, which is noted as `WrongShape`. Only what a reply shows of an order or of C_DATA
+/// takes memory.
 pub fn take(alloc: Global, letter: &str, fields: &mut Fields) -> Result<Option<Reply>, NoMemory>
     ensures taken { IfOk result (λ taken. IfSome taken (λ reply. Takes fields.old fields.new (λ said. IsReply reply (letter.now ∷ said)))) }
     ensures unknown { IfOk result (λ taken. IfNone taken (fault_of fields.new ≢ None)) }
@@ -23,7 +24,7 @@ pub fn take(alloc: Global, letter: &str, fields: &mut Fields) -> Result<Option<R
             Ok(Some(Reply::Done(Shown::NewOrder(shown))))
         }
         "P" => {
-            let shown = payment::take_reply(fields);
+            let shown = payment::take_reply(alloc, fields)?;
             Ok(Some(Reply::Done(Shown::Payment(shown))))
         }
         "O" => {

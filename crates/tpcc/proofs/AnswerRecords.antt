@@ -1,6 +1,7 @@
 -- The records of all answers, one session more at a time.
-use Rattle.std.proofs.Common.{◌≡◌, inl, inr, Result, Ok, Err, OnOk, OnErr, drop, take-append-drop, ℕ, zero, suc, ◌+◌, ◌<◌, ◌≤◌, List, [], ◌∷◌, ◌++◌, length, take, get_or, Option, None, Some, refl, sym, ap, subst, ◌∙◌, arith, append_assoc, append-nil}
+use Rattle.std.proofs.Common.{◌≡◌, inl, inr, Result, Ok, Err, OnOk, OnErr, drop, take-append-drop, ℕ, suc, ◌+◌, ◌<◌, ◌≤◌, List, [], ◌∷◌, ◌++◌, length, take, get_or, Option, None, Some, refl, sym, ap, subst, ◌∙◌, arith, append_assoc, append-nil}
 use Rattle.std.proofs.lemmas.List.{take_more, length-take-le}
+use Rattle.std.proofs.lemmas.Option.{slice_get_within}
 use Rattle.std.specs.List.{slice_get}
 use Rattle.std.specs.Option.{option_map, option_and_then}
 use Rattle.std.specs.Io.KnownBytes.{Appends}
@@ -64,7 +65,8 @@ module _ (log : List Entry) where
       let e : session + suc (length before) ≡ session + 1 + length before = omega arith in
       inr (are.0, are.1 ++ these, are.2, begun-push (session + 1) before are.1 told others these are.3 (subst P e some), ap (λ l. l ++ these) are.4 ∙ append_assoc are.0 are.1 these)
 
-  all-begun : (session : ℕ) (answers : List (List (Result ℕ Refusal))) (rows : List (List (List ℕ))) → AreAllAnswers log session answers rows → BeginAllAnswers log session answers rows
+  -- all answers are some of them
+  pub all-begun : (session : ℕ) (answers : List (List (Result ℕ Refusal))) (rows : List (List (List ℕ))) → AreAllAnswers log session answers rows → BeginAllAnswers log session answers rows
   all-begun session [] rows are = are
   all-begun session (told ∷ others) rows are = inr (are.0, are.1, are.2, all-begun (session + 1) others are.1 are.3, are.4)
 
@@ -93,12 +95,6 @@ module _ (log : List Entry) where
         subst (Begins sink new) (sym (csv_text-append before.0 some.0)) (begins_after sink old new (csv_text before.0) (csv_text some.0) before.2 some.2),
       )
 
-  -- all or some of them
-  pub begins-printed : {T E : Type 0} (printed : Result T E) (before after : Option (List ℕ)) (answers : List (List (Result ℕ Refusal)))
-      → OnOk printed (Writes before after (AreAllAnswers log 0 answers)) → OnErr printed (BeginsToWrite before after (BeginAllAnswers log 0 answers)) → BeginsToWrite before after (BeginAllAnswers log 0 answers)
-  begins-printed (Ok done) before after answers all some = (all.0, all-begun 0 answers all.0 all.1, ([], sends_all before after (csv_text all.0) all.2))
-  begins-printed (Err fault) before after answers all some = some
-
 -- lists that have the same lengths at each place are as many
 pub same_count : {X Y : Type 0} (xs : List (List X)) (ys : List (List Y)) → ((s : ℕ) → option_map length (slice_get xs s) ≡ option_map length (slice_get ys s)) → length xs ≡ length ys
 same_count [] [] h = refl
@@ -106,22 +102,10 @@ same_count [] (y ∷ ys) h = let no : None ≡ Some (length y) = h 0 in absurd c
 same_count (x ∷ xs) [] h = let no : Some (length x) ≡ None = h 0 in absurd cc
 same_count (x ∷ xs) (y ∷ ys) h = ap suc (same_count xs ys (λ s. h (suc s)))
 
--- what an index finds at a place stands there
-pub indexed : {X : Type 0} (xs : List X) (n : ℕ) (x : X) → n < length xs → x ≡ get_or xs n x → slice_get xs n ≡ Some x
-indexed [] n x low is = absurd (omega arith)
-indexed (y ∷ ys) zero x low is = ap Some (sym is)
-indexed (y ∷ ys) (suc n) x low is = indexed ys n x (omega arith) is
-
--- what stands at a place is below the length
-below_length : {X : Type 0} (xs : List X) (n : ℕ) (x : X) → slice_get xs n ≡ Some x → n < length xs
-below_length [] n x at = absurd cc
-below_length (y ∷ ys) zero x at = omega arith
-below_length (y ∷ ys) (suc n) x at = let rest : n < length ys = below_length ys n x at in omega arith
-
 -- the answers of an outcome name places of its log
 pub outcome_in_log : (opening : Database) (scripts : List (List Request)) (log : List Entry) (last : Database) (answers : List (List (Result ℕ Refusal))) → IsOutcome opening scripts log last answers
     → AreAllInLog log answers
 outcome_in_log opening scripts log last answers outcome session told told_is k place at =
     let there : item_at answers session k ≡ Some (Ok place) = ap (option_and_then (λ (l : List (Result ℕ Refusal)). slice_get l k)) told_is ∙ at in
     let stands = outcome.done session k place there in
-    below_length log place (entry_of session k stands.0 stands.2) stands.3
+    slice_get_within log place (entry_of session k stands.0 stands.2) stands.3

@@ -5,7 +5,10 @@ pub mod FileNames
 pub mod ServeFaults
 pub mod SourceLists
 pub mod GatheredTables
+pub mod SomePrinted
+pub mod OutputsNamed
 pub mod SimulationEnds
+pub mod EarlyTellings
 pub mod ReplayTellings
 pub mod CheckTellings
 pub mod BuiltCommands

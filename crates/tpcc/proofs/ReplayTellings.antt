@@ -1,5 +1,5 @@
 -- How a replay ends, by what it came to.
-use Rattle.std.proofs.Common.{◌≡◌, inl, inr, ℕ, List, Option, None, Some, refl, sym, subst}
+use Rattle.std.proofs.Common.{◌≡◌, inl, inr, ℕ, List, Option, None, Some, sym, subst}
 use Rattle.std.specs.Borrow.{Bor}
 use Rattle.schema.specs.Database.{Database}
 use Rattle.commit_log.specs.declared.entry.Entry.{Entry}
@@ -16,6 +16,7 @@ use Rattle.tpcc.specs.EarlyEnds.{IsOfReplaying}
 use Rattle.tpcc.specs.Edges.{Gives}
 use Rattle.tpcc.specs.Faults.{IsOfWritingSome, Tells, status_of}
 use Rattle.tpcc.specs.Replay.{TellsReplay, ReplayEnds, ReplaysSome}
+use Rattle.tpcc.proofs.EarlyTellings.{ends_early}
 
 module _ {F : Type 0} (contents : F → Option (List ℕ)) (file : Option F) (s : ReplaySettings) (source : Option (List ℕ)) (source_lasts : Type 0) (log : Option (List ℕ)) (log_lasts : Type 0)
     (before after : Option (List ℕ)) (named named' : Option (List (Option (List ℕ)))) (told told' : Option (List CommandFault)) where
@@ -41,15 +42,6 @@ module _ {F : Type 0} (contents : F → Option (List ℕ)) (file : Option F) (s 
   -- the same, where it ends early
   pub replay_ends_early : (of : CommandFault) (ended : Status) → ended ≡ status_of of → IsOfReplaying s source source_lasts log log_lasts of → Tells told told' of → named' ≡ named → ReplaysSome source log before after
       → ReplayEnds contents file s source source_lasts log log_lasts before after named named' told told' ended
-  replay_ends_early of ended is said tells same some = subst (ReplayEnds contents file s source source_lasts log log_lasts before after named named' told told') (sym is) (by of said tells)
-    where
-      by : (f : CommandFault) → IsOfReplaying s source source_lasts log log_lasts f → Tells told told' f → ReplayEnds contents file s source source_lasts log log_lasts before after named named' told told' (status_of f)
-      by (fault.NotConsistent condition) said tells = absurd (no_condition condition said)
-      by fault.NoMemory said tells = (same, some, record { fault = fault.NoMemory; said = said; tells = tells; ends = refl })
-      by (fault.File path f) said tells = (same, some, record { fault = fault.File path f; said = said; tells = tells; ends = refl })
-      by (fault.Failed path number) said tells = (same, some, record { fault = fault.Failed path number; said = said; tells = tells; ends = refl })
-      by (fault.BadMove place) said tells = (same, some, record { fault = fault.BadMove place; said = said; tells = tells; ends = refl })
-      by (fault.NoWarehouse warehouse) said tells = (same, some, record { fault = fault.NoWarehouse warehouse; said = said; tells = tells; ends = refl })
-      by fault.NoThread said tells = (same, some, record { fault = fault.NoThread; said = said; tells = tells; ends = refl })
-      by fault.Unsettled said tells = (same, some, record { fault = fault.Unsettled; said = said; tells = tells; ends = refl })
-      by fault.NotIdle said tells = (same, some, record { fault = fault.NotIdle; said = said; tells = tells; ends = refl })
+  replay_ends_early of ended is said tells same some =
+      ends_early (IsOfReplaying s source source_lasts log log_lasts) told told' (ReplayEnds contents file s source source_lasts log log_lasts before after named named' told told') no_condition
+      (λ early. (same, some, early)) (λ early. (same, some, early)) (λ early. (same, some, early)) of ended is said tells

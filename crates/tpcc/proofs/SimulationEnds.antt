@@ -1,9 +1,10 @@
 -- Why a simulation ended early, of what its sources give, and what was printed then.
-use Rattle.std.proofs.Common.{ℕ, Bool, List, [], Option, Result, Ok, Err, OnOk, OnErr, length, sym, subst, arith}
+use Rattle.std.proofs.Common.{ℕ, Bool, List, [], Option, length, sym, subst, arith}
 use Rattle.std.proofs.lemmas.List.{take_all}
-use Rattle.files.specs.Sending.{BeginsToWrite, OfFirst, Writes}
+use Rattle.files.specs.Sending.{BeginsToWrite, OfFirst}
 use Rattle.files.specs.Written.{csv_text}
-use Rattle.files.proofs.Sent.{begins_none, sends_all}
+use Rattle.files.proofs.Sent.{begins_none}
+use Rattle.commit_log.specs.declared.entry.Entry.{Entry}
 use Rattle.history.specs.declared.schedule.Output.{Output}
 use Rattle.terminals.specs.Outputs.{AreOutputs}
 use Rattle.history.specs.declared.schedule.Scheduled.{Scheduled}
@@ -27,13 +28,11 @@ module _ («data» source : Option (List ℕ)) (executors : ℕ) (asked : Bool) 
   of_gathering NotIdle of = (of.0, (schedule, simulation, is, of.1))
 
 -- no output is printed
-pub no_output : (sink : Option (List ℕ)) (outputs : List Output) → BeginsToWrite sink sink (OfFirst AreOutputs outputs)
-no_output sink outputs = ([], (0, tt), begins_none sink (csv_text []))
+pub no_output : (sink : Option (List ℕ)) (log : List Entry) (outputs : List Output) → BeginsToWrite sink sink (OfFirst (AreOutputs log) outputs)
+no_output sink log outputs = ([], (0, tt), begins_none sink (csv_text []))
 
--- all or some of them
-pub outputs-begun : {T E : Type 0} (printed : Result T E) (before after : Option (List ℕ)) (outputs : List Output)
-    → OnOk printed (Writes before after (AreOutputs outputs)) → OnErr printed (BeginsToWrite before after (OfFirst AreOutputs outputs)) → BeginsToWrite before after (OfFirst AreOutputs outputs)
-outputs-begun (Ok done) before after outputs all some =
-    let Are : List Output → Type 0 = λ l. AreOutputs l all.0 in
-    (all.0, (length outputs, subst Are (sym (take_all (length outputs) outputs (omega arith))) all.1), ([], sends_all before after (csv_text all.0) all.2))
-outputs-begun (Err fault) before after outputs all some = some
+-- all of them are some first ones
+pub all-first : (log : List Entry) (outputs : List Output) (rows : List (List (List ℕ))) → AreOutputs log outputs rows → OfFirst (AreOutputs log) outputs rows
+all-first log outputs rows are =
+    let Are : List Output → Type 0 = λ l. AreOutputs log l rows in
+    (length outputs, subst Are (sym (take_all (length outputs) outputs (omega arith))) are)

@@ -3,6 +3,7 @@ use Rattle.std.specs.Prelude.{◌≡◌, ◌⊎◌, ℕ, List, [], Option, None,
 use Rattle.std.specs.Io.KnownBytes.{Appends}
 use Rattle.std.specs.declared.marker.Brand.{Brand}
 use Rattle.schema.specs.Database.{Database}
+use Rattle.commit_log.specs.declared.entry.Entry.{Entry}
 use Rattle.history.specs.declared.schedule.Scheduled.{Scheduled}
 use Rattle.history.specs.declared.schedule.Output.{Output}
 use Rattle.world.specs.declared.simulating.Simulation.{Simulation}
@@ -29,11 +30,11 @@ pub record IsSimulation («data» source : Option (List ℕ)) (executors : ℕ) 
   pub simulates : Simulates Brand opening executors schedule simulation
 
 module _ {F : Type 0} (contents : F → Option (List ℕ)) where
-  -- the file, if there is one, has got its name with the picture of the schedule and of what was told of it
-  abbrev pub NamesPicture : Option F → Option (List (Option (List ℕ))) → Option (List (Option (List ℕ))) → ℕ → List Scheduled → List Output → Type 0
-  NamesPicture None named named' executors schedule outputs = named' ≡ named
-  NamesPicture (Some file) named named' executors schedule outputs =
-      (text : Option (List ℕ)) × (asides : List Aside) × Appends (contents file) text (picture_text (sessions_from [] schedule) executors (row.rows_of 1 schedule outputs) asides) × Shelves named named' text
+  -- the file, if there is one, has got its name with the picture of the schedule and of what was told of it, with this log
+  abbrev pub NamesPicture : Option F → Option (List (Option (List ℕ))) → Option (List (Option (List ℕ))) → ℕ → List Scheduled → List Output → List Entry → Type 0
+  NamesPicture None named named' executors schedule outputs entries = named' ≡ named
+  NamesPicture (Some file) named named' executors schedule outputs entries =
+      (text : Option (List ℕ)) × (asides : List Aside) × Appends (contents file) text (picture_text (sessions_from [] schedule) executors (row.rows_of entries 1 schedule outputs) asides) × Shelves named named' text
 
   -- the file, if there is one, has got its name with the records of the tables that were gathered
   abbrev pub NamesTables : Option F → Option (List (Option (List ℕ))) → Option (List (Option (List ℕ))) → Result Database GatherFault → Type 0
@@ -45,21 +46,21 @@ module _ {F : Type 0} (contents : F → Option (List ℕ)) where
     -- turn: the log with the records of the simulation's log, the picture with the drawing of its outputs, and the tables with the records
     -- of its tables.
     pub record Shows : Type 0 where
-      pub printed : Writes before after (AreOutputs simulation.outputs.items)
+      pub printed : Writes before after (AreOutputs simulation.log.items simulation.outputs.items)
       pub with_log : Option (List (Option (List ℕ)))
       pub with_picture : Option (List (Option (List ℕ)))
       pub logged : NamesFile contents log named with_log (IsLog simulation.log.items)
-      pub drawn : NamesPicture picture with_log with_picture executors schedule simulation.outputs.items
+      pub drawn : NamesPicture picture with_log with_picture executors schedule simulation.outputs.items simulation.log.items
       pub gathered : NamesTables tables with_picture named' simulation.tables
 
     -- A beginning of these records was printed, and no file has got its name; or all were, and the log has got its name, if there is one,
     -- and then the picture may have.
     abbrev pub ShowsSome : Type 0
     ShowsSome =
-        (BeginsToWrite before after (OfFirst AreOutputs simulation.outputs.items) × (named' ≡ named))
-        ⊎ (Writes before after (AreOutputs simulation.outputs.items)
+        (BeginsToWrite before after (OfFirst (AreOutputs simulation.log.items) simulation.outputs.items) × (named' ≡ named))
+        ⊎ (Writes before after (AreOutputs simulation.log.items simulation.outputs.items)
         × (with_log : Option (List (Option (List ℕ)))) × NamesFile contents log named with_log (IsLog simulation.log.items)
-        × ((named' ≡ with_log) ⊎ NamesPicture picture with_log named' executors schedule simulation.outputs.items))
+        × ((named' ≡ with_log) ⊎ NamesPicture picture with_log named' executors schedule simulation.outputs.items simulation.log.items))
 
   module _ («data» source : Option (List ℕ)) (executors : ℕ) (log picture tables : Option F) (before after : Option (List ℕ)) (named named' : Option (List (Option (List ℕ)))) where
     -- nothing was printed, and no file has got its name; or the schedule was simulated, and some of what came of it was shown

@@ -1,6 +1,6 @@
 ghost use Rattle.std.specs.Prelude.{◌≡◌, ◌⊎◌, is_some, IfOk, IfErr, OnOk, OnErr};
 ghost use Rattle.terminals.specs.FirstFault.{schedule_fault};
-ghost use Rattle.terminals.specs.Outputs.{AreOutputs};
+ghost use Rattle.terminals.specs.Outputs.{AreOutputs, NameEntries};
 ghost use Rattle.terminals.specs.Schedule.{IsSchedule};
 ghost use Rattle.files.specs.Sending.{BeginsToWrite, OfFirst, Writes};
 ghost use Rattle.tpcc.specs.Edges.{Gives};
@@ -17,6 +17,7 @@ use crate::status::Status;
 use crate::streams::{
     STANDARD_OUTPUT, finished, name_printed, read_tables, write_entries, write_tables,
 };
+use commit_log::Entry;
 use files::Input;
 use history::{Output, Scheduled};
 use picture::write_picture;
@@ -130,6 +131,7 @@ fn show<'a, A: Write, F: Write + Drop, N: Shelf<F>>(
     shelf: &mut N,
 ) -> Result<(), CommandFault<'a>>
     requires executors { HasExecutors settings.now }
+    requires entries { NameEntries simulation.now.log.items simulation.now.outputs.items }
     requires log { is_some log ≡ is_some settings.now.log }
     requires picture { is_some picture ≡ is_some settings.now.picture }
     requires tables { is_some tables ≡ is_some settings.now.tables }
@@ -137,17 +139,13 @@ fn show<'a, A: Write, F: Write + Drop, N: Shelf<F>>(
     ensures some { OnErr result (ShowsSome F.contents settings.entry.now.executors schedule.now simulation.now log picture tables (A.contents told.old) (A.contents told.new) (N.named shelf.old) (N.named shelf.new)) }
     ensures fault { IfErr result (λ fault. IsOfGathering (is_some settings.now.tables) simulation.now.tables fault ⊎ IsOfShowing settings.now fault) }
 {
-    let log = write_entries(alloc, settings.log, log, simulation.log.as_slice(), shelf)?;
-    let printed = print_outputs(alloc, told, simulation.outputs.as_slice());
+    let entries = simulation.log.as_slice();
+    let outputs = simulation.outputs.as_slice();
+    let log = write_entries(alloc, settings.log, log, entries, shelf)?;
+    let printed = print_outputs(alloc, told, outputs, entries);
     name_printed(printed, log, shelf)?;
     draw(
-        alloc,
-        settings,
-        picture,
-        schedule,
-        simulation.outputs.as_slice(),
-        scale,
-        shelf,
+        alloc, settings, picture, schedule, outputs, entries, scale, shelf,
     )?;
     name_gathered(alloc, settings.tables, tables, &simulation.tables, shelf)
 }
@@ -172,12 +170,14 @@ fn print_outputs<A: Write>(
     alloc: Global,
     sink: &mut A,
     outputs: &[Output],
+    entries: &[Entry],
 ) -> Result<(), CommandFault<'static>>
-    ensures printed { OnOk result (Writes (A.contents sink.old) (A.contents sink.new) (AreOutputs outputs.now)) }
-    ensures begun { OnErr result (BeginsToWrite (A.contents sink.old) (A.contents sink.new) (OfFirst AreOutputs outputs.now)) }
+    requires { NameEntries entries.now outputs.now }
+    ensures printed { OnOk result (Writes (A.contents sink.old) (A.contents sink.new) (AreOutputs entries.now outputs.now)) }
+    ensures begun { OnErr result (BeginsToWrite (A.contents sink.old) (A.contents sink.new) (OfFirst (AreOutputs entries.now) outputs.now)) }
     ensures fault { IfErr result (IsOfWriting standard_output) }
 {
-    match write_outputs(alloc, sink, outputs) {
+    match write_outputs(alloc, sink, outputs, entries) {
         Ok(()) => Ok(()),
         Err(error) => Err(CommandFault::of_file(STANDARD_OUTPUT, error)),
     }
@@ -211,12 +211,13 @@ fn draw<'a, F: Write + Drop, N: Shelf<F>>(
     picture: Option<F>,
     schedule: &[Scheduled],
     outputs: &[Output],
+    entries: &[Entry],
     scale: &Scale,
     shelf: &mut N,
 ) -> Result<(), CommandFault<'a>>
     requires executors { HasExecutors settings.now }
     requires asked { is_some picture ≡ is_some settings.now.picture }
-    ensures named { OnOk result (NamesPicture F.contents picture (N.named shelf.old) (N.named shelf.new) settings.entry.now.executors schedule.now outputs.now) }
+    ensures named { OnOk result (NamesPicture F.contents picture (N.named shelf.old) (N.named shelf.new) settings.entry.now.executors schedule.now outputs.now entries.now) }
     ensures err { OnErr result (N.named shelf.new ≡ N.named shelf.old) }
     ensures fault { IfErr result (IsOfWritingSome settings.now.picture) }
 {
@@ -232,6 +233,7 @@ fn draw<'a, F: Write + Drop, N: Shelf<F>>(
         &mut whole,
         schedule,
         outputs,
+        entries,
         scale,
         settings.executors,
     ) {

@@ -148,6 +148,7 @@ impl Work {
     // changes nothing.
     pub(crate) fn run<J: GroupNames>(
         self,
+        alloc: Global,
         slice: &mut Slice<J>,
         claims: &mut [Claim<J>],
     ) -> Result<Found, NoMemory>
@@ -165,6 +166,7 @@ impl Work {
                 Ok(Found::Home(pay_home(slice, &mut first[0], &mut rest[0], &payment)?))
             }
             Work::PayCustomer(payment) => Ok(Found::Customer(pay_customer(
+                alloc,
                 slice,
                 &mut claims[0],
                 &payment,
@@ -259,6 +261,7 @@ fn put_home<J: GroupNames>(
 /// Takes a payment's amount from the balance of its customer, who is chosen by number or by last name.
 /// Want of memory changes nothing.
 pub fn pay_customer<J: GroupNames>(
+    alloc: Global,
     slice: &mut Slice<J>,
     customers: &mut Claim<J>,
     payment: &Payment,
@@ -280,7 +283,7 @@ pub fn pay_customer<J: GroupNames>(
     let Some(row) = customer_paid(row, key, payment.home, payment.amount) else {
         return Ok(CustomerPaid::OutOfRange);
     };
-    let reply = payment_reply(key, &row);
+    let reply = payment_reply(alloc, key, &row)?;
     slice.put_customer(customers, key, row)?;
     Ok(CustomerPaid::Paid(reply))
 }
@@ -415,7 +418,17 @@ fn home_of_found(found: crate::Found) -> HomePaid
     ensures { found ≡ any_found.Payment (Found.Home result) }
 {
     match found {
-        crate::Found::Payment(Found::Home(home)) => home,
+        crate::Found::Payment(found) => home_of_payment(found),
+        _ => unreachable!(),
+    }
+}
+
+fn home_of_payment(found: Found) -> HomePaid
+    requires { (home : AnyHomePaid) × (found ≡ Found.Home home) }
+    ensures { found ≡ Found.Home result }
+{
+    match found {
+        Found::Home(home) => home,
         _ => unreachable!(),
     }
 }
@@ -425,7 +438,17 @@ fn customer_of_found(found: crate::Found) -> CustomerPaid
     ensures { found ≡ any_found.Payment (Found.Customer result) }
 {
     match found {
-        crate::Found::Payment(Found::Customer(customer)) => customer,
+        crate::Found::Payment(found) => customer_of_payment(found),
+        _ => unreachable!(),
+    }
+}
+
+fn customer_of_payment(found: Found) -> CustomerPaid
+    requires { (customer : AnyCustomerPaid) × (found ≡ Found.Customer customer) }
+    ensures { found ≡ Found.Customer result }
+{
+    match found {
+        Found::Customer(customer) => customer,
         _ => unreachable!(),
     }
 }

@@ -107,7 +107,7 @@ pub fn run<J: GroupNames>(
 {
     match work {
         Work::NewOrder(work) => Ok(Found::NewOrder(work.run(alloc, slice, claims)?)),
-        Work::Payment(work) => Ok(Found::Payment(work.run(slice, claims)?)),
+        Work::Payment(work) => Ok(Found::Payment(work.run(alloc, slice, claims)?)),
         Work::OrderStatus(work) => Ok(Found::OrderStatus(work.run(alloc, slice, claims)?)),
         Work::Delivery(work) => Ok(Found::Delivery(work.run(slice, claims)?)),
         Work::StockLevel(work) => Ok(Found::StockLevel(work.run(alloc, slice, claims)?)),

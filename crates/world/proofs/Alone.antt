@@ -180,30 +180,29 @@ module _ (u : UnderWay) (group : Group) where
           sum_by-append (one_claim_on group) p.claims rest.claims,
         )
 
-    module _ (log : List Entry) where
-      item_few : (i : Item J) → IsSoundItem shared log (λ slot. u) i → sum_by weigh_other (part_item i).tokens ≡ 0
-          → claims_on group (part_item i).claims ≤ sum_by weight (part_item i).tokens
-      item_few (item.Push message) h none = message_few message h none
-      item_few (item.Report r) h none = omega (arith, report_few h.number r h.flow h.ran, at_place r.slot h.number r.place h.place)
-      item_few (item.Ended slot) h none = omega arith
-      item_few (item.Commit commit) h none = absurd (omega (arith, none))
-      item_few (item.Reply told) h none = omega arith
+    item_few : (i : Item J) → IsSoundItem shared (λ slot. u) i → sum_by weigh_other (part_item i).tokens ≡ 0
+        → claims_on group (part_item i).claims ≤ sum_by weight (part_item i).tokens
+    item_few (item.Push message) h none = message_few message h none
+    item_few (item.Report r) h none = omega (arith, report_few h.number r h.flow h.ran, at_place r.slot h.number r.place h.place)
+    item_few (item.Ended slot) h none = omega arith
+    item_few (item.Commit commit) h none = absurd (omega (arith, none))
+    item_few (item.Reply told) h none = omega arith
 
-      items_few : (items : List (Item J))
-          → All (IsSoundItem shared log (λ slot. u)) items → sum_by weigh_other (parts part_item items).tokens ≡ 0
-          → claims_on group (parts part_item items).claims ≤ sum_by weight (parts part_item items).tokens
-      items_few [] h none = omega arith
-      items_few (i ∷ items) h none =
-          let p = part_item i in
-          let rest = parts part_item items in
-          let both = sum_by-append weigh_other p.tokens rest.tokens in
-          omega (
-            arith,
-            item_few i (All-head (IsSoundItem shared log (λ slot. u)) i items h) (omega (arith, none, both)),
-            items_few items (All-tail (IsSoundItem shared log (λ slot. u)) i items h) (omega (arith, none, both)),
-            sum_by-append weight p.tokens rest.tokens,
-            sum_by-append (one_claim_on group) p.claims rest.claims,
-          )
+    items_few : (items : List (Item J))
+        → All (IsSoundItem shared (λ slot. u)) items → sum_by weigh_other (parts part_item items).tokens ≡ 0
+        → claims_on group (parts part_item items).claims ≤ sum_by weight (parts part_item items).tokens
+    items_few [] h none = omega arith
+    items_few (i ∷ items) h none =
+        let p = part_item i in
+        let rest = parts part_item items in
+        let both = sum_by-append weigh_other p.tokens rest.tokens in
+        omega (
+          arith,
+          item_few i (All-head (IsSoundItem shared (λ slot. u)) i items h) (omega (arith, none, both)),
+          items_few items (All-tail (IsSoundItem shared (λ slot. u)) i items h) (omega (arith, none, both)),
+          sum_by-append weight p.tokens rest.tokens,
+          sum_by-append (one_claim_on group) p.claims rest.claims,
+        )
 
     -- those of the phase that are awaited weigh, with what the others have reported, no more than the phase claims and holds
     phase_few : (slot n k : ℕ) (slots : List (Option (Report J))) (works : List Work) → IsPlaceOf u k n → length slots ≡ length works
@@ -322,7 +321,7 @@ module _ {J : Type 0} (once : TransactionsClaimEachGroupOnce) (shared : Shared) 
       (λ is. ap all_at (sym (exact_unsigned_eq slot m is)))
       (λ other. absurd (omega (arith, none, ap {B = ℕ} (λ b. cond b 0 1) other))) in
       let inbox = messages_stay shared g all_at (λ n. u) same rest (omega (arith, weighed (weigh_slots g), none_away)) hand.0.inbox in
-      let outbox = items_stay shared g all_at (λ n. u) same w.log w.outbox (omega (arith, weighed (weigh_slots g), none_away)) hand.0.outbox in
+      let outbox = items_stay shared g all_at (λ n. u) same w.outbox (omega (arith, weighed (weigh_slots g), none_away)) hand.0.outbox in
       let no_other = no_acting weigh_other slot (λ n. refl) (awaited_from at.0 at.1.0) in
       let told : (i : ℕ) (r : Report J)
       → slice_get at.1.0 i ≡ Some (Some r) → claims_on group (claims_reported r) ≤ own u group (0 + i) = λ i r there.
@@ -347,7 +346,7 @@ module _ {J : Type 0} (once : TransactionsClaimEachGroupOnce) (shared : Shared) 
         claimed_once once shared u group phase.reached,
         phase_few u group shared slot at.0 0 at.1.0 (works_of u.progress) (omega (arith, phase.first_is)) phase.many from_zero told,
         messages_few u group shared rest inbox (omega (arith, weighed weigh_other, no_other)),
-        items_few u group shared w.log w.outbox outbox (omega (arith, weighed weigh_other, no_other)),
+        items_few u group shared w.outbox outbox (omega (arith, weighed weigh_other, no_other)),
         weighed (weight u group),
         sum_by-IsPermutation (one_claim_on group) met_all.claims (met_own.claims ++ met_else.claims) met_apart_is.claims,
         sum_by-append (one_claim_on group) met_own.claims met_else.claims,

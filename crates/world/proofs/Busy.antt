@@ -4,7 +4,6 @@ use Rattle.std.specs.Prelude.{count_by, is_some}
 use Rattle.std.specs.List.{slice_get}
 use Rattle.partitions.specs.Parts.{Shared}
 use Rattle.requests.specs.declared.request.Request.{Request}
-use Rattle.requests.specs.declared.answer.Answer.TheVariants.{Refused}
 use Rattle.requests.specs.declared.refusal.Refusal.{Refusal}
 use Rattle.requests.specs.declared.refusal.Refusal.TheVariants.{SessionBusy}
 use Rattle.requests.specs.Check.{check_of}
@@ -32,7 +31,7 @@ never_busy shared asked is = absurd (omega (arith, refused_by_itself shared.scal
 module _ {J : Type 0} where
   -- where its pass is at the desk a session isn't told that it waits
   here_not_busy : (room : Bool) (shared : Shared) (asked : Request) (pass : Passing) (active : Bool) (session number : ℕ) (desk : SessionDesk J) (old new : Parts J) (answer : EventAnswer)
-      → SubmitsUnless room (refuses (Some pass) (check_of shared.scale asked) active) session number asked desk old answer new → answer ≡ Answered session number (Refused SessionBusy) → ⊥
+      → SubmitsUnless room (refuses (Some pass) (check_of shared.scale asked) active) session number asked desk old answer new → answer ≡ Answered session number (Err SessionBusy) → ⊥
   here_not_busy room shared asked pass active session number desk old new answer said is = by_check (check_of shared.scale asked) active refl said
     where
       into : (can : Bool) → SubmitsInto can session number asked desk old answer new → ⊥
@@ -50,7 +49,7 @@ module _ {J : Type 0} where
   busy_of : (room : Bool) (shared : Shared) (w : Parts J) (h : IsSoundWith shared nothing w) (old new : Parts J) (session number : ℕ) (asked : Request) (answer : EventAnswer) (desk : SessionDesk J) (pass : Option Passing) → desk.pass ≡ pass
       → slice_get w.desk.sessions.items session ≡ Some desk
       → SubmitsUnless room (refuses pass (check_of old.catalog.scale asked) (is_full old.desk.active)) session number asked desk old answer new
-      → (answer ≡ Answered session number (Refused SessionBusy)) ↔ (1 ≤ count_by (is_of session) (flight w).pending)
+      → (answer ≡ Answered session number (Err SessionBusy)) ↔ (1 ≤ count_by (is_of session) (flight w).pending)
   busy_of room shared w h old new session number asked answer desk None is there said =
       (λ told. omega (arith, h.balance.alone session desk there, ap (λ (o : Option Passing). cond {A = ℕ} (is_some o) 1 0) is), λ some. said.0)
   busy_of room shared w h old new session number asked answer desk (Some pass) is there said = (

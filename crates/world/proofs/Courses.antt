@@ -63,24 +63,23 @@ module _ {J : Type 0} (shared : Shared) (g : ℕ → ℕ) (at bt : Courses) (sam
       (message_stays message (omega (arith, none, both)) (All-head (IsSoundMessage shared at) message messages h))
       (messages_stay messages (omega (arith, none, both)) (All-tail (IsSoundMessage shared at) message messages h))
 
-  module _ (log : List Entry) where
-    pub item_stays : (i : Item J) → sum_by (weigh_slots g) (part_item i).tokens ≡ 0 → IsSoundItem shared log at i → IsSoundItem shared log bt i
-    item_stays (item.Push message) none h = message_stays message none h
-    item_stays (item.Report r) none h =
-        let weightless : g r.slot ≡ 0 = omega (arith, none, sum_by-cons (weigh_slots g) (Acting r.slot r.place) []) in
-        subst (λ u. IsSoundReport shared u r) (same r.slot weightless) h
-    item_stays (item.Ended slot) none h = tt
-    item_stays (item.Commit commit) none h =
-        let slot = commit.transaction.slot in
-        let weightless : g slot ≡ 0 = omega (arith, none, sum_by-cons (weigh_slots g) (Committing slot) []) in
-        subst (λ u. IsSoundCommit shared u commit) (same slot weightless) h
-    item_stays (item.Reply told) none h = h
+  pub item_stays : (i : Item J) → sum_by (weigh_slots g) (part_item i).tokens ≡ 0 → IsSoundItem shared at i → IsSoundItem shared bt i
+  item_stays (item.Push message) none h = message_stays message none h
+  item_stays (item.Report r) none h =
+      let weightless : g r.slot ≡ 0 = omega (arith, none, sum_by-cons (weigh_slots g) (Acting r.slot r.place) []) in
+      subst (λ u. IsSoundReport shared u r) (same r.slot weightless) h
+  item_stays (item.Ended slot) none h = tt
+  item_stays (item.Commit commit) none h =
+      let slot = commit.transaction.slot in
+      let weightless : g slot ≡ 0 = omega (arith, none, sum_by-cons (weigh_slots g) (Committing slot) []) in
+      subst (λ u. IsSoundCommit shared u commit) (same slot weightless) h
+  item_stays (item.Reply told) none h = h
 
-    pub items_stay : (items : List (Item J)) → sum_by (weigh_slots g) (parts part_item items).tokens ≡ 0
-        → All (IsSoundItem shared log at) items → All (IsSoundItem shared log bt) items
-    items_stay [] none h = All-nil (IsSoundItem shared log bt)
-    items_stay (i ∷ items) none h =
-        let both = sum_by-append (weigh_slots g) (part_item i).tokens (parts part_item items).tokens in
-        All-cons (IsSoundItem shared log bt) i items
-        (item_stays i (omega (arith, none, both)) (All-head (IsSoundItem shared log at) i items h))
-        (items_stay items (omega (arith, none, both)) (All-tail (IsSoundItem shared log at) i items h))
+  pub items_stay : (items : List (Item J)) → sum_by (weigh_slots g) (parts part_item items).tokens ≡ 0
+      → All (IsSoundItem shared at) items → All (IsSoundItem shared bt) items
+  items_stay [] none h = All-nil (IsSoundItem shared bt)
+  items_stay (i ∷ items) none h =
+      let both = sum_by-append (weigh_slots g) (part_item i).tokens (parts part_item items).tokens in
+      All-cons (IsSoundItem shared bt) i items
+      (item_stays i (omega (arith, none, both)) (All-head (IsSoundItem shared at) i items h))
+      (items_stay items (omega (arith, none, both)) (All-tail (IsSoundItem shared at) i items h))

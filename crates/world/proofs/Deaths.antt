@@ -5,8 +5,6 @@ use Rattle.std.specs.List.{slice_get}
 use Rattle.std.proofs.lemmas.List.Elements.{All-contains, Contains-append_left, Contains-append_right, Contains-get_or}
 use Rattle.partitions.specs.Parts.{Shared}
 use Rattle.schema.specs.declared.scale.Scale.{Scale}
-use Rattle.requests.specs.declared.answer.Answer.{Answer}
-use Rattle.requests.specs.declared.answer.Answer.TheVariants.{Refused}
 use Rattle.requests.specs.declared.group.Group.{Group}
 use Rattle.requests.specs.declared.refusal.Refusal.{Refusal}
 use Rattle.requests.specs.declared.refusal.Refusal.TheVariants.{Died}
@@ -49,7 +47,7 @@ never_died scale asked group holder is = absurd (omega (arith, refused_by_itself
 
 -- it is answered so
 abbrev IsDeath : ℕ → ℕ → Group → ℕ → EventAnswer → Type 0
-IsDeath session number group holder answer = answer ≡ Answered session number (Refused (Died group holder))
+IsDeath session number group holder answer = answer ≡ Answered session number (Err (Died group holder))
 
 -- one of these transactions without an answer is refused so
 abbrev IsRefused : ℕ → ℕ → Group → ℕ → List Unanswered → Type 0
@@ -87,17 +85,17 @@ module _ {J : Type 0} (session number : ℕ) (group : Group) (holder : ℕ) wher
   pushed true m old new answer said is = let e = said.0 in absurd (cc)
   pushed false m old new answer said is = let e = said.0 in absurd (cc)
 
-  sent_of : (shared : Shared) (log : List Entry) (at : Courses) (i : Item J) (old new : Parts J) (answer : EventAnswer) → IsSoundItem shared log at i → SendsItem i old answer new → IsDeath session number group holder answer → IsRefused session number group holder (part_item i).pending
-  sent_of shared log at (item.Push m) old new answer fine said is = absurd (pushed (nat_lt (length old.inbox) 1024) m old new answer said is)
-  sent_of shared log at (item.Report r) old new answer fine said is = let e = said.0 in absurd (cc)
-  sent_of shared log at (item.Ended slot) old new answer fine said is = let e = said.0 in absurd (cc)
-  sent_of shared log at (item.Commit commit) old new answer fine said is = absurd (subst (λ (a : EventAnswer). Commits commit old a new) is said)
-  sent_of shared log at (item.Reply told) old new answer fine said is =
+  sent_of : (shared : Shared) (at : Courses) (i : Item J) (old new : Parts J) (answer : EventAnswer) → IsSoundItem shared at i → SendsItem i old answer new → IsDeath session number group holder answer → IsRefused session number group holder (part_item i).pending
+  sent_of shared at (item.Push m) old new answer fine said is = absurd (pushed (nat_lt (length old.inbox) 1024) m old new answer said is)
+  sent_of shared at (item.Report r) old new answer fine said is = let e = said.0 in absurd (cc)
+  sent_of shared at (item.Ended slot) old new answer fine said is = let e = said.0 in absurd (cc)
+  sent_of shared at (item.Commit commit) old new answer fine said is = absurd (subst (λ (a : EventAnswer). Commits commit old a new) is said)
+  sent_of shared at (item.Reply told) old new answer fine said is =
       let e = said.0 in
       let session_is : told.pass.session ≡ session = cc in
       let number_is : told.number ≡ number = cc in
-      let answer_is : told.answer ≡ Refused (Died group holder) = cc in
-      let fair = subst (λ (a : Answer). AnswersOlder (groups_of (footprint told.pass.asks.request)) told.age a) answer_is fine.1.1.1 in
+      let answer_is : told.answer ≡ Err (Died group holder) = cc in
+      let fair = subst (λ (a : Result ℕ Refusal). AnswersOlder (groups_of (footprint told.pass.asks.request)) told.age a) answer_is fine.1.1 in
       (unanswered_reply told, (contains_here (unanswered_reply told) [], record { session_is = session_is; number_is = fine.1.0 ∙ number_is; of_footprint = fair.0; older = fair.1 }))
 
   delivered_of : (room : Bool) (executor : ℕ) (l : Letter J) (old new : Core J) (answer : EventAnswer) → Delivers room executor l old answer new → IsDeath session number group holder answer → ⊥
@@ -115,8 +113,8 @@ module _ {J : Type 0} (session number : ℕ) (group : Group) (holder : ℕ) wher
       let own : Contains (queue_of executor w.outboxes) (posted.Item i) = subst (λ (q : List (Posted J)). Contains q (posted.Item i)) (sym first) (contains_here (posted.Item i) rest) in
       let stands : Contains (all_of w.outboxes) (posted.Item i) = contains_joined (λ q. q) w.outboxes (queue_of executor w.outboxes) (posted.Item i) queue own in
       let there : Contains all.outbox i = contains_joined items_of (all_of w.outboxes) (posted.Item i) i stands (contains_here i []) in
-      let fine = All-contains (IsSoundItem shared all.log h.all.under_way) all.outbox i h.all.outbox there in
-      let one = sent_of shared all.log h.all.under_way i left.parts said.0 answer fine said.1.0 is in
+      let fine = All-contains (IsSoundItem shared h.all.under_way) all.outbox i h.all.outbox there in
+      let one = sent_of shared h.all.under_way i left.parts said.0 answer fine said.1.0 is in
       let in_outbox = parts part_item all.outbox in
       let in_meeting = parts part_met (reported_to_all all.desk.active) in
       let whole = Contains-append_right (parts part_message all.inbox).pending (in_outbox.pending ++ in_meeting.pending) one.0
@@ -131,11 +129,11 @@ module _ {J : Type 0} (session number : ℕ) (group : Group) (holder : ℕ) wher
 
 module _ {J : Type 0} where
   taken_first : (executor : ℕ) (letters : List (Letter J)) (old new : Core J) (answer : EventAnswer) (session number : ℕ) (group : Group) (holder : ℕ)
-      → TakesFirst executor letters old answer new → answer ≡ Answered session number (Refused (Died group holder)) → ⊥
+      → TakesFirst executor letters old answer new → answer ≡ Answered session number (Err (Died group holder)) → ⊥
   taken_first executor [] old new answer session number group holder said is = let e = said.0 in absurd (cc)
   taken_first executor (l ∷ rest) old new answer session number group holder said is = let e = said.0 in absurd (cc)
 
-  ordered_of : (order : MoveOrder) (old new : Core J) (answer : EventAnswer) (session number : ℕ) (group : Group) (holder : ℕ) → Orders order old answer new → answer ≡ Answered session number (Refused (Died group holder)) → ⊥
+  ordered_of : (order : MoveOrder) (old new : Core J) (answer : EventAnswer) (session number : ℕ) (group : Group) (holder : ℕ) → Orders order old answer new → answer ≡ Answered session number (Err (Died group holder)) → ⊥
   ordered_of order old new answer session number group holder (inl said) is = let e = said.1.0 in absurd (cc)
   ordered_of order old new answer session number group holder (inr said) is = let e = said.1.0 in absurd (cc)
 

@@ -65,7 +65,7 @@ module _ {J : Type 0} where
   has_home shared u (message.Settle slot claims) h = some_claims claims h.0.1
   has_home shared u (message.Undo slot claims) h = some_claims claims h.0.1
 
-  pub has_home_in : (shared : Shared) (u : Courses) (w : Parts J) (i : Item J) → IsSoundItem shared w.log u i → HasHomeIn i
+  pub has_home_in : (shared : Shared) (u : Courses) (w : Parts J) (i : Item J) → IsSoundItem shared u i → HasHomeIn i
   has_home_in shared u w (item.Push m) h = has_home shared u m h
   has_home_in shared u w (item.Report r) h = tt
   has_home_in shared u w (item.Ended slot) h = tt

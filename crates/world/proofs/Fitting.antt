@@ -1,5 +1,5 @@
 -- What each kind of event does to a history that fits.
-use Rattle.std.proofs.Common.{◌≡◌, ℕ, ◌+◌, List, [], ◌∷◌, ◌++◌, length, None, refl, sym, ◌∙◌, ap, subst}
+use Rattle.std.proofs.Common.{◌≡◌, ℕ, ◌+◌, List, [], ◌∷◌, ◌++◌, length, None, Result, refl, sym, ◌∙◌, ap, subst}
 use Rattle.std.specs.Prelude.{All, count_by}
 use Rattle.std.specs.List.Sorted.{IsPermutation}
 use Rattle.std.proofs.lemmas.List.Elements.{All-append, All-cons, All-tail, All-weaker, Contains-append_left, Contains-push}
@@ -9,7 +9,7 @@ use Rattle.requests.specs.declared.group.Group.{Group}
 use Rattle.requests.specs.declared.request.Request.{Request}
 use Rattle.requests.specs.declared.reply.Reply.{Reply}
 use Rattle.requests.specs.declared.reply.Reply.TheVariants as reply
-use Rattle.requests.specs.declared.answer.Answer.{Answer}
+use Rattle.requests.specs.declared.refusal.Refusal.{Refusal}
 use Rattle.groups.specs.Content.{Content, content}
 use Rattle.tickets.specs.Claims.{Claiming}
 use Rattle.tickets.specs.Committed.{AreCommitted, Standing, TellsContent, TellsHere, Tells}
@@ -126,7 +126,7 @@ module _ (opening : Database) (history : List Step) (log : List Entry) where
   }
 
   -- a session is answered
-  pub fits_answer : (slices : Joined) (admitted : ℕ) (claims : List Claiming) (u : Unanswered) (rest : InFlight) (executor : ℕ) (answer : Answer) → IsAnswerTo log u answer
+  pub fits_answer : (slices : Joined) (admitted : ℕ) (claims : List Claiming) (u : Unanswered) (rest : InFlight) (executor : ℕ) (answer : Result ℕ Refusal) → IsAnswerTo u answer
       → FitsPart opening history log slices admitted (part claims (u ∷ rest.pending) rest.tokens)
       → FitsPart opening (history ++ step (Send executor) (Answered u.session u.number answer) ∷ []) log slices admitted (part claims rest.pending rest.tokens)
   fits_answer slices admitted claims u rest executor answer is h = record {

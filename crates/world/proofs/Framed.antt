@@ -1,5 +1,5 @@
 -- What an event does with one executor's queues in hand, it does with all queues as one.
-use Rattle.std.proofs.Common.{◌≡◌, inl, inr, ℕ, Bool, true, false, List, [], ◌∷◌, ◌++◌, length, Option, Some, None, refl, sym, ◌∙◌, ap, subst, append_assoc, nat_lt, ⊎_elim}
+use Rattle.std.proofs.Common.{◌≡◌, inl, inr, ℕ, Bool, true, false, List, [], ◌∷◌, ◌++◌, length, Option, Some, None, Ok, Err, refl, sym, ◌∙◌, ap, subst, append_assoc, nat_lt, ⊎_elim}
 use Rattle.std.specs.Prelude.{map}
 use Rattle.std.specs.List.{slice_get}
 use Rattle.partitions.specs.Parts.{Shared}
@@ -9,7 +9,6 @@ use Rattle.history.specs.declared.event.Event.TheVariants.{Submit}
 use Rattle.history.specs.declared.event.EventAnswer.{EventAnswer}
 use Rattle.history.specs.declared.event.EventAnswer.TheVariants.{Accepted, Ordered, Took, Sent, Full, Logged, Moved, Answered, Nothing}
 use Rattle.history.specs.History.{step}
-use Rattle.requests.specs.declared.answer.Answer.TheVariants.{Done, Refused}
 use Rattle.transactions.specs.declared.progress.Gathered.{Gathered}
 use Rattle.transactions.specs.declared.progress.Gathered.TheVariants.{Next, Finish, RollBack}
 use Rattle.transactions.specs.declared.progress.Progress.{Progress}
@@ -79,12 +78,12 @@ module _ {J : Type 0} (messages : List (Message J)) (items : List (Item J)) wher
   logs_framed commit w =
       let t = commit.transaction in
       let pass = after_item t.pass (item_of (length w.log) t.number t.request commit.reply) in
-      let released : Release J = release t pass (Done (length w.log) commit.reply) (map (claims_logged commit.reply) t.held) in
+      let released : Release J = release t pass (Ok (length w.log)) (map (claims_logged commit.reply) t.held) in
       (λ i. record (logging commit (framed w)) { outbox = sym (append_assoc items w.outbox (items_released (is_settled commit.reply) released)) i })
 
   commits_framed : (commit : CommitItem J) (old new : Parts J) (answer : EventAnswer) → Commits commit old answer new → Commits commit (framed old) answer (framed new)
   commits_framed commit old new (Logged place) said = (said.0, (said.1.0, ap framed said.1.1 ∙ logs_framed commit old))
-  commits_framed commit old new Sent said = (said.0, (said.1.0, (said.1.1.0, ap framed said.1.1.1 ∙ puts_framed _ _ _ old)))
+  commits_framed commit old new Sent said = (said.0, (said.1.0, ap framed said.1.1 ∙ puts_framed _ _ _ old))
   commits_framed commit old new (Accepted age) said = absurd said
   commits_framed commit old new Took said = absurd said
   commits_framed commit old new Full said = absurd said
@@ -99,7 +98,7 @@ module _ {J : Type 0} (messages : List (Message J)) (items : List (Item J)) wher
   pushes_framed false m old new answer said =
       (said.0, ap framed said.1 ∙ (λ i. record (framed old) { outbox = sym (append_assoc items old.outbox (item.Push m ∷ [])) i }))
 
-  pub sends_framed : (shared : Shared) (old new : Parts J) (i : Item J) (answer : EventAnswer) (h : IsSoundWith shared (part_item i) (framed old)) → IsSoundItem shared old.log h.under_way i
+  pub sends_framed : (shared : Shared) (old new : Parts J) (i : Item J) (answer : EventAnswer) (h : IsSoundWith shared (part_item i) (framed old)) → IsSoundItem shared h.under_way i
       → SendsItem i old answer new → SendsOn shared (part_item i) (framed old) answer (framed new)
   sends_framed shared old new (item.Push m) answer h s said =
       sends_push shared (framed old) (framed new) m answer (nat_lt (length old.inbox) 1024) h s (pushes_framed (nat_lt (length old.inbox) 1024) m old new answer said)
@@ -159,7 +158,7 @@ module _ {J : Type 0} (messages : List (Message J)) (items : List (Item J)) wher
       → IsSoundWith shared nothing (framed new) × Advances (framed old) (step (Submit session number asked) answer ∷ []) (framed new)
   unless_submitted room shared old new h session number asked desk answer there (Some why) is said = (
     subst (λ w. IsSoundWith shared nothing (framed w)) (sym said.1) h,
-    stays (framed old) (framed new) (Submit session number asked) (Answered session number (Refused why)) answer tt (said.0, ap framed said.1),
+    stays (framed old) (framed new) (Submit session number asked) (Answered session number (Err why)) answer tt (said.0, ap framed said.1),
   )
   unless_submitted room shared old new h session number asked desk answer there None is said =
       submits_into shared (framed old) (framed new) h session number asked desk answer there is (can_admit room old)

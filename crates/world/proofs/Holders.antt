@@ -243,15 +243,15 @@ module _ {J : Type 0} where
           (λ (done : Contains (claims_of_ran r.ran) c). acting_active slot place some (All-contains (IsAged (at slot).age) (claims_of_ran r.ran) c (ran_aged shared (at slot) number r.ran ran) done))
           (Contains-append_cases (part_carried r.flow).claims (claims_of_ran r.ran) c is)
 
-      item_active : (log : List Entry) (i : Item J) → IsSoundItem shared log at i → AreAwaited (part_item i).tokens → Contains (part_item i).claims c → IsActiveAt at slots c.by.age
-      item_active log (item.Push m) h awaits is = message_active m h awaits is
-      item_active log (item.Report r) h awaits is = reported_active r.slot r.place h.number r (one_acting r.slot r.place awaits) h.flow h.ran is
-      item_active log (item.Ended slot) h awaits is = contains_none c is
-      item_active log (item.Commit commit) h awaits is =
+      item_active : (i : Item J) → IsSoundItem shared at i → AreAwaited (part_item i).tokens → Contains (part_item i).claims c → IsActiveAt at slots c.by.age
+      item_active (item.Push m) h awaits is = message_active m h awaits is
+      item_active (item.Report r) h awaits is = reported_active r.slot r.place h.number r (one_acting r.slot r.place awaits) h.flow h.ran is
+      item_active (item.Ended slot) h awaits is = contains_none c is
+      item_active (item.Commit commit) h awaits is =
           let slot = commit.transaction.slot in
           let there = commit_under_way slot slots (omega (arith, awaits (weigh_committing slot), sum_by-cons (weigh_committing slot) (Committing slot) [], one_weighs slot)) in
           (slot, (active.Committing, (there, All-contains (IsAged (at slot).age) (all_claims commit.transaction.held) c (all_aged (at slot).age commit.transaction.held h.undo) is)))
-      item_active log (item.Reply told) h awaits is = contains_none c is
+      item_active (item.Reply told) h awaits is = contains_none c is
 
   -- a claim that is out is a transaction's that is active
   pub holder_active : (shared : Shared) (w : Parts J) (h : IsSoundWith shared nothing w) (c : Claiming) → Contains (flight w).claims c → IsActiveAt h.under_way w.desk.active c.by.age
@@ -280,7 +280,7 @@ module _ {J : Type 0} where
       ⊎_elim
       (λ (own : Contains in_outbox.claims c).
       let one = whose_claim part_item w.outbox c own in
-      item_active shared at slots c sound w.log one.0 (All-contains (IsSoundItem shared w.log at) w.outbox one.0 h.outbox one.1.0)
+      item_active shared at slots c sound one.0 (All-contains (IsSoundItem shared at) w.outbox one.0 h.outbox one.1.0)
       (λ weight. omega (arith, tokens weight, one_of_all part_item weight w.outbox one.0 one.1.0)) one.1.1)
       (λ (own : Contains in_meeting.claims c). of_met shared at slots sound c own)
       (Contains-append_cases in_outbox.claims in_meeting.claims c others))

@@ -71,7 +71,7 @@ module _ {J : Type 0} where
             subst (λ v. Fits opening (history ++ step (Send executor) (Logged place) ∷ []) v) (sym said.1.1)
             (subst (λ n. Fits opening (history ++ step (Send executor) (Logged n) ∷ []) (logging commit w)) (sym said.0) (both.1 opening history executor f));
       }
-  sends_commit shared w new commit Sent h s said = quietly shared (part_item (item.Commit commit)) w _ new Sent (refusing_goes_on shared w commit h s said.0) refl said.1.1.1
+  sends_commit shared w new commit Sent h s said = quietly shared (part_item (item.Commit commit)) w _ new Sent (refusing_goes_on shared w commit h s said.0) refl said.1.1
   sends_commit shared w new commit (Accepted age) h s said = absurd said
   sends_commit shared w new commit Took h s said = absurd said
   sends_commit shared w new commit Full h s said = absurd said
@@ -97,7 +97,7 @@ module _ {J : Type 0} where
         ),
       )
 
-  pub sends_on : (shared : Shared) (w new : Parts J) (i : Item J) (answer : EventAnswer) (h : IsSoundWith shared (part_item i) w) → IsSoundItem shared w.log h.under_way i
+  pub sends_on : (shared : Shared) (w new : Parts J) (i : Item J) (answer : EventAnswer) (h : IsSoundWith shared (part_item i) w) → IsSoundItem shared h.under_way i
       → SendsItem i w answer new → SendsOn shared (part_item i) w answer new
   sends_on shared w new (item.Push message) answer h s said = sends_push shared w new message answer (nat_lt (length w.inbox) 1024) h s said
   sends_on shared w new (item.Report r) answer h s said =

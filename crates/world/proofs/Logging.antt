@@ -1,5 +1,5 @@
 -- A transaction is logged, or refused by the log.
-use Rattle.std.proofs.Common.{◌≡◌, ℕ, ◌<◌, ◌≤◌, Bool, false, List, [], ◌∷◌, ◌++◌, length, Some, None, refl, sym, ◌∙◌, ap, subst}
+use Rattle.std.proofs.Common.{◌≡◌, ℕ, ◌<◌, ◌≤◌, Bool, false, List, [], ◌∷◌, ◌++◌, length, Some, None, Ok, Err, refl, sym, ◌∙◌, ap, subst}
 use Rattle.std.specs.Prelude.{All, map}
 use Rattle.std.specs.List.{slice_get}
 use Rattle.std.proofs.lemmas.List.{length-map, map-append}
@@ -8,8 +8,6 @@ use Rattle.partitions.specs.Parts.{Shared}
 use Rattle.schema.specs.Database.{Database}
 use Rattle.requests.specs.declared.reply.Reply.{Reply}
 use Rattle.requests.specs.declared.reply.Reply.TheVariants as reply
-use Rattle.requests.specs.declared.answer.Answer.{Answer}
-use Rattle.requests.specs.declared.answer.Answer.TheVariants.{Done, Refused}
 use Rattle.requests.specs.declared.group.Group.{Group}
 use Rattle.groups.specs.Footprint.{footprint, groups_of}
 use Rattle.groups.specs.Groups.{warehouse_of}
@@ -25,7 +23,6 @@ use Rattle.history.specs.declared.event.Event.TheVariants.{Send}
 use Rattle.history.specs.declared.event.EventAnswer.TheVariants.{Logged}
 use Rattle.history.specs.History.{Step, step, Unanswered}
 use Rattle.history.specs.Laws.{with_place}
-use Rattle.history.proofs.Recorded.{slice_get-front, slice_get-last}
 use Rattle.slices.specs.Sliced.{AreAllHeld, AreOfOneHome, IsClaimAt}
 use Rattle.transactions.specs.Acting.{CanBeSettled}
 use Rattle.transactions.specs.declared.laws.TheConstants.{MOST_ACTIONS}
@@ -37,7 +34,7 @@ use Rattle.world.specs.declared.sending.Release.{Release}
 use Rattle.world.specs.declared.world.Parts.{Parts}
 use Rattle.world.specs.Parted.{AreUndoneBy, IsAged, joined_in}
 use Rattle.world.specs.Flights.{Committing, InFlight, part, nothing, join, part_item, unanswered_transaction}
-use Rattle.world.specs.Sound.{Courses, NamesOlder, IsSoundWith, IsSoundItem, IsSoundCommit, IsAnswerIn, awaited_by_all, flight}
+use Rattle.world.specs.Sound.{Courses, NamesOlder, IsSoundWith, IsSoundCommit, awaited_by_all, flight}
 use Rattle.world.specs.Following.{entry_of, is_settled, release, releasing}
 use Rattle.world.specs.Events.{logging, refusing, why_refused}
 use Rattle.world.specs.Worlds.{FitsPart, Fits, IsAcceptedIn, IsClaimOf}
@@ -50,12 +47,6 @@ use Rattle.world.proofs.Puts.{AreServed, GoesOn, Rests, rests_of}
 use Rattle.world.proofs.Releases.{AreGiven, unanswered_release, releases_fits, releases_sound}
 use Rattle.world.proofs.Reporting.{served_same}
 use Rattle.tickets.proofs.Committed.{All-front}
-
--- ---- the log grows
-
-answer_in_more : (log : List Entry) (entry : Entry) (answer : Answer) → IsAnswerIn log answer → IsAnswerIn (log ++ entry ∷ []) answer
-answer_in_more log entry (Done place shown) h = (h.0, (slice_get-front log (entry ∷ []) place h.0 h.1.0, h.1.1))
-answer_in_more log entry (Refused refusal) h = tt
 
 -- ---- the claims of what is logged
 
@@ -128,28 +119,21 @@ refused_pass fault.NoMemory entries pass = (refl, refl)
 refused_pass fault.LogFull entries pass = (refl, refl)
 
 module _ {J : Type 0} where
-  item_in_more : (shared : Shared) (log : List Entry) (u : Courses) (entry : Entry) (i : Item J) → IsSoundItem shared log u i → IsSoundItem shared (log ++ entry ∷ []) u i
-  item_in_more shared log u entry (item.Push message) h = h
-  item_in_more shared log u entry (item.Report r) h = h
-  item_in_more shared log u entry (item.Ended slot) h = h
-  item_in_more shared log u entry (item.Commit commit) h = h
-  item_in_more shared log u entry (item.Reply told) h = (h.0, (h.1.0, (answer_in_more log entry told.answer h.1.1.0, h.1.1.1)))
-
   -- ---- the commit
 
   -- the log has the entry, and what the claims are then is given back
-  pub logs : (commit : CommitItem J) (w : Parts J) (place : ℕ) (pass : Passing) (shown : Reply) (settle : Bool) (session : ℕ) (log : List Entry) (held : List (List Claiming))
+  pub logs : (commit : CommitItem J) (w : Parts J) (place : ℕ) (pass : Passing) (settle : Bool) (session : ℕ) (log : List Entry) (held : List (List Claiming))
       → (let t = commit.transaction in
-      session ≡ t.pass.session → place ≡ length w.log → pass ≡ after_item t.pass (item_of place t.number t.request commit.reply) → shown ≡ commit.reply → settle ≡ is_settled commit.reply
+      session ≡ t.pass.session → place ≡ length w.log → pass ≡ after_item t.pass (item_of place t.number t.request commit.reply) → settle ≡ is_settled commit.reply
       → log ≡ w.log ++ record { session = session; number = t.number; request = t.request; reply = commit.reply } ∷ [] → held ≡ map (claims_logged commit.reply) t.held
-      → releasing settle (release t pass (Done place shown) held) (record w { log = log }) ≡ logging commit w)
-  logs commit w place pass shown settle session log held session_is place_is pass_is shown_is settle_is log_is held_is =
+      → releasing settle (release t pass (Ok place) held) (record w { log = log }) ≡ logging commit w)
+  logs commit w place pass settle session log held session_is place_is pass_is settle_is log_is held_is =
       let t = commit.transaction in
       let passes : pass ≡ after_item t.pass (item_of (length w.log) t.number t.request commit.reply) =
       pass_is ∙ ap (λ n. after_item t.pass (item_of n t.number t.request commit.reply)) place_is in
       let longer : log ≡ w.log ++ entry_of commit ∷ [] =
       log_is ∙ ap (λ (n : ℕ). w.log ++ record { session = n; number = t.number; request = t.request; reply = commit.reply } ∷ []) session_is in
-      λ i. releasing (settle_is i) (release t (passes i) (Done (place_is i) (shown_is i)) (held_is i)) (record w { log = longer i })
+      λ i. releasing (settle_is i) (release t (passes i) (Ok (place_is i)) (held_is i)) (record w { log = longer i })
 
   module _ (shared : Shared) (w : Parts J) (commit : CommitItem J) (h : IsSoundWith shared (part_item (item.Commit commit)) w) (s : IsSoundCommit shared (h.under_way commit.transaction.slot) commit) where
     abbrev slot : ℕ
@@ -185,7 +169,7 @@ module _ {J : Type 0} where
     refusing_goes_on why =
         let t = commit.transaction in
         let pass = after_refusal why (length w.log) t.pass in
-        let r : Release J = release t pass (Refused (why_refused why)) t.held in
+        let r : Release J = release t pass (Err (why_refused why)) t.held in
         let same = refused_pass why (length w.log) t.pass in
         let is : unanswered_release r ≡ unanswered_transaction t = λ i. record {
           age = t.age;
@@ -198,7 +182,7 @@ module _ {J : Type 0} where
         let pending : hand.pending ≡ unanswered_release r ∷ [] = ap (λ u. u ∷ []) (sym is) in
         record {
           sound = releases_sound shared h.under_way w hand false r rests (active.Committing, committing)
-              (subst (λ n. n < 64) (sym same.0) s.asked.session) (ap (λ asks. asks.number) same.1 ∙ s.asked.number) tt (tells_no_death (groups_of (footprint r.pass.asks.request)) r.age why)
+              (subst (λ n. n < 64) (sym same.0) s.asked.session) (ap (λ asks. asks.number) same.1 ∙ s.asked.number) (tells_no_death (groups_of (footprint r.pass.asks.request)) r.age why)
               s.undo s.few refl held_by_lots pending served;
           fits = λ opening history f. releases_fits opening history w hand false r below refl pending (fits_by_lots opening history f);
         }
@@ -215,7 +199,7 @@ module _ {J : Type 0} where
         let logged_w : Parts J = record w { log = log } in
         let pass = after_item t.pass (item_of place t.number t.request shown) in
         let held = map (claims_logged shown) t.held in
-        let r : Release J = release t pass (Done place shown) held in
+        let r : Release J = release t pass (Ok place) held in
         let u : Unanswered = with_place place (unanswered_transaction t) in
         let claims = claims_logged shown (all_claims t.held) in
         let hand : InFlight = part claims (u ∷ []) [] in
@@ -226,7 +210,7 @@ module _ {J : Type 0} where
           shared_is = rests.shared_is;
           slices = rests.slices;
           inbox = rests.inbox;
-          outbox = All-weaker (IsSoundItem shared w.log h.under_way) (IsSoundItem shared log h.under_way) (λ i sound. item_in_more shared w.log h.under_way entry i sound) w.outbox rests.outbox;
+          outbox = rests.outbox;
           slots = rests.slots;
           below = rests.below;
           others = rests.others;
@@ -235,7 +219,7 @@ module _ {J : Type 0} where
           sessions = rests.sessions;
           tokens = rests.tokens;
         } in (
-          releases_sound shared h.under_way logged_w hand settle r rests_logged (active.Committing, committing) s.asked.session s.asked.number (entry, (slice_get-last w.log entry, refl)) tt (all_logged_given shown (h.under_way slot).age t.held s.undo) few
+          releases_sound shared h.under_way logged_w hand settle r rests_logged (active.Committing, committing) s.asked.session s.asked.number tt (all_logged_given shown (h.under_way slot).age t.held s.undo) few
               (sym (logged_claims shown t.held)) (logged_held shown (joined_in w).holdings (all_claims t.held) others.claims held_by_lots) refl
               (record { alone = served.alone; many = served.many }),
           λ opening history executor f.

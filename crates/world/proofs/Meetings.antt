@@ -227,7 +227,7 @@ module _ {J : Type 0} where
 
         pub refuses : (why : Refusal) → NamesOlder (groups_of (footprint u.request)) u.age why → GoesOn shared (part_report r) w (releasing false (refused t why) w)
         refuses why fair = record {
-          sound = releases_sound shared h.under_way w hand false (refused t why) rests was asked.session asked.number tt
+          sound = releases_sound shared h.under_way w hand false (refused t why) rests was asked.session asked.number
               (subst (λ q. NamesOlder (groups_of (footprint q)) t.age why) (sym (asked.request ∙ sound_flow.request))
               (subst (λ n. NamesOlder (groups_of (footprint u.request)) n why) (sym sound_flow.age) fair)) (undo_of t.slot sound_flow.slot_is) few refl held_out refl served;
           fits = λ opening history f. releases_fits opening history w hand false (refused t why) below refl refl (fits_in_hand opening history f);
@@ -249,7 +249,7 @@ module _ {J : Type 0} where
             subst (λ n. IsSoundCommit shared (h.under_way n) (record { transaction = t; reply = shown })) (sym sound_flow.slot_is) sound in
             record {
               sound = puts_sound shared h.under_way t.slot w hand (one ∷ []) (Some active.Committing) rests was refl
-                  (All-cons (IsSoundItem shared w.log h.under_way) one [] sound_there (All-nil (IsSoundItem shared w.log h.under_way))) tt
+                  (All-cons (IsSoundItem shared h.under_way) one [] sound_there (All-nil (IsSoundItem shared h.under_way))) tt
                   (IsPermutation-refl (unanswered_transaction t ∷ [])) served
                   (subst (λ cs. IsPermutation (all_claims t.held) cs) (sym (append-nil (all_claims t.held))) (IsPermutation-refl (all_claims t.held))) held_out (λ weight. refl);
               fits = λ opening history f.
@@ -285,7 +285,7 @@ module _ {J : Type 0} where
             } in
             record {
               sound = puts_sound shared bt t.slot w hand (acts_of flow_now works) begun (rests_with shared h.under_way t.slot w v (λ x there. ap (λ n. (h.under_way n).age) (sym sound_flow.slot_is)) rests) was (none_reported (length works))
-                  (acts_fine shared w.log bt flow_now works (subst (λ x. IsSoundStart shared x flow_now works) (sym now) start))
+                  (acts_fine shared bt flow_now works (subst (λ x. IsSoundStart shared x flow_now works) (sym now) start))
                   (subst (λ x. IsSoundPhase {J = J} shared t.slot x (length t.held) (replicate (length works) None)) (sym now) phase)
                   (subst (λ (q : InFlight). IsPermutation (unanswered_transaction t ∷ []) q.pending) (sym acts) (IsPermutation-refl (unanswered_transaction t ∷ []))) served
                   (subst (λ (q : InFlight). IsPermutation (all_claims t.held) q.claims) (sym acts) (IsPermutation-refl (all_claims t.held))) held_out

@@ -224,7 +224,7 @@ module _ {J : Type 0} (shared : Shared) (w : Parts J) (h : IsSoundWith shared no
     -- a report in the outbox
     of_put : (r : Report J) → Contains w.outbox (item.Report r) → Contains (claims_reported r) c → Whose c
     of_put r there is =
-        let k : IsSoundReport shared (at r.slot) r = All-contains (IsSoundItem shared w.log at) w.outbox (item.Report r) h.outbox there in
+        let k : IsSoundReport shared (at r.slot) r = All-contains (IsSoundItem shared at) w.outbox (item.Report r) h.outbox there in
         let weight = weigh_acting r.slot r.place in
         let one : 1 ≤ sum_by weight (parts part_item w.outbox).tokens =
         omega (arith, one_of_all part_item weight w.outbox (item.Report r) there, sum_by-cons weight (Acting r.slot r.place) [], acting_weighs r.slot r.place) in
@@ -234,13 +234,13 @@ module _ {J : Type 0} (shared : Shared) (w : Parts J) (h : IsSoundWith shared no
 
     of_item : (i : Item J) → Contains w.outbox i → Contains (part_item i).claims c → Whose c
     of_item (item.Push m) there is =
-        of_message m (All-contains (IsSoundItem shared w.log at) w.outbox (item.Push m) h.outbox there)
+        of_message m (All-contains (IsSoundItem shared at) w.outbox (item.Push m) h.outbox there)
         (λ weight. omega (arith, tokens weight, one_of_all part_item weight w.outbox (item.Push m) there)) is
     of_item (item.Report r) there is = of_put r there is
     of_item (item.Ended slot) there is = contains_none c is
     of_item (item.Commit commit) there is =
         let slot = commit.transaction.slot in
-        let k = All-contains (IsSoundItem shared w.log at) w.outbox (item.Commit commit) h.outbox there in
+        let k = All-contains (IsSoundItem shared at) w.outbox (item.Commit commit) h.outbox there in
         let stands = commit_under_way slot slots
         (omega (
           arith,
@@ -387,7 +387,7 @@ module _ {J : Type 0} (shared : Shared) (w : Parts J) (h : IsSoundWith shared no
     message_leads place first (Undo s claims) k some there = absurd (omega (arith, some))
 
     -- or in an item
-    item_leads : (place : ℕ) → place ≡ length own.held → (i : Item J) → IsSoundItem shared w.log at i → 1 ≤ sum_by (weigh_acting slot place) (part_item i).tokens
+    item_leads : (place : ℕ) → place ≡ length own.held → (i : Item J) → IsSoundItem shared at i → 1 ≤ sum_by (weigh_acting slot place) (part_item i).tokens
         → ((x : Unanswered) → Contains (part_item i).pending x → Contains (flight w).pending x) → Leads slot
     item_leads place first (item.Push m) k some there = message_leads place first m k some there
     item_leads place first (item.Report r) k some there =
@@ -435,7 +435,7 @@ module _ {J : Type 0} (shared : Shared) (w : Parts J) (h : IsSoundWith shared no
             of_inbox : (k : ℕ) → sum_by weight (parts part_message w.inbox).tokens ≡ k → Leads slot
             of_inbox zero none =
                 let one = whose_token part_item weight w.outbox (omega (arith, some, none, tokens weight)) in
-                item_leads first phase.first_is one.0 (All-contains (IsSoundItem shared w.log at) w.outbox one.0 h.outbox one.1.0) one.1.1 (λ x has. in_second one.0 x one.1.0 has)
+                item_leads first phase.first_is one.0 (All-contains (IsSoundItem shared at) w.outbox one.0 h.outbox one.1.0) one.1.1 (λ x has. in_second one.0 x one.1.0 has)
             of_inbox (suc k) more =
                 let one = whose_token part_message weight w.inbox (omega (arith, more)) in
                 message_leads first phase.first_is one.0 (All-contains (IsSoundMessage shared at) w.inbox one.0 h.inbox one.1.0) one.1.1 (λ x has. in_first one.0 x one.1.0 has)
@@ -562,7 +562,7 @@ module _ {J : Type 0} (shared : Shared) (w : Parts J) (h : IsSoundWith shared no
   pub reports_of_older : (opening : Database) (history : List Step) → Fits opening history w → (r : Report J) → Contains w.outbox (item.Report r) → (group : Group) (holder : ℕ) → r.ran ≡ ran.Died group holder
       → (w_id : ℕ) (x : Holding) → Contains ((joined_in w).holdings w_id) x → x.group ≡ group → x.by.age ≡ holder → DiesOf history w at r.slot group holder
   reports_of_older opening history f r there group holder is w_id x out on by =
-      let k : IsSoundReport shared (at r.slot) r = All-contains (IsSoundItem shared w.log at) w.outbox (item.Report r) h.outbox there in
+      let k : IsSoundReport shared (at r.slot) r = All-contains (IsSoundItem shared at) w.outbox (item.Report r) h.outbox there in
       let died : IsSoundRan {J = J} shared (at r.slot) k.number (ran.Died group holder) = subst (λ (one : Ran J). IsSoundRan shared (at r.slot) k.number one) is k.ran in
       let acting = reporting r there in
       let phase : IsSoundPhase shared r.slot (at r.slot) acting.0 acting.1.0 = sound r.slot (Some (active.Acting acting.0 acting.1.0)) acting.1.1 in

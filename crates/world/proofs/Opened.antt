@@ -159,7 +159,7 @@ module _ {J : Type 0} where
         slices = slices;
         under_way = none_under_way;
         inbox = subst (All (IsSoundMessage shared none_under_way)) (sym inbox) (All-nil (IsSoundMessage shared none_under_way));
-        outbox = subst (All (IsSoundItem shared w.log none_under_way)) (sym outbox) (All-nil (IsSoundItem shared w.log none_under_way));
+        outbox = subst (All (IsSoundItem shared none_under_way)) (sym outbox) (All-nil (IsSoundItem shared none_under_way));
         slots = ap (λ (l : List (Option (Active J))). length l) active ∙ length-replicate {A = Option (Active J)} 64 None;
         active = subst (AreSoundActive shared none_under_way 0) (sym active) (none_active J shared none_under_way 0 64);
         ages = subst (HaveTheirAges none_under_way w.desk.admitted) (sym active) (no_ages none_under_way w.desk.admitted 64);

@@ -59,7 +59,7 @@ module _ {J : Type 0} where
 
   commits_inbox : (commit : CommitItem J) (old new : Parts J) (answer : EventAnswer) → Commits commit old answer new → new.inbox ≡ old.inbox
   commits_inbox commit old new (Logged place) said = ap (λ (w : Parts J). w.inbox) said.1.1
-  commits_inbox commit old new Sent said = ap (λ (w : Parts J). w.inbox) said.1.1.1
+  commits_inbox commit old new Sent said = ap (λ (w : Parts J). w.inbox) said.1.1
   commits_inbox commit old new (Accepted age) said = absurd said
   commits_inbox commit old new Took said = absurd said
   commits_inbox commit old new Full said = absurd said

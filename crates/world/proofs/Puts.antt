@@ -37,15 +37,15 @@ module _ {J : Type 0} where
   -- what is known of the first item of the outbox, once it is in hand
   pub item_in_hand : (shared : Shared) (old : Parts J) (item : Item J) (rest : List (Item J)) → old.outbox ≡ item ∷ rest
       → IsSoundWith shared nothing old
-      → (h : IsSoundWith shared (part_item item) (record old { outbox = rest })) × IsSoundItem shared old.log h.under_way item
+      → (h : IsSoundWith shared (part_item item) (record old { outbox = rest })) × IsSoundItem shared h.under_way item
   item_in_hand shared old item rest is h =
-      let all = subst (λ is. All (IsSoundItem shared old.log h.under_way) is) is h.outbox in (
+      let all = subst (λ is. All (IsSoundItem shared h.under_way) is) is h.outbox in (
         record {
           shared_is = h.shared_is;
           slices = h.slices;
           under_way = h.under_way;
           inbox = h.inbox;
-          outbox = All-tail (IsSoundItem shared old.log h.under_way) item rest all;
+          outbox = All-tail (IsSoundItem shared h.under_way) item rest all;
           slots = h.slots;
           active = h.active;
           ages = h.ages;
@@ -54,7 +54,7 @@ module _ {J : Type 0} where
           balance = balanced_same old.desk (flight old) (join (part_item item) (flight (record old { outbox = rest }))) (item_taken old item rest is) h.balance;
           held = held_same (joined_in old) (flight old) (join (part_item item) (flight (record old { outbox = rest }))) (item_taken old item rest is) h.held;
         },
-        All-head (IsSoundItem shared old.log h.under_way) item rest all,
+        All-head (IsSoundItem shared h.under_way) item rest all,
       )
 
   pub fits_in_hand : (opening : Database) (history : List Step) (old : Parts J) (item : Item J) (rest : List (Item J)) → old.outbox ≡ item ∷ rest
@@ -76,7 +76,7 @@ module _ {J : Type 0} where
     pub shared_is : w.catalog ≡ shared
     pub slices : AreSlicesOf w.catalog (slices_in w)
     pub inbox : All (IsSoundMessage shared at) w.inbox
-    pub outbox : All (IsSoundItem shared w.log at) w.outbox
+    pub outbox : All (IsSoundItem shared at) w.outbox
     pub slots : length w.desk.active ≡ 64
     pub below : slot < 64
     pub others : AreSoundActive shared at 0 (without slot w.desk.active)
@@ -128,7 +128,7 @@ module _ {J : Type 0} where
         shared_is = r.shared_is;
         slices = r.slices;
         inbox = messages_stay shared g at bt stays w.inbox (omega (arith, zero_all, front, back)) r.inbox;
-        outbox = items_stay shared g at bt stays w.log w.outbox (omega (arith, zero_all, front, back)) r.outbox;
+        outbox = items_stay shared g at bt stays w.outbox (omega (arith, zero_all, front, back)) r.outbox;
         slots = r.slots;
         below = r.below;
         others = subst (λ (l : List (Option (Active J))). AreSoundActive shared bt 0 l) (set-set w.desk.active slot None None)
@@ -162,7 +162,7 @@ module _ {J : Type 0} where
       (IsPermutation-append hand.pending put.pending rest.pending rest.pending pending (IsPermutation-refl rest.pending)) f)
 
   pub puts_sound : (shared : Shared) (at : Courses) (slot : ℕ) (w : Parts J) (hand : InFlight) (items : List (Item J)) (a : Option (Active J)) → Rests shared at slot w → (x : Active J) × (slice_get w.desk.active slot ≡ Some (Some x)) → reported_to a ≡ []
-      → All (IsSoundItem shared w.log at) items → IsSoundActive shared slot (at slot) a
+      → All (IsSoundItem shared at) items → IsSoundActive shared slot (at slot) a
       → IsPermutation hand.pending (parts part_item items).pending
       → AreServed w.desk (hand.pending ++ (lots slot w).pending)
       → IsPermutation hand.claims (parts part_item items).claims
@@ -186,7 +186,7 @@ module _ {J : Type 0} where
         slices = r.slices;
         under_way = at;
         inbox = r.inbox;
-        outbox = All-append (IsSoundItem shared w.log at) w.outbox items r.outbox fine;
+        outbox = All-append (IsSoundItem shared at) w.outbox items r.outbox fine;
         slots = length-set w.desk.active slot a ∙ r.slots;
         active = subst (λ (l : List (Option (Active J))). AreSoundActive shared at 0 l) (set-set w.desk.active slot None a)
             (sound_then shared at at slot (without slot w.desk.active) a (λ m other. refl) r.others sound);

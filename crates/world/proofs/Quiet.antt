@@ -84,24 +84,24 @@ module _ {J : Type 0} where
 
   -- ---- where nothing is active
 
-  no_claims : (shared : Shared) (log : List Entry) (at : Courses) (items : List (Item J)) → All (IsSoundItem shared log at) items
+  no_claims : (shared : Shared) (at : Courses) (items : List (Item J)) → All (IsSoundItem shared at) items
       → sum_by one_each (parts part_item items).tokens ≡ 0 → (parts part_item items).claims ≡ []
-  no_claims shared log at [] h none = refl
-  no_claims shared log at (item.Push message ∷ items) h none =
+  no_claims shared at [] h none = refl
+  no_claims shared at (item.Push message ∷ items) h none =
       absurd (omega (
         arith,
         none,
-        some_token shared at message (All-head (IsSoundItem shared log at) (item.Push message) items h),
+        some_token shared at message (All-head (IsSoundItem shared at) (item.Push message) items h),
         sum_by-append one_each (part_message message).tokens (parts part_item items).tokens,
       ))
-  no_claims shared log at (item.Report r ∷ items) h none =
+  no_claims shared at (item.Report r ∷ items) h none =
       absurd (omega (arith, none, sum_by-append one_each (part_item (item.Report r)).tokens (parts part_item items).tokens))
-  no_claims shared log at (item.Ended slot ∷ items) h none =
+  no_claims shared at (item.Ended slot ∷ items) h none =
       absurd (omega (arith, none, sum_by-append one_each (part_item {J = J} (item.Ended slot)).tokens (parts part_item items).tokens))
-  no_claims shared log at (item.Commit commit ∷ items) h none =
+  no_claims shared at (item.Commit commit ∷ items) h none =
       absurd (omega (arith, none, sum_by-append one_each (part_item (item.Commit commit)).tokens (parts part_item items).tokens))
-  no_claims shared log at (item.Reply told ∷ items) h none =
-      no_claims shared log at items (All-tail (IsSoundItem shared log at) (item.Reply told) items h) none
+  no_claims shared at (item.Reply told ∷ items) h none =
+      no_claims shared at items (All-tail (IsSoundItem shared at) (item.Reply told) items h) none
 
   idle_claims : (shared : Shared) (w : Parts J) → IsSoundWith shared nothing w → count_active w.desk.active ≡ 0 → (flight w).claims ≡ []
   idle_claims shared w h none =
@@ -110,7 +110,7 @@ module _ {J : Type 0} where
       let front = sum_by-append one_each (in_inbox w).tokens ((in_outbox w).tokens ++ (parts part_met met).tokens) in
       let back = sum_by-append one_each (in_outbox w).tokens (parts part_met met).tokens in
       let inbox : w.inbox ≡ [] = no_message shared h.under_way w.inbox h.inbox (omega (arith, zero_all, front, back)) in
-      let outbox = no_claims shared w.log h.under_way w.outbox h.outbox (omega (arith, zero_all, front, back)) in
+      let outbox = no_claims shared h.under_way w.outbox h.outbox (omega (arith, zero_all, front, back)) in
       ap (λ (ms : List (Message J)). (parts part_message ms).claims ++ ((parts part_item w.outbox).claims ++ (parts part_met met).claims)) inbox
       ∙ ap (λ (cs : List Claiming). cs ++ (parts part_met met).claims) outbox
       ∙ ap (λ (rs : List (Report J)). (parts part_met rs).claims) (idle_met w.desk.active none)

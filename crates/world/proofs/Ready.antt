@@ -91,7 +91,7 @@ module _ {J : Type 0} where
 
   -- ---- an item
 
-  pub can_send : (opening : Database) (w : Parts J) (i : Item J) (h : IsSoundWith (shared_of opening) (part_item i) w) → IsSoundItem (shared_of opening) w.log h.under_way i → CanSend opening i w
+  pub can_send : (opening : Database) (w : Parts J) (i : Item J) (h : IsSoundWith (shared_of opening) (part_item i) w) → IsSoundItem (shared_of opening) h.under_way i → CanSend opening i w
   can_send opening w (item.Push message) h s = tt
   can_send opening w (item.Report r) h s = can_report opening w r h s
   can_send opening w (item.Ended slot) h s =

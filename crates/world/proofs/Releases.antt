@@ -18,7 +18,7 @@ use Rattle.world.specs.declared.sending.Release.{Release}
 use Rattle.world.specs.declared.world.Parts.{Parts}
 use Rattle.world.specs.Parted.{AreSettledBy, AreUndoneBy, joined_in}
 use Rattle.world.specs.Flights.{Ending, InFlight, nothing, join, parts, part_item, part_held, place_answered}
-use Rattle.world.specs.Sound.{Courses, UnderWay, IsSoundWith, IsSoundItem, IsSoundActive, AnswersOlder, IsAnswerIn, awaited, reported_to}
+use Rattle.world.specs.Sound.{Courses, UnderWay, IsSoundWith, IsSoundItem, IsSoundActive, AnswersOlder, awaited, reported_to}
 use Rattle.world.specs.Following.{ending, items_released, push_of, releasing}
 use Rattle.world.specs.Worlds.{FitsPart, Fits}
 use Rattle.world.proofs.OneSlot.{lots}
@@ -68,17 +68,17 @@ module _ (J : Type 0) where
   pushes_part settle slot [] = refl
   pushes_part settle slot (claims ∷ all) = λ i. join (push_part settle slot claims i) (pushes_part settle slot all i)
 
-  push_sound : (shared : Shared) (log : List Entry) (at : Courses) (settle : Bool) (slot : ℕ) (claims : List Claiming) → AreGiven settle (at slot).age claims → IsSoundItem {J = J} shared log at (push_of settle slot claims)
-  push_sound shared log at true slot claims h = h
-  push_sound shared log at false slot claims h = h
+  push_sound : (shared : Shared) (at : Courses) (settle : Bool) (slot : ℕ) (claims : List Claiming) → AreGiven settle (at slot).age claims → IsSoundItem {J = J} shared at (push_of settle slot claims)
+  push_sound shared at true slot claims h = h
+  push_sound shared at false slot claims h = h
 
-  pushes_sound : (shared : Shared) (log : List Entry) (at : Courses) (settle : Bool) (slot : ℕ) (all : List (List Claiming)) → All (AreGiven settle (at slot).age) all
-      → All (IsSoundItem {J = J} shared log at) (map (push_of settle slot) all)
-  pushes_sound shared log at settle slot [] h = All-nil (IsSoundItem shared log at)
-  pushes_sound shared log at settle slot (claims ∷ all) h =
-      All-cons (IsSoundItem shared log at) (push_of settle slot claims) (map (push_of settle slot) all)
-      (push_sound shared log at settle slot claims (All-head (AreGiven settle (at slot).age) claims all h))
-      (pushes_sound shared log at settle slot all (All-tail (AreGiven settle (at slot).age) claims all h))
+  pushes_sound : (shared : Shared) (at : Courses) (settle : Bool) (slot : ℕ) (all : List (List Claiming)) → All (AreGiven settle (at slot).age) all
+      → All (IsSoundItem {J = J} shared at) (map (push_of settle slot) all)
+  pushes_sound shared at settle slot [] h = All-nil (IsSoundItem shared at)
+  pushes_sound shared at settle slot (claims ∷ all) h =
+      All-cons (IsSoundItem shared at) (push_of settle slot claims) (map (push_of settle slot) all)
+      (push_sound shared at settle slot claims (All-head (AreGiven settle (at slot).age) claims all h))
+      (pushes_sound shared at settle slot all (All-tail (AreGiven settle (at slot).age) claims all h))
 
 module _ {J : Type 0} where
   abbrev pub unanswered_release : Release J → Unanswered
@@ -114,15 +114,15 @@ module _ {J : Type 0} where
       f
 
   pub releases_sound : (shared : Shared) (at : Courses) (w : Parts J) (hand : InFlight) (settle : Bool) (r : Release J) → Rests shared at r.slot w → (x : Active J) × (slice_get w.desk.active r.slot ≡ Some (Some x))
-      → r.pass.session < 64 → r.pass.asks.number ≡ r.number → IsAnswerIn w.log r.answer → AnswersOlder (groups_of (footprint r.pass.asks.request)) r.age r.answer
+      → r.pass.session < 64 → r.pass.asks.number ≡ r.number → AnswersOlder (groups_of (footprint r.pass.asks.request)) r.age r.answer
       → All (AreGiven settle (at r.slot).age) r.held → length r.held ≤ MOST_ACTIONS
       → hand.claims ≡ all_claims r.held → AreAllHeld (joined_in w).holdings (hand.claims ++ (lots r.slot w).claims)
       → hand.pending ≡ unanswered_release r ∷ [] → AreServed w.desk (hand.pending ++ (lots r.slot w).pending)
       → IsSoundWith shared nothing (releasing settle r w)
-  releases_sound shared at w hand settle r rests was session number answer older given few claims held pending served =
+  releases_sound shared at w hand settle r rests was session number older given few claims held pending served =
       let items = items_released settle r in
       puts_sound shared at r.slot w hand items (ending (length r.held)) rests was (nothing_met J (length r.held))
-      (All-cons (IsSoundItem shared w.log at) _ (map (push_of settle r.slot) r.held) (session, (number, (answer, older))) (pushes_sound J shared w.log at settle r.slot r.held given))
+      (All-cons (IsSoundItem shared at) _ (map (push_of settle r.slot) r.held) (session, (number, older)) (pushes_sound J shared at settle r.slot r.held given))
       (ending_sound J shared r.slot (at r.slot) (length r.held) few)
       (subst (λ us. IsPermutation hand.pending us) (pending ∙ sym (released_pending settle r)) (IsPermutation-refl hand.pending))
       served

@@ -131,7 +131,7 @@ module _ {J : Type 0} where
       slices = h.slices;
       under_way = h.under_way;
       inbox = All-permutation (IsSoundMessage shared h.under_way) ms ns messages.order h.inbox;
-      outbox = All-permutation (IsSoundItem shared w.log h.under_way) is js items.order h.outbox;
+      outbox = All-permutation (IsSoundItem shared h.under_way) is js items.order h.outbox;
       slots = h.slots;
       active = h.active;
       ages = h.ages;

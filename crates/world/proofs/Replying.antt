@@ -1,12 +1,11 @@
 -- A session is answered.
-use Rattle.std.proofs.Common.{◌≡◌, ℕ, List, [], ◌∷◌, ◌++◌, length, Some, refl, sym, ◌∙◌, ap, subst}
+use Rattle.std.proofs.Common.{◌≡◌, ℕ, List, [], ◌∷◌, ◌++◌, length, Some, Result, Ok, Err, refl, sym, ◌∙◌, ap, subst}
 use Rattle.std.specs.Prelude.{slice_set}
 use Rattle.std.specs.List.{slice_get}
 use Rattle.std.proofs.lemmas.List.{length-set}
 use Rattle.partitions.specs.Parts.{Shared}
 use Rattle.schema.specs.Database.{Database}
-use Rattle.requests.specs.declared.answer.Answer.{Answer}
-use Rattle.requests.specs.declared.answer.Answer.TheVariants.{Done, Refused}
+use Rattle.requests.specs.declared.refusal.Refusal.{Refusal}
 use Rattle.commit_log.specs.declared.entry.Entry.{Entry}
 use Rattle.history.specs.declared.event.Event.TheVariants.{Send}
 use Rattle.history.specs.declared.event.EventAnswer.TheVariants.{Answered}
@@ -18,17 +17,17 @@ use Rattle.world.specs.declared.flight.ReplyItem.{ReplyItem}
 use Rattle.world.specs.declared.world.Parts.{Parts}
 use Rattle.world.specs.Parted.{joined_in}
 use Rattle.world.specs.Flights.{nothing, join, part_item, unanswered_reply, place_answered}
-use Rattle.world.specs.Sound.{IsSoundWith, IsSoundReply, IsAnswerIn, flight}
+use Rattle.world.specs.Sound.{IsSoundWith, IsSoundReply, flight}
 use Rattle.world.specs.Events.{with_sessions}
 use Rattle.world.specs.Worlds.{FitsPart, Fits}
 use Rattle.world.proofs.Fitting.{fits_answer}
 use Rattle.world.proofs.Sessions.{AreInPlace, AreAlone, AreMany, answered_alone, answered_many, still_in_place}
 
 -- the answer is that of the transaction that it tells
-is_answer_to : (log : List Entry) (age session number : ℕ) (request : _) (answer : Answer) → IsAnswerIn log answer
-    → IsAnswerTo log (record { age = age; session = session; number = number; request = request; entry = place_answered answer }) answer
-is_answer_to log age session number request (Done place shown) h = (refl, h)
-is_answer_to log age session number request (Refused why) h = refl
+is_answer_to : (age session number : ℕ) (request : _) (answer : Result ℕ Refusal)
+    → IsAnswerTo (record { age = age; session = session; number = number; request = request; entry = place_answered answer }) answer
+is_answer_to age session number request (Ok place) = refl
+is_answer_to age session number request (Err why) = refl
 
 module _ {J : Type 0} where
   -- a world that differs from another in its sessions alone
@@ -43,7 +42,7 @@ module _ {J : Type 0} where
     log = h.1.1.1.1.0 i;
   }
 
-  module _ (shared : Shared) (w : Parts J) (told : ReplyItem J) (h : IsSoundWith shared (part_item (item.Reply told)) w) (s : IsSoundReply w.log told)
+  module _ (shared : Shared) (w : Parts J) (told : ReplyItem J) (h : IsSoundWith shared (part_item (item.Reply told)) w) (s : IsSoundReply told)
       (desk : SessionDesk J) (is : slice_get w.desk.sessions.items told.pass.session ≡ Some desk)
       (new : Parts J) (same : with_sessions w (slice_set w.desk.sessions.items told.pass.session (record desk { pass = Some told.pass })) new) where
     pub replies_sound : IsSoundWith shared nothing new
@@ -86,6 +85,6 @@ module _ {J : Type 0} where
         let rest = flight w in
         let next : Parts J = record w { desk = record w.desk { sessions = new.desk.sessions } } in
         let after = fits_answer opening history w.log (joined_in w) w.desk.admitted rest.claims u rest executor told.answer
-        (is_answer_to w.log told.age told.pass.session told.pass.asks.number told.pass.asks.request told.answer s.1.1.0) f in
+        (is_answer_to told.age told.pass.session told.pass.asks.number told.pass.asks.request told.answer) f in
         subst (λ v. Fits opening (history ++ step (Send executor) (Answered told.pass.session told.number told.answer) ∷ []) v) (sym (of_sessions w new _ same))
         (subst (λ n. Fits opening (history ++ step (Send executor) (Answered told.pass.session n told.answer) ∷ []) next) s.1.0 after)

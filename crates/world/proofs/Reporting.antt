@@ -63,14 +63,14 @@ module _ {J : Type 0} where
       subst (λ p. IsSame (join p (flight mid)) (flight (record mid { outbox = mid.outbox ++ item ∷ [] }))) (join-nothing (part_item item)) (same-sym _ _ (items_put mid (item ∷ [])))
 
   pub put_back_sound : (shared : Shared) (mid : Parts J) (item : Item J)
-      → (h : IsSoundWith shared (part_item item) mid) → IsSoundItem shared mid.log h.under_way item
+      → (h : IsSoundWith shared (part_item item) mid) → IsSoundItem shared h.under_way item
       → IsSoundWith shared nothing (record mid { outbox = mid.outbox ++ item ∷ [] })
   put_back_sound shared mid item h fine = record {
     shared_is = h.shared_is;
     slices = h.slices;
     under_way = h.under_way;
     inbox = h.inbox;
-    outbox = All-push (IsSoundItem shared mid.log h.under_way) mid.outbox item h.outbox fine;
+    outbox = All-push (IsSoundItem shared h.under_way) mid.outbox item h.outbox fine;
     slots = h.slots;
     active = h.active;
     ages = h.ages;

@@ -143,9 +143,9 @@ module _ {J : Type 0} where
     no_more : queued w.parts messages items ≡ framed messages items w.parts
     no_more = λ k. queued w.parts ((sym (append-nil messages) ∙ ap (λ (ms : List (Message J)). messages ++ ms) (sym h.no_inbox)) k) ((sym (append-nil items) ∙ ap (λ (is : List (Item J)). items ++ is) (sym h.no_outbox)) k)
 
-    pub item_taken : (k : IsSoundWith shared (part_item i) (framed messages items w.parts)) × IsSoundItem shared w.parts.log k.under_way i
+    pub item_taken : (k : IsSoundWith shared (part_item i) (framed messages items w.parts)) × IsSoundItem shared k.under_way i
     item_taken =
-        subst (λ (v : Parts J). (k : IsSoundWith shared (part_item i) v) × IsSoundItem shared w.parts.log k.under_way i) no_more (item_in_hand shared whole i items refl sound_item)
+        subst (λ (v : Parts J). (k : IsSoundWith shared (part_item i) v) × IsSoundItem shared k.under_way i) no_more (item_in_hand shared whole i items refl sound_item)
 
     no_push : IsNoPush i
     no_push = is_posted shared w h executor p rest first

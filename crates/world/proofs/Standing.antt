@@ -43,7 +43,7 @@ module _ {J : Type 0} where
 
   commits_stations : (commit : CommitItem J) (old new : Parts J) (answer : EventAnswer) → Commits commit old answer new → new.stations ≡ old.stations
   commits_stations commit old new (Logged place) said = ap (λ (w : Parts J). w.stations) said.1.1
-  commits_stations commit old new Sent said = ap (λ (w : Parts J). w.stations) said.1.1.1
+  commits_stations commit old new Sent said = ap (λ (w : Parts J). w.stations) said.1.1
   commits_stations commit old new (Accepted age) said = absurd said
   commits_stations commit old new Took said = absurd said
   commits_stations commit old new Full said = absurd said

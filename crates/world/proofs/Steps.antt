@@ -168,9 +168,9 @@ module _ {J : Type 0} where
       let sound = works_sound shared w o.sound executor o.rest m o.first once parts given in
       let from : Core J = record w { inboxes = slice_set w.inboxes executor o.rest; parts = record parts { outbox = [] } } in
       let items = (together from).outbox in
-      let homes = front (IsSoundItem shared parts.log sound.under_way) parts.outbox items sound.outbox in
+      let homes = front (IsSoundItem shared sound.under_way) parts.outbox items sound.outbox in
       let all = few_under_way shared nothing (holding [] parts.outbox from) sound in (
-        All-weaker (IsSoundItem shared parts.log sound.under_way) HasHomeIn (λ i is. has_home_in shared sound.under_way parts i is) parts.outbox homes,
+        All-weaker (IsSoundItem shared sound.under_way) HasHomeIn (λ i is. has_home_in shared sound.under_way parts i is) parts.outbox homes,
         omega (arith, all, length-append parts.outbox items),
       )
 
@@ -227,9 +227,9 @@ module _ {J : Type 0} where
       let messages = (together from).inbox in
       let items = (together from).outbox in
       let sound = (sends_framed messages items shared w.parts parts i answer taken.0 taken.1 given).sound in
-      let homes = back (IsSoundItem shared parts.log sound.under_way) items parts.outbox sound.outbox in
+      let homes = back (IsSoundItem shared sound.under_way) items parts.outbox sound.outbox in
       let all = few_under_way shared nothing (framed messages items parts) sound in (
-        All-weaker (IsSoundItem shared parts.log sound.under_way) HasHomeIn (λ i is. has_home_in shared sound.under_way parts i is) parts.outbox homes,
+        All-weaker (IsSoundItem shared sound.under_way) HasHomeIn (λ i is. has_home_in shared sound.under_way parts i is) parts.outbox homes,
         omega (arith, all, length-append items parts.outbox),
       )
 

@@ -147,7 +147,7 @@ module _ {J : Type 0} where
           slices = are;
           under_way = u;
           inbox = h.inbox;
-          outbox = All-append (IsSoundItem shared old.log u) (is ++ old.outbox) items h.outbox (works.fine u old.log fine);
+          outbox = All-append (IsSoundItem shared u) (is ++ old.outbox) items h.outbox (works.fine u fine);
           slots = h.slots;
           active = h.active;
           ages = h.ages;

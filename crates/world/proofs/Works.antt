@@ -46,8 +46,8 @@ abbrev pub DiesOfOlder : Sliced → ℕ → Work → Type 0
 DiesOfOlder s age work = (group : Group) (holder : ℕ) → MustDie s.holdings age (wants_of work) group holder → holder < age
 
 module _ {J : Type 0} where
-  one_fine : (shared : Shared) (log : List Entry) (u : Courses) (one : Item J) → IsSoundItem shared log u one → All (IsSoundItem {J = J} shared log u) (one ∷ [])
-  one_fine shared log u one fine = All-cons (IsSoundItem shared log u) one [] fine (All-nil (IsSoundItem shared log u))
+  one_fine : (shared : Shared) (u : Courses) (one : Item J) → IsSoundItem shared u one → All (IsSoundItem {J = J} shared u) (one ∷ [])
+  one_fine shared u one fine = All-cons (IsSoundItem shared u) one [] fine (All-nil (IsSoundItem shared u))
 
   -- ---- the actions of a phase
 
@@ -62,11 +62,11 @@ module _ {J : Type 0} where
       ∙ ap (λ (claims : List Claiming). part claims (unanswered_transaction t ∷ []) (acting_from t.slot (length t.held) (work ∷ works))) (append-nil (all_claims t.held))
 
   -- those from a number on are sound
-  acts_fine_from : (shared : Shared) (log : List Entry) (at : Courses) (number place age slot : ℕ) (carried : Option (Flow J)) (works : List Work)
+  acts_fine_from : (shared : Shared) (at : Courses) (number place age slot : ℕ) (carried : Option (Flow J)) (works : List Work)
       → (let u = at slot in IsPlaceOf u number place → age ≡ u.age → IsCarriedAt slot u number carried → ((k : ℕ) (work : Work) → slice_get works k ≡ Some work → IsWorkAt u (number + k) work) → All (CanDo shared) works
-      → All (IsSoundItem shared log at) (acts_from place age slot carried works))
-  acts_fine_from shared log at number place age slot carried [] is aged here does can = All-nil (IsSoundItem shared log at)
-  acts_fine_from shared log at number place age slot carried (work ∷ works) is aged here does can =
+      → All (IsSoundItem shared at) (acts_from place age slot carried works))
+  acts_fine_from shared at number place age slot carried [] is aged here does can = All-nil (IsSoundItem shared at)
+  acts_fine_from shared at number place age slot carried (work ∷ works) is aged here does can =
       let u = at slot in
       let act : AnyAct J = record { place = place; age = age; slot = slot; work = work; flow = carried } in
       let first : number + 0 ≡ number = omega arith in
@@ -79,15 +79,15 @@ module _ {J : Type 0} where
         can = All-head (CanDo shared) work works can;
         age = aged;
       } in
-      All-cons (IsSoundItem shared log at) (item.Push (Act act)) (acts_from (place + 1) age slot None works) sound
-      (acts_fine_from shared log at (number + 1) (place + 1) age slot None works (omega (arith, is)) aged (carried_later J slot u (number + 1) (omega arith))
+      All-cons (IsSoundItem shared at) (item.Push (Act act)) (acts_from (place + 1) age slot None works) sound
+      (acts_fine_from shared at (number + 1) (place + 1) age slot None works (omega (arith, is)) aged (carried_later J slot u (number + 1) (omega arith))
       (λ k other is. subst (λ n. IsWorkAt u n other) (later k) (does (suc k) other is)) (All-tail (CanDo shared) work works can))
 
-  pub acts_fine : (shared : Shared) (log : List Entry) (at : Courses) (flow : Flow J) (works : List Work) → IsSoundStart shared (at flow.transaction.slot) flow works → All (IsSoundItem shared log at) (acts_of flow works)
-  acts_fine shared log at flow works h =
+  pub acts_fine : (shared : Shared) (at : Courses) (flow : Flow J) (works : List Work) → IsSoundStart shared (at flow.transaction.slot) flow works → All (IsSoundItem shared at) (acts_of flow works)
+  acts_fine shared at flow works h =
       let u = at flow.transaction.slot in
       let from_zero : (k : ℕ) → k ≡ 0 + k = λ k. omega arith in
-      acts_fine_from shared log at 0 (length flow.transaction.held) flow.transaction.age flow.transaction.slot (Some flow) works (omega (arith, ap (λ (hs : List (List Claiming)). length hs) h.flow_is.held)) h.flow_is.age h.flow_is
+      acts_fine_from shared at 0 (length flow.transaction.held) flow.transaction.age flow.transaction.slot (Some flow) works (omega (arith, ap (λ (hs : List (List Claiming)). length hs) h.flow_is.held)) h.flow_is.age h.flow_is
       (λ k work is. subst (λ n. IsWorkAt u n work) (from_zero k) (subst (λ (ws : List Work). slice_get ws k ≡ Some work) h.works_are is)) h.can
 
   -- ---- each message
@@ -98,7 +98,7 @@ module _ {J : Type 0} where
     pub kept : SlicesKeep (part_message message).claims old (parts part_item items).claims new
     pub pending : (parts part_item items).pending ≡ (part_message message).pending
     pub tokens : (parts part_item items).tokens ≡ (part_message message).tokens
-    pub fine : (at : Courses) (log : List Entry) → IsSoundMessage shared at message → All (IsSoundItem shared log at) items
+    pub fine : (at : Courses) → IsSoundMessage shared at message → All (IsSoundItem shared at) items
 
   -- a transaction that starts puts the actions of its first phase
   pub starts : (shared : Shared) (flow : Flow J) (works : Vec Work Global) (slices : Joined) → 1 ≤ length works.items → Works shared (Start flow works) slices (acts_of flow works.items) slices
@@ -109,7 +109,7 @@ module _ {J : Type 0} where
         kept = subst (λ (p : InFlight). SlicesKeep held slices p.claims slices) (sym are) (stays held slices);
         pending = ap (λ (p : InFlight). p.pending) are;
         tokens = ap (λ (p : InFlight). p.tokens) are;
-        fine = λ at log sound. acts_fine shared log at flow works.items sound;
+        fine = λ at sound. acts_fine shared at flow works.items sound;
       }
 
   ran_soundly : (shared : Shared) (u : UnderWay) (number : ℕ) (work : Work) (one : Ran J) (by : Holder) (old new : Sliced) → shared_of old.tables ≡ shared → IsWorkAt u number work → by.age ≡ u.age → DiesOfOlder old by.age work
@@ -131,8 +131,8 @@ module _ {J : Type 0} where
             (more carried.claims (claims_of_ran one) old new kept);
         pending = append-nil carried.pending;
         tokens = refl;
-        fine = λ at log fine.
-            one_fine shared log at (report_of act.place (carried_by act) one)
+        fine = λ at fine.
+            one_fine shared at (report_of act.place (carried_by act) one)
             (record { number = fine.number; place = fine.place; flow = fine.flow; ran = ran_soundly shared (at act.slot) fine.number act.work one (holder_of act) was now same fine.work fine.age older of });
       }
 
@@ -142,7 +142,7 @@ module _ {J : Type 0} where
     kept = kept;
     pending = refl;
     tokens = refl;
-    fine = λ at log fine. one_fine shared log at (item.Ended slot) tt;
+    fine = λ at fine. one_fine shared at (item.Ended slot) tt;
   }
 
   -- claims whose work is taken back are given back
@@ -151,5 +151,5 @@ module _ {J : Type 0} where
     kept = kept;
     pending = refl;
     tokens = refl;
-    fine = λ at log fine. one_fine shared log at (item.Ended slot) tt;
+    fine = λ at fine. one_fine shared at (item.Ended slot) tt;
   }

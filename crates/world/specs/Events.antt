@@ -1,15 +1,13 @@
 -- What one event does.
-use Rattle.std.specs.Prelude.{◌≡◌, ◌<◌, ◌≤◌, ℕ, ◌+◌, ◌-◌, Bool, true, false, List, [], ◌∷◌, ◌++◌, Option, Some, None, All, nat_lt, length, map, replicate, slice_set, ◌⊎◌}
+use Rattle.std.specs.Prelude.{◌≡◌, ◌<◌, ◌≤◌, ℕ, ◌+◌, ◌-◌, Bool, true, false, List, [], ◌∷◌, ◌++◌, Option, Some, None, Ok, Err, All, nat_lt, length, map, replicate, slice_set, ◌⊎◌, ◌↔◌}
 use Rattle.std.specs.List.{slice_get}
 use Rattle.partitions.specs.Parts.{Shared}
 use Rattle.schema.specs.Database.{Database}
 use Rattle.requests.specs.declared.request.Request.{Request}
 use Rattle.requests.specs.declared.reply.Reply.TheVariants as reply
-use Rattle.requests.specs.declared.answer.Answer.TheVariants.{Done, Refused}
 use Rattle.requests.specs.declared.refusal.Refusal.{Refusal}
 use Rattle.requests.specs.declared.refusal.Refusal.TheVariants as refusal
 use Rattle.requests.specs.Check.{IsAccepted}
-use Rattle.requests.specs.Replies.{ShowsLines}
 use Rattle.tickets.specs.Claims.{Claiming, all_claims}
 use Rattle.commit_log.specs.declared.log_book.AppendFault.{AppendFault}
 use Rattle.commit_log.specs.declared.log_book.AppendFault.TheVariants as fault
@@ -201,20 +199,19 @@ module _ {J : Type 0} where
   logging commit w =
       let t = commit.transaction in
       let pass = after_item t.pass (item_of (length w.log) t.number t.request commit.reply) in
-      record (releasing (is_settled commit.reply) (release t pass (Done (length w.log) commit.reply) (map (claims_logged commit.reply) t.held)) w) { log = w.log ++ entry_of commit ∷ [] }
+      record (releasing (is_settled commit.reply) (release t pass (Ok (length w.log)) (map (claims_logged commit.reply) t.held)) w) { log = w.log ++ entry_of commit ∷ [] }
 
   -- the log refused the entry, and what the transaction did is taken back
   abbrev pub refusing : CommitItem J → AppendFault → Parts J → Parts J
   refusing commit why w =
       let t = commit.transaction in
-      releasing false (release t (after_refusal why (length w.log) t.pass) (Refused (why_refused why)) t.held) w
+      releasing false (release t (after_refusal why (length w.log) t.pass) (Err (why_refused why)) t.held) w
 
-  -- A full log refuses every entry; but there may be no memory for an answer that shows the lines of an order.
+  -- The log has the entry more, or refuses it. A full log refuses every entry as such, and no other does.
   abbrev pub Commits : CommitItem J → Parts J → EventAnswer → Parts J → Type 0
   Commits commit old (Logged place) new = (place ≡ length old.log) × ((length old.log < 16777216) × (new ≡ logging commit old))
   Commits commit old Sent new =
-      (why : AppendFault) × ((why ≡ fault.LogFull → 16777216 ≤ length old.log)
-      × ((16777216 ≤ length old.log → (why ≡ fault.LogFull) ⊎ ShowsLines commit.reply) × (new ≡ refusing commit why old)))
+      (why : AppendFault) × (((why ≡ fault.LogFull) ↔ (16777216 ≤ length old.log)) × (new ≡ refusing commit why old))
   Commits commit old answer new = ⊥
 
   -- What is asked of a commit: the request was carried out under the transaction's claims with this reply.

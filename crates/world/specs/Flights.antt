@@ -1,7 +1,6 @@
 -- What is under way: which claims, which transactions without an answer, and which tokens messages, reports and items have.
-use Rattle.std.specs.Prelude.{ℕ, ◌+◌, List, [], ◌∷◌, ◌++◌, Option, Some, None, length}
-use Rattle.requests.specs.declared.answer.Answer.{Answer}
-use Rattle.requests.specs.declared.answer.Answer.TheVariants.{Done, Refused}
+use Rattle.std.specs.Prelude.{ℕ, ◌+◌, List, [], ◌∷◌, ◌++◌, Option, Some, None, Result, Ok, Err, length}
+use Rattle.requests.specs.declared.refusal.Refusal.{Refusal}
 use Rattle.tickets.specs.Claims.{Claiming, all_claims}
 use Rattle.history.specs.History.{Unanswered}
 use Rattle.transactions.specs.declared.work.Work.{Work}
@@ -57,9 +56,9 @@ abbrev pub part_held : ℕ → List Claiming → InFlight
 part_held slot claims = part claims [] (Ending slot ∷ [])
 
 -- the place of the entry that an answer names
-abbrev pub place_answered : Answer → Option ℕ
-place_answered (Done place reply) = Some place
-place_answered (Refused refusal) = None
+abbrev pub place_answered : Result ℕ Refusal → Option ℕ
+place_answered (Ok place) = Some place
+place_answered (Err refusal) = None
 
 module _ {J : Type 0} where
   -- ---- transactions

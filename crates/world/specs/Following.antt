@@ -1,10 +1,8 @@
 -- What follows when a phase has met, and when a transaction is over.
-use Rattle.std.specs.Prelude.{ℕ, ◌+◌, Bool, true, false, zero, suc, List, [], ◌∷◌, ◌++◌, Option, Some, None, map, length, slice_set}
+use Rattle.std.specs.Prelude.{ℕ, ◌+◌, Bool, true, false, zero, suc, List, [], ◌∷◌, ◌++◌, Option, Some, None, Result, Err, map, length, slice_set}
 use Rattle.requests.specs.declared.group.Group.{Group}
 use Rattle.requests.specs.declared.reply.Reply.{Reply}
 use Rattle.requests.specs.declared.reply.Reply.TheVariants as reply
-use Rattle.requests.specs.declared.answer.Answer.{Answer}
-use Rattle.requests.specs.declared.answer.Answer.TheVariants.{Refused}
 use Rattle.requests.specs.declared.refusal.Refusal.{Refusal}
 use Rattle.requests.specs.declared.refusal.Refusal.TheVariants as refusal
 use Rattle.tickets.specs.Claims.{Claiming}
@@ -132,13 +130,13 @@ module _ {J : Type 0} where
 
   -- ---- a transaction that is over
 
-  -- what a transaction that is over gives back: its pass, with this answer, and what its actions hold
-  abbrev pub release : Transaction J → Passing → Answer → List (List Claiming) → Release J
+  -- what a transaction that is over gives back: its pass, with this answer, which is the place of its entry or why it was refused, and what its actions hold
+  abbrev pub release : Transaction J → Passing → Result ℕ Refusal → List (List Claiming) → Release J
   release t pass answer held = record { age = t.age; slot = t.slot; number = t.number; pass = pass; answer = answer; held = held }
 
   -- so where it is refused
   abbrev pub refused : Transaction J → Refusal → Release J
-  refused t why = release t t.pass (Refused why) t.held
+  refused t why = release t t.pass (Err why) t.held
 
   -- its claims are settled, or what was done under them is taken back
   abbrev pub push_of : Bool → ℕ → List Claiming → Item J

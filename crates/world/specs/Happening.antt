@@ -4,7 +4,6 @@ use Rattle.std.specs.List.{slice_get}
 use Rattle.std.specs.declared.alloc.Global.{Global}
 use Rattle.partitions.specs.Parts.{Shared}
 use Rattle.requests.specs.declared.request.Request.{Request}
-use Rattle.requests.specs.declared.answer.Answer.TheVariants.{Refused}
 use Rattle.requests.specs.declared.refusal.Refusal.{Refusal}
 use Rattle.requests.specs.declared.refusal.Refusal.TheVariants as refusal
 use Rattle.requests.specs.Check.{IsAccepted, check_of}
@@ -120,12 +119,12 @@ module _ {J : Type 0} where
   abbrev pub SubmitsInto : Bool → ℕ → ℕ → Request → SessionDesk J → Parts J → EventAnswer → Parts J → Type 0
   SubmitsInto false session number asked desk old answer new = StaysAt Nothing old answer new
   SubmitsInto true session number asked desk old answer new =
-      StaysAt (Answered session number (Refused refusal.NoMemory)) old answer new
+      StaysAt (Answered session number (Err refusal.NoMemory)) old answer new
       ⊎ ((answer ≡ Accepted old.desk.admitted) × Admits session number asked desk old new)
 
   -- It is refused for this reason, or else it may be admitted.
   abbrev pub SubmitsUnless : Bool → Option Refusal → ℕ → ℕ → Request → SessionDesk J → Parts J → EventAnswer → Parts J → Type 0
-  SubmitsUnless has_room (Some why) session number asked desk old answer new = StaysAt (Answered session number (Refused why)) old answer new
+  SubmitsUnless has_room (Some why) session number asked desk old answer new = StaysAt (Answered session number (Err why)) old answer new
   SubmitsUnless has_room None session number asked desk old answer new = SubmitsInto (can_admit has_room old) session number asked desk old answer new
 
   -- A submission, while the inbox has room where the request would begin, or has none: nothing happens where there is no such session.

@@ -1,22 +1,19 @@
 -- What is known of each thing that is under way, and what a world keeps.
-use Rattle.std.specs.Prelude.{◌≡◌, ℕ, ◌+◌, ◌<◌, ◌≤◌, Bool, zero, suc, List, [], ◌∷◌, ◌++◌, Option, Some, None, All, Contains, map, length, replicate, count_by, is_some, if◌then◌else◌}
+use Rattle.std.specs.Prelude.{◌≡◌, ℕ, ◌+◌, ◌<◌, ◌≤◌, Bool, zero, suc, List, [], ◌∷◌, ◌++◌, Option, Some, None, Result, Ok, Err, All, Contains, map, length, replicate, count_by, is_some, if◌then◌else◌}
 use Rattle.std.specs.List.{slice_get, sum_by}
 use Rattle.partitions.specs.Parts.{Shared, shared_of}
 use Rattle.schema.specs.Database.{Database}
 use Rattle.requests.specs.declared.group.Group.{Group}
 use Rattle.requests.specs.declared.request.Request.{Request}
-use Rattle.requests.specs.declared.answer.Answer.{Answer}
-use Rattle.requests.specs.declared.answer.Answer.TheVariants.{Done, Refused}
 use Rattle.requests.specs.declared.refusal.Refusal.{Refusal}
 use Rattle.requests.specs.declared.refusal.Refusal.TheVariants as refusal
 use Rattle.requests.specs.Check.{IsAccepted}
 use Rattle.groups.specs.Footprint.{footprint, groups_of}
 use Rattle.tickets.specs.Claims.{Claiming, all_claims}
 use Rattle.slices.specs.Sliced.{AreAllHeld, AreSlicesOf}
-use Rattle.commit_log.specs.declared.entry.Entry.{Entry}
 use Rattle.commit_log.specs.Claimed.{IsCarriedOut}
 use Rattle.commit_log.specs.Passing.{Passing}
-use Rattle.history.specs.History.{HasReply, is_of}
+use Rattle.history.specs.History.{is_of}
 use Rattle.transactions.specs.declared.work.Work.{Work}
 use Rattle.transactions.specs.declared.acting.Ran.{Ran}
 use Rattle.transactions.specs.declared.acting.Ran.TheVariants as ran
@@ -44,20 +41,15 @@ use Rattle.world.specs.Flights.{Token, Acting, Committing, Ending, InFlight, joi
 use Rattle.world.specs.Parted.{AreSettledBy, AreUndoneBy, joined_in}
 use Rattle.world.specs.Stations.{slices_in}
 
--- an answer that is done names an entry with its reply
-abbrev pub IsAnswerIn : List Entry → Answer → Type 0
-IsAnswerIn log (Done place shown) = HasReply log place shown
-IsAnswerIn log (Refused refusal) = Unit {0}
-
 -- A refusal that tells of a death names one of these groups, and an age that is less than this one.
 abbrev pub NamesOlder : List Group → ℕ → Refusal → Type 0
 NamesOlder groups age (refusal.Died group holder) = Contains groups group × (holder < age)
 NamesOlder groups age _ = Unit {0}
 
 -- so does an answer that is such a refusal
-abbrev pub AnswersOlder : List Group → ℕ → Answer → Type 0
-AnswersOlder groups age (Done place shown) = Unit {0}
-AnswersOlder groups age (Refused why) = NamesOlder groups age why
+abbrev pub AnswersOlder : List Group → ℕ → Result ℕ Refusal → Type 0
+AnswersOlder groups age (Ok place) = Unit {0}
+AnswersOlder groups age (Err why) = NamesOlder groups age why
 
 -- a pass that is there is of this session
 abbrev pub IsPassOf : ℕ → Option Passing → Type 0
@@ -161,18 +153,17 @@ module _ {J : Type 0} where
     pub undo : All (AreUndoneBy u.age) commit.transaction.held
     pub few : length commit.transaction.held ≤ MOST_ACTIONS
 
-  -- An answer is for one of 64 sessions, which asks its number, and the log has what it tells; and a death is of somebody older, on a
-  -- group of what was asked.
-  abbrev pub IsSoundReply : List Entry → ReplyItem J → Type 0
-  IsSoundReply log told = (told.pass.session < 64) × ((told.pass.asks.number ≡ told.number) × (IsAnswerIn log told.answer × AnswersOlder (groups_of (footprint told.pass.asks.request)) told.age told.answer))
+  -- An answer is for one of 64 sessions, which asks its number; and a death is of somebody older, on a group of what was asked.
+  abbrev pub IsSoundReply : ReplyItem J → Type 0
+  IsSoundReply told = (told.pass.session < 64) × ((told.pass.asks.number ≡ told.number) × AnswersOlder (groups_of (footprint told.pass.asks.request)) told.age told.answer)
 
   -- an item is sound, by its kind
-  abbrev pub IsSoundItem : Shared → List Entry → Courses → Item J → Type 0
-  IsSoundItem shared log at (item.Push message) = IsSoundMessage shared at message
-  IsSoundItem shared log at (item.Report r) = IsSoundReport shared (at r.slot) r
-  IsSoundItem shared log at (item.Ended slot) = Unit {0}
-  IsSoundItem shared log at (item.Commit commit) = IsSoundCommit shared (at commit.transaction.slot) commit
-  IsSoundItem shared log at (item.Reply told) = IsSoundReply log told
+  abbrev pub IsSoundItem : Shared → Courses → Item J → Type 0
+  IsSoundItem shared at (item.Push message) = IsSoundMessage shared at message
+  IsSoundItem shared at (item.Report r) = IsSoundReport shared (at r.slot) r
+  IsSoundItem shared at (item.Ended slot) = Unit {0}
+  IsSoundItem shared at (item.Commit commit) = IsSoundCommit shared (at commit.transaction.slot) commit
+  IsSoundItem shared at (item.Reply told) = IsSoundReply told
 
   -- ---- the active transactions
 
@@ -264,7 +255,7 @@ module _ {J : Type 0} where
     pub slices : AreSlicesOf w.catalog (slices_in w)
     pub under_way : Courses
     pub inbox : All (IsSoundMessage shared under_way) w.inbox
-    pub outbox : All (IsSoundItem shared w.log under_way) w.outbox
+    pub outbox : All (IsSoundItem shared under_way) w.outbox
     pub slots : length w.desk.active ≡ 64
     pub active : AreSoundActive shared under_way 0 w.desk.active
     pub ages : HaveTheirAges under_way w.desk.admitted w.desk.active

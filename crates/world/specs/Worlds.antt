@@ -1,10 +1,9 @@
 -- What holds of a world and its history.
-use Rattle.std.specs.Prelude.{◌≡◌, ℕ, ◌+◌, Bool, List, [], ◌∷◌, ◌++◌, All, Contains, IsTrue, ◌<◌, ◌≤◌, ◌↔◌, count_by}
+use Rattle.std.specs.Prelude.{◌≡◌, ℕ, ◌+◌, Bool, List, [], ◌∷◌, ◌++◌, All, Contains, IsTrue, ◌<◌, ◌≤◌, ◌↔◌, Err, count_by}
 use Rattle.std.specs.List.{slice_get}
 use Rattle.schema.specs.Database.{Database}
 use Rattle.requests.specs.declared.group.Group.{Group}
 use Rattle.requests.specs.declared.request.Request.{Request}
-use Rattle.requests.specs.declared.answer.Answer.TheVariants.{Refused}
 use Rattle.requests.specs.declared.refusal.Refusal.TheVariants as refusal
 use Rattle.groups.specs.Content.{content}
 use Rattle.groups.specs.Footprint.{footprint, groups_of}
@@ -106,7 +105,7 @@ module _ {J : Type 0} where
   -- footprint is named, and the age of an older one.
   abbrev pub TellsOfOlder : Core J → EventAnswer → Type 0
   TellsOfOlder w answer =
-      (session number : ℕ) (group : Group) (holder : ℕ) → answer ≡ Answered session number (Refused (refusal.Died group holder))
+      (session number : ℕ) (group : Group) (holder : ℕ) → answer ≡ Answered session number (Err (refusal.Died group holder))
       → (u : Unanswered) × (Contains (flight (together w)).pending u × IsRefusedFor session number group holder u)
 
   -- The transaction in this slot dies on this group of one of this age, who is older, is active, and has a claim on the group, as a
@@ -185,7 +184,7 @@ module _ {J : Type 0} where
   -- answer.
   abbrev pub IsBusyExactly : Event → Core J → EventAnswer → Type 0
   IsBusyExactly (Submit session number asked) w answer =
-      session < 64 → (answer ≡ Answered session number (Refused refusal.SessionBusy)) ↔ (1 ≤ count_by (is_of session) (flight (together w)).pending)
+      session < 64 → (answer ≡ Answered session number (Err refusal.SessionBusy)) ↔ (1 ≤ count_by (is_of session) (flight (together w)).pending)
   IsBusyExactly event w answer = Unit {0}
 
   -- the action has not died: it has done its work, or there was no memory for it

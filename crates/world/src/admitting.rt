@@ -1,5 +1,5 @@
 //! A session submits a request.
-ghost use Rattle.std.specs.Prelude.{◌≡◌, ◌<◌, [], IfOk, IfSome, OnOk, OnErr, IsTrue, is_some, None, Some, slice_get};
+ghost use Rattle.std.specs.Prelude.{◌≡◌, ◌<◌, [], Err, IfOk, IfSome, OnOk, OnErr, IsTrue, is_some, None, Some, slice_get};
 ghost use Rattle.commit_log.specs.Asks.{asking};
 ghost use Rattle.commit_log.specs.Passing.{seating, with_asks};
 ghost use Rattle.world.specs.declared.desk.SessionDesk.{SessionDesk as AnyDesk};
@@ -12,7 +12,7 @@ use crate::held::HeldClaims;
 use crate::world::Parts;
 use commit_log::{Names, Pass};
 use history::EventAnswer;
-use requests::{Answer, Refusal, Request, check};
+use requests::{Refusal, Request, check};
 use schema::NoMemory;
 use std::alloc::Global;
 use transactions::Progress;
@@ -98,12 +98,12 @@ impl<J: Names> Parts<J> {
 }
 
 fn refused(session: u32, number: u32, refusal: Refusal) -> EventAnswer
-    ensures { result ≡ EventAnswer.Answered session number (Answer.Refused refusal) }
+    ensures { result ≡ EventAnswer.Answered session number (Err refusal) }
 {
     EventAnswer::Answered {
         session,
         number,
-        answer: Answer::Refused(refusal),
+        answer: Err(refusal),
     }
 }
 

@@ -15,21 +15,17 @@ use crate::sending::Release;
 use crate::world::Parts;
 use commit_log::{AppendFault, Entry, Log, Names, Pass};
 use history::EventAnswer;
-use requests::{Answer, Refusal, Reply};
+use requests::{Refusal, Reply};
 use transactions::MOST_ACTIONS;
 
 impl<J: Names> Parts<J> {
-    // The transaction is logged, or refused where there is no memory, or the log is full.
+    // The transaction is logged, or refused where there is no memory for an entry, or the log is full.
     pub(crate) fn commit(&mut self, commit: CommitItem<J>) -> EventAnswer
         requires room { length self.old.outbox + (MOST_ACTIONS + 1) ≤ 4096 }
         requires can { CanCommit J.opening commit }
         ensures { Commits commit self.old result self.new }
     {
         let CommitItem { transaction, reply } = commit;
-        let Ok(shown) = reply.try_clone() else {
-            self.release(Release::refused(transaction, Refusal::NoMemory), false);
-            return EventAnswer::Sent;
-        };
         let settle = is_settled(&reply);
         let Transaction {
             age,
@@ -47,29 +43,24 @@ impl<J: Names> Parts<J> {
         };
         match append(&mut self.log, &mut held, pass, entry) {
             Ok((place, pass)) => {
-                let answer = Answer::Done {
-                    place,
-                    reply: shown,
-                };
                 let over = Release {
                     age,
                     slot,
                     number,
                     pass,
-                    answer,
+                    answer: Ok(place),
                     held,
                 };
                 self.release(over, settle);
                 EventAnswer::Logged { place }
             }
             Err((fault, pass)) => {
-                let answer = Answer::Refused(why_refused(fault));
                 let over = Release {
                     age,
                     slot,
                     number,
                     pass,
-                    answer,
+                    answer: Err(why_refused(fault)),
                     held,
                 };
                 self.release(over, false);

@@ -2,7 +2,7 @@
 use crate::held::HeldClaims;
 use commit_log::{Names, Pass};
 use range_moves::Moving;
-use requests::{Answer, Reply, Request};
+use requests::{Refusal, Reply, Request};
 use tickets::Claims;
 use transactions::{Progress, Ran, Work};
 
@@ -78,13 +78,14 @@ pub struct CommitItem<J: Names> {
     pub reply: Reply,
 }
 
-/// An answer on its way to its session, with the session's pass.
+/// An answer on its way to its session, with the session's pass: the place of the entry in the log, or why the request was
+/// refused.
 #[derive(Drop)]
 pub struct ReplyItem<J: Names> {
     pub age: u64,
     pub number: u32,
     pub pass: Pass<J>,
-    pub answer: Answer,
+    pub answer: Result<u32, Refusal>,
 }
 
 /// What is put as something happens, and is to be sent.

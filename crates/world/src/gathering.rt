@@ -1,5 +1,5 @@
 //! All actions of a phase have reported: what they found is gathered, and what follows is done.
-ghost use Rattle.std.specs.Prelude.{◌≡◌, ◌≤◌, ◌<◌, ◌+◌, ◌++◌, [], length, vec_capacity, None, Some};
+ghost use Rattle.std.specs.Prelude.{◌≡◌, ◌≤◌, ◌<◌, ◌+◌, ◌∷◌, ◌++◌, [], length, vec_capacity, None, Some};
 ghost use Rattle.world.specs.Following as spec;
 ghost use Rattle.world.specs.Following.{CarriesFirst, found_in, held_in, holding, refusal_of};
 ghost use Rattle.world.specs.Events.{CanMeet, GathersInto, HasMet, MeetsAs};
@@ -115,9 +115,26 @@ fn sort_out<J: Names>(
     let Some(mut flow) = flow else { unreachable!() };
     let mut refusal = sort_one(ran, &mut flow.transaction.held, &mut found, refusal);
     while let Some(report) = results.next() {
-        refusal = sort_one(report.ran, &mut flow.transaction.held, &mut found, refusal);
+        refusal = sort_later(report, &mut flow.transaction.held, &mut found, refusal);
     }
     (flow, found, refusal)
+}
+
+// What came of one action, whose report is not the first: no transaction goes with it.
+fn sort_later<J: Names>(
+    report: Report<J>,
+    held: &mut HeldClaims<J>,
+    found: &mut Vec<Found>,
+    refusal: Option<Refusal>,
+) -> Option<Refusal>
+    requires held { length held.old + 1 ≤ MOST_ACTIONS }
+    requires found { refusal ≡ None → length found.old.items + 1 ≤ vec_capacity found.old }
+    ensures refusal { result ≡ spec.refused_by refusal report.ran }
+    ensures held { held.new ≡ held.old ++ spec.held_by report.ran }
+    ensures found { result ≡ None → found.new.items ≡ found.old.items ++ spec.found_by report.ran }
+    ensures room { result ≡ None → vec_capacity found.new ≡ vec_capacity found.old }
+{
+    sort_one(report.ran, held, found, refusal)
 }
 
 // What came of one action: its claims are held, and what it found stands behind what others found.
@@ -137,9 +154,7 @@ fn sort_one<J: Names>(
     match ran {
         Ran::Done(claims, one) => {
             held.put(claims);
-            if refusal.is_none() {
-                found.push_reserved(one);
-            }
+            keep(found, one, &refusal);
             refusal
         }
         Ran::Died { group, holder } => match refusal {
@@ -150,5 +165,16 @@ fn sort_one<J: Names>(
             Some(_) => refusal,
             None => Some(Refusal::NoMemory),
         },
+    }
+}
+
+// What an action found stands behind what others found, unless the transaction is refused.
+fn keep(found: &mut Vec<Found>, one: Found, refusal: &Option<Refusal>)
+    requires { refusal.now ≡ None → length found.old.items + 1 ≤ vec_capacity found.old }
+    ensures found { refusal.now ≡ None → found.new.items ≡ found.old.items ++ one ∷ [] }
+    ensures room { refusal.now ≡ None → vec_capacity found.new ≡ vec_capacity found.old }
+{
+    if refusal.is_none() {
+        found.push_reserved(one);
     }
 }

@@ -12,11 +12,12 @@ use crate::world::Parts;
 use commit_log::{Names, Pass};
 use history::EventAnswer;
 use rendezvous::{Meeting, Reported};
-use requests::{Answer, Refusal};
+use requests::Refusal;
 use std::alloc::Global;
 use transactions::MOST_ACTIONS;
 
-/// A transaction that is over: its answer, and what its actions hold.
+/// A transaction that is over: its answer, which is the place of its entry in the log or why it was refused, and what its
+/// actions hold.
 #[derive(Drop)]
 pub struct Release<J: Names> {
     pub age: u64,
@@ -24,7 +25,7 @@ pub struct Release<J: Names> {
     pub slot: usize,
     pub number: u32,
     pub pass: Pass<J>,
-    pub answer: Answer,
+    pub answer: Result<u32, Refusal>,
     pub held: HeldClaims<J>,
 }
 
@@ -46,7 +47,7 @@ impl<J: Names> Release<J> {
             slot,
             number,
             pass,
-            answer: Answer::Refused(why),
+            answer: Err(why),
             held,
         }
     }

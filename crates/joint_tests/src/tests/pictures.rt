@@ -1,7 +1,7 @@
 use super::*;
 use history::{Event, EventAnswer, Output, Scheduled};
 use picture::write_picture;
-use requests::{Answer, Refusal};
+use requests::Refusal;
 
 // A payment that is refused for want of memory, after it was accepted: which of its actions hold claims isn't told.
 #[test]
@@ -16,7 +16,7 @@ fn after_a_refusal_the_course_is_not_known(rt: HostRuntime) -> Result<(), Fail> 
     let refused = EventAnswer::Answered {
         session: 1,
         number: 0,
-        answer: Answer::Refused(Refusal::NoMemory),
+        answer: Err(Refusal::NoMemory),
     };
     let mut schedule = Vec::new(alloc);
     let mut outputs = Vec::new(alloc);
@@ -30,7 +30,7 @@ fn after_a_refusal_the_course_is_not_known(rt: HostRuntime) -> Result<(), Fail> 
     }
     let scale = warehouses(alloc, 1)?.scale();
     let mut text = Vec::new(alloc);
-    write_picture(alloc, &mut text, &schedule, &outputs, &scale, 1)?;
+    write_picture(alloc, &mut text, &schedule, &outputs, &[], &scale, 1)?;
     let words = b">not known from here on</text>".as_slice();
     assert!(rt; text.windows(30).any(|part| part == words));
     Ok(())

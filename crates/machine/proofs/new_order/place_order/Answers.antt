@@ -48,7 +48,7 @@ place_lines-requires-clause-district c =
 
 pub returns-in_default-2-clause-reply : goal.returns-in_default-2-clause-reply
 returns-in_default-2-clause-reply c =
-    c.rolled_back-in_default-2.ensures.reply ∙ sym (ap (λ (o : Outcome). o.reply) (out_of_range (goal.at.returns-in_default-2-clause-reply c).In_default-2))
+    sym (ap (λ (o : Outcome). o.reply) (out_of_range (goal.at.returns-in_default-2-clause-reply c).In_default-2))
 
 pub returns-in_default-2-clause-tables : goal.returns-in_default-2-clause-tables
 returns-in_default-2-clause-tables c = sym (ap (λ (o : Outcome). o.tables) (out_of_range (goal.at.returns-in_default-2-clause-tables c).In_default-2))

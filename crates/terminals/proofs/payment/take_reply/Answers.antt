@@ -1,4 +1,5 @@
-use Rattle.std.proofs.Common.{List, ℕ, [], ◌∷◌, refl, ap, ◌∙◌}
+use Rattle.std.proofs.Common.{List, ℕ, [], ◌∷◌, sym, ap, ◌∙◌}
+use Rattle.std.specs.Prelude.{codes}
 use Rattle.std.specs.Fmt.{decimal, signed_decimal}
 use Rattle.files.specs.Word.{credit_text}
 use Rattle.files.proofs.ColumnsRead.{and_then, cents, credit, whole, words}
@@ -19,7 +20,12 @@ returns-clause-taken c = λ none.
     let money = discount.1 ∙ ap (λ l. decimal c.rate.result ∷ l) (balance.1 ∙ ap (λ l. signed_decimal c.cents.result ∷ l) «data».1) in
     let rest = credit.1 ∙ ap (λ l. credit_text c.credit.result ∷ l) money in
     let names = first.1 ∙ ap (λ l. c.text.result ∷ l) (middle.1 ∙ ap (λ l. c.text-2.result ∷ l) (last.1 ∙ ap (λ l. c.text-3.result ∷ l) rest)) in
-    record { faultless = number.0; texts = name (after_name (c.text-4.result ∷ [])); are_said = refl; left = number.1 ∙ ap (λ l. decimal c.whole.result ∷ l) names }
+    record {
+      faultless = number.0;
+      texts = name (after_name (c.text-4.result ∷ []));
+      are_said = ap (λ (t : List ℕ). codes "P" ∷ name (after_name (t ∷ []))) (sym c.in_ok-new.ensures.shown);
+      left = number.1 ∙ ap (λ l. decimal c.whole.result ∷ l) names;
+    }
 
 pub returns-clause-columns : goal.returns-clause-columns
 returns-clause-columns c =

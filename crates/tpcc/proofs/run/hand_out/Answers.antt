@@ -7,7 +7,8 @@ use Rattle.files.proofs.Sent.{on_any_err}
 use Rattle.terminals.specs.LogRecord.{IsLog}
 use Rattle.tpcc.specs.Edges.{HasWritten, NamesFile}
 use Rattle.tpcc.specs.Run.{AreAllAnswers, BeginAllAnswers, HandsOutSome}
-use Rattle.tpcc.proofs.AnswerRecords.{begins-none, begins-printed}
+use Rattle.tpcc.proofs.AnswerRecords.{all-begun, begins-none}
+use Rattle.tpcc.proofs.SomePrinted.{all_or_some}
 use Rattle.tpcc.proofs.FaultsOfSources.{both_on_err, log_or_output, of_printing}
 use Rattle.tpcc.proofs.FileNames.{names_written, printed_well}
 use Rattle.tpcc.proofs.run.hand_out.Goals as goal
@@ -29,7 +30,7 @@ returns-in_err-name_printed-clause-some g c =
     let after = g.A.Write.contents c.print_answers-printed.new.sink in
     let names = g.N.Shelf.named in
     let Prints : List Entry → List (List (Result ℕ Refusal)) → Type 0 = λ log l. BeginsToWrite before after (BeginAllAnswers log 0 l) in
-    let printed = begins-printed c.as_slice-entries.result.now c.print_answers-printed.result before after c.as_slice.result.now c.print_answers-printed.ensures.printed c.print_answers-printed.ensures.begun in
+    let printed = all_or_some c.print_answers-printed.result before after _ _ (all-begun c.as_slice-entries.result.now 0 c.as_slice.result.now) c.print_answers-printed.ensures.printed c.print_answers-printed.ensures.begun in
     let told = subst (Prints c.as_slice-entries.result.now) c.as_slice.ensures.value printed in
     let some : HandsOutSome g.F.Write.contents c.args.log c.args.tables before after (names c.args.shelf.now) (names c.name_printed.new.shelf) c.args.outcome.now.log.items c.args.outcome.now.answers.items =
     inl (subst (λ log. Prints log c.args.outcome.now.answers.items) c.as_slice-entries.ensures.value told, c.in_err-name_printed.ensures.err ∙ c.in_ok-log.ensures.same) in

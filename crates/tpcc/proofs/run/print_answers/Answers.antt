@@ -1,8 +1,9 @@
-use Rattle.std.proofs.Common.{◌<◌, length}
+use Rattle.std.proofs.Common.{◌<◌, length, refl}
+use Rattle.std.proofs.lemmas.Option.{slice_get_read}
 use Rattle.files.specs.Sending.{BeginsToWrite}
 use Rattle.files.proofs.Sent.{on_any_err}
 use Rattle.tpcc.specs.Run.{BeginAllAnswers}
-use Rattle.tpcc.proofs.AnswerRecords.{begins-more, indexed, prints-more, prints-none}
+use Rattle.tpcc.proofs.AnswerRecords.{begins-more, prints-more, prints-none}
 use Rattle.tpcc.proofs.run.print_answers.Goals as goal
 
 pub loop-session-init : goal.loop-session-init
@@ -26,4 +27,4 @@ returns-in_err-print_session-clause-begun g c =
 
 pub print_session-requires : goal.print_session-requires
 print_session-requires g c =
-    c.requires.placed c.loop-session.session c.index-answers-session.result (indexed c.args.answers.now c.loop-session.session c.index-answers-session.result c.loop-session-test.true c.index-answers-session.is)
+    c.requires.placed c.loop-session.session c.index-answers-session.result (slice_get_read c.args.answers.now (length c.args.answers.now) c.loop-session.session c.index-answers-session.result refl c.loop-session-test.true c.index-answers-session.is)

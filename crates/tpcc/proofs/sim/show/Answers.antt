@@ -5,7 +5,7 @@ use Rattle.history.specs.declared.schedule.Output.{Output}
 use Rattle.files.specs.Sending.{BeginsToWrite, OfFirst, Writes}
 use Rattle.files.proofs.Sent.{on_any_err}
 use Rattle.terminals.specs.LogRecord.{IsLog}
-use Rattle.terminals.specs.Outputs.{AreOutputs}
+use Rattle.terminals.specs.Outputs.{AreOutputs, NameEntries}
 use Rattle.tpcc.specs.declared.command_fault.CommandFault.{CommandFault}
 use Rattle.tpcc.specs.EarlyEnds.{IsOfGathering, IsOfShowing}
 use Rattle.tpcc.specs.Edges.{HasWritten, NamesFile}
@@ -13,8 +13,14 @@ use Rattle.tpcc.specs.Faults.{IsOfWritingSome}
 use Rattle.tpcc.specs.Sim.{NamesPicture, ShowsSome}
 use Rattle.tpcc.proofs.FaultsOfSources.{log_or_output, of_printing}
 use Rattle.tpcc.proofs.FileNames.{names_written, printed_well}
-use Rattle.tpcc.proofs.SimulationEnds.{outputs-begun, no_output}
+use Rattle.tpcc.proofs.SimulationEnds.{all-first, no_output}
+use Rattle.tpcc.proofs.SomePrinted.{all_or_some}
 use Rattle.tpcc.proofs.sim.show.Goals as goal
+
+-- what is printed names entries of what is written
+pub print_outputs-printed-requires : goal.print_outputs-printed-requires
+print_outputs-printed-requires g c =
+    subst (λ (told : List Entry × List Output). NameEntries told.0 told.1) (λ i. (sym c.as_slice-entries.ensures.value i, sym c.as_slice-outputs.ensures.value i)) c.requires.entries
 
 -- the log was not written: nothing is printed
 pub returns-in_err-log-clause-some : goal.returns-in_err-log-clause-some
@@ -22,7 +28,7 @@ returns-in_err-log-clause-some g c =
     let before = g.A.Write.contents c.args.told.now in
     let names = g.N.Shelf.named in
     let some : ShowsSome g.F.Write.contents c.args.settings.now.executors c.args.schedule.now c.args.simulation.now c.args.log c.args.picture c.args.tables before before
-    (names c.args.shelf.now) (names c.write_entries.new.shelf) = inl (no_output before c.args.simulation.now.outputs.items, c.in_err-log.ensures.same) in
+    (names c.args.shelf.now) (names c.write_entries.new.shelf) = inl (no_output before c.args.simulation.now.log.items c.args.simulation.now.outputs.items, c.in_err-log.ensures.same) in
     on_any_err c.from_residual.result some
 
 -- not all was printed, or the log has not got its name
@@ -31,10 +37,11 @@ returns-in_err-name_printed-clause-some g c =
     let before = g.A.Write.contents c.args.told.now in
     let after = g.A.Write.contents c.print_outputs-printed.new.sink in
     let names = g.N.Shelf.named in
-    let Prints : List Output → Type 0 = λ l. BeginsToWrite before after (OfFirst AreOutputs l) in
-    let printed = outputs-begun c.print_outputs-printed.result before after c.as_slice-2.result.now c.print_outputs-printed.ensures.printed c.print_outputs-printed.ensures.begun in
+    let printed : BeginsToWrite before after (OfFirst (AreOutputs c.args.simulation.now.log.items) c.args.simulation.now.outputs.items) =
+    subst (λ (told : List Entry × List Output). BeginsToWrite before after (OfFirst (AreOutputs told.0) told.1)) (λ i. (c.as_slice-entries.ensures.value i, c.as_slice-outputs.ensures.value i))
+    (all_or_some c.print_outputs-printed.result before after _ _ (all-first c.as_slice-entries.result.now c.as_slice-outputs.result.now) c.print_outputs-printed.ensures.printed c.print_outputs-printed.ensures.begun) in
     let some : ShowsSome g.F.Write.contents c.args.settings.now.executors c.args.schedule.now c.args.simulation.now c.args.log c.args.picture c.args.tables before after
-    (names c.args.shelf.now) (names c.name_printed.new.shelf) = inl (subst Prints c.as_slice-2.ensures.value printed, c.in_err-name_printed.ensures.err ∙ c.in_ok-log.ensures.same) in
+    (names c.args.shelf.now) (names c.name_printed.new.shelf) = inl (printed, c.in_err-name_printed.ensures.err ∙ c.in_ok-log.ensures.same) in
     on_any_err c.from_residual-in_err-name_printed.result some
 
 -- the picture was not drawn
@@ -44,13 +51,13 @@ returns-in_err-draw-clause-some g c =
     let after = g.A.Write.contents c.print_outputs-printed.new.sink in
     let names = g.N.Shelf.named in
     let log = c.args.simulation.now.log.items in
-    let Prints : List Output → Type 0 = λ l. Writes before after (AreOutputs l) in
-    let printed = subst Prints c.as_slice-2.ensures.value (printed_well c.print_outputs-printed.result tt c.in_ok-name_printed.ensures.printed c.print_outputs-printed.ensures.printed) in
+    let Prints : List Entry × List Output → Type 0 = λ (told : List Entry × List Output). Writes before after (AreOutputs told.0 told.1) in
+    let printed = subst Prints (λ i. (c.as_slice-entries.ensures.value i, c.as_slice-outputs.ensures.value i)) (printed_well c.print_outputs-printed.result tt c.in_ok-name_printed.ensures.printed c.print_outputs-printed.ensures.printed) in
     let Logs : List Entry → Type 0 = λ l. HasWritten g.F.Write.contents c.args.log (IsLog l) c.in_ok-log.log in
     let with_log = names c.name_printed.new.shelf in
     let logged : NamesFile g.F.Write.contents c.args.log (names c.args.shelf.now) with_log (IsLog log) =
     names_written g.F.Write.contents c.args.log (IsLog log) c.in_ok-log.log (names c.args.shelf.now) (names c.write_entries.new.shelf) with_log
-    c.in_ok-log.ensures.same (subst Logs c.as_slice.ensures.value c.in_ok-log.ensures.written) c.in_ok-name_printed.ensures.named in
+    c.in_ok-log.ensures.same (subst Logs c.as_slice-entries.ensures.value c.in_ok-log.ensures.written) c.in_ok-name_printed.ensures.named in
     let some : ShowsSome g.F.Write.contents c.args.settings.now.executors c.args.schedule.now c.args.simulation.now c.args.log c.args.picture c.args.tables before after
     (names c.args.shelf.now) (names c.draw.new.shelf) = inr (printed, with_log, logged, inl c.in_err-draw.ensures.err) in
     on_any_err c.from_residual-in_err-draw.result some
@@ -62,16 +69,16 @@ returns-clause-some g c =
     let after = g.A.Write.contents c.print_outputs-printed.new.sink in
     let names = g.N.Shelf.named in
     let log = c.args.simulation.now.log.items in
-    let Prints : List Output → Type 0 = λ l. Writes before after (AreOutputs l) in
-    let printed = subst Prints c.as_slice-2.ensures.value (printed_well c.print_outputs-printed.result tt c.in_ok-name_printed.ensures.printed c.print_outputs-printed.ensures.printed) in
+    let Prints : List Entry × List Output → Type 0 = λ (told : List Entry × List Output). Writes before after (AreOutputs told.0 told.1) in
+    let printed = subst Prints (λ i. (c.as_slice-entries.ensures.value i, c.as_slice-outputs.ensures.value i)) (printed_well c.print_outputs-printed.result tt c.in_ok-name_printed.ensures.printed c.print_outputs-printed.ensures.printed) in
     let Logs : List Entry → Type 0 = λ l. HasWritten g.F.Write.contents c.args.log (IsLog l) c.in_ok-log.log in
     let with_log = names c.name_printed.new.shelf in
     let logged : NamesFile g.F.Write.contents c.args.log (names c.args.shelf.now) with_log (IsLog log) =
     names_written g.F.Write.contents c.args.log (IsLog log) c.in_ok-log.log (names c.args.shelf.now) (names c.write_entries.new.shelf) with_log
-    c.in_ok-log.ensures.same (subst Logs c.as_slice.ensures.value c.in_ok-log.ensures.written) c.in_ok-name_printed.ensures.named in
-    let Draws : List Output → Type 0 = λ l. NamesPicture g.F.Write.contents c.args.picture with_log (names c.draw.new.shelf) c.args.settings.now.executors c.args.schedule.now l in
-    let drawn = subst Draws c.as_slice-3.ensures.value c.in_ok-draw.ensures.named in
-    let Named : Option (List (Option (List ℕ))) → Type 0 = λ named. NamesPicture g.F.Write.contents c.args.picture with_log named c.args.settings.now.executors c.args.schedule.now c.args.simulation.now.outputs.items in
+    c.in_ok-log.ensures.same (subst Logs c.as_slice-entries.ensures.value c.in_ok-log.ensures.written) c.in_ok-name_printed.ensures.named in
+    let Draws : List Entry × List Output → Type 0 = λ (told : List Entry × List Output). NamesPicture g.F.Write.contents c.args.picture with_log (names c.draw.new.shelf) c.args.settings.now.executors c.args.schedule.now told.1 told.0 in
+    let drawn = subst Draws (λ i. (c.as_slice-entries.ensures.value i, c.as_slice-outputs.ensures.value i)) c.in_ok-draw.ensures.named in
+    let Named : Option (List (Option (List ℕ))) → Type 0 = λ named. NamesPicture g.F.Write.contents c.args.picture with_log named c.args.settings.now.executors c.args.schedule.now c.args.simulation.now.outputs.items c.args.simulation.now.log.items in
     on_err_weaker c.name_gathered.result (λ still. inr (printed, with_log, logged, inr (subst Named (sym still) drawn))) c.name_gathered.ensures.err
 
 pub returns-clause-all : goal.returns-clause-all
@@ -80,17 +87,17 @@ returns-clause-all g c =
     let after = g.A.Write.contents c.print_outputs-printed.new.sink in
     let names = g.N.Shelf.named in
     let log = c.args.simulation.now.log.items in
-    let Prints : List Output → Type 0 = λ l. Writes before after (AreOutputs l) in
+    let Prints : List Entry × List Output → Type 0 = λ (told : List Entry × List Output). Writes before after (AreOutputs told.0 told.1) in
     let Logs : List Entry → Type 0 = λ l. HasWritten g.F.Write.contents c.args.log (IsLog l) c.in_ok-log.log in
     let with_log = names c.name_printed.new.shelf in
-    let Draws : List Output → Type 0 = λ l. NamesPicture g.F.Write.contents c.args.picture with_log (names c.draw.new.shelf) c.args.settings.now.executors c.args.schedule.now l in
+    let Draws : List Entry × List Output → Type 0 = λ (told : List Entry × List Output). NamesPicture g.F.Write.contents c.args.picture with_log (names c.draw.new.shelf) c.args.settings.now.executors c.args.schedule.now told.1 told.0 in
     on_ok_weaker c.name_gathered.result (λ gathered. record {
-      printed = subst Prints c.as_slice-2.ensures.value (printed_well c.print_outputs-printed.result tt c.in_ok-name_printed.ensures.printed c.print_outputs-printed.ensures.printed);
+      printed = subst Prints (λ i. (c.as_slice-entries.ensures.value i, c.as_slice-outputs.ensures.value i)) (printed_well c.print_outputs-printed.result tt c.in_ok-name_printed.ensures.printed c.print_outputs-printed.ensures.printed);
       with_log = with_log;
       with_picture = names c.draw.new.shelf;
       logged = names_written g.F.Write.contents c.args.log (IsLog log) c.in_ok-log.log (names c.args.shelf.now) (names c.write_entries.new.shelf) with_log
-          c.in_ok-log.ensures.same (subst Logs c.as_slice.ensures.value c.in_ok-log.ensures.written) c.in_ok-name_printed.ensures.named;
-      drawn = subst Draws c.as_slice-3.ensures.value c.in_ok-draw.ensures.named;
+          c.in_ok-log.ensures.same (subst Logs c.as_slice-entries.ensures.value c.in_ok-log.ensures.written) c.in_ok-name_printed.ensures.named;
+      drawn = subst Draws (λ i. (c.as_slice-entries.ensures.value i, c.as_slice-outputs.ensures.value i)) c.in_ok-draw.ensures.named;
       gathered = gathered;
     }) c.name_gathered.ensures.named
 

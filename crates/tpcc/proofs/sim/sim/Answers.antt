@@ -7,8 +7,13 @@ use Rattle.world.specs.Openings.{IsFaultOf, Simulates}
 use Rattle.tpcc.specs.declared.command_fault.CommandFault.{CommandFault}
 use Rattle.tpcc.specs.EarlyEnds.{IsOfGathering, IsOfShowing, IsOfSimulating}
 use Rattle.tpcc.specs.Sim.{IsSimulation, Shows, ShowsSome}
+use Rattle.tpcc.proofs.OutputsNamed.{outputs_named}
 use Rattle.tpcc.proofs.SimulationEnds.{of_gathering}
 use Rattle.tpcc.proofs.sim.sim.Goals as goal
+
+pub show-requires-clause-entries : goal.show-requires-clause-entries
+show-requires-clause-entries g c =
+    outputs_named c.in_ok-opening.opening c.args.settings.now.executors c.as_slice.result.now c.in-Ok.simulation c.in-Ok.ensures.simulates
 
 pub returns-in-Err-NotConsistent-clause-fault : goal.returns-in-Err-NotConsistent-clause-fault
 returns-in-Err-NotConsistent-clause-fault g c =

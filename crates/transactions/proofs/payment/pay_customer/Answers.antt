@@ -75,12 +75,12 @@ returns-clause-paid g c =
     let row = c.in-Some.row.now in
     let new = c.in-Some-customer_paid.row in
     let seen = ap (λ (p : Part). p.tables) c.partition.ensures.rows ∙ ap (λ (s : Sliced). s.tables) c.look.ensures.same.0 in
-    done.customer_is_paid p t c.args.customers.now c.requires.claim c.requires.fresh c.look.ensures.left c.put_customer.new.claim key row new c.payment_reply-reply.result
+    done.customer_is_paid p t c.args.customers.now c.requires.claim c.requires.fresh c.look.ensures.left c.put_customer.new.claim key row new c.in_ok-reply.reply
     (sym (c.in-Some.ensures ∙ ap (λ (s : Database). chosen s.customers p.customer_home p.customer) seen))
     (sym c.in-Some-customer_paid.ensures)
     (c.in_ok-put_customer.ensures.claim
     ∙ (λ i. leaving (c.look.ensures.same.1 i) (with_customer key new (c.look.ensures.same.1 i).left)))
-    c.payment_reply-reply.ensures
+    c.in_ok-reply.ensures.reply
 
 -- the reply shows the customer who was chosen, and the scale has each customer of the tables
 pub returns-clause-payer : goal.returns-clause-payer
@@ -92,8 +92,13 @@ returns-clause-payer g c =
     let held = subst (λ (q : Part). IsTrue (map.contains_key q.tables.customers key)) c.partition.ensures.rows (ap is_some there.0) in
     let has = customer_known (part_in c.look.new.self) key c.partition.ensures.part held in
     let seen : c.look.new.self.tables ≡ c.args.slice.now.tables = ap (λ (s : Sliced). s.tables) c.look.ensures.same.0 in
-    let shown = there.1 ∙ ap (λ (r : PaymentReply). customer_key p.customer_home r.c_id) (sym c.payment_reply-reply.ensures) in
+    let shown = there.1 ∙ ap (λ (r : PaymentReply). customer_key p.customer_home r.c_id) (sym c.in_ok-reply.ensures.reply) in
     subst (λ k. IsTrue (has_customer c.args.slice.now.tables.scale k)) shown (subst (λ (s : Database). IsTrue (has_customer s.scale key)) seen has)
+
+pub returns-in_err-reply-clause-kept : goal.returns-in_err-reply-clause-kept
+returns-in_err-reply-clause-kept g c =
+    kept.unchanged (c.args.customers.now ∷ []) (c.look.new.claim ∷ []) c.args.slice.now c.look.new.self
+    (λ i. c.look.ensures.same.1 i ∷ []) c.look.ensures.same.0
 
 pub returns-in_err-put_customer-clause-kept : goal.returns-in_err-put_customer-clause-kept
 returns-in_err-put_customer-clause-kept g c =

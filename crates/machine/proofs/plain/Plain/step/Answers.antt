@@ -39,6 +39,5 @@ invariant_of-self-in-Delivery c =
 
 pub returns-in_ok-shown-in-StockLevel-clause-reply : goal.returns-in_ok-shown-in-StockLevel-clause-reply
 returns-in_ok-shown-in-StockLevel-clause-reply c =
-    c.twice-in-StockLevel.ensures.reply
-    ∙ ap (λ shown. Done (LevelShown shown)) c.in_ok-shown-in-StockLevel.ensures
+    ap (λ shown. Done (LevelShown shown)) c.in_ok-shown-in-StockLevel.ensures
     ∙ (λ i. (transaction (c.self.view_is i) (sym c.in-StockLevel.is i)).reply)
