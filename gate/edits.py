@@ -16,8 +16,7 @@ from concurrent.futures import ThreadPoolExecutor
 KINDS = ["must-fail", "wrong-programs"]
 LANES = 4
 TURNS = 5
-HOURS = 3
-DEAR = {"engine", "tpcc"}
+HOURS = 4
 
 
 def edits_of(crate):
@@ -78,12 +77,12 @@ def changed(root):
 
 def in_turn(root, crates):
     """Returns the crates whose edits are tried in a run of the commit that stands here: those that have changed, and every fifth of
-    those that have edits, which fifth by the commit's name. A check of the whole crate comes before its first edit, and costs more than
-    the edits: so the two crates whose checks are the dearest, and which have an edit each, are tried in their turn alone."""
+    those that have edits, which fifth by the commit's name. (A check of the whole crate comes before its first edit, and costs more than
+    the edits.)"""
     having = [name for name in crates if ls(f"{root}/crates/{name}/must-fail")]
     turn = int(told_by_git(root, "rev-parse", "HEAD") or "0", 16) % TURNS
     new = changed(root)
-    return [name for number, name in enumerate(having) if number % TURNS == turn or name in new - DEAR]
+    return [name for number, name in enumerate(having) if number % TURNS == turn or name in new]
 
 
 @contextlib.contextmanager

@@ -2,9 +2,8 @@
 
 First come the definitions that documents quote and list, a look at each edit, and the examples by a program that is built without its
 proofs. Then `rt ci` proves every crate and its tests from nothing, runs the tests and the stored run, and has the prover refuse
-must-fail edits: those of the crates that changed in the three hours before this commit, and of each fifth crate in turn, which fifth
-by the commit's name (of `engine` and `tpcc` in their turn alone). Last, all scenarios are run by the program that was proved, and
-each of its allocations is refused in turn.
+must-fail edits: those of the crates that changed in the four hours before this commit, and of each fifth crate in turn, which fifth
+by the commit's name. Last, all scenarios are run by the program that was proved, and each of its allocations is refused in turn.
 The last line is `rt ci`'s: N passed, 0 failed. The exit status is 0 where all is well.
 
 With --whole the prover has to refuse the must-fail edits of all crates, as where `rt ci` is called by itself, and their further wrong
