@@ -15,9 +15,12 @@ TOP = HERE.parent
 # How the words of a command end that are files.
 FILES = (".csv", ".svg")
 
-# How `commands` marks a command: its scripts may be logged in any order; or it is run once for each record of a list; or
-# what it meets, which takes a built program.
-MARK = re.compile(r"(any order|each of \S+|no room|closed|room \d+|interrupted|terminal): ")
+# How `commands` marks a command: its scripts may be logged in any order; or what it meets, or that it is large, which
+# takes a built program.
+MARK = re.compile(r"(any order|no room|closed|room \d+|interrupted|terminal|large): ")
+
+# Or it is run once for each record of a list, also on a terminal.
+EACH = re.compile(r"(terminal: )?each of (\S+): ")
 
 # What stands for the record in the files of a command that is run for each record of a list.
 RECORD = "{record}"
@@ -101,19 +104,19 @@ def read_file(scenario, name):
 
 class Run:
     """One run of the program: its words, how it is marked, and what came of it; where it is one of several that are run
-    for each record of a list, that record and its number."""
+    for each record of a list, the list, that record and its number."""
 
-    def __init__(self, line, record=None, number=0):
+    def __init__(self, line, records="", record=None, number=0):
         mark = MARK.match(line)
         self.mark = mark[1] if mark else ""
         self.any_order = self.mark == "any order"
         self.line = MARK.sub("", line, 1)
         self.words = [bytes_shown(word) for word in self.line.split()]
-        self.record, self.number = record, number
+        self.records, self.record, self.number = records, record, number
         self.printed, self.told, self.status = "", "", "status 0"
 
     def needs_program(self):
-        return self.mark not in ("", "any order") and self.record is None
+        return self.mark not in ("", "any order")
 
     def files(self):
         return [word for word in self.words if word.endswith(FILES)]
@@ -193,10 +196,10 @@ class Run:
 
     def transcript(self, folder):
         """As a shell session; of a command that is run for each record of a list, the words and then a line for each."""
-        if self.record is not None:
-            head = [f"$ tpcc {self.line}   # with {self.mark}"] if self.number == 1 else []
-            return head + self.row(folder)
         shown = SHOWN.get(self.mark.split(" ")[0] if self.mark.startswith("room") else self.mark, "").format(self.mark[5:])
+        if self.record is not None:
+            head = [f"$ tpcc {self.line}   # with each of {self.records}{shown.replace('   #', ',')}"] if self.number == 1 else []
+            return head + self.row(folder)
         words = "".join(it if " " <= it <= "~" else f"\\x{ord(it):02x}" for it in " ".join(self.words))
         return ["$ tpcc " + words + shown] + [line.replace(f"{folder}/", "") for line in self.outcome()]
 
@@ -242,11 +245,11 @@ def commands_of(path):
 
 def runs_of(path, line):
     """The run of that line, or one for each record of the list that it names."""
-    mark = MARK.match(line)
-    if mark is None or not mark[1].startswith("each of "):
+    each = EACH.match(line)
+    if each is None:
         return [Run(line)]
-    records = lines_of(path / mark[1].removeprefix("each of "))[:-1]
-    return [Run(line, record, place + 1) for place, record in enumerate(records)]
+    line = (each[1] or "") + line[each.end() :]
+    return [Run(line, each[2], record, place + 1) for place, record in enumerate(lines_of(path / each[2])[:-1])]
 
 
 class Scenario:

@@ -9,4 +9,3 @@ pub mod Check
 pub mod Requests
 pub mod LastName
 pub mod ShownData
-pub mod Replies

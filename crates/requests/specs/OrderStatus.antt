@@ -1,10 +1,9 @@
--- When an Order-Status is refused by itself, and when it shows an order.
-use Rattle.std.specs.Prelude.{Bool, false, not, IsSome}
+-- When an Order-Status is refused by itself.
+use Rattle.std.specs.Prelude.{Bool, false, not}
 use Rattle.rows.specs.Ranged.{is_between}
 use Rattle.schema.specs.declared.scale.Scale.{Scale}
 use Rattle.schema.specs.Scale.{has_warehouse}
 use Rattle.requests.specs.declared.order_status.OrderStatus.{OrderStatus}
-use Rattle.requests.specs.declared.order_status.OrderStatusReply.{OrderStatusReply}
 use Rattle.requests.specs.declared.refusal.Refusal.{Refusal}
 use Rattle.requests.specs.declared.refusal.Refusal.TheVariants.{BadWarehouse, BadDistrict}
 
@@ -15,7 +14,3 @@ order_status_applies scale o BadWarehouse = not (has_warehouse scale o.home.w_id
 -- the district is not from 1 to 10 (clause 2.6.1.2)
 order_status_applies scale o BadDistrict = not (is_between 1 10 o.home.d_id)
 order_status_applies scale o _ = false
-
--- it shows an order, with its lines
-abbrev pub ShowsOrder : OrderStatusReply → Type 0
-ShowsOrder shown = IsSome shown.order

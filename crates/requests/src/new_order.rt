@@ -1,5 +1,5 @@
 //! New-Order (clause 2.4), and what is shown of it.
-ghost use Rattle.std.specs.Prelude.{◌≡◌, IfOk};
+ghost use Rattle.std.specs.Prelude.{◌≡◌};
 ghost use Rattle.std.specs.List.{list_all};
 ghost use Rattle.rows.specs.Ranged.{is_between};
 ghost use Rattle.schema.specs.Scale.{has_warehouse};
@@ -9,7 +9,7 @@ use crate::checks::is_district;
 use crate::{Lines, Refusal, Request};
 use amounts::{Cents, Rate};
 use schema::{
-    BrandGeneric, Credit, DistrictKey, LineAmount, LineQuantity, Moment, NoMemory, Price, Scale,
+    BrandGeneric, Credit, DistrictKey, LineAmount, LineQuantity, Moment, Price, Scale,
     StockQuantity, Text,
 };
 
@@ -71,15 +71,6 @@ pub struct NewOrderLine {
     pub price: Price,
     /// OL_AMOUNT, in cents.
     pub amount: LineAmount,
-}
-
-impl NewOrderReply {
-    /// An equal reply. Its lines take memory; `NoMemory` leaves nothing behind.
-    pub fn try_clone(&self) -> Result<NewOrderReply, NoMemory>
-        ensures { IfOk result (λ copy. copy ≡ self.now) }
-    {
-        self.clone()
-    }
 }
 
 /// The first refusal that applies to a New-Order.

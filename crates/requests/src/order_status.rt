@@ -1,12 +1,11 @@
 //! Order-Status (clause 2.6), and what is shown of it.
-ghost use Rattle.std.specs.Prelude.{◌≡◌, IfOk, OnErr};
+ghost use Rattle.std.specs.Prelude.{◌≡◌};
 ghost use Rattle.requests.specs.Check.{check_of};
-ghost use Rattle.requests.specs.OrderStatus.{ShowsOrder};
 
 use crate::checks::is_district;
 use crate::{Choice, Lines, Refusal, Request};
 use amounts::Cents;
-use schema::{CarrierId, DistrictKey, LineAmount, LineQuantity, Moment, NoMemory, Scale, Text};
+use schema::{CarrierId, DistrictKey, LineAmount, LineQuantity, Moment, Scale, Text};
 
 /// A customer asks for the state of the last order (clause 2.6.1). As it comes, any number may be out of
 /// its range: `check` tells.
@@ -51,27 +50,6 @@ pub struct StatusLine {
     pub amount: LineAmount,
     /// `None` until the order is delivered.
     pub delivery_d: Option<Moment>,
-}
-
-impl OrderStatusReply {
-    /// An equal reply. Only the lines of an order take memory; `NoMemory` leaves nothing behind.
-    pub fn try_clone(&self) -> Result<OrderStatusReply, NoMemory>
-        ensures copy { IfOk result (λ copy. copy ≡ self.now) }
-        ensures lines { OnErr result (ShowsOrder self.now) }
-    {
-        let order = match &self.order {
-            Some(order) => Some(order.clone()?),
-            None => None,
-        };
-        Ok(OrderStatusReply {
-            c_id: self.c_id,
-            first: self.first.copy(),
-            middle: self.middle.copy(),
-            last: self.last.copy(),
-            balance: self.balance,
-            order,
-        })
-    }
 }
 
 /// The first refusal that applies to an Order-Status.

@@ -1,11 +1,11 @@
 //! A payment (clause 2.5), and what is shown of it.
-ghost use Rattle.std.specs.Prelude.{◌≡◌, ◌≢◌, [], IfOk, OnErr};
+ghost use Rattle.std.specs.Prelude.{◌≡◌};
 ghost use Rattle.requests.specs.Check.{check_of};
 
 use crate::checks::is_district;
 use crate::{Choice, Refusal, Request, ShownData};
 use amounts::{Cents, Rate};
-use schema::{Credit, DistrictKey, Moment, NoMemory, Scale, Text};
+use schema::{Credit, DistrictKey, Moment, Scale, Text};
 
 /// A payment that a customer makes at a district (clause 2.5.1). As it comes, any number may be out
 /// of its range: `check` tells.
@@ -37,26 +37,6 @@ pub struct PaymentReply {
     pub balance: Cents,
     /// The first 200 bytes of C_DATA for bad credit, else nothing.
     pub data: ShownData,
-}
-
-impl PaymentReply {
-    /// An equal reply. Only what it shows of C_DATA takes memory; `NoMemory` leaves nothing behind.
-    pub fn try_clone(&self) -> Result<PaymentReply, NoMemory>
-        ensures copy { IfOk result (λ copy. copy ≡ self.now) }
-        ensures err { OnErr result (self.now.data ≢ []) }
-    {
-        let data = self.data.try_clone()?;
-        Ok(PaymentReply {
-            c_id: self.c_id,
-            first: self.first.copy(),
-            middle: self.middle.copy(),
-            last: self.last.copy(),
-            credit: self.credit,
-            discount: self.discount,
-            balance: self.balance,
-            data,
-        })
-    }
 }
 
 /// The first refusal that applies to a payment.

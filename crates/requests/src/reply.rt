@@ -1,8 +1,7 @@
-ghost use Rattle.std.specs.Prelude.{◌≡◌, ◌↔◌, IfOk, IsTrue, OnErr};
-ghost use Rattle.requests.specs.Replies.{ReplyTakesMemory, TakesMemory};
+ghost use Rattle.std.specs.Prelude.{◌≡◌, ◌↔◌, IsTrue};
 
 use crate::{DeliveryReply, NewOrderReply, OrderStatusReply, PaymentReply, StockLevelReply};
-use schema::{Credit, NoMemory, Text};
+use schema::{Credit, Text};
 
 /// Why a transaction that was carried out and logged changed nothing.
 #[derive(Clone, Debug, PartialEq, Eq, Drop)]
@@ -20,23 +19,6 @@ pub enum Fault {
     Range,
 }
 
-impl Fault {
-    /// An equal fault. It takes no memory.
-    pub fn copy(&self) -> Fault
-        ensures { result ≡ self.now }
-    {
-        match self {
-            Fault::NoCustomer => Fault::NoCustomer,
-            Fault::NoItem { last, credit, o_id } => Fault::NoItem {
-                last: last.copy(),
-                credit: *credit,
-                o_id: *o_id,
-            },
-            Fault::Range => Fault::Range,
-        }
-    }
-}
-
 /// What a terminal shows of a transaction that was not rolled back, by the kind of request.
 #[derive(Clone, Debug, PartialEq, Eq, Drop)]
 pub enum Shown {
@@ -45,22 +27,6 @@ pub enum Shown {
     OrderStatus(OrderStatusReply),
     Delivery(DeliveryReply),
     StockLevel(StockLevelReply),
-}
-
-impl Shown {
-    /// An equal value. Only the lines of an order and what is shown of C_DATA take memory; `NoMemory` leaves nothing behind.
-    pub fn try_clone(&self) -> Result<Self, NoMemory>
-        ensures copy { IfOk result (λ copy. copy ≡ self.now) }
-        ensures err { OnErr result (TakesMemory self.now) }
-    {
-        match self {
-            Shown::NewOrder(shown) => Ok(Shown::NewOrder(shown.try_clone()?)),
-            Shown::Payment(shown) => Ok(Shown::Payment(shown.try_clone()?)),
-            Shown::OrderStatus(shown) => Ok(Shown::OrderStatus(shown.try_clone()?)),
-            Shown::Delivery(shown) => Ok(Shown::Delivery(*shown)),
-            Shown::StockLevel(shown) => Ok(Shown::StockLevel(*shown)),
-        }
-    }
 }
 
 /// What a terminal shows of a transaction that was carried out.
@@ -78,16 +44,5 @@ impl Reply {
         ensures { IsTrue result ↔ (self.now ≡ other.now) }
     {
         self == other
-    }
-
-    /// An equal reply. It takes memory where the reply does; `NoMemory` leaves nothing behind.
-    pub fn try_clone(&self) -> Result<Self, NoMemory>
-        ensures copy { IfOk result (λ copy. copy ≡ self.now) }
-        ensures err { OnErr result (ReplyTakesMemory self.now) }
-    {
-        match self {
-            Reply::Done(shown) => Ok(Reply::Done(shown.try_clone()?)),
-            Reply::RolledBack(fault) => Ok(Reply::RolledBack(fault.copy())),
-        }
     }
 }

@@ -56,19 +56,6 @@ impl ShownData {
             None => "",
         }
     }
-
-    /// An equal text. `NoMemory` leaves nothing behind, and an empty text takes no memory.
-    pub fn try_clone(&self) -> Result<Self, NoMemory>
-        ensures copy { IfOk result (λ copy. copy ≡ self.now) }
-        ensures err { OnErr result (self.now ≢ []) }
-    {
-        match &self.text {
-            Some(text) => Ok(ShownData {
-                text: Some(text.clone()?),
-            }),
-            None => Ok(ShownData::empty()),
-        }
-    }
 }
 
 impl PartialEq for ShownData {

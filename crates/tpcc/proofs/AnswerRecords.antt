@@ -1,5 +1,5 @@
 -- The records of all answers, one session more at a time.
-use Rattle.std.proofs.Common.{◌≡◌, inl, inr, Result, Ok, Err, OnOk, OnErr, drop, take-append-drop, ℕ, suc, ◌+◌, ◌<◌, ◌≤◌, List, [], ◌∷◌, ◌++◌, length, take, get_or, Option, None, Some, refl, sym, ap, subst, ◌∙◌, arith, append_assoc, append-nil}
+use Rattle.std.proofs.Common.{◌≡◌, inl, inr, Result, Ok, drop, take-append-drop, ℕ, suc, ◌+◌, ◌<◌, ◌≤◌, List, [], ◌∷◌, ◌++◌, length, take, get_or, Option, None, Some, refl, sym, ap, subst, ◌∙◌, arith, append_assoc, append-nil}
 use Rattle.std.proofs.lemmas.List.{take_more, length-take-le}
 use Rattle.std.proofs.lemmas.Option.{slice_get_within}
 use Rattle.std.specs.List.{slice_get}
@@ -13,7 +13,7 @@ use Rattle.commit_log.specs.declared.entry.Entry.{Entry}
 use Rattle.commit_log.specs.Items.{entry_of}
 use Rattle.files.specs.Sending.{Begins, BeginsToWrite, OfFirst, Writes}
 use Rattle.files.specs.Written.{csv_text}
-use Rattle.files.proofs.Sent.{begins_after, begins_none, sends_all}
+use Rattle.files.proofs.Sent.{begins_after, begins_none}
 use Rattle.files.proofs.Texts.{csv_text-append}
 use Rattle.terminals.specs.Answers.{AreAnswers, IsAnswerIn}
 use Rattle.terminals.proofs.Numbered.{numbered-none}

@@ -1,8 +1,12 @@
 -- How requests ended, as numbers that can be counted.
-use Rattle.std.specs.Prelude.{ℕ, ◌+◌, List, Option, None, Some, Result, Ok, Err}
+use Rattle.std.specs.Prelude.{ℕ, ◌+◌, Bool, true, false, List, Option, None, Some, Result, Ok, Err}
 use Rattle.std.specs.List.{slice_get}
 use Rattle.requests.specs.declared.request.Request.{Request}
 use Rattle.requests.specs.declared.request.Request.TheVariants.{NewOrder, Payment, OrderStatus, Delivery, StockLevel}
+use Rattle.requests.specs.declared.request.Choice.{Choice}
+use Rattle.requests.specs.declared.request.Choice.TheVariants.{Number, LastName}
+use Rattle.requests.specs.declared.reply.Fault.{Fault}
+use Rattle.requests.specs.declared.reply.Fault.TheVariants.{NoCustomer, NoItem, Range}
 use Rattle.requests.specs.declared.reply.Reply.{Reply}
 use Rattle.requests.specs.declared.reply.Reply.TheVariants as replied
 use Rattle.requests.specs.declared.refusal.Refusal.{Refusal}
@@ -17,14 +21,38 @@ kind_number (OrderStatus status) = 2
 kind_number (Delivery delivery) = 3
 kind_number (StockLevel level) = 4
 
--- what was carried out was done, which is 0, or rolled back, which is 1
-abbrev pub reply_number : Reply → ℕ
-reply_number (replied.Done shown) = 0
-reply_number (replied.RolledBack fault) = 1
+-- whether a customer is chosen by last name
+abbrev pub is_name : Choice → Bool
+is_name (Number number) = false
+is_name (LastName name) = true
 
--- an entry ended as its reply tells; (where none stands there is nothing that was rolled back)
+-- whether a request chooses its customer so
+abbrev pub chooses_by_name : Request → Bool
+chooses_by_name (NewOrder order) = false
+chooses_by_name (Payment payment) = is_name payment.customer
+chooses_by_name (OrderStatus status) = is_name status.customer
+chooses_by_name (Delivery delivery) = false
+chooses_by_name (StockLevel level) = false
+
+-- what was rolled back is 1, and 16 where nobody has the last name that chooses the customer
+abbrev pub rollback_number : Bool → Fault → ℕ
+rollback_number true NoCustomer = 16
+rollback_number false NoCustomer = 1
+rollback_number by_name (NoItem last credit number) = 1
+rollback_number by_name Range = 1
+
+-- what was carried out was done, which is 0, or rolled back
+abbrev pub reply_number : Bool → Reply → ℕ
+reply_number by_name (replied.Done shown) = 0
+reply_number by_name (replied.RolledBack fault) = rollback_number by_name fault
+
+-- how an entry ended
+abbrev pub end_number : Entry → ℕ
+end_number entry = reply_number (chooses_by_name entry.request) entry.reply
+
+-- the same, where one stands; (where none does there is nothing that was rolled back)
 unfoldable pub entry_number : Option Entry → ℕ
-entry_number (Some entry) = reply_number entry.reply
+entry_number (Some entry) = end_number entry
 entry_number None = 0
 
 -- a request that was answered so ended as the entry at its place in this log, or as a refusal, which is one more than its number

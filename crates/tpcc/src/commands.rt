@@ -1,6 +1,7 @@
 ghost use Rattle.std.specs.Prelude.{◌≡◌, IfErr, OnOk};
 ghost use Rattle.tpcc.specs.Settings.{IsWithinLimits};
 
+use crate::meaning::Inputs;
 use crate::progress::NotingWriter;
 use crate::report::{Report, Teller};
 use crate::settings::Settings;
@@ -65,7 +66,7 @@ fn print_text<R: Files + AllocGlobal>(
         Ok(()) => Status::Success,
         Err(error) => {
             let fault = trouble.not_opened(STANDARD_OUTPUT, &error);
-            Teller::new(rt, stderr, false, false, &trouble).report(fault)
+            Teller::new(rt, stderr, false, false, Inputs::none(), &trouble).report(fault)
         }
     }
 }

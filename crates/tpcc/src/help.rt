@@ -1,5 +1,5 @@
 // The date of the newest changes, and the toolchain. No build can know the commit that it is of.
-pub const VERSION: &str = "2026-11-27, made by rattle-kit-13f logic dac8208d650f15bf";
+pub const VERSION: &str = "2026-11-28, made by rattle-kit-13f logic dac8208d650f15bf";
 
 // What is told after the list of commands by `tpcc --help`.
 pub const PROGRAM: &str = "\

@@ -4,11 +4,22 @@
 use crate::command_fault::CommandFault;
 use crate::escaped::Escaped;
 use crate::lines::Lines;
+use crate::meaning::formats::Before;
+use crate::meaning::search::{Found, Search};
 use crate::trouble::Trouble;
 use files::{FaultKind, Fields, FileError, FileFault, Reader, Records};
 use std::io::{Read, Write};
 use std::rt::Files;
 use std::{fs, io};
+
+mod formats;
+mod listings;
+mod replies;
+mod search;
+mod spelling;
+mod tables;
+
+pub use formats::{Format, Inputs};
 
 // How many fields are told of a record, and how many bytes of a field.
 const MOST_FIELDS: usize = 12;
@@ -20,6 +31,7 @@ pub fn tell_meaning<R: Files + AllocGlobal, W: Write>(
     rt: &R,
     sink: &mut W,
     fault: CommandFault<'_>,
+    inputs: Inputs<'_>,
     trouble: &Trouble,
 ) {
     match fault {
@@ -53,7 +65,8 @@ pub fn tell_meaning<R: Files + AllocGlobal, W: Write>(
         ),
         CommandFault::Failed { path, record: _ } => tell_trouble(sink, path, trouble),
         CommandFault::File { path, fault } => {
-            if tell_place(rt, sink, path, fault.record).is_err() {
+            let before = Before::new(inputs.format(path));
+            if tell_place(rt, sink, path, fault, before).is_err() {
                 return;
             }
             tell(sink, meaning(fault));
@@ -80,14 +93,16 @@ fn tell_trouble<W: Write>(sink: &mut W, path: &str, trouble: &Trouble) {
     }
 }
 
-// Tells the line where the record begins, as an editor counts, and what stands there. Of the file no more
-// is in memory than a record that can be read.
+// Tells the line where the record begins, as an editor counts, what stands there, and which field has the
+// fault. Of the file no more is in memory than a record that can be read.
 fn tell_place<R: Files + AllocGlobal, W: Write>(
     rt: &R,
     sink: &mut W,
     path: &str,
-    record: u64,
+    fault: FileFault,
+    mut before: Before,
 ) -> io::Result<()> {
+    let record = fault.record;
     if !fs::metadata(rt, path)?.is_file() {
         return Ok(());
     }
@@ -95,11 +110,14 @@ fn tell_place<R: Files + AllocGlobal, W: Write>(
         source: fs::open(rt, path)?,
     };
     let mut records = Records::new(rt.alloc(), source);
-    for _ in 0..record {
+    for passed in 0..record {
+        if passed > 0 {
+            before.pass(records.fields());
+        }
         match records.advance() {
             Ok(true) => {}
             Ok(false) => return writeln!(sink, "  after the last line of the file"),
-            Err(FileError::File(fault)) if fault.record == record => {
+            Err(FileError::File(long)) if long.record == record => {
                 let line = line_of(rt, path, record)?;
                 return writeln!(sink, "  line {line}: a record of more than 65,536 bytes");
             }
@@ -108,7 +126,19 @@ fn tell_place<R: Files + AllocGlobal, W: Write>(
     }
     let line = line_of(rt, path, record)?;
     write!(sink, "  line {line}: ")?;
-    tell_fields(sink, records.fields())
+    tell_fields(sink, records.fields())?;
+    let first = records.fields().word();
+    let mut search = Search::new(records.fields(), fault.kind);
+    before.search(&mut search, first);
+    if let Some(found) = search.found() {
+        tell_found(sink, records.fields(), found)
+    } else if let Some(place) = search.first_too_many() {
+        writeln!(sink, "  field {place} is one too many")
+    } else if let Some(names) = before.key_names(fault.kind, first) {
+        writeln!(sink, "  its key is {names}")
+    } else {
+        Ok(())
+    }
 }
 
 // The line where the record of that number begins.
@@ -144,6 +174,27 @@ fn tell_fields<W: Write>(sink: &mut W, mut fields: Fields<'_>) -> io::Result<()>
         write!(sink, ",..")?;
     }
     writeln!(sink)
+}
+
+// Tells which field of the record has the fault, what is there, and what would be right.
+fn tell_found<W: Write>(sink: &mut W, mut fields: Fields<'_>, found: Found) -> io::Result<()> {
+    let Found {
+        place,
+        name,
+        spelling,
+    } = found;
+    write!(sink, "  field {place}, {name}, is ")?;
+    for _ in 1..place {
+        fields.bytes();
+    }
+    if fields.left() == 0 {
+        write!(sink, "missing")?;
+    } else if fields.next_is_empty() {
+        write!(sink, "empty")?;
+    } else {
+        tell_field(sink, fields.bytes())?;
+    }
+    writeln!(sink, ": it should be {spelling}")
 }
 
 // Tells the first bytes of a field.

@@ -4,7 +4,7 @@ ghost use Rattle.tpcc.specs.declared.command_fault.CommandFault as command_fault
 ghost use Rattle.tpcc.specs.Faults.{status_of, told_line, Tells};
 
 use crate::command_fault::CommandFault;
-use crate::meaning::tell_meaning;
+use crate::meaning::{Inputs, tell_meaning};
 use crate::status::Status;
 use crate::summary::{Summary, tell_summary};
 use crate::trouble::Trouble;
@@ -45,17 +45,19 @@ pub struct Teller<'a, R> {
     // Where it is told that work begins, if anywhere.
     terminal: Option<Stderr>,
     sums_up: bool,
+    inputs: Inputs<'a>,
     trouble: &'a Trouble,
 }
 
 impl<'a, R: Files + AllocGlobal> Teller<'a, R> {
     /// Tells on the standard error; of the work only where that is a terminal, and not if it is to be
-    /// `quiet`; and then also what it came to, as where `summary` asks for it.
+    /// `quiet`; and then also what it came to, as where `summary` asks for it. These files are read.
     pub fn new(
         rt: &'a R,
         stderr: Stderr,
         quiet: bool,
         summary: bool,
+        inputs: Inputs<'a>,
         trouble: &'a Trouble,
     ) -> Self {
         let is_shown = !quiet && stderr.is_terminal();
@@ -64,6 +66,7 @@ impl<'a, R: Files + AllocGlobal> Teller<'a, R> {
             stderr,
             terminal: if is_shown { Some(stderr) } else { None },
             sums_up: is_shown || (summary && !quiet),
+            inputs,
             trouble,
         }
     }
@@ -82,7 +85,7 @@ impl<R: Files + AllocGlobal> Report for Teller<'_, R> {
     fn report(&mut self, fault: CommandFault<'_>) -> Status {
         let _ = tell(&mut self.stderr, fault);
         if self.stderr.is_terminal() {
-            tell_meaning(self.rt, &mut self.stderr, fault, self.trouble);
+            tell_meaning(self.rt, &mut self.stderr, fault, self.inputs, self.trouble);
         }
         fault.status()
     }

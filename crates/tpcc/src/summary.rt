@@ -1,7 +1,7 @@
 //! What a run or a replay came to, told in lines on the standard error.
 
 use crate::latencies::within;
-use crate::tally::{ENDS, KINDS, Tally};
+use crate::tally::{KINDS, NOBODY, Tally};
 use std::fmt;
 use std::io::Write;
 
@@ -22,6 +22,15 @@ pub fn tell_summary<W: Write>(sink: &mut W, summary: &Summary) {
     let _ = writeln!(sink, "tpcc: summary: {count} requests");
     for kind in 0..KINDS {
         let _ = writeln!(sink, "tpcc: summary: {}", OfKind { tally, kind });
+    }
+    let of_nobody = tally
+        .count(1, NOBODY)
+        .saturating_add(tally.count(2, NOBODY));
+    if of_nobody > 0 {
+        let _ = writeln!(
+            sink,
+            "tpcc: summary: {of_nobody} rolled back as nobody has the last name: a customer's number is written with #, as #1"
+        );
     }
     let time = Seconds(summary.served_for);
     let all = a_minute(count, summary.served_for);
@@ -68,9 +77,10 @@ impl fmt::Display for OfKind<'_> {
             _ => "Stock-Level",
         };
         let done = self.tally.count(self.kind, 0);
-        let rolled_back = self.tally.count(self.kind, 1);
+        let of_nobody = self.tally.count(self.kind, NOBODY);
+        let rolled_back = self.tally.count(self.kind, 1).saturating_add(of_nobody);
         write!(f, "{word}: {done} done, {rolled_back} rolled back")?;
-        for end in 2..ENDS {
+        for end in 2..NOBODY {
             let refused = self.tally.count(self.kind, end);
             if refused > 0 {
                 let number = end - 1;

@@ -1,18 +1,22 @@
 ghost use Rattle.std.specs.Prelude.{◌≡◌, ◌<◌, ◌==◌, ◌++◌, ◌&&◌, [], IfOk, OnOk, map, count_by};
 ghost use Rattle.std.specs.List.{zip};
 ghost use Rattle.std.specs.Option.{option_map};
-ghost use Rattle.tpcc.specs.Tally.{kind_number, reply_number, entry_number, answer_number};
+ghost use Rattle.tpcc.specs.Tally.{kind_number, is_name, chooses_by_name, rollback_number, end_number, entry_number, answer_number};
 
 use commit_log::Entry;
-use requests::{Refusal, Reply, Request};
+use requests::{Choice, Fault, Refusal, Reply, Request};
 use schema::NoMemory;
 use std::alloc::Global;
 
 /// How many kinds of requests there are.
 pub const KINDS: u8 = 5;
 
-/// How many ends: done, rolled back, and refused by each number from 1 to 14.
-pub const ENDS: u8 = 16;
+/// How many ends: done, rolled back, refused by each number from 1 to 14, and rolled back as nobody has the
+/// last name.
+pub const ENDS: u8 = 17;
+
+/// The last of them.
+pub const NOBODY: u8 = 16;
 
 /// Of what kind each request was that is counted, and how it ended.
 #[derive(Debug, Drop)]
@@ -51,7 +55,7 @@ impl Tally {
     /// Of the entries of a log, none of which was refused.
     pub fn of_entries(alloc: Global, entries: &[Entry]) -> Result<Tally, NoMemory>
         ensures kinds { IfOk result (λ tally. tally.kinds.items ≡ map (λ entry. kind_number entry.request) entries.now) }
-        ensures ends { IfOk result (λ tally. tally.ends.items ≡ map (λ entry. reply_number entry.reply) entries.now) }
+        ensures ends { IfOk result (λ tally. tally.ends.items ≡ map end_number entries.now) }
     {
         Ok(Tally {
             kinds: entry_kinds_of(alloc, entries)?,
@@ -73,8 +77,8 @@ impl Tally {
         self.ends.len()
     }
 
-    /// How many requests of that kind, from 0, ended so: 0 done, 1 rolled back, and one more than the
-    /// number for a refusal.
+    /// How many requests of that kind, from 0, ended so: 0 done, 1 rolled back, one more than the number
+    /// for a refusal, and `NOBODY` rolled back as nobody has the last name that chooses the customer.
     pub fn count(&self, kind: u8, end: u8) -> usize
         ensures { result ≡ count_by (λ it. (it.0 == kind) && (it.1 == end)) (zip self.now.kinds.items self.now.ends.items) }
     {
@@ -117,11 +121,11 @@ fn entry_kinds_of(alloc: Global, entries: &[Entry]) -> Result<Vec<u8>, NoMemory>
 }
 
 fn entry_ends_of(alloc: Global, entries: &[Entry]) -> Result<Vec<u8>, NoMemory>
-    ensures { IfOk result (λ ends. ends.items ≡ map (λ entry. reply_number entry.reply) entries.now) }
+    ensures { IfOk result (λ ends. ends.items ≡ map end_number entries.now) }
 {
     let mut ends = Vec::with_capacity(alloc, entries.len())?;
     for entry in entries {
-        ends.push(reply_number(&entry.reply))?;
+        ends.push(end_number(entry))?;
     }
     Ok(ends)
 }
@@ -153,20 +157,50 @@ fn answer_number(answer: &Result<u32, Refusal>, log: &[Entry]) -> u8
 #[tactic(auto, unfolding(crate::specs::Tally::entry_number))]
 fn entry_number(entry: Option<&Entry>) -> u8
     ensures end { result ≡ entry_number (option_map (λ e. e.now) entry.entry) }
-    ensures few { result < 2 }
+    ensures few { result < ENDS }
 {
     match entry {
-        Some(entry) => reply_number(&entry.reply),
+        Some(entry) => end_number(entry),
         None => 0,
     }
 }
 
-fn reply_number(reply: &Reply) -> u8
-    ensures end { result ≡ reply_number reply.now }
-    ensures few { result < 2 }
+fn end_number(entry: &Entry) -> u8
+    ensures end { result ≡ end_number entry.now }
+    ensures few { result < ENDS }
 {
-    match reply {
+    match &entry.reply {
         Reply::Done(_) => 0,
-        Reply::RolledBack(_) => 1,
+        Reply::RolledBack(fault) => rollback_number(chooses_by_name(&entry.request), fault),
+    }
+}
+
+fn rollback_number(by_name: bool, fault: &Fault) -> u8
+    ensures end { result ≡ rollback_number by_name fault.now }
+    ensures few { result < ENDS }
+{
+    match fault {
+        Fault::NoCustomer => { if by_name { NOBODY } else { 1 } }
+        Fault::NoItem { .. } | Fault::Range => 1,
+    }
+}
+
+// Whether the request chooses its customer by last name.
+fn chooses_by_name(request: &Request) -> bool
+    ensures { result ≡ chooses_by_name request.now }
+{
+    match request {
+        Request::Payment(payment) => is_name(&payment.customer),
+        Request::OrderStatus(asked) => is_name(&asked.customer),
+        Request::NewOrder(_) | Request::Delivery(_) | Request::StockLevel(_) => false,
+    }
+}
+
+fn is_name(choice: &Choice) -> bool
+    ensures { result ≡ is_name choice.now }
+{
+    match choice {
+        Choice::Number(_) => false,
+        Choice::LastName(_) => true,
     }
 }

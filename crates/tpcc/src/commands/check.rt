@@ -1,4 +1,5 @@
 use crate::check::check_over;
+use crate::meaning::Inputs;
 use crate::opening::Opener;
 use crate::progress::NotingWriter;
 use crate::report::{Report, Teller};
@@ -16,7 +17,8 @@ pub fn carry_out<R: Files + AllocGlobal>(
     settings: &CheckSettings,
 ) -> Status {
     let trouble = Trouble::new();
-    let mut teller = Teller::new(rt, stderr, settings.quiet, false, &trouble);
+    let inputs = Inputs::dataset(settings.data);
+    let mut teller = Teller::new(rt, stderr, settings.quiet, false, inputs, &trouble);
     let opener = Opener::new(rt, stderr, settings.quiet, &trouble);
     match opener.open(settings.data) {
         Ok(data) => check_over(

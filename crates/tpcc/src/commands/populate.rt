@@ -1,3 +1,4 @@
+use crate::meaning::Inputs;
 use crate::opening::Opener;
 use crate::output::{Folders, make};
 use crate::populate::populate_over;
@@ -15,7 +16,8 @@ pub fn carry_out<R: Files + AllocGlobal>(
     settings: &PopulateSettings,
 ) -> Status {
     let trouble = Trouble::new();
-    let mut teller = Teller::new(rt, stderr, settings.quiet, false, &trouble);
+    let inputs = Inputs::none();
+    let mut teller = Teller::new(rt, stderr, settings.quiet, false, inputs, &trouble);
     let opener = Opener::new(rt, stderr, settings.quiet, &trouble);
     match make(rt, settings.file, opener.terminal, &trouble) {
         Ok(file) => populate_over(rt.alloc(), settings, file, &mut Folders, &mut teller),

@@ -1,6 +1,7 @@
 ghost use Rattle.std.specs.Prelude.{◌≡◌, is_some, IfOk};
 
 use crate::command_fault::CommandFault;
+use crate::meaning::{Format, Inputs};
 use crate::opening::{Opener, Watched};
 use crate::output::{Folders, NewFile};
 use crate::progress::NotingWriter;
@@ -20,7 +21,19 @@ pub fn carry_out<R: Files + AllocGlobal + Clock>(
     settings: &ReplaySettings,
 ) -> Status {
     let trouble = Trouble::new();
-    let mut teller = Teller::new(rt, stderr, settings.quiet, settings.summary, &trouble);
+    let inputs = Inputs {
+        data: settings.data,
+        moves: None,
+        others: Format::Log,
+    };
+    let mut teller = Teller::new(
+        rt,
+        stderr,
+        settings.quiet,
+        settings.summary,
+        inputs,
+        &trouble,
+    );
     let opener = Opener::new(rt, stderr, settings.quiet, &trouble);
     match ReplayFiles::open(&opener, settings) {
         Ok(ReplayFiles { data, log, tables }) => replay_over(

@@ -3,6 +3,7 @@ ghost use Rattle.tpcc.specs.Settings.{IsRunnable};
 
 use crate::command_fault::CommandFault;
 use crate::commands::ended;
+use crate::meaning::{Format, Inputs};
 use crate::opening::{Opener, Watched};
 use crate::output::{Folders, NewFile};
 use crate::progress::NotingWriter;
@@ -27,7 +28,19 @@ pub fn carry_out<R: Files + AllocGlobal + Clock + Threads + Wait + Sync>(
     requires { IsRunnable settings.now }
 {
     let trouble = Trouble::new();
-    let mut teller = Teller::new(rt, stderr, settings.quiet, settings.summary, &trouble);
+    let inputs = Inputs {
+        data: settings.data,
+        moves: settings.moves,
+        others: Format::Script,
+    };
+    let mut teller = Teller::new(
+        rt,
+        stderr,
+        settings.quiet,
+        settings.summary,
+        inputs,
+        &trouble,
+    );
     let opener = Opener::new(rt, stderr, settings.quiet, &trouble);
     match RunFiles::open(&opener, settings) {
         Ok(

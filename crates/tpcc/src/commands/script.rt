@@ -2,6 +2,7 @@ ghost use Rattle.std.specs.Prelude.{◌≡◌, length, IfOk};
 ghost use Rattle.tpcc.specs.Settings.{HasFiles};
 
 use crate::command_fault::CommandFault;
+use crate::meaning::Inputs;
 use crate::opening::{Opener, Watched};
 use crate::output::{Folders, NewFile, make};
 use crate::report::{Report, Teller};
@@ -21,7 +22,8 @@ pub fn carry_out<R: Files + AllocGlobal>(
     requires { HasFiles settings.now }
 {
     let trouble = Trouble::new();
-    let mut teller = Teller::new(rt, stderr, settings.quiet, false, &trouble);
+    let inputs = Inputs::dataset(settings.data);
+    let mut teller = Teller::new(rt, stderr, settings.quiet, false, inputs, &trouble);
     let opener = Opener::new(rt, stderr, settings.quiet, &trouble);
     match ScriptFiles::open(&opener, settings) {
         Ok(ScriptFiles { data, scripts }) => script_over(

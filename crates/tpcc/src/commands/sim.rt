@@ -3,6 +3,7 @@ ghost use Rattle.tpcc.specs.Settings.{HasExecutors};
 
 use crate::command_fault::CommandFault;
 use crate::commands::ended;
+use crate::meaning::{Format, Inputs};
 use crate::opening::{Opener, Watched};
 use crate::output::{Folders, NewFile};
 use crate::progress::NotingWriter;
@@ -24,7 +25,12 @@ pub fn carry_out<R: Files + AllocGlobal>(
     requires { HasExecutors settings.now }
 {
     let trouble = Trouble::new();
-    let mut teller = Teller::new(rt, stderr, settings.quiet, false, &trouble);
+    let inputs = Inputs {
+        data: settings.data,
+        moves: None,
+        others: Format::Schedule,
+    };
+    let mut teller = Teller::new(rt, stderr, settings.quiet, false, inputs, &trouble);
     let opener = Opener::new(rt, stderr, settings.quiet, &trouble);
     match SimFiles::open(&opener, settings) {
         Ok(
