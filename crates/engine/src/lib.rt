@@ -32,7 +32,7 @@ pub use opening::{Opened, Opening, open};
 pub use outcome::{CloseFault, Outcome, ServeFault};
 pub use range_moves::MoveOrder;
 pub use routing::MOST_EXECUTORS;
-pub use serving::serve;
+pub use serving::{serve, serve_with_room};
 
 /// The most sessions that are served at a time.
 pub const MOST_SESSIONS: usize = 64;

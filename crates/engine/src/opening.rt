@@ -1,5 +1,5 @@
 //! An engine is opened over tables, for scripts.
-ghost use Rattle.std.specs.Prelude.{◌≡◌, ◌≤◌, ◌+◌, ℕ, All, IfOk, length, vec_len};
+ghost use Rattle.std.specs.Prelude.{◌≡◌, ◌≤◌, ◌<◌, ◌+◌, ℕ, All, IfOk, length, vec_len};
 ghost use Rattle.std.specs.Vec.Iter.{into_iter_items, into_iter_len};
 ghost use Rattle.partitions.specs.Parts.{shared_of};
 ghost use Rattle.slices.specs.Openings.{AreOpenedFor};
@@ -28,9 +28,6 @@ use std::sync::Mutex;
 use std::sync::atomic::{AtomicBool, AtomicU64, AtomicUsize};
 use std::vec::IntoIter;
 use tickets::{GroupSeats, named_all};
-
-/// The most messages that an inbox holds.
-const ROOM: usize = 1024;
 
 /// What all that is under way will agree on, before it has a name: what a name is picked from.
 #[derive(Drop)]
@@ -80,7 +77,8 @@ pub struct Opened<'a, J: ServeNames, G: Gate> {
     pub idle: IntoIter<(Pass<J>, SessionSeat<J>)>,
 }
 
-/// An engine over these tables, with so many executors, for these scripts and moves. There has to be a way to make each move
+/// An engine over these tables, with so many executors, for these scripts and moves. An inbox holds `room` messages at most; one
+/// that finds it full waits at its sender. There has to be a way to make each move
 /// (`MoveOrder::is_within`), else its executors may never end. Nothing is left after an error.
 pub fn open<'a, J: ServeNames, G: Gate + Drop>(
     alloc: Global,
@@ -89,9 +87,11 @@ pub fn open<'a, J: ServeNames, G: Gate + Drop>(
     scripts: &'a [Script],
     executors: u32,
     tries: u32,
+    room: usize,
     moves: &'a [MoveOrder],
     gate: G,
 ) -> Result<Opened<'a, J, G>, NoMemory>
+    requires room { 0 < room }
     requires named { IsNamedFor J.LogNames J.GroupNames J.course J.scripts tables scripts.now opening }
     requires some { 1 ≤ executors }
     requires most { length scripts.now ≤ 64 }
@@ -108,7 +108,7 @@ pub fn open<'a, J: ServeNames, G: Gate + Drop>(
     let routing = Routing::opening(&scale, executors);
     let (boxes, seats) = named_all::<J>(alloc, scale.warehouses, groups)?;
     let (catalog, slices) = cut(alloc, tables, boxes)?;
-    let mut executors = open_executors(alloc, &routing, scale.warehouses, slices)?;
+    let mut executors = open_executors(alloc, &routing, scale.warehouses, room, slices)?;
     begin_sessions(&mut executors, &routing, scripts)?;
     let moves = Moves::new(moves);
     if let Some(order) = moves.begin_next() {
@@ -155,11 +155,13 @@ fn open_executors<J: ServeNames>(
     alloc: Global,
     routing: &Routing,
     warehouses: u32,
+    room: usize,
     slices: Vec<Slice<J>>,
 ) -> Result<Vec<Executor<J>>, NoMemory>
-    requires { All (IsToOpen J.opening) slices.items }
+    requires room { 0 < room }
+    requires slices { All (IsToOpen J.opening) slices.items }
 {
-    let mut executors = open_idle(alloc, routing.executors(), warehouses)?;
+    let mut executors = open_idle(alloc, routing.executors(), warehouses, room)?;
     for slice in slices {
         let post = Box::new(alloc, Post::new(alloc, slice))?;
         let to = routing.route(post.home()) as usize;
@@ -209,11 +211,14 @@ fn open_idle<J: ServeNames>(
     alloc: Global,
     count: u32,
     warehouses: u32,
-) -> Result<Vec<Executor<J>>, NoMemory> {
+    room: usize,
+) -> Result<Vec<Executor<J>>, NoMemory>
+    requires { 0 < room }
+{
     let mut inboxes = Vec::with_capacity(alloc, count as usize)?;
     let mut senders = Vec::with_capacity(alloc, count as usize)?;
     for _ in 0..count {
-        let (into_one, inbox) = queues::open::<Message<J>>(alloc, ROOM, count)?;
+        let (into_one, inbox) = queues::open::<Message<J>>(alloc, room, count)?;
         inboxes.push(inbox)?;
         senders.push(into_one.into_iter())?;
     }

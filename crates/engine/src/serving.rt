@@ -1,5 +1,5 @@
 //! Scripts are served by executors, each in a thread of its own.
-ghost use Rattle.std.specs.Prelude.{◌≡◌, ◌≤◌, length, All, IfOk, OnOk, IfErr, IfSome, IfNone};
+ghost use Rattle.std.specs.Prelude.{◌≡◌, ◌≤◌, ◌<◌, length, All, IfOk, OnOk, IfErr, IfSome, IfNone};
 ghost use Rattle.schema.specs.Consistency.{Consistent};
 ghost use Rattle.range_moves.specs.Orders.{IsWithin};
 ghost use Rattle.engine.specs.Faults.{AreWithin, IsFaultOf, IsFirstBad, IsOfServing};
@@ -21,6 +21,9 @@ use std::alloc::Global;
 use std::marker::Brand;
 use std::sync::Wait;
 use std::thread::Threads;
+
+/// The most messages that an inbox holds, where it isn't said.
+const ROOM: usize = 1024;
 
 /// Serves the scripts from the opening tables: script s is session s, which asks its requests one after the other. So many
 /// executors have the tables' warehouses between them, each in a thread of its own: warehouse w is at executor
@@ -51,6 +54,32 @@ pub fn serve<R: Threads + Wait + Sync, G: Gate + Send + Sync + Drop>(
     ensures within { OnOk result (AreWithin opening executors moves.now) }
     ensures fault { IfErr result (λ fault. IsFaultOf opening executors moves.now fault) }
 {
+    serve_with_room(
+        rt, alloc, opening, scripts, executors, tries, ROOM, moves, gate,
+    )
+}
+
+/// The same by executors whose inboxes hold `room` messages each. A message that finds an inbox full waits at its sender.
+pub fn serve_with_room<R: Threads + Wait + Sync, G: Gate + Send + Sync + Drop>(
+    rt: &R,
+    alloc: Global,
+    opening: Tables,
+    scripts: &[Script],
+    executors: u32,
+    tries: u32,
+    room: usize,
+    moves: &[MoveOrder],
+    gate: G,
+) -> Result<Outcome, ServeFault>
+    requires some { 1 ≤ length scripts.now }
+    requires most { length scripts.now ≤ MOST_SESSIONS }
+    requires executors { 1 ≤ executors }
+    requires room { 0 < room }
+    ensures outcome { IfOk result (λ outcome. IsOutcome opening scripts.now outcome.log.items outcome.tables outcome.answers.items) }
+    ensures consistent { OnOk result (Consistent opening) }
+    ensures within { OnOk result (AreWithin opening executors moves.now) }
+    ensures fault { IfErr result (λ fault. IsFaultOf opening executors moves.now fault) }
+{
     if let Some(place) = first_bad(moves, opening.scale().warehouses, executors) {
         return Err(ServeFault::BadMove(place));
     }
@@ -59,7 +88,7 @@ pub fn serve<R: Threads + Wait + Sync, G: Gate + Send + Sync + Drop>(
     }
     let opened = Opening::open(alloc, &opening, scripts.len())?;
     serve_from::<Brand, R, G>(
-        rt, alloc, opened, opening, scripts, executors, tries, moves, gate,
+        rt, alloc, opened, opening, scripts, executors, tries, room, moves, gate,
     )
 }
 
@@ -85,9 +114,11 @@ fn serve_from<J: ServeNames + Send + Sync, R: Threads + Wait + Sync, G: Gate + S
     scripts: &[Script],
     executors: u32,
     tries: u32,
+    room: usize,
     moves: &[MoveOrder],
     gate: G,
 ) -> Result<Outcome, ServeFault>
+    requires room { 0 < room }
     requires named { IsNamedFor J.LogNames J.GroupNames J.course J.scripts tables scripts.now opening }
     requires some { 1 ≤ executors }
     requires most { length scripts.now ≤ 64 }
@@ -100,7 +131,7 @@ fn serve_from<J: ServeNames + Send + Sync, R: Threads + Wait + Sync, G: Gate + S
         catalog,
         idle,
     } = open::<J, G>(
-        alloc, opening, tables, scripts, executors, tries, moves, gate,
+        alloc, opening, tables, scripts, executors, tries, room, moves, gate,
     )?;
     let executors = work_all(rt, alloc, &engine, executors)?;
     match close(alloc, engine, executors, catalog, idle, scripts) {

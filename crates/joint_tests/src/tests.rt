@@ -18,12 +18,19 @@ fn payment(amount: u32) -> Request {
     payment_at(1, amount)
 }
 
-// The same at a warehouse.
+// The same at a warehouse, by a customer of it.
 fn payment_at(w_id: u32, amount: u32) -> Request {
-    let home = DistrictKey { w_id, d_id: 1 };
+    payment_by(w_id, w_id, amount)
+}
+
+// The same at a warehouse, by a customer of that one.
+fn payment_by(w_id: u32, customer_w_id: u32, amount: u32) -> Request {
     Request::Payment(Payment {
-        home,
-        customer_home: home,
+        home: DistrictKey { w_id, d_id: 1 },
+        customer_home: DistrictKey {
+            w_id: customer_w_id,
+            d_id: 1,
+        },
         customer: Choice::Number(1),
         amount,
         moment: Moment::new(1_714_564_800),

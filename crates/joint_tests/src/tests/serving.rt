@@ -1,5 +1,5 @@
 use super::*;
-use engine::{Gate, MoveOrder, Outcome, ServeFault, serve};
+use engine::{Gate, MoveOrder, Outcome, ServeFault, serve, serve_with_room};
 use requests::Script;
 use std::alloc::Global;
 use std::process::Abort;
@@ -20,6 +20,15 @@ fn scripted(alloc: Global, w_id: u32, amount: u32, count: usize) -> Result<Scrip
     let mut requests = Vec::new(alloc);
     for _ in 0..count {
         requests.push(payment_at(w_id, amount))?;
+    }
+    Ok(Script::checked_new(requests).ok_or("a script")?)
+}
+
+// 25 payments at a warehouse by a customer of another.
+fn crossing(alloc: Global, w_id: u32, customer_w_id: u32) -> Result<Script, Fail> {
+    let mut requests = Vec::new(alloc);
+    for _ in 0..25 {
+        requests.push(payment_by(w_id, customer_w_id, 100))?;
     }
     Ok(Script::checked_new(requests).ok_or("a script")?)
 }
@@ -233,6 +242,36 @@ fn all_that_is_asked_is_carried_out_while_warehouses_move(rt: HostRuntime) -> Re
     )?;
     assert_eq!(rt; done_in(&outcome), 100);
     assert_eq!(rt; outcome.log.len(), 100);
+    Ok(())
+}
+
+// Inboxes hold one message, and each executor sends to the other, since the customers of all payments belong to the other
+// warehouse; and the warehouses go back and forth: each payment is carried out.
+#[test]
+fn inboxes_of_one_message_are_enough(rt: HostRuntime) -> Result<(), Fail> {
+    let alloc = rt.alloc();
+    let scripts = [
+        crossing(alloc, 1, 2)?,
+        crossing(alloc, 2, 1)?,
+        crossing(alloc, 1, 2)?,
+        crossing(alloc, 2, 1)?,
+        crossing(alloc, 1, 2)?,
+        crossing(alloc, 2, 1)?,
+    ];
+    let moves = [order(1, 1, 1), order(2, 2, 0), order(1, 2, 1)];
+    let outcome = serve_with_room(
+        &rt,
+        alloc,
+        warehouses(alloc, 2)?,
+        &scripts,
+        2,
+        10_000,
+        1,
+        &moves,
+        engine::OpenGate,
+    )?;
+    assert_eq!(rt; done_in(&outcome), 150);
+    assert_eq!(rt; outcome.log.len(), 150);
     Ok(())
 }
 

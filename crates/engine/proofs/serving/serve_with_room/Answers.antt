@@ -2,7 +2,7 @@ use Rattle.std.proofs.Common.{refl, arith}
 use Rattle.tickets.specs.Openings.{opened}
 use Rattle.tickets.specs.Unset.{no_table, nothing}
 use Rattle.engine.proofs.AtOpening.{agreements_named, courses_named}
-use Rattle.engine.proofs.serving.serve.Goals as goal
+use Rattle.engine.proofs.serving.serve_with_room.Goals as goal
 
 -- the names are those of what was opened for the tables and the scripts
 pub serve_from-requires-clause-named : goal.serve_from-requires-clause-named
