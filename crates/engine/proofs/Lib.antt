@@ -1,7 +1,10 @@
 pub mod Sessions
 pub mod Together
 pub mod OneMoreRequest
+pub mod Answered
 pub mod Asked
+pub mod ByHand
+pub mod ByScripts
 pub mod Nowhere
 pub mod Settled
 pub mod AtOpening

@@ -3,18 +3,15 @@ use Rattle.std.proofs.Common.{◌≡◌, ℕ, zero, suc, ◌+◌, ◌<◌, ◌�
 use Rattle.std.specs.List.{slice_get}
 use Rattle.std.proofs.lemmas.Bool.Decides.{nat_tests}
 use Rattle.std.proofs.Math.Seq.{take-suc}
-use Rattle.std.proofs.lemmas.List.{length-take-le}
 use Rattle.std.proofs.lemmas.Option.{get_or_from_slice_get, slice_get_within}
-use Rattle.std.proofs.lemmas.List.Elements.{Contains-append_left, Contains-push_cases, Contains-push}
+use Rattle.std.proofs.lemmas.List.Elements.{Contains-append_left, Contains-push_cases}
 use Rattle.schema.specs.declared.scale.Scale.{Scale}
 use Rattle.requests.specs.declared.request.Request.{Request}
 use Rattle.requests.specs.declared.reply.Reply.{Reply}
 use Rattle.requests.specs.declared.refusal.Refusal.{Refusal}
 use Rattle.commit_log.specs.declared.mine.Item.{Item}
 use Rattle.commit_log.specs.Items.{item}
-use Rattle.requests.specs.Check.{check_of}
-use Rattle.engine.specs.Asking.{HasSeen, ServedSoFar}
-use Rattle.engine.specs.Outcome.{IsRefusal}
+use Rattle.engine.specs.Asking.{HasSeen, asked_of}
 use Rattle.engine.specs.Served.{IsAnswerTo, Served}
 use Rattle.engine.proofs.Together.{longer}
 
@@ -71,7 +68,7 @@ served_begun scale reached = record {
   ascending = λ j k place later below first second. absurd cc;
 }
 
-done_more : (scale : Scale) (script : List Request) (answers : List (Result ℕ Refusal)) (mine : List Item) (reached further seen place : ℕ) (request : Request) (reply : Reply)
+pub done_more : (scale : Scale) (script : List Request) (answers : List (Result ℕ Refusal)) (mine : List Item) (reached further seen place : ℕ) (request : Request) (reply : Reply)
     → Served scale script answers mine reached → HasSeen seen answers → reached ≤ further → seen ≤ place
     → IsAnswerTo scale further (mine ++ item place (length script) request reply ∷ []) (length script) request (Ok place)
     → Served scale (script ++ request ∷ []) (answers ++ Ok place ∷ []) (mine ++ item place (length script) request reply ∷ []) further
@@ -105,7 +102,7 @@ done_more scale script answers mine reached further seen place request reply h s
           (λ _ after. h.ascending j k earlier later below before after));
     }
 
-refused_more : (scale : Scale) (script : List Request) (answers : List (Result ℕ Refusal)) (mine : List Item) (reached further : ℕ) (request : Request) (refusal : Refusal)
+pub refused_more : (scale : Scale) (script : List Request) (answers : List (Result ℕ Refusal)) (mine : List Item) (reached further : ℕ) (request : Request) (refusal : Refusal)
     → Served scale script answers mine reached → reached ≤ further
     → IsAnswerTo scale further mine (length script) request (Err refusal)
     → Served scale (script ++ request ∷ []) (answers ++ Err refusal ∷ []) mine further
@@ -132,7 +129,7 @@ refused_more scale script answers mine reached further request refusal h grown s
           (λ _ after. h.ascending j k earlier later below before after));
     }
 
-seen_still : (answers : List (Result ℕ Refusal)) (refusal : Refusal) (before after : ℕ) → after ≡ before → HasSeen before answers → HasSeen after (answers ++ Err refusal ∷ [])
+pub seen_still : (answers : List (Result ℕ Refusal)) (refusal : Refusal) (before after : ℕ) → after ≡ before → HasSeen before answers → HasSeen after (answers ++ Err refusal ∷ [])
 seen_still answers refusal before after same saw k there at =
     by_end (there < after) answers (Err refusal) (Ok there) k at
     (λ _ is. absurd cc)
@@ -156,53 +153,13 @@ take-next xs n x below is =
 
 -- ---- the script of a session
 
--- no request was asked yet
-pub nothing_asked : (scale : Scale) (script : List Request) (mine : List Item) (seen reached : ℕ) (answers : List (Result ℕ Refusal)) → mine ≡ [] → answers ≡ [] → ServedSoFar scale script mine seen reached answers
-nothing_asked scale script mine seen reached answers new none =
-    subst (ServedSoFar scale script mine seen reached) (sym none) (subst (λ (m : List Item). ServedSoFar scale script m seen reached []) (sym new) (record {
-      few = omega arith;
-      served = served_begun scale reached;
-      has_seen = λ k place at. absurd cc;
-    }))
-
-module _ (scale : Scale) (script : List Request) (answers : List (Result ℕ Refusal)) (request : Request) (next : slice_get script (length answers) ≡ Some request) where
+module _ (script : List Request) (answers : List (Result ℕ Refusal)) (request : Request) (next : slice_get script (length answers) ≡ Some request) where
   below : length answers < length script
   below = slice_get_within script (length answers) request next
 
-  taken : length (take (length answers) script) ≡ length answers
-  taken = length-take-le (length answers) script (omega (arith, below))
-
   -- with one answer more, the requests that were asked are one more
-  one_more : (answer : Result ℕ Refusal) → take (length (answers ++ answer ∷ [])) script ≡ take (length answers) script ++ request ∷ []
+  pub one_more : (answer : Result ℕ Refusal) → asked_of script (answers ++ answer ∷ []) ≡ asked_of script answers ++ request ∷ []
   one_more answer = ap (λ (n : ℕ). take n script) (length-append answers (answer ∷ [])) ∙ take-next script (length answers) request below (sym (get_or_from_slice_get script (length answers) request request next))
 
-  few_still : (answer : Result ℕ Refusal) → length (answers ++ answer ∷ []) ≤ length script
+  pub few_still : (answer : Result ℕ Refusal) → length (answers ++ answer ∷ []) ≤ length script
   few_still answer = let more = length-append answers (answer ∷ []) in let low = below in omega (arith, more, low)
-
-  -- it was done
-  pub next_done : (mine : List Item) (seen reached further place : ℕ) (reply : Reply) → ServedSoFar scale script mine seen reached answers → reached ≤ further → seen ≤ place
-      → check_of scale request ≡ Ok tt
-      → ServedSoFar scale script (mine ++ item place (length answers) request reply ∷ []) (place + 1) further (answers ++ Ok place ∷ [])
-  next_done mine seen reached further place reply h grown behind accepted =
-      let asked = take (length answers) script in
-      let x = item place (length asked) request reply in
-      let so = done_more scale asked answers mine reached further seen place request reply h.served h.has_seen grown behind (accepted, reply, Contains-push mine x) in
-      record {
-        few = few_still (Ok place);
-        served = subst (λ (rs : List Request). Served scale rs (answers ++ Ok place ∷ []) (mine ++ item place (length answers) request reply ∷ []) further) (sym (one_more (Ok place)))
-            (subst (λ (n : ℕ). Served scale (asked ++ request ∷ []) (answers ++ Ok place ∷ []) (mine ++ item place n request reply ∷ []) further) taken so);
-        has_seen = λ k there at.
-            by_end (there < place + 1) answers (Ok place) (Ok there) k at
-            (λ _ is. let placed : place ≡ there = cc in omega arith)
-            (λ _ before. let low : there < seen = h.has_seen k there before in omega arith);
-      }
-
-  -- it was refused
-  pub next_refused : (mine : List Item) (seen reached further : ℕ) (why : Refusal) → ServedSoFar scale script mine seen reached answers → reached ≤ further
-      → IsRefusal scale further request why → ServedSoFar scale script mine seen further (answers ++ Err why ∷ [])
-  next_refused mine seen reached further why h grown rightly = record {
-    few = few_still (Err why);
-    served = subst (λ (rs : List Request). Served scale rs (answers ++ Err why ∷ []) mine further) (sym (one_more (Err why)))
-        (refused_more scale (take (length answers) script) answers mine reached further request why h.served grown rightly);
-    has_seen = seen_still answers why seen seen refl h.has_seen;
-  }

@@ -3,16 +3,13 @@ use denote.RattleType.{RattleType}
 use denote.Ref.{NamedLft}
 use denote.Param.Send.{IsSend, IsSync, sendable, view_send}
 use denote.Param.SendFields.{declared_send, declared_sync, variants_send}
-use denote.Builtin.{u32}
 use Rattle.std.proofs.Crossing.{crosses, Box-send, Vec-send, Vec-sync, Deque-send}
 use Rattle.queues.specs.contracts.sender.Sender as Sender
 use Rattle.queues.proofs.Sendable.{Taker-send, Sender-send}
 use Rattle.routing.proofs.Sendable.{SharedRouting-sync}
-use Rattle.std.specs.contracts.result.Result as Result
-use Rattle.requests.specs.contracts.refusal.Refusal as Refusal
-use Rattle.requests.proofs.Sendable.{Refusal-send, Script-sync}
+use Rattle.requests.proofs.Sendable.{Request-send, Script-sync}
 use Rattle.commit_log.proofs.Sendable.{Log-send, Pass-send, SessionSeat-send}
-use Rattle.executor.proofs.Sendable.{Errand-send, Settle-send, Undo-send, Phase-send, Keeper-send, Post-send}
+use Rattle.executor.proofs.Sendable.{Answer-send, Errand-send, Journey-send, Keeper-send, Phase-send, Post-send, Settle-send, Told-send, Undo-send}
 use Rattle.executor.specs.contracts.post.Post as Post
 use Rattle.tickets.specs.declared.group_names.GroupNames.{Ghosts as GroupNames}
 use Rattle.commit_log.specs.declared.log_names.LogNames.{Ghosts as LogNames}
@@ -28,17 +25,8 @@ use Rattle.engine.specs.contracts.belongings.Turn as Turn
 use Rattle.engine.specs.contracts.message.Message as Message
 use Rattle.engine.specs.contracts.moves.Moves as Moves
 use Rattle.engine.specs.contracts.place.Place as Place
-use Rattle.engine.specs.contracts.place.Session as Session
-
--- an answer: a place in the log, or a refusal
-Answer-send : IsSend (Result.the_row u32 Refusal.the_row)
-Answer-send = variants_send (Result.enum u32 Refusal.the_row) (
-  (search sendable depth 20, tt),
-  (
-    (Refusal-send, tt),
-    tt,
-  ),
-)
+use Rattle.engine.specs.contracts.place.Stage as Stage
+use Rattle.engine.specs.contracts.session.Session as Session
 
 Bed-sync : IsSync Bed.the_row
 Bed-sync = declared_sync Bed.the_type (search (crosses, sendable) depth 20, (search (crosses, sendable) depth 20, tt))
@@ -134,6 +122,28 @@ module _ (J : RattleType) (course : CourseNames J.Denot) (log : LogNames J.Denot
     ),
   )
 
+  -- a session that asks by hand
+  pub Session-send : (serve : ServeNames J.Denot) → IsSend (Session.the_row J serve course log groups)
+  Session-send serve = view_send _ _ _ _ _ (declared_send (Session.TheInside.the_type J serve course log groups) (
+    SessionSeat-send J log s,
+    (
+      Pass-send J log s,
+      (
+        search (Request-send, Vec-send) depth 10,
+        (
+          search (Answer-send, Vec-send) depth 10,
+          (
+            search sendable depth 20,
+            (
+              search (Outlet-send, Vec-send, sendable) depth 20,
+              tt,
+            ),
+          ),
+        ),
+      ),
+    ),
+  ))
+
   module _ (a : NamedLft) (serve : ServeNames J.Denot) where
     Ready-send : IsSend (Ready.the_row a J serve course log groups)
     Ready-send = view_send _ _ _ _ _ (declared_send (Ready.TheInside.the_type a J serve course log groups) (
@@ -171,21 +181,39 @@ module _ (J : RattleType) (course : CourseNames J.Denot) (log : LogNames J.Denot
       ),
     ))
 
-    Session-send : IsSend (Session.the_row a J serve course log groups)
-    Session-send = variants_send (Session.enum a J serve course log groups) (
+    Stage-send : IsSend (Stage.the_row a J serve course log groups)
+    Stage-send = variants_send (Stage.enum a J serve course log groups) (
       (search (Ready-send, sendable) depth 20, tt),
       (
         (search (Asked-send, sendable) depth 20, tt),
         (
           (search (Ready-send, sendable) depth 20, tt),
-          tt,
+          (
+            tt,
+            (
+              (search sendable depth 20, (Journey-send J course log groups s, tt)),
+              (
+                tt,
+                (
+                  (Told-send J course log groups s, tt),
+                  (
+                    tt,
+                    (
+                      tt,
+                      tt,
+                    ),
+                  ),
+                ),
+              ),
+            ),
+          ),
         ),
       ),
     )
 
     Place-send : IsSend (Place.the_row a J serve course log groups)
     Place-send = declared_send (Place.the_type a J serve course log groups) (
-      search (Session-send, sendable) depth 20,
+      search (Stage-send, sendable) depth 20,
       (
         search (Phase-send, sendable) depth 20,
         (
@@ -222,12 +250,15 @@ module _ (J : RattleType) (course : CourseNames J.Denot) (log : LogNames J.Denot
                       (
                         search (Bed-sync, Vec-sync, sendable) depth 20,
                         (
-                          search (crosses, sendable) depth 20,
+                          search (Bed-sync, Vec-sync, sendable) depth 20,
                           (
                             search (crosses, sendable) depth 20,
                             (
                               search (crosses, sendable) depth 20,
-                              tt,
+                              (
+                                search (crosses, sendable) depth 20,
+                                tt,
+                              ),
                             ),
                           ),
                         ),

@@ -1,6 +1,8 @@
 -- The sessions, one after the other.
-use Rattle.std.proofs.Common.{◌≡◌, ℕ, zero, suc, ◌+◌, ◌<◌, ◌≤◌, List, [], ◌∷◌, ◌++◌, length, get_or, Some, Result, refl, sym, ap, subst, ◌∙◌, arith, length-append}
+use Rattle.std.proofs.Common.{◌≡◌, ℕ, zero, suc, ◌+◌, ◌<◌, ◌≤◌, List, [], ◌∷◌, ◌++◌, length, map, get_or, Some, Result, refl, sym, ap, subst, ◌∙◌, arith, length-append}
 use Rattle.std.specs.List.{slice_get}
+use Rattle.std.specs.Option.{option_map}
+use Rattle.std.proofs.lemmas.Option.{slice_get-map, slice_get_within}
 use Rattle.schema.specs.declared.scale.Scale.{Scale}
 use Rattle.requests.specs.declared.request.Request.{Request}
 use Rattle.requests.specs.declared.refusal.Refusal.{Refusal}
@@ -8,7 +10,8 @@ use Rattle.commit_log.specs.declared.entry.Entry.{Entry}
 use Rattle.commit_log.specs.Items.{items_of}
 use Rattle.commit_log.specs.Passing.{Passing, Seating, new_pass, new_seat}
 use Rattle.engine.specs.Served.{Served, ServedEach}
-use Rattle.engine.specs.Sessions.{AreNewFrom}
+use Rattle.engine.specs.Sessions.{AreAskedFrom, AreNewFrom}
+use Rattle.engine.specs.declared.session.Left.{Left}
 use Rattle.engine.proofs.OneMoreRequest.{by_end}
 
 -- what an index finds
@@ -91,3 +94,36 @@ each_pushed xs after x n P count pushed before here k h at =
 -- a list with one item more is longer by one
 pub one_longer : {X : Type 0} (xs after : List X) (x : X) (n : ℕ) → length xs ≡ n → after ≡ xs ++ x ∷ [] → length after ≡ n + 1
 one_longer xs after x n count pushed = ap length pushed ∙ (length-append xs (x ∷ []) ∙ ap (λ m. m + 1) count)
+
+-- ---- sessions that asked by hand, which come after the scripts
+
+at_seam : {X : Type 0} (xs : List X) (y : X) (ys : List X) → slice_get (xs ++ y ∷ ys) (length xs) ≡ Some y
+at_seam [] y ys = refl
+at_seam (x ∷ xs) y ys = at_seam xs y ys
+
+at_left : {X : Type 0} (xs ys : List X) (n : ℕ) → n < length xs → slice_get (xs ++ ys) n ≡ slice_get xs n
+at_left [] ys n low = absurd (omega arith)
+at_left (x ∷ xs) ys zero low = refl
+at_left (x ∷ xs) ys (suc n) low = at_left xs ys n (omega arith)
+
+at_right : {X : Type 0} (xs ys : List X) (n : ℕ) → slice_get (xs ++ ys) (length xs + n) ≡ slice_get ys n
+at_right [] ys n = let none : 0 + n ≡ n = omega arith in ap (slice_get ys) none
+at_right (x ∷ xs) ys n = let next : suc (length xs) + n ≡ suc (length xs + n) = omega arith in ap (slice_get (x ∷ (xs ++ ys))) next ∙ at_right xs ys n
+
+-- the scripts that were served are among all that was asked
+pub served_among : (scale : Scale) (scripts more : List (List Request)) (entries : List Entry) (answers : List (List (Result ℕ Refusal))) → length answers ≡ length scripts
+    → ServedEach scale scripts entries answers → ServedEach scale (scripts ++ more) entries answers
+served_among scale scripts more entries answers even each = λ s script told asked is_told.
+    let low : s < length answers = slice_get_within answers s told is_told in
+    each s script told (sym (at_left scripts more s (omega (arith, low, even))) ∙ asked) is_told
+
+-- what the sessions asked stands behind the scripts
+pub asked_behind : {J : Type 0} (scripts : List (List Request)) (left : List (Left J)) (first : ℕ) → first ≡ length scripts → AreAskedFrom first (scripts ++ map (λ (one : Left J). one.session.script) left) left
+asked_behind {J = J} scripts left first is = λ k one found.
+    let asked = λ (l : Left J). l.session.script in
+    ap (λ (n : ℕ). slice_get (scripts ++ map asked left) (n + k)) is ∙ at_right scripts (map asked left) k ∙ slice_get-map asked left k ∙ ap (option_map asked) found
+
+-- the next of these sessions has asked what stands there
+pub asked_next : {J : Type 0} (first : ℕ) (scripts : List (List Request)) (all done rest : List (Left J)) (one : Left J) → all ≡ done ++ one ∷ rest → AreAskedFrom first scripts all
+    → slice_get scripts (first + length done) ≡ Some one.session.script
+asked_next first scripts all done rest one is asked = asked (length done) one (ap (λ l. slice_get l (length done)) is ∙ at_seam done one rest)

@@ -1,4 +1,4 @@
--- A session that asks the requests of its script, one after another.
+-- A session that asks one request after another, by hand or by a script.
 use Rattle.std.specs.Prelude.{◌≡◌, ℕ, ◌<◌, ◌≤◌, Bool, true, false, List, take, length, Some, Result, Ok, Err, if◌then◌else◌}
 use Rattle.std.specs.List.{slice_get}
 use Rattle.schema.specs.declared.scale.Scale.{Scale}
@@ -6,7 +6,6 @@ use Rattle.requests.specs.declared.request.Request.{Request}
 use Rattle.requests.specs.declared.refusal.Refusal.{Refusal}
 use Rattle.requests.specs.declared.refusal.Refusal.TheVariants.{LogFull}
 use Rattle.requests.specs.Check.{check_of}
-use Rattle.commit_log.specs.declared.mine.Item.{Item}
 use Rattle.commit_log.specs.Passing.{Passing, Seating}
 use Rattle.engine.specs.Outcome.{IsRefusal}
 use Rattle.engine.specs.Served.{Served}
@@ -14,13 +13,6 @@ use Rattle.engine.specs.Served.{Served}
 -- every place that was answered is one that the session has seen
 abbrev pub HasSeen : ℕ → List (Result ℕ Refusal) → Type 0
 HasSeen seen answers = (k place : ℕ) → slice_get answers k ≡ Some (Ok place) → place < seen
-
--- The session was asked the first requests of this script, as many as there are answers, which say what came of them: it has logged
--- `mine`, has seen so many entries, and knows the log to have reached so many.
-pub record ServedSoFar (scale : Scale) (script : List Request) (mine : List Item) (seen reached : ℕ) (answers : List (Result ℕ Refusal)) : Type 0 where
-  pub few : length answers ≤ length script
-  pub served : Served scale (take (length answers) script) answers mine reached
-  pub has_seen : HasSeen seen answers
 
 -- whether an answer says that the log is full
 abbrev pub says_full : Result ℕ Refusal → Bool
@@ -31,8 +23,8 @@ says_full _ = false
 abbrev pub known_of : Bool → ℕ → ℕ
 known_of is_full reached = if is_full then reached else 0
 
--- What a contract sees of a session none of whose requests is under way: its script, its seat, its pass, the answers so far, and whether the
--- log was full for it.
+-- What a contract sees of a session none of whose requests is under way: the requests that it asks, its seat, its pass, the answers so far, and
+-- whether the log was full for it.
 pub record Resting : Type 0 where
   pub script : List Request
   pub seat : Seating
@@ -43,13 +35,12 @@ pub record Resting : Type 0 where
 abbrev pub resting : List Request → Seating → Passing → List (Result ℕ Refusal) → Bool → Resting
 resting script seat pass answers is_full = record { script = script; seat = seat; pass = pass; answers = answers; is_full = is_full }
 
--- Its pass is here, and its requests so far are answered. There is room for all answers.
-pub record IsReady (scale : Scale) (scripts : List (List Request)) (s : Resting) (room : ℕ) : Type 0 where
-  pub script_is : slice_get scripts s.pass.session ≡ Some s.script
+-- Its pass is here. It was asked just these requests, and the answers say what came of them.
+pub record IsResting (scale : Scale) (s : Resting) : Type 0 where
   pub seat_is : s.seat.session ≡ s.pass.session
-  pub so_far : ServedSoFar scale s.script s.pass.mine s.pass.seen (known_of s.is_full s.pass.reached) s.answers
+  pub served : Served scale s.script s.answers s.pass.mine (known_of s.is_full s.pass.reached)
+  pub has_seen : HasSeen s.pass.seen s.answers
   pub full : s.is_full ≡ true → 16777216 ≤ s.pass.reached
-  pub room_is : length s.script ≤ room
 
 -- what a contract sees of a session whose next request is under way
 pub record Waiting : Type 0 where
@@ -60,13 +51,32 @@ pub record Waiting : Type 0 where
 abbrev pub waiting : List Request → Seating → List (Result ℕ Refusal) → Waiting
 waiting script seat answers = record { script = script; seat = seat; answers = answers }
 
--- Its pass goes with the request: its seat tells what it asked, and what the pass was then.
+-- Its pass goes with the request: its seat tells what it asked, and what the pass was then. Before, it was asked just these requests, and the
+-- answers say what came of them.
+pub record IsAway (scale : Scale) (s : Waiting) : Type 0 where
+  pub served : Served scale s.script s.answers s.seat.asking.mine 0
+  pub has_seen : HasSeen s.seat.asking.seen s.answers
+  pub number_is : s.seat.asking.number ≡ length s.answers
+  pub accepted : check_of scale s.seat.asking.request ≡ Ok tt
+
+-- ---- a session that has a script
+
+-- the requests of a script that have these answers
+abbrev pub asked_of : List Request → List (Result ℕ Refusal) → List Request
+asked_of script answers = take (length answers) script
+
+-- It was asked the first requests of its script. There is room for all answers.
+pub record IsReady (scale : Scale) (scripts : List (List Request)) (s : Resting) (room : ℕ) : Type 0 where
+  pub script_is : slice_get scripts s.pass.session ≡ Some s.script
+  pub few : length s.answers ≤ length s.script
+  pub so_far : IsResting scale (resting (asked_of s.script s.answers) s.seat s.pass s.answers s.is_full)
+  pub room_is : length s.script ≤ room
+
+-- The next one of its script is under way.
 pub record IsAsked (scale : Scale) (scripts : List (List Request)) (s : Waiting) (room : ℕ) : Type 0 where
   pub script_is : slice_get scripts s.seat.session ≡ Some s.script
-  pub so_far : ServedSoFar scale s.script s.seat.asking.mine s.seat.asking.seen 0 s.answers
-  pub number_is : s.seat.asking.number ≡ length s.answers
-  pub request_is : slice_get s.script (length s.answers) ≡ Some s.seat.asking.request
-  pub accepted : check_of scale s.seat.asking.request ≡ Ok tt
+  pub next : slice_get s.script (length s.answers) ≡ Some s.seat.asking.request
+  pub so_far : IsAway scale (waiting (asked_of s.script s.answers) s.seat s.answers)
   pub room_is : length s.script ≤ room
 
 -- the session's next request is refused for a reason that holds

@@ -272,8 +272,8 @@ fn is_asked_again(answer: &Result<u32, Refusal>) -> bool
     matches!(answer, Err(Refusal::Died { .. } | Refusal::NoMemory))
 }
 
-// Whether an answer says that the log is full.
-fn says_full(answer: &Result<u32, Refusal>) -> bool
+/// Whether an answer says that the log is full.
+pub(crate) fn says_full(answer: &Result<u32, Refusal>) -> bool
     ensures { result ≡ spec.says_full answer.now }
 {
     matches!(answer, Err(Refusal::LogFull))

@@ -1,21 +1,21 @@
 //! The executors have ended: what came of it all.
-ghost use Rattle.std.specs.Prelude.{◌≡◌, ◌<◌, ◌≤◌, ◌+◌, ℕ, [], ◌∷◌, ◌++◌, IfOk, IfSome, OnOk, length};
-ghost use Rattle.std.specs.Vec.Iter.{into_iter_items, into_iter_len};
+ghost use Rattle.std.specs.Prelude.{◌≡◌, ◌<◌, ◌≤◌, ◌+◌, ℕ, List, [], ◌∷◌, ◌++◌, IfOk, IfSome, OnOk, length, map};
 ghost use Rattle.partitions.specs.Parts.{shared_of};
 ghost use Rattle.schema.specs.Database.{IsWithinScale};
 ghost use Rattle.commit_log.specs.Items.{items_of};
 ghost use Rattle.commit_log.specs.Log.{requests_of};
 ghost use Rattle.machine.specs.Machine.{tables_after};
+ghost use Rattle.requests.specs.declared.request.Request.{Request};
 ghost use Rattle.engine.specs.Closing.{want_of_kind, wants_of_all, AreSettled, IsBackAt, IsSettledAt};
 ghost use Rattle.engine.specs.Outcome.{IsOutcome};
 ghost use Rattle.engine.specs.Served.{ServedEach};
-ghost use Rattle.engine.specs.Sessions.{AreNewFrom};
+ghost use Rattle.engine.specs.Sessions.{AreAskedFrom};
 
 use crate::belongings::Executor;
 use crate::engine::Engine;
 use crate::place::Place;
-use crate::{Answers, CloseFault, Gate, MOST_SESSIONS, Outcome, ServeNames};
-use commit_log::{Log, Pass, SessionSeat};
+use crate::{Answers, CloseFault, Gate, Idle, Left, MOST_SESSIONS, Outcome, ServeNames};
+use commit_log::Log;
 use executor::Post;
 use groups::{Extent, Kind, Mode, Prefix, Want};
 use local_locks::Asked;
@@ -25,28 +25,31 @@ use schema::NoMemory;
 use slices::{Slice, whole};
 use std::alloc::Global;
 use std::sync::Mutex;
-use std::vec::IntoIter;
 use tickets::Claims;
 use wait_die::Holder;
 
 /// The log, the answers and the last tables. Each session is compared with the log, and so is what each group has: so the
 /// answers are those that the log has, and the tables those that its transactions have left. `Unsettled` where something is
-/// not back.
+/// not back: a session that asked by hand, in the order of their numbers, a slice or a claim.
 pub fn close<J: ServeNames, G: Gate + Drop>(
     alloc: Global,
     engine: Engine<'_, J, G>,
     executors: Vec<Executor<J>>,
     catalog: Catalog,
-    idle: IntoIter<(Pass<J>, SessionSeat<J>)>,
+    left: Vec<Left<J>>,
+    idle: Idle<J>,
     scripts: &[Script],
 ) -> Result<Outcome, CloseFault>
     requires scripts { J.scripts ≡ scripts.now }
     requires catalog { catalog ≡ shared_of J.opening }
     requires within { IsWithinScale J.opening }
-    requires left { into_iter_len idle + length scripts.now ≡ 64 }
-    requires rest { AreNewFrom (length scripts.now) (into_iter_items idle) }
-    ensures outcome { IfOk result (λ outcome. IsOutcome J.opening scripts.now outcome.log.items outcome.tables outcome.answers.items) }
+    ensures outcome { IfOk result (λ outcome. IsOutcome J.opening (scripts.now ++ outcome.asked.items) outcome.log.items outcome.tables outcome.answers.items) }
+    ensures asked { IfOk result (λ outcome. outcome.asked.items ≡ map (λ one. one.session.script) left.items) }
+    ensures all { IfOk result (λ outcome. length scripts.now + length outcome.asked.items ≡ idle.first) }
 {
+    if scripts.len() > idle.first || left.len() != idle.first - scripts.len() {
+        return Err(CloseFault::Unsettled);
+    }
     let Engine {
         scale,
         log,
@@ -54,8 +57,9 @@ pub fn close<J: ServeNames, G: Gate + Drop>(
         ..
     } = engine;
     let mut log = log.into_inner();
-    let answers = audit_served(alloc, &mut log, places, scripts)?;
-    audit_idle(&mut log, idle, scripts.len());
+    let mut answers = audit_served(alloc, &mut log, places, scripts)?;
+    let asked = audit_left(alloc, &mut log, left, &mut answers)?;
+    audit_idle(&mut log, idle);
     let slices = settle_all(alloc, &mut log, scale.warehouses, executors)?;
     let tables = whole(catalog, slices)?;
     let _ = tables.scale();
@@ -64,6 +68,7 @@ pub fn close<J: ServeNames, G: Gate + Drop>(
         log: log.into_entries(),
         tables,
         answers,
+        asked,
     })
 }
 
@@ -105,19 +110,38 @@ fn audit_served<J: ServeNames>(
     Ok(answers)
 }
 
-// The sessions from the first on, which have asked nothing, are compared with the log: nothing stands there of them.
-fn audit_idle<J: ServeNames>(
+// What the sessions have asked that asked by hand, which are compared with the log. Their answers follow those of the scripts.
+fn audit_left<J: ServeNames>(
+    alloc: Global,
     log: &mut Log<J>,
-    mut idle: IntoIter<(Pass<J>, SessionSeat<J>)>,
-    first: usize,
-)
-    requires new { AreNewFrom first (into_iter_items idle) }
-    requires left { into_iter_len idle + first ≡ 64 }
-    ensures none { (s : ℕ) → first ≤ s → s < 64 → items_of s log.old ≡ [] }
+    left: Vec<Left<J>>,
+    answers: &mut Vec<Answers>,
+) -> Result<Vec<Script>, CloseFault>
+    ensures asked { IfOk result (λ asked. asked.items ≡ map (λ one. one.session.script) left.items) }
+    ensures count { IfOk result (λ _. length answers.new.items ≡ length answers.old.items + length left.items) }
+    ensures each { IfOk result (λ _. (scripts : List (List Request)) → AreAskedFrom (length answers.old.items) scripts left.items
+        → ServedEach J.opening.scale scripts log.old answers.old.items → ServedEach J.opening.scale scripts log.old answers.new.items) }
     ensures same { log.new ≡ log.old }
 {
+    let mut asked = Vec::with_capacity(alloc, left.len())?;
+    for session in left {
+        let Some((script, told)) = session.audit(log, answers.len()) else {
+            return Err(CloseFault::Unsettled);
+        };
+        put(&mut asked, script)?;
+        put(answers, told)?;
+    }
+    Ok(asked)
+}
+
+// The sessions by which nobody asked are compared with the log: nothing stands there of them.
+fn audit_idle<J: ServeNames>(log: &mut Log<J>, idle: Idle<J>)
+    ensures none { (s : ℕ) → idle.first ≤ s → s < 64 → items_of s log.old ≡ [] }
+    ensures same { log.new ≡ log.old }
+{
+    let Idle { first, mut lanes } = idle;
     for _session in first..MOST_SESSIONS {
-        let Some((mut pass, _seat)) = idle.next() else {
+        let Some((mut pass, _seat)) = lanes.next() else {
             unreachable!()
         };
         log.audit(&mut pass);

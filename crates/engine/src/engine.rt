@@ -6,13 +6,14 @@ use crate::moves::Moves;
 use crate::place::{Advanced, Ended, Place, Strange};
 use crate::{Gate, ServeNames};
 use commit_log::Log;
-use executor::{Keeper, Met, Phase, Report, Told};
+use crossbeam_utils::Backoff;
+use executor::{Journey, Keeper, Met, Phase, Report, Told};
 use requests::{Request, Script};
 use routing::SharedRouting;
 use schema::Scale;
 use std::alloc::Global;
 use std::sync::atomic::{AtomicBool, AtomicU64, AtomicUsize, Ordering};
-use std::sync::{Mutex, Wait};
+use std::sync::{Mutex, MutexGuard, Wait};
 
 /// The request that a session asks next.
 #[derive(Drop)]
@@ -39,6 +40,8 @@ pub struct Engine<'a, J: ServeNames, G: Gate> {
     pub(crate) places: Vec<Mutex<Place<'a, J>>>,
     /// By the executors' numbers.
     pub(crate) beds: Vec<Bed>,
+    /// Where those sessions wait for their answers that ask by hand, which are the sessions after those that have a script.
+    pub(crate) lobby: Vec<Bed>,
     /// The age of the next transaction.
     pub(crate) ages: AtomicU64,
     /// How many sessions are not at the end of their scripts.
@@ -72,9 +75,12 @@ impl<J: ServeNames, G: Gate> Engine<'_, J, G> {
         }
     }
 
-    /// All executors look whether they are to end.
+    /// All executors, and all who wait for an answer, look whether they are to end.
     pub(crate) fn wake_all(&self) {
         for bed in self.beds.iter() {
+            bed.wake();
+        }
+        for bed in self.lobby.iter() {
             bed.wake();
         }
     }
@@ -86,12 +92,29 @@ impl<J: ServeNames, G: Gate> Engine<'_, J, G> {
         }
     }
 
+    /// The session of this slot has an answer: it is called, if it asks by hand.
+    pub(crate) fn call_session(&self, slot: usize) {
+        if let Some(bed) = self.waits_at(slot) {
+            bed.call();
+        }
+    }
+
+    // Where the session of this slot waits for its answers, if it asks by hand.
+    fn waits_at(&self, slot: usize) -> Option<&Bed> {
+        self.lobby.get(slot.checked_sub(self.scripts.len())?)
+    }
+
     /// The request of this number in this session's script.
     pub(crate) fn request(&self, session: u32, number: u32) -> Option<&Request> {
         self.scripts
             .get(session as usize)?
             .requests()
             .get(number as usize)
+    }
+
+    /// The log, under its lock: no request is logged while this is held.
+    pub fn log(&self, rt: &impl Wait) -> MutexGuard<'_, Log<J>> {
+        self.log.lock(rt)
     }
 
     // ---- the places of sessions
@@ -135,6 +158,49 @@ impl<J: ServeNames, G: Gate> Engine<'_, J, G> {
     /// the last action.
     pub(crate) fn give_back(&self, rt: &impl Wait, slot: usize) -> Option<u32> {
         self.places.get(slot)?.lock(rt).give_back()
+    }
+
+    /// The session of this slot asks a request by hand, at the terminal of this warehouse.
+    pub(crate) fn ask(
+        &self,
+        rt: &impl Wait,
+        slot: usize,
+        home: u32,
+        journey: Journey<J>,
+    ) -> Result<(), Strange> {
+        match self.places.get(slot) {
+            Some(place) => place.lock(rt).call(home, journey),
+            None => Err(Strange),
+        }
+    }
+
+    /// Waits for the answer to what the session of this slot has asked by hand. `None` where the executors end without.
+    pub(crate) fn wait_for_answer(&self, rt: &impl Wait, slot: usize) -> Option<Told<J>> {
+        let place = self.places.get(slot)?;
+        let bed = self.waits_at(slot)?;
+        let backoff = Backoff::new();
+        for _ in rt.forever() {
+            bed.lie_down();
+            let told = place.lock(rt).take_told();
+            if told.is_some() || self.is_stopped.load(Ordering::SeqCst) {
+                bed.get_up();
+                return told;
+            }
+            if backoff.is_completed() {
+                bed.rest(rt, None);
+            } else {
+                backoff.snooze();
+            }
+        }
+        unreachable!()
+    }
+
+    /// The session of this slot asks no more by hand.
+    pub(crate) fn leave(&self, rt: &impl Wait, slot: usize) -> Result<(), Strange> {
+        match self.places.get(slot) {
+            Some(place) => place.lock(rt).leave(),
+            None => Err(Strange),
+        }
     }
 
     /// What the session of this slot asks next.

@@ -180,7 +180,7 @@ impl<J: ServeNames, G: Gate, R: Wait> AtWork<'_, '_, J, G, R> {
                 .engine
                 .advance(self.rt, self.alloc, slot, self.own.number)
             {
-                Ok(Advanced::Answered) => {}
+                Ok(Advanced::Answered) => self.engine.call_session(slot),
                 Ok(Advanced::Sends(first, errands)) => {
                     self.own.begun = self.own.begun.saturating_add(1);
                     self.tell_asked(first);
@@ -340,6 +340,7 @@ impl<J: ServeNames, G: Gate, R: Wait> AtWork<'_, '_, J, G, R> {
             self.engine.stop();
             return;
         };
+        self.engine.call_session(slot);
         self.tell_answered(session, number, ended);
         for _ in 0..ending {
             let Some(given) = returns.next_back() else {

@@ -1,16 +1,18 @@
-//! What executors in threads of their own do to serve scripts: an engine is opened over tables and scripts, each executor works
-//! on messages and begins the requests of sessions, and what came of it all is told once they have ended. Nothing here starts a
-//! thread.
+//! What executors in threads of their own do to serve sessions, which ask scripts or by hand: an engine is opened over tables, each
+//! executor works on messages and begins the requests of sessions, and what came of it all is told once they have ended. `serve` and
+//! `serve_client` start the threads; nothing else does.
 #![tactic(auto)]
 
 mod answers;
 mod asking;
 mod bed;
 mod belongings;
+mod client;
 mod closing;
 mod engine;
 mod executing;
 mod gate;
+mod idle;
 mod message;
 mod moves;
 mod moving;
@@ -19,20 +21,24 @@ mod opening;
 mod outcome;
 mod place;
 mod serving;
+mod session;
 mod threads;
 
 pub use answers::Answers;
 pub use belongings::Executor;
+pub use client::Client;
 pub use closing::close;
 pub use engine::Engine;
 pub use executing::AtWork;
 pub use gate::{Gate, OpenGate};
+pub use idle::Idle;
 pub use names::ServeNames;
 pub use opening::{Opened, Opening, open};
 pub use outcome::{CloseFault, Outcome, ServeFault};
 pub use range_moves::MoveOrder;
 pub use routing::MOST_EXECUTORS;
-pub use serving::{serve, serve_with_room};
+pub use serving::{serve, serve_client, serve_with_room};
+pub use session::{AskFault, Left, Session, meet};
 
 /// The most sessions that are served at a time.
 pub const MOST_SESSIONS: usize = 64;

@@ -1,6 +1,5 @@
 //! An engine is opened over tables, for scripts.
-ghost use Rattle.std.specs.Prelude.{◌≡◌, ◌≤◌, ◌<◌, ◌+◌, ℕ, All, IfOk, length, vec_len};
-ghost use Rattle.std.specs.Vec.Iter.{into_iter_items, into_iter_len};
+ghost use Rattle.std.specs.Prelude.{◌≡◌, ◌≤◌, ◌<◌, All, IfOk, vec_len};
 ghost use Rattle.partitions.specs.Parts.{shared_of};
 ghost use Rattle.slices.specs.Openings.{AreOpenedFor};
 ghost use Rattle.engine.specs.Opening.{AreCoursesFrom, IsNamedFor, IsToOpen};
@@ -13,7 +12,7 @@ use crate::engine::Engine;
 use crate::message::Message;
 use crate::moves::Moves;
 use crate::place::Place;
-use crate::{Gate, ServeNames};
+use crate::{Gate, Idle, ServeNames, Session};
 use commit_log::{Log, LogBook, Pass, SessionSeat, UnnamedLog};
 use executor::{OpenedCourse, Post};
 use partitions::Catalog;
@@ -67,6 +66,9 @@ fn open_courses(alloc: Global, sessions: usize) -> Result<Vec<OpenedCourse>, NoM
     Ok(courses)
 }
 
+/// The senders into each inbox that nobody has yet.
+type Senders<J> = Vec<IntoIter<Sender<Message<J>>>>;
+
 /// An engine that was opened: what its threads share, the executors, what the tables' parts share, and the sessions without a
 /// script.
 #[derive(Drop)]
@@ -74,12 +76,16 @@ pub struct Opened<'a, J: ServeNames, G: Gate> {
     pub engine: Engine<'a, J, G>,
     pub executors: Vec<Executor<J>>,
     pub catalog: Catalog,
-    pub idle: IntoIter<(Pass<J>, SessionSeat<J>)>,
+    /// Those that ask by hand, in the order of their numbers.
+    pub sessions: Vec<Session<J>>,
+    /// Those by which nobody asks.
+    pub idle: Idle<J>,
 }
 
-/// An engine over these tables, with so many executors, for these scripts and moves. An inbox holds `room` messages at most; one
-/// that finds it full waits at its sender. There has to be a way to make each move
-/// (`MoveOrder::is_within`), else its executors may never end. Nothing is left after an error.
+/// An engine over these tables, with so many executors, for these scripts and moves. Session s asks script s; the sessions after
+/// these, as many as the opening has, ask by hand. An inbox holds `room` messages at most; one that finds it full waits at its
+/// sender. There has to be a way to make each move (`MoveOrder::is_within`), else its executors may never end. Nothing is left
+/// after an error.
 pub fn open<'a, J: ServeNames, G: Gate + Drop>(
     alloc: Global,
     opening: Opening,
@@ -94,10 +100,9 @@ pub fn open<'a, J: ServeNames, G: Gate + Drop>(
     requires room { 0 < room }
     requires named { IsNamedFor J.LogNames J.GroupNames J.course J.scripts tables scripts.now opening }
     requires some { 1 ≤ executors }
-    requires most { length scripts.now ≤ 64 }
+    requires most { vec_len opening.courses ≤ 64 }
     ensures catalog { IfOk result (λ opened. opened.catalog ≡ shared_of tables) }
-    ensures left { IfOk result (λ opened. into_iter_len opened.idle + length scripts.now ≡ 64) }
-    ensures rest { IfOk result (λ opened. AreNewFrom (length scripts.now) (into_iter_items opened.idle)) }
+    ensures idle { IfOk result (λ opened. opened.idle.first ≡ vec_len opening.courses) }
 {
     let Opening {
         groups,
@@ -108,7 +113,15 @@ pub fn open<'a, J: ServeNames, G: Gate + Drop>(
     let routing = Routing::opening(&scale, executors);
     let (boxes, seats) = named_all::<J>(alloc, scale.warehouses, groups)?;
     let (catalog, slices) = cut(alloc, tables, boxes)?;
-    let mut executors = open_executors(alloc, &routing, scale.warehouses, room, slices)?;
+    let by_hand = courses.len().saturating_sub(scripts.len());
+    let (mut executors, mut senders) = open_idle(
+        alloc,
+        executors,
+        scale.warehouses,
+        room,
+        by_hand as u32,
+    )?;
+    open_posts(alloc, &mut executors, &routing, slices)?;
     begin_sessions(&mut executors, &routing, scripts)?;
     let moves = Moves::new(moves);
     if let Some(order) = moves.begin_next() {
@@ -118,7 +131,11 @@ pub fn open<'a, J: ServeNames, G: Gate + Drop>(
     let (book, lanes) = LogBook::<J>::open(alloc, log)?;
     let mut log = Log::new(book, seats);
     log.reserve(requests_in(scripts))?;
-    let (places, idle) = open_places(alloc, lanes, courses, scripts, tries)?;
+    let Seated {
+        places,
+        sessions,
+        idle,
+    } = open_places(alloc, lanes, courses, scripts, &mut senders, tries)?;
     let engine = Engine {
         scale,
         scripts,
@@ -127,16 +144,18 @@ pub fn open<'a, J: ServeNames, G: Gate + Drop>(
         moves,
         gate,
         log: Mutex::new(log),
+        unserved: AtomicUsize::new(places.len()),
         places,
         beds,
+        lobby: beds_for(alloc, sessions.len())?,
         ages: AtomicU64::new(0),
-        unserved: AtomicUsize::new(scripts.len()),
         is_stopped: AtomicBool::new(false),
     };
     Ok(Opened {
         engine,
         executors,
         catalog,
+        sessions,
         idle,
     })
 }
@@ -150,24 +169,21 @@ fn requests_in(scripts: &[Script]) -> usize {
     count
 }
 
-// The executors, each with the posts of its warehouses.
-fn open_executors<J: ServeNames>(
+// The executors have the posts of their warehouses.
+fn open_posts<J: ServeNames>(
     alloc: Global,
+    executors: &mut Vec<Executor<J>>,
     routing: &Routing,
-    warehouses: u32,
-    room: usize,
     slices: Vec<Slice<J>>,
-) -> Result<Vec<Executor<J>>, NoMemory>
-    requires room { 0 < room }
-    requires slices { All (IsToOpen J.opening) slices.items }
+) -> Result<(), NoMemory>
+    requires { All (IsToOpen J.opening) slices.items }
 {
-    let mut executors = open_idle(alloc, routing.executors(), warehouses, room)?;
     for slice in slices {
         let post = Box::new(alloc, Post::new(alloc, slice))?;
         let to = routing.route(post.home()) as usize;
-        put_post(&mut executors, to, post);
+        put_post(executors, to, post);
     }
-    Ok(executors)
+    Ok(())
 }
 
 // An executor has this post. One that nobody has would be missed at the end.
@@ -206,19 +222,24 @@ fn begin_move<J: ServeNames>(
     }
 }
 
-// So many executors, each with its inbox, and no posts yet.
+// So many executors, each with its inbox, and no posts yet; and the further senders into each inbox, for so many sessions.
 fn open_idle<J: ServeNames>(
     alloc: Global,
     count: u32,
     warehouses: u32,
     room: usize,
-) -> Result<Vec<Executor<J>>, NoMemory>
+    sessions: u32,
+) -> Result<(Vec<Executor<J>>, Senders<J>), NoMemory>
     requires { 0 < room }
 {
     let mut inboxes = Vec::with_capacity(alloc, count as usize)?;
     let mut senders = Vec::with_capacity(alloc, count as usize)?;
     for _ in 0..count {
-        let (into_one, inbox) = queues::open::<Message<J>>(alloc, room, count)?;
+        let (into_one, inbox) = queues::open::<Message<J>>(
+            alloc,
+            room,
+            count.saturating_add(sessions),
+        )?;
         inboxes.push(inbox)?;
         senders.push(into_one.into_iter())?;
     }
@@ -227,7 +248,7 @@ fn open_idle<J: ServeNames>(
         let outlets = next_of_each(alloc, &mut senders)?;
         executors.push(Executor::open(alloc, number, warehouses, inbox, outlets)?)?;
     }
-    Ok(executors)
+    Ok((executors, senders))
 }
 
 // The next sender into each inbox.
@@ -253,42 +274,60 @@ fn beds_for(alloc: Global, executors: usize) -> Result<Vec<Bed>, NoMemory> {
     Ok(beds)
 }
 
-// The place of each session that has a script, and the sessions that have none.
+/// The sessions, once they have their places.
+#[derive(Drop)]
+struct Seated<'a, J: ServeNames> {
+    places: Vec<Mutex<Place<'a, J>>>,
+    sessions: Vec<Session<J>>,
+    idle: Idle<J>,
+}
+
+// A place for each course: those of the sessions that have a script, and then those of sessions that ask by hand.
 fn open_places<'a, J: ServeNames>(
     alloc: Global,
     lanes: Vec<(Pass<J>, SessionSeat<J>)>,
     courses: Vec<OpenedCourse>,
     scripts: &'a [Script],
+    senders: &mut Senders<J>,
     tries: u32,
-) -> Result<
-    (
-        Vec<Mutex<Place<'a, J>>>,
-        IntoIter<(Pass<J>, SessionSeat<J>)>,
-    ),
-    NoMemory,
->
+) -> Result<Seated<'a, J>, NoMemory>
     requires scripts { J.scripts ≡ scripts.now }
     requires new { AreNewFrom 0 lanes.items }
     requires all { vec_len lanes ≡ 64 }
     requires courses { AreCoursesFrom J.course 0 courses.items }
-    requires each { length scripts.now ≤ vec_len courses }
-    requires most { length scripts.now ≤ 64 }
-    ensures left { IfOk result (λ opened. into_iter_len opened.1 + length scripts.now ≡ 64) }
-    ensures rest { IfOk result (λ opened. AreNewFrom (length scripts.now) (into_iter_items opened.1)) }
+    requires most { vec_len courses ≤ 64 }
+    ensures { IfOk result (λ seated. seated.idle.first ≡ vec_len courses) }
 {
-    let mut idle = lanes.into_iter();
+    let count = courses.len();
+    let mut lanes = lanes.into_iter();
     let mut courses = courses.into_iter();
-    let mut places = Vec::with_capacity(alloc, scripts.len())?;
-    for (slot, script) in scripts.iter().enumerate() {
-        let Some((pass, seat)) = idle.next() else {
+    let mut places = Vec::with_capacity(alloc, count)?;
+    let mut sessions = Vec::new(alloc);
+    for slot in 0..count {
+        let Some((pass, seat)) = lanes.next() else {
             unreachable!()
         };
         let Some(course) = courses.next() else {
             unreachable!()
         };
-        let ready = Ready::open(alloc, script, pass, seat, tries)?;
         let keeper = course.named::<J>(slot);
-        places.push(Mutex::new(Place::new(ready, keeper)))?;
+        let place = match scripts.get(slot) {
+            Some(script) => Place::new(Ready::open(alloc, script, pass, seat, tries)?, keeper),
+            None => {
+                let outlets = next_of_each(alloc, senders)?;
+                sessions.push(Session::new(alloc, pass, seat, outlets))?;
+                Place::free(keeper)
+            }
+        };
+        places.push(Mutex::new(place))?;
     }
-    Ok((places, idle))
+    let idle = Idle {
+        first: count,
+        lanes,
+    };
+    Ok(Seated {
+        places,
+        sessions,
+        idle,
+    })
 }

@@ -4,6 +4,7 @@ ghost use Rattle.engine.specs.declared.outcome.ServeFault.TheVariants as serve;
 
 use crate::Answers;
 use commit_log::Entry;
+use requests::Script;
 use schema::Tables;
 use std::alloc::AllocError;
 
@@ -14,8 +15,10 @@ pub struct Outcome {
     pub log: Vec<Entry>,
     /// The tables as the log's transactions have left them.
     pub tables: Tables,
-    /// The answers to each script.
+    /// The answers to each script, and then to what each session asked by hand.
     pub answers: Vec<Answers>,
+    /// What each session asked by hand, by their numbers, from that of the first one on.
+    pub asked: Vec<Script>,
 }
 
 /// Why executors that have ended came to no outcome.

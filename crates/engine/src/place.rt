@@ -12,7 +12,7 @@ use std::sync::atomic::AtomicU64;
 /// next one before all claims of this one are given back.
 #[derive(Drop)]
 pub(crate) struct Place<'a, J: ServeNames> {
-    session: Option<Session<'a, J>>,
+    stage: Option<Stage<'a, J>>,
     // The phase that is under way, if one is.
     phase: Option<Phase<J>>,
     // The keeper of the course, while no phase is under way.
@@ -23,13 +23,25 @@ pub(crate) struct Place<'a, J: ServeNames> {
     ending: usize,
 }
 
-/// What a session is at.
+/// What a session is at: one that has a script, or one that asks by hand.
 #[derive(Drop)]
-enum Session<'a, J: ServeNames> {
+enum Stage<'a, J: ServeNames> {
     Ready(Ready<'a, J>),
     Asked(Asked<'a, J>),
     /// Its script is at its end.
     Ended(Ready<'a, J>),
+    /// By hand it asks nothing.
+    Free,
+    /// By hand it asks a request, at the terminal of this warehouse, which has not begun.
+    Calls { home: u32, journey: Journey<J> },
+    /// What it asks by hand is under way.
+    Away,
+    /// What it asked by hand has this answer, which it has not taken.
+    Answered(Told<J>),
+    /// By hand it asks no more, which was not told yet.
+    Leaves,
+    /// It asks no more.
+    Gone,
 }
 
 /// Something came to a place that does not belong there. Nothing is lost but that: all that is proved of what was logged
@@ -63,7 +75,18 @@ impl<'a, J: ServeNames> Place<'a, J> {
     /// The place of a session that is to ask its script, with who keeps the courses of its transactions.
     pub(crate) fn new(session: Ready<'a, J>, keeper: Keeper<J>) -> Place<'a, J> {
         Place {
-            session: Some(Session::Ready(session)),
+            stage: Some(Stage::Ready(session)),
+            phase: None,
+            keeper: Some(keeper),
+            begun_by: 0,
+            ending: 0,
+        }
+    }
+
+    /// The place of a session that asks by hand, with who keeps the courses of its transactions.
+    pub(crate) fn free(keeper: Keeper<J>) -> Place<'a, J> {
+        Place {
+            stage: Some(Stage::Free),
             phase: None,
             keeper: Some(keeper),
             begun_by: 0,
@@ -73,12 +96,48 @@ impl<'a, J: ServeNames> Place<'a, J> {
 
     /// The session, if its script is at its end.
     pub(crate) fn into_session(self) -> Option<Ready<'a, J>> {
-        let Place { session, .. } = self;
-        match session {
-            Some(Session::Ended(ready)) => Some(ready),
+        let Place { stage, .. } = self;
+        match stage {
+            Some(Stage::Ended(ready)) => Some(ready),
             _ => None,
         }
     }
+
+    // ---- a session that asks by hand
+
+    /// It asks a request, at the terminal of this warehouse, which begins once all claims of the one before are back.
+    pub(crate) fn call(&mut self, home: u32, journey: Journey<J>) -> Result<(), Strange> {
+        let Some(Stage::Free) = self.stage.take() else {
+            return Err(Strange);
+        };
+        self.stage = Some(Stage::Calls { home, journey });
+        Ok(())
+    }
+
+    /// It takes its answer, if that has come.
+    pub(crate) fn take_told(&mut self) -> Option<Told<J>> {
+        match self.stage.take() {
+            Some(Stage::Answered(told)) => {
+                self.stage = Some(Stage::Free);
+                Some(told)
+            }
+            other => {
+                self.stage = other;
+                None
+            }
+        }
+    }
+
+    /// It asks no more.
+    pub(crate) fn leave(&mut self) -> Result<(), Strange> {
+        let Some(Stage::Free) = self.stage.take() else {
+            return Err(Strange);
+        };
+        self.stage = Some(Stage::Leaves);
+        Ok(())
+    }
+
+    // ---- transactions
 
     /// The session goes on with its next request, unless one is under way or has still claims to give back.
     pub(crate) fn advance(
@@ -95,27 +154,49 @@ impl<'a, J: ServeNames> Place<'a, J> {
         if self.ending > 0 {
             return Ok(Advanced::Waits);
         }
-        let ready = match self.session.take() {
-            Some(Session::Ready(ready)) => ready,
-            other => {
-                self.session = other;
-                return Ok(Advanced::Waits);
-            }
+        let ready = match self.stage.take() {
+            Some(Stage::Ready(ready)) => ready,
+            other => return self.advance_by_hand(alloc, other, tries, executor),
         };
         match ready.next(alloc, scale, ages, slot, tries) {
             Next::Ready(ready) => {
-                self.session = Some(Session::Ready(ready));
+                self.stage = Some(Stage::Ready(ready));
                 Ok(Advanced::Answered)
             }
             Next::Asks(asked, journey) => {
                 let first = asked.first_try(tries);
                 self.begun_by = executor;
-                self.session = Some(Session::Asked(asked));
+                self.stage = Some(Stage::Asked(asked));
                 self.begin(alloc, first, journey, tries)
             }
             Next::Ended(ready) => {
-                self.session = Some(Session::Ended(ready));
+                self.stage = Some(Stage::Ended(ready));
                 Ok(Advanced::Ended)
+            }
+        }
+    }
+
+    // What the session asks by hand begins, or it asks no more. It stays at any other stage.
+    fn advance_by_hand(
+        &mut self,
+        alloc: Global,
+        stage: Option<Stage<'a, J>>,
+        tries: u32,
+        executor: u32,
+    ) -> Result<Advanced<J>, Strange> {
+        match stage {
+            Some(Stage::Calls { home: _, journey }) => {
+                self.begun_by = executor;
+                self.stage = Some(Stage::Away);
+                self.begin(alloc, None, journey, tries)
+            }
+            Some(Stage::Leaves) => {
+                self.stage = Some(Stage::Gone);
+                Ok(Advanced::Ended)
+            }
+            other => {
+                self.stage = other;
+                Ok(Advanced::Waits)
             }
         }
     }
@@ -176,14 +257,21 @@ impl<'a, J: ServeNames> Place<'a, J> {
         ending: usize,
         tries: u32,
     ) -> Result<Ended, Strange> {
-        let Some(Session::Asked(asked)) = self.session.take() else {
-            return Err(Strange);
+        let is_answered = match self.stage.take() {
+            Some(Stage::Asked(asked)) => {
+                let Some(ready) = asked.tell(told, tries) else {
+                    return Err(Strange);
+                };
+                let is_answered = ready.deaths(tries) == 0;
+                self.stage = Some(Stage::Ready(ready));
+                is_answered
+            }
+            Some(Stage::Away) => {
+                self.stage = Some(Stage::Answered(told));
+                true
+            }
+            _ => return Err(Strange),
         };
-        let Some(ready) = asked.tell(told, tries) else {
-            return Err(Strange);
-        };
-        let is_answered = ready.deaths(tries) == 0;
-        self.session = Some(Session::Ready(ready));
         self.keeper = Some(keeper);
         self.ending = ending;
         let over = if ending == 0 {
@@ -208,8 +296,9 @@ impl<'a, J: ServeNames> Place<'a, J> {
     /// The W_ID of the warehouse whose terminal asks the session's next request, if no request of it is under way; and how often
     /// that has died.
     pub(crate) fn next_home(&self, tries: u32) -> Option<(u32, u32)> {
-        match &self.session {
-            Some(Session::Ready(ready)) => Some((ready.next_home()?, ready.deaths(tries))),
+        match &self.stage {
+            Some(Stage::Ready(ready)) => Some((ready.next_home()?, ready.deaths(tries))),
+            Some(Stage::Calls { home, .. }) => Some((*home, 0)),
             _ => None,
         }
     }

@@ -1,5 +1,5 @@
 //! Scripts are served by executors, each in a thread of its own.
-ghost use Rattle.std.specs.Prelude.{◌≡◌, ◌≤◌, ◌<◌, length, All, IfOk, OnOk, IfErr, IfSome, IfNone};
+ghost use Rattle.std.specs.Prelude.{◌≡◌, ◌≤◌, ◌<◌, ◌+◌, [], ◌++◌, length, vec_len, All, IfOk, OnOk, IfErr, IfSome, IfNone};
 ghost use Rattle.schema.specs.Consistency.{Consistent};
 ghost use Rattle.range_moves.specs.Orders.{IsWithin};
 ghost use Rattle.engine.specs.Faults.{AreWithin, IsFaultOf, IsFirstBad, IsOfServing};
@@ -11,8 +11,11 @@ use crate::closing::close;
 use crate::engine::Engine;
 use crate::executing::AtWork;
 use crate::opening::{Opened, Opening, open};
-use crate::threads::{Work, work_on_each};
-use crate::{CloseFault, Gate, MOST_SESSIONS, Outcome, ServeFault, ServeNames};
+use crate::threads::{Meanwhile, Work, work_on_each};
+use crate::{
+    Client, CloseFault, Gate, Left, MOST_SESSIONS, OpenGate, Outcome, ServeFault, ServeNames,
+    Session,
+};
 use consistency::first_broken;
 use range_moves::MoveOrder;
 use requests::Script;
@@ -80,15 +83,94 @@ pub fn serve_with_room<R: Threads + Wait + Sync, G: Gate + Send + Sync + Drop>(
     ensures within { OnOk result (AreWithin opening executors moves.now) }
     ensures fault { IfErr result (λ fault. IsFaultOf opening executors moves.now fault) }
 {
+    serve_all(
+        rt, alloc, opening, scripts, 0, executors, tries, room, moves, gate, &Nobody,
+    )
+}
+
+/// Has a client ask by hand, by so many sessions, from the opening tables. So many executors, each in a thread of its own, have
+/// the tables' warehouses between them meanwhile, as in `serve`. Once all sessions have left, what each of them asked is as a script
+/// (`asked`) with the answers that it had.
+///
+/// `NotConsistent`, `NoThread` and `NoMemory` are as those of `serve`; `Unsettled` is answered where a session was not given back in
+/// its place, or something else was not back once all executors had ended.
+pub fn serve_client<R: Threads + Wait + Sync, C: Client>(
+    rt: &R,
+    alloc: Global,
+    opening: Tables,
+    sessions: usize,
+    executors: u32,
+    client: &C,
+) -> Result<Outcome, ServeFault>
+    requires most { sessions ≤ MOST_SESSIONS }
+    requires executors { 1 ≤ executors }
+    ensures outcome { IfOk result (λ outcome. IsOutcome opening outcome.asked.items outcome.log.items outcome.tables outcome.answers.items) }
+    ensures consistent { OnOk result (Consistent opening) }
+    ensures fault { IfErr result (λ fault. IsFaultOf opening executors [] fault) }
+{
+    serve_all(
+        rt,
+        alloc,
+        opening,
+        &[],
+        sessions,
+        executors,
+        1,
+        ROOM,
+        &[],
+        OpenGate,
+        client,
+    )
+}
+
+/// A client that asks nothing.
+#[derive(Clone, Copy, Drop)]
+struct Nobody;
+
+impl Client for Nobody {
+    fn ask_all<J: ServeNames + Send + Sync, G: Gate, R: Threads + Wait + Sync>(
+        &self,
+        _rt: &R,
+        alloc: Global,
+        _engine: &Engine<'_, J, G>,
+        _sessions: Vec<Session<J>>,
+    ) -> Vec<Left<J>> {
+        Vec::new(alloc)
+    }
+}
+
+// Serves scripts, and so many sessions more, by which a client asks.
+fn serve_all<R: Threads + Wait + Sync, G: Gate + Send + Sync + Drop, C: Client>(
+    rt: &R,
+    alloc: Global,
+    opening: Tables,
+    scripts: &[Script],
+    sessions: usize,
+    executors: u32,
+    tries: u32,
+    room: usize,
+    moves: &[MoveOrder],
+    gate: G,
+    client: &C,
+) -> Result<Outcome, ServeFault>
+    requires most { length scripts.now + sessions ≤ MOST_SESSIONS }
+    requires executors { 1 ≤ executors }
+    requires room { 0 < room }
+    ensures outcome { IfOk result (λ outcome. IsOutcome opening (scripts.now ++ outcome.asked.items) outcome.log.items outcome.tables outcome.answers.items) }
+    ensures asked { IfOk result (λ outcome. length outcome.asked.items ≡ sessions) }
+    ensures consistent { OnOk result (Consistent opening) }
+    ensures within { OnOk result (AreWithin opening executors moves.now) }
+    ensures fault { IfErr result (λ fault. IsFaultOf opening executors moves.now fault) }
+{
     if let Some(place) = first_bad(moves, opening.scale().warehouses, executors) {
         return Err(ServeFault::BadMove(place));
     }
     if let Some(condition) = first_broken(alloc, &opening)? {
         return Err(ServeFault::NotConsistent(condition));
     }
-    let opened = Opening::open(alloc, &opening, scripts.len())?;
-    serve_from::<Brand, R, G>(
-        rt, alloc, opened, opening, scripts, executors, tries, room, moves, gate,
+    let opened = Opening::open(alloc, &opening, scripts.len() + sessions)?;
+    serve_from::<Brand, R, G, C>(
+        rt, alloc, opened, opening, scripts, executors, tries, room, moves, gate, client,
     )
 }
 
@@ -105,8 +187,13 @@ fn first_bad(moves: &[MoveOrder], warehouses: u32, executors: u32) -> Option<usi
     None
 }
 
-// Serves the scripts by an engine whose names are `J`.
-fn serve_from<J: ServeNames + Send + Sync, R: Threads + Wait + Sync, G: Gate + Send + Sync + Drop>(
+// Serves the scripts, and what the client asks, by an engine whose names are `J`.
+fn serve_from<
+    J: ServeNames + Send + Sync,
+    R: Threads + Wait + Sync,
+    G: Gate + Send + Sync + Drop,
+    C: Client,
+>(
     rt: &R,
     alloc: Global,
     opening: Opening,
@@ -117,24 +204,27 @@ fn serve_from<J: ServeNames + Send + Sync, R: Threads + Wait + Sync, G: Gate + S
     room: usize,
     moves: &[MoveOrder],
     gate: G,
+    client: &C,
 ) -> Result<Outcome, ServeFault>
     requires room { 0 < room }
     requires named { IsNamedFor J.LogNames J.GroupNames J.course J.scripts tables scripts.now opening }
     requires some { 1 ≤ executors }
-    requires most { length scripts.now ≤ 64 }
-    ensures outcome { IfOk result (λ outcome. IsOutcome tables scripts.now outcome.log.items outcome.tables outcome.answers.items) }
+    requires most { vec_len opening.courses ≤ 64 }
+    ensures outcome { IfOk result (λ outcome. IsOutcome tables (scripts.now ++ outcome.asked.items) outcome.log.items outcome.tables outcome.answers.items) }
+    ensures asked { IfOk result (λ outcome. length scripts.now + length outcome.asked.items ≡ vec_len opening.courses) }
     ensures fault { IfErr result (λ fault. IsOfServing fault) }
 {
     let Opened {
         engine,
         executors,
         catalog,
+        sessions,
         idle,
     } = open::<J, G>(
         alloc, opening, tables, scripts, executors, tries, room, moves, gate,
     )?;
-    let executors = work_all(rt, alloc, &engine, executors)?;
-    match close(alloc, engine, executors, catalog, idle, scripts) {
+    let (executors, left) = work_all(rt, alloc, &engine, executors, client, sessions)?;
+    match close(alloc, engine, executors, catalog, left, idle, scripts) {
         Ok(outcome) => Ok(outcome),
         Err(CloseFault::NoMemory) => Err(ServeFault::NoMemory),
         Err(CloseFault::Unsettled) => Err(ServeFault::Unsettled),
@@ -142,17 +232,41 @@ fn serve_from<J: ServeNames + Send + Sync, R: Threads + Wait + Sync, G: Gate + S
 }
 
 // All executors work, each in a thread of its own, and are given back once all have ended, also where a thread could not be
-// started.
-fn work_all<J: ServeNames + Send + Sync, G: Gate + Send + Sync, R: Threads + Wait + Sync>(
+// started. Meanwhile the client asks.
+fn work_all<
+    J: ServeNames + Send + Sync,
+    G: Gate + Send + Sync,
+    R: Threads + Wait + Sync,
+    C: Client,
+>(
     rt: &R,
     alloc: Global,
     engine: &Engine<'_, J, G>,
     executors: Vec<Executor<J>>,
-) -> Result<Vec<Executor<J>>, ServeFault>
+    client: &C,
+    sessions: Vec<Session<J>>,
+) -> Result<(Vec<Executor<J>>, Vec<Left<J>>), ServeFault>
     ensures fault { IfErr result (λ fault. IsOfServing fault) }
 {
     let crew = Crew { rt, alloc, engine };
-    work_on_each(rt, alloc, &crew, executors)
+    let asking = Asking {
+        rt,
+        alloc,
+        engine,
+        client,
+        sessions,
+    };
+    work_on_each(rt, alloc, &crew, executors, asking)
+}
+
+/// A client, the sessions by which it asks, and whom.
+#[derive(Drop)]
+struct Asking<'e, 'a, J: ServeNames, G: Gate, R: Wait, C: Client> {
+    rt: &'e R,
+    alloc: Global,
+    engine: &'e Engine<'a, J, G>,
+    client: &'e C,
+    sessions: Vec<Session<J>>,
 }
 
 /// What executors have in common as they work.
@@ -177,5 +291,26 @@ impl<J: ServeNames, G: Gate, R: Wait> Work<Executor<J>> for Crew<'_, '_, J, G, R
 
     fn stop(&self) {
         self.engine.stop();
+    }
+}
+
+impl<J: ServeNames + Send + Sync, G: Gate, R: Threads + Wait + Sync, C: Client> Meanwhile<
+    Vec<Left<J>>,
+> for Asking<'_, '_, J, G, R, C> {
+    // The client asks. Where it keeps a session back, the executors are to end without.
+    fn run(self) -> Vec<Left<J>> {
+        let Asking {
+            rt,
+            alloc,
+            engine,
+            client,
+            sessions,
+        } = self;
+        let count = sessions.len();
+        let left = client.ask_all(rt, alloc, engine, sessions);
+        if left.len() < count {
+            engine.stop();
+        }
+        left
     }
 }

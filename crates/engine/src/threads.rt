@@ -16,24 +16,37 @@ pub(crate) trait Work<X> {
     fn stop(&self);
 }
 
-/// Has each worked on in a thread of its own, and gives all back, in order, once all threads have ended. Where a thread can't be
-/// started, those that were are stopped, and what they worked on is gone.
-pub(crate) fn work_on_each<X: Send + Drop, W: Work<X> + Sync, R: Threads + Wait + Sync>(
-    rt: &R,
-    alloc: Global,
-    work: &W,
-    each: Vec<X>,
-) -> Result<Vec<X>, ServeFault>
+/// What the thread does meanwhile that has started the others.
+pub(crate) trait Meanwhile<B> {
+    /// Does it, and returns what came of it.
+    fn run(self) -> B;
+}
+
+/// Has each worked on in a thread of its own, and gives all back, in order, once all threads have ended; with what came of what was done
+/// meanwhile. Where a thread can't be started, those that were are stopped, and what they worked on is gone.
+pub(crate) fn work_on_each<
+    X: Send + Drop,
+    W: Work<X> + Sync,
+    B: Drop,
+    M: Meanwhile<B> + Drop,
+    R: Threads + Wait + Sync,
+>(rt: &R, alloc: Global, work: &W, each: Vec<X>, meanwhile: M) -> Result<(Vec<X>, B), ServeFault>
     ensures fault { IfErr result (λ fault. IsOfServing fault) }
 {
     thread::scope(
         thread::scope_env(),
         rt,
-        |scope| -> Result<Vec<X>, ServeFault>
+        |scope| -> Result<(Vec<X>, B), ServeFault>
             ensures fault { IfErr result (λ fault. IsOfServing fault) }
         {
             match start_all(scope, alloc, work, each) {
-                Ok(threads) => join_all(rt, alloc, threads),
+                Ok(threads) => {
+                    let done = meanwhile.run();
+                    match join_all(rt, alloc, threads) {
+                        Ok(each) => Ok((each, done)),
+                        Err(fault) => Err(fault),
+                    }
+                }
                 Err(fault) => {
                     work.stop();
                     Err(fault)

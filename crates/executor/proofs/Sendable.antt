@@ -1,9 +1,12 @@
 -- Posts, phases, and all that goes between executors may go to another thread, where the names may.
 use denote.RattleType.{RattleType}
 use denote.Param.Send.{IsSend, sendable, view_send}
-use denote.Param.SendFields.{declared_send}
+use denote.Param.SendFields.{declared_send, variants_send}
+use denote.Builtin.{u32}
+use Rattle.std.specs.contracts.result.Result as Result
 use Rattle.std.proofs.Crossing.{Box-send, Vec-send}
-use Rattle.requests.proofs.Sendable.{Reply-send, Request-send}
+use Rattle.requests.specs.contracts.refusal.Refusal as Refusal
+use Rattle.requests.proofs.Sendable.{Refusal-send, Reply-send, Request-send}
 use Rattle.agreement.proofs.Sendable.{Seat-send}
 use Rattle.tickets.proofs.Sendable.{Claims-send}
 use Rattle.commit_log.proofs.Sendable.{Pass-send}
@@ -24,6 +27,17 @@ use Rattle.executor.specs.contracts.journey.Transaction as Transaction
 use Rattle.executor.specs.contracts.journey.Journey as Journey
 use Rattle.executor.specs.contracts.phase.Phase as Phase
 use Rattle.executor.specs.contracts.post.Post as Post
+use Rattle.executor.specs.contracts.release.Told as Told
+
+-- an answer: a place in the log, or a refusal
+pub Answer-send : IsSend (Result.the_row u32 Refusal.the_row)
+Answer-send = variants_send (Result.enum u32 Refusal.the_row) (
+  (search sendable depth 20, tt),
+  (
+    (Refusal-send, tt),
+    tt,
+  ),
+)
 
 Matter-send : IsSend Matter.the_row
 Matter-send = declared_send Matter.the_type (Request-send, (Progress-send, (Reply-send, tt)))
@@ -78,12 +92,27 @@ module _ (J : RattleType) (course : CourseNames J.Denot) (log : LogNames J.Denot
     ),
   )
 
-  Journey-send : IsSend (Journey.the_row J course log groups)
+  pub Journey-send : IsSend (Journey.the_row J course log groups)
   Journey-send = view_send _ _ _ _ _ (declared_send (Journey.TheInside.the_type J course log groups) (
     Transaction-send,
     (
       HeldClaims-send J groups s,
       tt,
+    ),
+  ))
+
+  pub Told-send : IsSend (Told.the_row J course log groups)
+  Told-send = view_send _ _ _ _ _ (declared_send (Told.TheInside.the_type J course log groups) (
+    search sendable depth 20,
+    (
+      search sendable depth 20,
+      (
+        Pass-send J log s,
+        (
+          Answer-send,
+          tt,
+        ),
+      ),
     ),
   ))
 

@@ -15,6 +15,6 @@ loop-session-preserved g c =
     let none = none_of session lane.pass c.loop-session.log c.args.log.now rest.0 c.audit.ensures.mine known.3 in (
       omega (arith, known.0, next.1),
       rest.2,
-      none_next c.args.first session c.args.log.now known.2 none,
+      none_next c.args.idle.first session c.args.log.now known.2 none,
       c.audit.ensures.same.0 ∙ known.3,
     )

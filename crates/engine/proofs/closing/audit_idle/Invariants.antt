@@ -7,5 +7,5 @@ use Rattle.engine.proofs.closing.audit_idle.Given as goal
 
 abbrev pub invariant-loop-session : goal.invariant-loop-session
 invariant-loop-session g l =
-    (into_iter_len l.idle + l._session ≡ 64) × AreNewFrom l._session (into_iter_items l.idle)
-    × ((s : ℕ) → l.fn.first ≤ s → s < l._session → items_of s l.fn.log ≡ []) × (l.log ≡ l.fn.log)
+    (into_iter_len l.lanes + l._session ≡ 64) × AreNewFrom l._session (into_iter_items l.lanes)
+    × ((s : ℕ) → l.fn.idle.first ≤ s → s < l._session → items_of s l.fn.log ≡ []) × (l.log ≡ l.fn.log)

@@ -1,9 +1,16 @@
-use Rattle.std.proofs.Common.{sym, subst}
+use Rattle.std.proofs.Common.{◌≡◌, ◌+◌, List, ◌++◌, length, sym, ap, subst, ◌∙◌, arith, length-append}
+use Rattle.std.proofs.lemmas.List.{length-map}
 use Rattle.partitions.specs.Parts.{Shared}
+use Rattle.requests.specs.declared.request.Request.{Request}
 use Rattle.machine.specs.Machine.{tables_after}
+use Rattle.commit_log.specs.declared.entry.Entry.{Entry}
 use Rattle.commit_log.specs.Log.{requests_of}
 use Rattle.slices.specs.Sliced.{AreSlicesOf}
+use Rattle.engine.specs.Served.{ServedEach}
+use Rattle.engine.specs.Sessions.{AreAskedFrom}
+use Rattle.engine.specs.declared.session.Left.{Left}
 use Rattle.engine.proofs.Closed.{closed}
+use Rattle.engine.proofs.Sessions.{asked_behind, served_among}
 use Rattle.engine.proofs.Settled.{settled_slices}
 use Rattle.engine.proofs.closing.close.Goals as goal
 
@@ -16,13 +23,29 @@ whole-requires g c =
 
 pub returns : goal.returns
 returns g c =
+    let opening = g.J.LogNames.opening in
+    let scripts = c.args.scripts.now in
+    let answers = c.in_ok-answers.answers.items in
+    let by_hand = c.args.left.items in
+    let asked = c.in_ok-asked.asked.items in
     let served = c.in_ok-answers.ensures in
+    let left = c.in_ok-asked.ensures in
     let idle = c.audit_idle.ensures in
     let settled = c.in_ok-slices.ensures in
     let log = c.entries.ensures in
+    let many : length asked ≡ length by_hand = ap length left.asked ∙ length-map by_hand (λ (one : Left g.row.J.Denot). one.session.script) in
+    let all : length scripts + length asked ≡ c.args.idle.first = omega (arith, c.if-scripts-idle.false, c.if-len-idle.false, c.len.ensures, many, c.args.left.ok.0) in
+    let both = length-append scripts asked in
+    let count : length c.audit_left.new.answers.items ≡ length (scripts ++ asked) = omega (arith, left.count, served.count, many, both) in
+    let behind : AreAskedFrom (length answers) (scripts ++ asked) by_hand =
+    subst (λ (rest : List (List Request)). AreAskedFrom (length answers) (scripts ++ rest) by_hand) (sym left.asked) (asked_behind scripts by_hand (length answers) served.count) in
+    let among = subst (λ (l : List Entry). ServedEach opening.scale (scripts ++ asked) l answers) (sym served.same) (served_among opening.scale scripts asked c.into_inner-log.result answers served.count served.each) in
+    let each = subst (λ (l : List Entry). ServedEach opening.scale (scripts ++ asked) l c.audit_left.new.answers.items) served.same (left.each (scripts ++ asked) behind among) in
     record {
-      outcome = closed g.J.LogNames.opening c.args.scripts.now c.in_ok-answers.answers.items c.into_inner-log.result c.audit_served.new.log c.audit_idle.new.log c.settle_all.new.log c.into_entries.result.items
+      outcome = closed opening (scripts ++ asked) c.audit_left.new.answers.items c.into_inner-log.result c.audit_left.new.log c.audit_idle.new.log c.settle_all.new.log c.into_entries.result.items
           c.args.catalog c.in_ok-slices.slices.items c.in_ok-tables.tables c.requires.catalog c.requires.within
-          served.same idle.same settled.same c.into_entries.ensures served.count served.each idle.none settled.settled c.in_ok-tables.ensures c.scale.ensures.within
+          (left.same ∙ served.same) idle.same settled.same c.into_entries.ensures count each (λ s from low. idle.none s (omega (arith, from, both, all)) low) settled.settled c.in_ok-tables.ensures c.scale.ensures.within
           log.legal log.accepted log.sessions;
+      asked = left.asked;
+      all = all;
     }

@@ -1,4 +1,4 @@
-use Rattle.std.proofs.Common.{sym, subst, arith}
+use Rattle.std.proofs.Common.{sym, subst}
 use Rattle.std.specs.Prelude.{All}
 use Rattle.schema.specs.Database.{Database}
 use Rattle.schema.specs.Scale.{warehouse_ids}
@@ -25,14 +25,11 @@ new-log-requires-clause-opening g c =
     subst (λ (t : Database). SeatsTell (content t) c.in_ok-boxes.seats) (sym c.requires.named.tables_are)
     (seats_tell c.args.tables c.args.opening.groups.items c.in_ok-boxes.seats c.requires.named.opened in_place boxed.contents)
 
-pub open_executors-requires-clause-slices : goal.open_executors-requires-clause-slices
-open_executors-requires-clause-slices g c =
+pub open_posts-requires : goal.open_posts-requires
+open_posts-requires g c =
     let slices = c.in_ok-catalog.slices.items in
     subst (λ (t : Database). All (IsToOpen t) slices) (sym c.requires.named.tables_are)
     (subst (All (IsToOpen c.args.tables)) (sym c.in_ok-catalog.ensures.slices) (cut_to_open c.args.tables (warehouse_ids c.args.tables.scale)))
 
 pub open_places-requires-clause-new : goal.open_places-requires-clause-new
 open_places-requires-clause-new g c = all_new c.in_ok-book.lanes.items c.in_ok-book.ensures.sessions
-
-pub open_places-requires-clause-each : goal.open_places-requires-clause-each
-open_places-requires-clause-each g c = omega (arith, c.requires.named.enough, c.args.opening.courses.ok.0)

@@ -1,11 +1,12 @@
-use Rattle.std.proofs.Common.{List, slice_get, sym, ap, subst, ◌∙◌, arith}
+use Rattle.std.proofs.Common.{List, Some, slice_get, refl, sym, ap, subst, ◌∙◌, arith}
 use Rattle.std.specs.Vec.Iter.{into_iter_items}
+use Rattle.schema.proofs.RowReads.{copied_item}
 use Rattle.requests.specs.declared.request.Request.{Request}
 use Rattle.commit_log.specs.Passing.{Passing, Seating}
 use Rattle.engine.specs.Opening.{AreCoursesFrom}
 use Rattle.engine.specs.Sessions.{AreNewFrom}
 use Rattle.engine.proofs.AtOpening.{courses_next}
-use Rattle.engine.proofs.Sessions.{found, new_next}
+use Rattle.engine.proofs.Sessions.{new_next}
 use Rattle.engine.proofs.opening.open_places.Goals as goal
 
 -- the pass and the seat are those of this session, which has asked nothing and has this script
@@ -18,7 +19,7 @@ open-requires-clause-script g c =
     let rest = new_next slot c.in-Some.pass c.in-Some.seat (into_iter_items c.next.new.self) (subst (AreNewFrom slot) next.0 c.loop-slot.invariant.new) (omega (arith, below, most)) in
     ap (slice_get g.J.ServeNames.scripts) (ap (λ (p : Passing). p.session) rest.0)
     ∙ ap (λ (l : List (List Request)). slice_get l slot) c.requires.scripts
-    ∙ found c.args.scripts.now slot c.index-scripts-slot.result below c.index-scripts-slot.is
+    ∙ sym (copied_item c.args.scripts.now c.args.scripts.now refl slot (Some c.in-Some-get.script) c.in-Some-get.ensures.lookup)
 
 pub open-requires-clause-seat : goal.open-requires-clause-seat
 open-requires-clause-seat g c =
@@ -63,3 +64,22 @@ loop-slot-preserved g c =
       named = (courses_next g.J.CourseNames.course slot c.in-Some-next.course (into_iter_items c.next-in-loop-slot.new.self)
           (subst (AreCoursesFrom g.J.CourseNames.course slot) course.0 known.named)).1;
     }
+
+-- a session that asks by hand has a pass and a seat of its own, and has asked nothing
+pub new-requires-clause-seat : goal.new-requires-clause-seat
+new-requires-clause-seat g c =
+    let slot = c.loop-slot.slot in
+    let below = c.loop-slot-test.true in
+    let most = c.requires.most in
+    let next = c.in-Some.ensures.cases in
+    let rest = new_next slot c.in-Some.pass c.in-Some.seat (into_iter_items c.next.new.self) (subst (AreNewFrom slot) next.0 c.loop-slot.invariant.new) (omega (arith, below, most)) in
+    ap (λ (s : Seating). s.session) rest.1 ∙ sym (ap (λ (p : Passing). p.session) rest.0)
+
+pub new-requires-clause-nothing : goal.new-requires-clause-nothing
+new-requires-clause-nothing g c =
+    let slot = c.loop-slot.slot in
+    let below = c.loop-slot-test.true in
+    let most = c.requires.most in
+    let next = c.in-Some.ensures.cases in
+    let rest = new_next slot c.in-Some.pass c.in-Some.seat (into_iter_items c.next.new.self) (subst (AreNewFrom slot) next.0 c.loop-slot.invariant.new) (omega (arith, below, most)) in
+    ap (λ (p : Passing). p.mine) rest.0

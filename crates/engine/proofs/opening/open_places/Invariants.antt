@@ -7,8 +7,8 @@ use Rattle.engine.proofs.opening.open_places.Given as goal
 
 abbrev pub invariant-loop-slot : goal.invariant-loop-slot
 invariant-loop-slot g l = record {
-  sessions : into_iter_len l.idle + l.slot ≡ 64;
-  new : AreNewFrom l.slot (into_iter_items l.idle);
+  sessions : into_iter_len l.lanes + l.slot ≡ 64;
+  new : AreNewFrom l.slot (into_iter_items l.lanes);
   more : into_iter_len l.courses + l.slot ≡ vec_len l.fn.courses;
   named : AreCoursesFrom g.J.CourseNames.course l.slot (into_iter_items l.courses);
 }

@@ -1,22 +1,5 @@
-use Rattle.std.proofs.Common.{refl, arith}
-use Rattle.tickets.specs.Openings.{opened}
-use Rattle.tickets.specs.Unset.{no_table, nothing}
-use Rattle.engine.proofs.AtOpening.{agreements_named, courses_named}
+use Rattle.engine.proofs.ByScripts.{of_scripts}
 use Rattle.engine.proofs.serving.serve_with_room.Goals as goal
 
--- the names are those of what was opened for the tables and the scripts
-pub serve_from-requires-clause-named : goal.serve_from-requires-clause-named
-serve_from-requires-clause-named g c = λ κs within.
-    let opening = c.in_ok-opened.opened in
-    record {
-      opened = c.in_ok-opened.ensures.groups;
-      tables_are = refl;
-      warehouses = refl;
-      agreements = agreements_named c.args.opening opening.groups.items (opened no_table no_table nothing) c.in_ok-opened.ensures.groups;
-      length_is = refl;
-      mine = λ session small. refl;
-      asks = λ session small. refl;
-      courses_are = courses_named opening.courses.items no_table;
-      enough = omega (arith, c.in_ok-opened.ensures.courses, c.in_ok-opened.opened.courses.ok.0);
-      scripts_are = refl;
-    }
+pub returns-clause-outcome : goal.returns-clause-outcome
+returns-clause-outcome g c = of_scripts c.args.opening c.args.scripts.now c.serve_all.result c.serve_all.ensures.outcome c.serve_all.ensures.asked

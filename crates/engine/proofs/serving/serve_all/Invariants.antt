@@ -4,7 +4,7 @@ use Rattle.commit_log.specs.LogTables.{table_of}
 use Rattle.tickets.specs.Openings.{opened}
 use Rattle.tickets.specs.Places.{place_of}
 use Rattle.tickets.specs.Unset.{no_table, nothing}
-use Rattle.engine.proofs.serving.serve_with_room.Given as goal
+use Rattle.engine.proofs.serving.serve_all.Given as goal
 
 abbrev pub ghosts-serve_from-J-LogNames : goal.ghosts-serve_from-J-LogNames
 ghosts-serve_from-J-LogNames g a = record {

@@ -1,0 +1,20 @@
+-- Where no session asked by hand, what came of it all is the outcome of the scripts.
+use Rattle.std.proofs.Common.{◌≡◌, List, [], ◌∷◌, ◌++◌, length, Result, Ok, Err, refl, ap, subst, ◌∙◌, arith}
+use Rattle.std.specs.Prelude.{IfOk}
+use Rattle.std.proofs.lemmas.List.{append-nil}
+use Rattle.schema.specs.Database.{Database}
+use Rattle.requests.specs.declared.request.Request.{Request}
+use Rattle.engine.specs.Outcome.{IsOutcome}
+use Rattle.engine.specs.declared.outcome.Outcome.{Outcome}
+use Rattle.engine.specs.declared.outcome.ServeFault.{ServeFault}
+
+nothing : {X : Type 0} (xs : List X) → length xs ≡ 0 → xs ≡ []
+nothing [] none = refl
+nothing (x ∷ xs) none = absurd (omega arith)
+
+pub of_scripts : (opening : Database) (scripts : List (List Request)) (served : Result Outcome ServeFault)
+    → IfOk served (λ outcome. IsOutcome opening (scripts ++ outcome.asked.items) outcome.log.items outcome.tables outcome.answers.items) → IfOk served (λ outcome. length outcome.asked.items ≡ 0)
+    → IfOk served (λ outcome. IsOutcome opening scripts outcome.log.items outcome.tables outcome.answers.items)
+of_scripts opening scripts (Ok outcome) together none =
+    subst (λ (all : List (List Request)). IsOutcome opening all outcome.log.items outcome.tables outcome.answers.items) (ap (λ (rest : List (List Request)). scripts ++ rest) (nothing outcome.asked.items none) ∙ append-nil scripts) together
+of_scripts opening scripts (Err fault) together none = tt

@@ -1,0 +1,46 @@
+use Rattle.std.proofs.Common.{rules, ◌≡◌, ℕ, ◌+◌, List, [], ◌∷◌, ◌++◌, length, map, slice_get, Some, refl, sym, ap, subst, ◌∙◌, arith, length-append}
+use Rattle.std.proofs.lemmas.List.{append_assoc, map-append}
+use Rattle.requests.specs.declared.request.Request.{Request}
+use Rattle.commit_log.specs.declared.entry.Entry.{Entry}
+use Rattle.commit_log.specs.Items.{items_of}
+use Rattle.engine.specs.Served.{Served}
+use Rattle.engine.specs.declared.session.Left.{Left}
+use Rattle.engine.proofs.Sessions.{asked_next, each_next}
+use Rattle.engine.proofs.closing.audit_left.Goals as goal
+
+-- one session more, which asked what stands there
+pub loop-session-preserved : goal.loop-session-preserved
+loop-session-preserved g c =
+    let scale = g.J.LogNames.opening.scale in
+    let known = c.loop-session.invariant in
+    let one = c.in-Some.session in
+    let rest = c.next.new.self.rest.items in
+    let left = c.args.left.items in
+    let done = known.so_far.0 in
+    let first = length c.args.answers.now.items in
+    let told = c.in-Some-audit in
+    let asked = λ (l : Left g.row.J.Denot). l.session.script in
+    let next : c.loop-session.session-iterator.rest.items ≡ one ∷ rest = search rules in
+    let all : left ≡ done ++ one ∷ rest = known.so_far.1 ∙ ap (λ (l : List (Left g.row.J.Denot)). done ++ l) next in
+    let more = length-append done (one ∷ []) in
+    let longer = length-append c.loop-session.answers.items (told.told ∷ []) in
+    let pushed = ap length c.in_ok-put-2.ensures in
+    let place = length c.loop-session.answers.items in
+    let number : c.len-in-loop-session.result ≡ place = omega (arith, c.len-in-loop-session.ensures, c.loop-session.answers.ok.0) in
+    let served = subst (λ (l : List Entry). Served scale told.script told.told (items_of place l) (length l)) known.same
+    (subst (λ (n : ℕ). Served scale told.script told.told (items_of n c.loop-session.log) (length c.loop-session.log)) number
+    (subst (λ (rs : List Request). Served scale rs told.told (items_of c.len-in-loop-session.result c.loop-session.log) (length c.loop-session.log)) (sym told.ensures.asked) told.ensures.served)) in
+    record {
+      can_next = tt;
+      finite = tt;
+      so_far = (
+        done ++ one ∷ [],
+        all ∙ sym (append_assoc done (one ∷ []) rest),
+        c.in_ok-put.ensures ∙ ap (λ (l : List (List Request)). l ++ told.script ∷ []) known.so_far.2 ∙ ap (λ (s : List Request). map asked done ++ s ∷ []) told.ensures.asked ∙ sym (map-append asked done (one ∷ [])),
+        omega (arith, pushed, longer, more, known.so_far.3),
+      );
+      each = λ scripts behind before.
+          each_next scale scripts c.args.log.now c.loop-session.answers.items c.put-in-loop-session.new.items.items place told.script told.told (known.each scripts behind before) refl
+          (ap (λ (n : ℕ). slice_get scripts n) known.so_far.3 ∙ asked_next first scripts left done rest one all behind ∙ ap Some (sym told.ensures.asked)) served c.in_ok-put-2.ensures;
+      same = told.ensures.same ∙ known.same;
+    }

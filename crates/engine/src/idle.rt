@@ -1,0 +1,16 @@
+ghost use Rattle.std.specs.Prelude.{◌≡◌, ◌+◌};
+ghost use Rattle.std.specs.Vec.Iter.{into_iter_items, into_iter_len};
+ghost use Rattle.engine.specs.Sessions.{AreNewFrom};
+
+use crate::ServeNames;
+use commit_log::{Pass, SessionSeat};
+use std::vec::IntoIter;
+
+/// The sessions from a number on, up to 63, by which nobody asks: they have seen, logged and asked nothing.
+#[derive(Drop)]
+pub struct Idle<J: ServeNames> {
+    pub(crate) first: usize,
+    pub(crate) lanes: IntoIter<(Pass<J>, SessionSeat<J>)>,
+    ghost left: { into_iter_len lanes + first ≡ 64 },
+    ghost new: { AreNewFrom first (into_iter_items lanes) },
+}

@@ -1,0 +1,432 @@
+//! A session that asks by hand: it belongs to whoever asks by it, and waits for each answer.
+ghost use Rattle.std.specs.Prelude.{◌≡◌, ◌≤◌, [], ◌∷◌, ◌++◌, length, false, Ok, IfOk, IfErr, IfSome};
+ghost use Rattle.requests.specs.Check.{check_of};
+ghost use Rattle.commit_log.specs.Items.{items_of};
+ghost use Rattle.executor.specs.Answers.{IsToldBy};
+ghost use Rattle.engine.specs.Asking.{known_of};
+ghost use Rattle.engine.specs.Outcome.{IsRefusal};
+ghost use Rattle.engine.specs.Served.{Served};
+ghost use Rattle.engine.specs.ByHand.{Asks, HasMet, IsBackIn};
+
+use crate::asking::{home_of, says_full};
+use crate::message::Message;
+use crate::{Answers, Engine, Gate, ServeNames};
+use commit_log::{Log, Pass, SessionSeat};
+use crossbeam_utils::Backoff;
+use executor::Journey;
+use queues::Sender;
+use requests::{Refusal, Request, Script, check};
+use std::alloc::Global;
+use std::marker::Model;
+use std::sync::Wait;
+use std::sync::atomic::Ordering;
+
+/// A session that asks by hand, none of whose requests is under way.
+///
+/// Contracts see what it has asked so far (`script`), its pass, with what it has seen of the log and logged (`pass`), and its answers
+/// (`answers`). It keeps that each answer says what came of its request.
+#[derive(Drop)]
+pub struct Session<J: ServeNames> {
+    seat: SessionSeat<J>,
+    pass: Pass<J>,
+    requests: Vec<Request>,
+    answers: Vec<Result<u32, Refusal>>,
+    // Whether the log was full when it asked: it asks no more then.
+    is_full: bool,
+    // Into the inboxes of all executors, by their numbers.
+    outlets: Vec<Sender<Message<J>>>,
+}
+
+impl<J: ServeNames> Model for Session<J> {
+    ghost use Rattle.engine.specs.Asking.{Resting};
+
+    ghost Value = { Resting };
+
+    ghost use Rattle.engine.specs.Asking.{IsResting, resting};
+
+    ghost view = { λ s. resting s.requests.items s.seat s.pass s.answers.items s.is_full };
+
+    ghost invariant = { λ s. IsResting J.opening.scale (resting s.requests.items s.seat s.pass s.answers.items s.is_full) };
+}
+
+/// A session with a request that it is to ask, and room to keep it and its answer.
+#[derive(Drop)]
+struct Asker<J: ServeNames> {
+    seat: SessionSeat<J>,
+    pass: Pass<J>,
+    requests: Vec<Request>,
+    answers: Vec<Result<u32, Refusal>>,
+    is_full: bool,
+    outlets: Vec<Sender<Message<J>>>,
+    request: Request,
+    number: u32,
+}
+
+impl<J: ServeNames> Model for Asker<J> {
+    ghost use Rattle.engine.specs.ByHand.{Calling};
+
+    ghost Value = { Calling };
+
+    ghost use Rattle.std.specs.Prelude.{vec_capacity};
+    ghost use Rattle.engine.specs.Asking.{resting};
+    ghost use Rattle.engine.specs.ByHand.{IsCalling, calling};
+
+    ghost view = { λ s. calling (resting s.requests.items s.seat s.pass s.answers.items s.is_full) s.request };
+
+    ghost invariant = { λ s. IsCalling J.opening.scale (resting s.requests.items s.seat s.pass s.answers.items s.is_full) s.number (vec_capacity s.requests) (vec_capacity s.answers) };
+}
+
+/// A session whose request is under way: its pass goes with it.
+#[derive(Drop)]
+struct Away<J: ServeNames> {
+    seat: SessionSeat<J>,
+    requests: Vec<Request>,
+    answers: Vec<Result<u32, Refusal>>,
+    outlets: Vec<Sender<Message<J>>>,
+    request: Request,
+}
+
+impl<J: ServeNames> Model for Away<J> {
+    ghost use Rattle.engine.specs.Asking.{Waiting};
+
+    ghost Value = { Waiting };
+
+    ghost use Rattle.std.specs.Prelude.{vec_capacity};
+    ghost use Rattle.engine.specs.Asking.{waiting};
+    ghost use Rattle.engine.specs.ByHand.{IsCalled};
+
+    ghost view = { λ s. waiting s.requests.items s.seat s.answers.items };
+
+    ghost invariant = { λ s. IsCalled J.opening.scale (waiting s.requests.items s.seat s.answers.items) s.request (vec_capacity s.requests) (vec_capacity s.answers) };
+}
+
+/// Why a session has no answer to what it asked by hand.
+#[derive(Drop)]
+pub enum AskFault<J: ServeNames> {
+    /// There was no memory to keep the request: it was not asked, and the session is as it was.
+    NoMemory(Session<J>),
+    /// The executors have ended: so the session is gone.
+    Stopped,
+}
+
+/// A session that asks no more.
+#[derive(Drop)]
+pub struct Left<J: ServeNames> {
+    session: Session<J>,
+}
+
+impl<J: ServeNames> Session<J> {
+    /// A session that has asked nothing, and puts messages into these inboxes.
+    pub(crate) fn new(
+        alloc: Global,
+        pass: Pass<J>,
+        seat: SessionSeat<J>,
+        outlets: Vec<Sender<Message<J>>>,
+    ) -> Session<J>
+        requires seat { seat.session ≡ pass.session }
+        requires nothing { pass.mine ≡ [] }
+    {
+        Session {
+            seat,
+            pass,
+            requests: Vec::new(alloc),
+            answers: Vec::new(alloc),
+            is_full: false,
+            outlets,
+        }
+    }
+
+    /// Its number, 0 to 63.
+    pub fn number(&self) -> u32
+        ensures { result ≡ self.now.pass.session }
+    {
+        self.pass.session()
+    }
+
+    /// How many entries of the log it has seen: each request that it asks from now on stands behind them.
+    pub fn seen(&self) -> u32
+        ensures { result ≡ self.now.pass.seen }
+    {
+        self.pass.seen()
+    }
+
+    /// What it has asked, in order.
+    pub fn requests(&self) -> &[Request]
+        ensures { result.now ≡ self.now.script }
+    {
+        self.requests.as_slice()
+    }
+
+    /// The answers to what it has asked: the place of a request's entry in the log, or why it was refused.
+    pub fn answers(&self) -> &[Result<u32, Refusal>]
+        ensures { result.now ≡ self.now.answers }
+    {
+        self.answers.as_slice()
+    }
+
+    /// Asks a request, and waits for its answer: the place of its entry in the log (`Engine::log`), which is behind all that the
+    /// session and those that it met have seen, or why it was refused, and then it has seen and logged what it had. It is asked once:
+    /// one that died, or found no memory, may be asked again.
+    pub fn ask<G: Gate>(
+        self,
+        rt: &impl Wait,
+        alloc: Global,
+        engine: &Engine<'_, J, G>,
+        request: Request,
+    ) -> Result<(Session<J>, Result<u32, Refusal>), AskFault<J>>
+        ensures asks { IfOk result (λ r. Asks J.opening.scale self request r.0 r.1) }
+        ensures back { IfErr result (IsBackIn self) }
+    {
+        let Ok(number) = u32::try_from(self.answers.len()) else {
+            return Err(AskFault::NoMemory(self));
+        };
+        let Session {
+            seat,
+            pass,
+            mut requests,
+            mut answers,
+            is_full,
+            outlets,
+        } = self;
+        if requests.reserve(1).is_err() || answers.reserve(1).is_err() {
+            return Err(AskFault::NoMemory(Session {
+                seat,
+                pass,
+                requests,
+                answers,
+                is_full,
+                outlets,
+            }));
+        }
+        let asker = Asker {
+            seat,
+            pass,
+            requests,
+            answers,
+            is_full,
+            outlets,
+            request,
+            number,
+        };
+        match check(&engine.scale, &asker.request) {
+            Err(refusal) => Ok(asker.refused(refusal)),
+            Ok(()) if is_full => Ok(asker.refused(Refusal::LogFull)),
+            Ok(()) => match asker.call(rt, alloc, engine) {
+                Some(answered) => Ok(answered),
+                None => Err(AskFault::Stopped),
+            },
+        }
+    }
+
+    /// It asks no more. The executors end once all sessions have left, and all scripts are served.
+    pub fn leave<G: Gate>(self, rt: &impl Wait, engine: &Engine<'_, J, G>) -> Left<J>
+        ensures { result.session ≡ self }
+    {
+        let mut session = self;
+        let slot = session.pass.session() as usize;
+        match engine.leave(rt, slot) {
+            Ok(()) => begin_at(rt, engine, &mut session.outlets, slot, 0),
+            Err(_) => engine.stop(),
+        }
+        Left { session }
+    }
+
+    /// Learns that it has logged just what stands of it in the log, which has reached all that it has seen. Both stay as they were.
+    pub fn audit(&mut self, log: &mut Log<J>)
+        ensures seen { self.old.pass.seen ≤ length log.old }
+        ensures mine { self.old.pass.mine ≡ items_of self.old.pass.session log.old }
+        ensures same { (self.new ≡ self.old) × (log.new ≡ log.old) }
+    {
+        log.audit(&mut self.pass);
+    }
+}
+
+/// Two sessions meet: both have seen the larger number of entries from then on, so what either asks from now on stands behind all that
+/// the other was answered. It waits for nobody.
+pub fn meet<J: ServeNames>(one: &mut Session<J>, other: &mut Session<J>)
+    ensures one { HasMet one.old other.old one.new }
+    ensures other { HasMet other.old one.old other.new }
+{
+    commit_log::meet(&mut one.pass, &mut other.pass);
+}
+
+impl<J: ServeNames> Asker<J> {
+    // The request is refused.
+    fn refused(self, refusal: Refusal) -> (Session<J>, Result<u32, Refusal>)
+        requires { IsRefusal J.opening.scale (known_of self.before.is_full self.before.pass.reached) self.request refusal }
+        ensures { Asks J.opening.scale self.before self.request result.0 result.1 }
+    {
+        let Asker {
+            seat,
+            pass,
+            mut requests,
+            mut answers,
+            is_full,
+            outlets,
+            request,
+            number: _,
+        } = self;
+        requests.push_reserved(request);
+        answers.push_reserved(Err(refusal));
+        let session = Session {
+            seat,
+            pass,
+            requests,
+            answers,
+            is_full,
+            outlets,
+        };
+        (session, Err(refusal))
+    }
+
+    // The request, which its check accepts, is asked. `None` where the executors have ended.
+    fn call<G: Gate>(
+        self,
+        rt: &impl Wait,
+        alloc: Global,
+        engine: &Engine<'_, J, G>,
+    ) -> Option<(Session<J>, Result<u32, Refusal>)>
+        requires accepted { check_of J.opening.scale self.request ≡ Ok tt }
+        requires open { self.before.is_full ≡ false }
+        ensures { IfSome result (λ r. Asks J.opening.scale self.before self.request r.0 r.1) }
+    {
+        let Asker {
+            mut seat,
+            mut pass,
+            requests,
+            answers,
+            is_full: _,
+            outlets,
+            request,
+            number,
+        } = self;
+        seat.ask(&mut pass, number, &request);
+        let age = engine.ages.fetch_add(1, Ordering::SeqCst);
+        let slot = pass.session() as usize;
+        let home = home_of(&request);
+        let begun = Journey::begin(alloc, age, slot, number, &request, pass);
+        let mut away = Away {
+            seat,
+            requests,
+            answers,
+            outlets,
+            request,
+        };
+        match begun {
+            Ok(journey) => {
+                away.send(rt, engine, slot, home, journey);
+                let told = engine.wait_for_answer(rt, slot)?;
+                let (mut pass, answer) = told.into_parts();
+                if pass.session() != away.seat.session() {
+                    return None;
+                }
+                away.seat.look(&mut pass);
+                Some(away.answered(pass, answer))
+            }
+            Err(pass) => Some(away.answered(pass, Err(Refusal::NoMemory))),
+        }
+    }
+}
+
+impl<J: ServeNames> Away<J> {
+    // Its journey begins where its warehouse is.
+    fn send<G: Gate>(
+        &mut self,
+        rt: &impl Wait,
+        engine: &Engine<'_, J, G>,
+        slot: usize,
+        home: u32,
+        journey: Journey<J>,
+    )
+        ensures { self.new ≡ self.old }
+    {
+        match engine.ask(rt, slot, home, journey) {
+            Ok(()) => {
+                let to = engine.routing.route(home);
+                begin_at(rt, engine, &mut self.outlets, slot, to);
+            }
+            Err(_) => engine.stop(),
+        }
+    }
+
+    // The pass has come back with this answer.
+    fn answered(
+        self,
+        pass: Pass<J>,
+        answer: Result<u32, Refusal>,
+    ) -> (Session<J>, Result<u32, Refusal>)
+        requires session { pass.session ≡ self.seat.session }
+        requires told { IsToldBy self.seat.asking pass answer }
+        ensures answer { result.1 ≡ answer }
+        ensures noted { result.0.script ≡ self.script ++ self.seat.asking.request ∷ [] }
+        ensures answered { result.0.answers ≡ self.answers ++ answer ∷ [] }
+        ensures pass { result.0.pass ≡ pass }
+    {
+        let Away {
+            seat,
+            mut requests,
+            mut answers,
+            outlets,
+            request,
+        } = self;
+        let is_full = says_full(&answer);
+        requests.push_reserved(request);
+        answers.push_reserved(answer);
+        let session = Session {
+            seat,
+            pass,
+            requests,
+            answers,
+            is_full,
+            outlets,
+        };
+        (session, answer)
+    }
+}
+
+impl<J: ServeNames> Left<J> {
+    /// What it has asked, and the answers, once they are compared with the log: it has logged just what stands there of it. `None`
+    /// where it is another session, or has asked more than a script can have.
+    pub(crate) fn audit(self, log: &mut Log<J>, number: usize) -> Option<(Script, Answers)>
+        ensures asked { IfSome result (λ r. r.0 ≡ self.session.script) }
+        ensures served { IfSome result (λ r. Served J.opening.scale self.session.script r.1 (items_of number log.old) (length log.old)) }
+        ensures same { log.new ≡ log.old }
+    {
+        let Left { session } = self;
+        let Session {
+            mut pass,
+            requests,
+            answers,
+            ..
+        } = session;
+        if pass.session() as usize != number {
+            return None;
+        }
+        log.audit(&mut pass);
+        let script = Script::checked_new(requests)?;
+        Some((script, Answers::of(answers)))
+    }
+}
+
+// The session of this slot begins at this executor what it asks, or ends there.
+fn begin_at<J: ServeNames, G: Gate>(
+    rt: &impl Wait,
+    engine: &Engine<'_, J, G>,
+    outlets: &mut Vec<Sender<Message<J>>>,
+    slot: usize,
+    to: u32,
+) {
+    let backoff = Backoff::new();
+    for _ in rt.forever() {
+        let Some(outlet) = outlets.get_mut(to as usize) else {
+            return engine.stop();
+        };
+        if outlet.put(rt, Message::Begin(slot)).is_ok() {
+            return engine.call(to);
+        }
+        if engine.is_over() {
+            return;
+        }
+        backoff.snooze();
+    }
+}

@@ -1,0 +1,131 @@
+use super::*;
+use engine::{Client, Engine, Gate, Left, ServeNames, Session, meet, serve_client};
+use requests::{OrderStatus, Refusal, Reply, Shown};
+use std::alloc::Global;
+use std::sync::Wait;
+use std::sync::atomic::{AtomicU64, Ordering};
+use std::thread::Threads;
+
+// How often a request is asked at most that died.
+const MOST_TRIES: u32 = 10_000;
+
+// One session pays, the other meets it, and asks after the customer.
+#[derive(Drop)]
+struct ReadsBack {
+    // How many entries of the log both sessions have seen, once they met, and then the other once it was answered.
+    met: AtomicU64,
+    seen: AtomicU64,
+    // What the answer shows that the customer owes, in cents.
+    owed: AtomicU64,
+}
+
+// Asks until it is answered by a place in the log.
+fn ask_until_done<J: ServeNames, G: Gate>(
+    rt: &impl Wait,
+    alloc: Global,
+    engine: &Engine<'_, J, G>,
+    session: Session<J>,
+    request: &Request,
+) -> Option<Session<J>> {
+    let mut session = session;
+    for _ in 0..MOST_TRIES {
+        let Ok(asked) = request.try_clone() else {
+            return None;
+        };
+        let Ok((after, answer)) = session.ask(rt, alloc, engine, asked) else {
+            return None;
+        };
+        session = after;
+        match answer {
+            Ok(_) => return Some(session),
+            Err(Refusal::Died { .. }) => {}
+            Err(_) => return None,
+        }
+    }
+    None
+}
+
+impl ReadsBack {
+    fn read_back<J: ServeNames, G: Gate>(
+        &self,
+        rt: &impl Wait,
+        alloc: Global,
+        engine: &Engine<'_, J, G>,
+        mut sessions: Vec<Session<J>>,
+    ) -> Option<Vec<Left<J>>> {
+        let asks = sessions.pop()?;
+        let pays = sessions.pop()?;
+        let mut pays = ask_until_done(rt, alloc, engine, pays, &payment(123))?;
+        let mut asks = asks;
+        meet(&mut pays, &mut asks);
+        self.met.store(u64::from(asks.seen()), Ordering::SeqCst);
+        let mut asks = ask_until_done(rt, alloc, engine, asks, &status())?;
+        self.seen.store(u64::from(asks.seen()), Ordering::SeqCst);
+        self.owed
+            .store(last_owed(rt, engine, &mut asks)?, Ordering::SeqCst);
+        let mut left = Vec::new(alloc);
+        left.push(pays.leave(rt, engine)).ok()?;
+        left.push(asks.leave(rt, engine)).ok()?;
+        Some(left)
+    }
+}
+
+impl Client for ReadsBack {
+    fn ask_all<J: ServeNames + Send + Sync, G: Gate, R: Threads + Wait + Sync>(
+        &self,
+        rt: &R,
+        alloc: Global,
+        engine: &Engine<'_, J, G>,
+        sessions: Vec<Session<J>>,
+    ) -> Vec<Left<J>> {
+        match self.read_back(rt, alloc, engine, sessions) {
+            Some(left) => left,
+            None => Vec::new(alloc),
+        }
+    }
+}
+
+// After the customer of those payments.
+fn status() -> Request {
+    Request::OrderStatus(OrderStatus {
+        home: DistrictKey { w_id: 1, d_id: 1 },
+        customer: Choice::Number(1),
+    })
+}
+
+// What the session was last shown that a customer owes, in cents: the log has just what the session knows of.
+fn last_owed<J: ServeNames, G: Gate>(
+    rt: &impl Wait,
+    engine: &Engine<'_, J, G>,
+    session: &mut Session<J>,
+) -> Option<u64> {
+    let Ok(place) = *session.answers().last()? else {
+        return None;
+    };
+    let mut log = engine.log(rt);
+    session.audit(&mut log);
+    match &log.entries().get(place as usize)?.reply {
+        Reply::Done(Shown::OrderStatus(shown)) => {
+            Some(shown.balance.get().checked_neg()?.unsigned_abs())
+        }
+        _ => None,
+    }
+}
+
+// A session pays, another meets it, and then asks after the customer: it finds the payment.
+#[test]
+fn a_session_finds_what_another_paid_that_it_met(rt: HostRuntime) -> Result<(), Fail> {
+    let alloc = rt.alloc();
+    let tables = two_warehouses(alloc)?;
+    let client = ReadsBack {
+        met: AtomicU64::new(0),
+        seen: AtomicU64::new(0),
+        owed: AtomicU64::new(0),
+    };
+    let outcome = serve_client(&rt, alloc, tables, 2, 2, &client)?;
+    assert_eq!(rt; outcome.log.len(), 2);
+    assert_eq!(rt; client.met.load(Ordering::SeqCst), 1);
+    assert_eq!(rt; client.seen.load(Ordering::SeqCst), 2);
+    assert_eq!(rt; client.owed.load(Ordering::SeqCst), 1_000 + 123);
+    Ok(())
+}
