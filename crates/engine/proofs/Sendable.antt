@@ -9,7 +9,7 @@ use Rattle.queues.proofs.Sendable.{Taker-send, Sender-send}
 use Rattle.routing.proofs.Sendable.{SharedRouting-sync}
 use Rattle.requests.proofs.Sendable.{Request-send, Script-sync}
 use Rattle.commit_log.proofs.Sendable.{Log-send, Pass-send, SessionSeat-send}
-use Rattle.executor.proofs.Sendable.{Answer-send, Errand-send, Journey-send, Keeper-send, Phase-send, Post-send, Settle-send, Told-send, Undo-send}
+use Rattle.executor.proofs.Sendable.{Answer-send, Errand-send, GivenBack-send, Journey-send, Keeper-send, Phase-send, Post-send, Posts-send, Told-send}
 use Rattle.executor.specs.contracts.post.Post as Post
 use Rattle.tickets.specs.declared.group_names.GroupNames.{Ghosts as GroupNames}
 use Rattle.commit_log.specs.declared.log_names.LogNames.{Ghosts as LogNames}
@@ -55,17 +55,14 @@ module _ (J : RattleType) (course : CourseNames J.Denot) (log : LogNames J.Denot
       (
         (Errand-send J course log groups s, tt),
         (
-          (Settle-send J course log groups s, tt),
+          (GivenBack-send J course log groups s, tt),
           (
-            (Undo-send J course log groups s, tt),
+            (search sendable depth 20, tt),
             (
-              (search sendable depth 20, tt),
+              (search sendable depth 20, (search sendable depth 20, tt)),
               (
-                (search sendable depth 20, (search sendable depth 20, tt)),
-                (
-                  (Box-send (Post.the_row J course log groups) (Post-send J course log groups s), tt),
-                  tt,
-                ),
+                (Box-send (Post.the_row J course log groups) (Post-send J course log groups s), tt),
+                tt,
               ),
             ),
           ),
@@ -81,7 +78,7 @@ module _ (J : RattleType) (course : CourseNames J.Denot) (log : LogNames J.Denot
   Executor-send = declared_send (Executor.the_type J course log groups) (
     search sendable depth 20,
     (
-      search (Post-send, Box-send, Vec-send, sendable) depth 20,
+      Posts-send J course log groups s,
       (
         search (Vec-send, sendable) depth 20,
         (
@@ -91,24 +88,18 @@ module _ (J : RattleType) (course : CourseNames J.Denot) (log : LogNames J.Denot
             (
               search (Message-send, Deque-send, sendable) depth 20,
               (
-                search (Errand-send, Vec-send, Deque-send, sendable) depth 20,
+                search (Deque-send, sendable) depth 20,
                 (
-                  search (Settle-send, Deque-send, sendable) depth 20,
+                  search (Message-send, Deque-send, sendable) depth 20,
                   (
-                    search (Undo-send, Deque-send, sendable) depth 20,
+                    search (Message-send, Deque-send, sendable) depth 20,
                     (
-                      search (Message-send, Deque-send, sendable) depth 20,
+                      search (Turn-send, Deque-send, sendable) depth 20,
                       (
-                        search (Message-send, Deque-send, sendable) depth 20,
+                        search sendable depth 20,
                         (
-                          search (Turn-send, Deque-send, sendable) depth 20,
-                          (
-                            search sendable depth 20,
-                            (
-                              search sendable depth 20,
-                              tt,
-                            ),
-                          ),
+                          search sendable depth 20,
+                          tt,
                         ),
                       ),
                     ),

@@ -1,9 +1,7 @@
 //! What an executor has to itself.
-ghost use Rattle.std.specs.Prelude.{◌≡◌, IfSome};
-
 use crate::MOST_SESSIONS;
 use crate::message::Message;
-use executor::{CourseNames, Errand, Post, Settle, Undo};
+use executor::{CourseNames, Posts};
 use queues::{Sender, Taker};
 use schema::NoMemory;
 use std::alloc::Global;
@@ -34,20 +32,17 @@ pub(crate) struct Turn {
 #[derive(Drop)]
 pub struct Executor<J: CourseNames> {
     pub(crate) number: u32,
-    /// Each at its warehouse's W_ID less one; the others are elsewhere.
-    posts: Vec<Option<Box<Post<J>>>>,
+    pub(crate) posts: Posts<J>,
     /// To whom the post of a warehouse has gone, since a move last brought it here; by the warehouse's W_ID less one.
     notes: Vec<Option<u32>>,
     /// From the others.
     pub(crate) inbox: Taker<Message<J>>,
     /// Into the inboxes of all, by the executors' numbers.
     pub(crate) outlets: Vec<Sender<Message<J>>>,
-    /// To itself, beside what follows.
+    /// To itself.
     pub(crate) lane: VecDeque<Message<J>>,
-    /// The actions of each phase that are all at its own warehouses, and what goes back to these: no message is made of them.
-    pub(crate) phases: VecDeque<Vec<Errand<J>>>,
-    pub(crate) settles: VecDeque<Settle<J>>,
-    pub(crate) undos: VecDeque<Undo<J>>,
+    /// Warehouses at whose posts claims have come back while somebody may have waited there, who may go on now.
+    pub(crate) freed: VecDeque<u32>,
     /// To others whose inbox was full.
     pub(crate) outbox: VecDeque<(u32, Message<J>)>,
     /// For posts that are on their way here, each with the W_ID of its warehouse.
@@ -70,16 +65,13 @@ impl<J: CourseNames> Executor<J> {
         inbox: Taker<Message<J>>,
         outlets: Vec<Sender<Message<J>>>,
     ) -> Result<Executor<J>, NoMemory> {
-        let mut posts = Vec::with_capacity(alloc, warehouses as usize)?;
+        let posts = Posts::open(alloc, warehouses)?;
         let mut notes = Vec::with_capacity(alloc, warehouses as usize)?;
         for _ in 0..warehouses {
-            posts.push(None)?;
             notes.push(None)?;
         }
         let lane = VecDeque::with_capacity(alloc, ROOM)?;
-        let phases = VecDeque::with_capacity(alloc, MOST_SESSIONS)?;
-        let settles = VecDeque::with_capacity(alloc, ROOM)?;
-        let undos = VecDeque::with_capacity(alloc, ROOM)?;
+        let freed = VecDeque::with_capacity(alloc, ROOM)?;
         let outbox = VecDeque::with_capacity(alloc, ROOM)?;
         let parked = VecDeque::with_capacity(alloc, ROOM)?;
         let ready = VecDeque::with_capacity(alloc, MOST_SESSIONS)?;
@@ -90,9 +82,7 @@ impl<J: CourseNames> Executor<J> {
             inbox,
             outlets,
             lane,
-            phases,
-            settles,
-            undos,
+            freed,
             outbox,
             parked,
             ready,
@@ -136,42 +126,7 @@ impl<J: CourseNames> Executor<J> {
         Some(from.saturating_sub(self.steps))
     }
 
-    // ---- posts
-
-    /// Whether there is such a warehouse, here or elsewhere.
-    pub(crate) fn is_warehouse(&self, home: u32) -> bool {
-        place_of(home) < self.posts.len()
-    }
-
-    /// Has this post, in the place of what it had of the warehouse.
-    pub(crate) fn put_post(&mut self, post: Box<Post<J>>) {
-        if let Some(place) = self.posts.get_mut(place_of(post.home())) {
-            *place = Some(post);
-        }
-    }
-
-    /// Whether it has the post of a warehouse.
-    pub(crate) fn has_post(&self, home: u32) -> bool {
-        matches!(self.posts.get(place_of(home)), Some(Some(_)))
-    }
-
-    /// The post of a warehouse, if it has it.
-    pub(crate) fn post_mut(&mut self, home: u32) -> Option<&mut Post<J>>
-        ensures { IfSome result (λ post. post.now.slice.home ≡ home) }
-    {
-        let Some(Some(post)) = self.posts.get_mut(place_of(home)) else {
-            return None;
-        };
-        if post.home() != home {
-            return None;
-        }
-        Some(post)
-    }
-
-    /// Gives the post of a warehouse, if it has it.
-    pub(crate) fn take_post(&mut self, home: u32) -> Option<Box<Post<J>>> {
-        self.posts.get_mut(place_of(home))?.take()
-    }
+    // ---- where posts have gone
 
     /// Notes to whom the post of a warehouse goes; with `None`, forgets it.
     pub(crate) fn note(&mut self, home: u32, to: Option<u32>) {

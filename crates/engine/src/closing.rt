@@ -192,7 +192,7 @@ fn slice_of<J: ServeNames>(executors: &mut Vec<Executor<J>>, home: u32) -> Optio
 // The post of a warehouse, at whichever executor it is.
 fn post_of<J: ServeNames>(executors: &mut Vec<Executor<J>>, home: u32) -> Option<Box<Post<J>>> {
     for executor in executors.iter_mut() {
-        if let Some(post) = executor.take_post(home) {
+        if let Some(post) = executor.posts.take(home) {
             return Some(post);
         }
     }

@@ -44,7 +44,7 @@ pub struct Engine<'a, J: ServeNames, G: Gate> {
     pub(crate) lobby: Vec<Bed>,
     /// The age of the next transaction.
     pub(crate) ages: AtomicU64,
-    /// How many sessions are not at the end of their scripts.
+    /// How many sessions have still something to ask.
     pub(crate) unserved: AtomicUsize,
     /// Whether the executors are to end, be all served or not.
     pub(crate) is_stopped: AtomicBool,
@@ -68,7 +68,7 @@ impl<J: ServeNames, G: Gate> Engine<'_, J, G> {
         self.wake_all();
     }
 
-    /// A session is at the end of its script. With the last one, and the last move, the executors end.
+    /// A session asks no more. With the last one, and the last move, the executors end.
     pub(crate) fn end_session(&self) {
         if self.unserved.fetch_sub(1, Ordering::SeqCst) == 1 {
             self.wake_all();
@@ -132,7 +132,7 @@ impl<J: ServeNames, G: Gate> Engine<'_, J, G> {
         }
     }
 
-    /// The next phase of the transaction in this slot is under way.
+    /// A phase of the transaction in this slot is under way by messages.
     pub(crate) fn go_on(&self, rt: &impl Wait, slot: usize, phase: Phase<J>) {
         if let Some(place) = self.places.get(slot) {
             place.lock(rt).go_on(phase);

@@ -1,11 +1,11 @@
 //! The work of an executor.
 use crate::belongings::{Executor, STEP};
 use crate::engine::Engine;
-use crate::message::{Message, going_back, home_of};
+use crate::message::Message;
 use crate::place::{Advanced, Ended, Strange};
 use crate::{Gate, ServeNames};
 use crossbeam_utils::Backoff;
-use executor::{Commit, Errand, Following, GivenBack, Release, Report, Settle, Undo};
+use executor::{Commit, Errand, Following, GivenBack, Paused, Release, Report, Returns, Tried};
 use std::alloc::Global;
 use std::sync::Wait;
 use std::time::Duration;
@@ -14,7 +14,7 @@ use std::time::Duration;
 /// from their first action on, and all but the oldest die: so one more would cost more than it brings (docs/COSTS.md).
 const MOST_BEGUN: usize = 1;
 
-/// How many messages to itself an executor takes at most before it looks at its inbox.
+/// How many messages to itself and posts that were freed an executor takes at most before it looks at its inbox.
 const MOST_OWN: u32 = 16;
 
 /// An executor at work in its thread.
@@ -70,40 +70,19 @@ impl<J: ServeNames, G: Gate, R: Wait> AtWork<'_, '_, J, G, R> {
     // Takes what it has to itself, up to so many. Whether there was any.
     fn take_own(&mut self) -> bool {
         for taken in 0..MOST_OWN {
-            if !(self.settle_next() || self.undo_next() || self.act_next() || self.take_next()) {
+            if !(self.free_next() || self.take_next()) {
                 return taken > 0;
             }
         }
         true
     }
 
-    // The first claims that come back here. Whether there were any.
-    fn settle_next(&mut self) -> bool {
-        let Some(settle) = self.own.settles.pop_front() else {
+    // Those who wait at the first post that somebody has left have their turn. Whether there was one.
+    fn free_next(&mut self) -> bool {
+        let Some(home) = self.own.freed.pop_front() else {
             return false;
         };
-        self.settle(settle);
-        true
-    }
-
-    // The first claims that come back here, and under which all is taken back. Whether there were any.
-    fn undo_next(&mut self) -> bool {
-        let Some(undo) = self.own.undos.pop_front() else {
-            return false;
-        };
-        self.undo(undo);
-        true
-    }
-
-    // An action of the first phase that is all here. Whether there was such a phase.
-    fn act_next(&mut self) -> bool {
-        let Some(errands) = self.own.phases.front_mut() else {
-            return false;
-        };
-        match errands.pop() {
-            Some(errand) => self.act(errand),
-            None => drop(self.own.phases.pop_front()),
-        }
+        self.take_turns(home);
         true
     }
 
@@ -114,12 +93,6 @@ impl<J: ServeNames, G: Gate, R: Wait> AtWork<'_, '_, J, G, R> {
         };
         self.take(message);
         true
-    }
-
-    fn stop_if(&self, is_strange: bool) {
-        if is_strange {
-            self.engine.stop();
-        }
     }
 
     // In how many steps it may begin the next request; `None` where that needs a message.
@@ -181,10 +154,10 @@ impl<J: ServeNames, G: Gate, R: Wait> AtWork<'_, '_, J, G, R> {
                 .advance(self.rt, self.alloc, slot, self.own.number)
             {
                 Ok(Advanced::Answered) => self.engine.call_session(slot),
-                Ok(Advanced::Sends(first, errands)) => {
+                Ok(Advanced::Begins(first, paused)) => {
                     self.own.begun = self.own.begun.saturating_add(1);
                     self.tell_asked(first);
-                    self.send_all(errands);
+                    self.go_on(slot, Following::Next(paused));
                     return;
                 }
                 Ok(Advanced::Waits) => return,
@@ -230,8 +203,7 @@ impl<J: ServeNames, G: Gate, R: Wait> AtWork<'_, '_, J, G, R> {
             Message::Begin(slot) => self.get_ready(slot, 0),
             Message::Over(slot) => self.over(slot),
             Message::Errand(errand) => self.act(errand),
-            Message::Settle(settle) => self.settle(settle),
-            Message::Undo(undo) => self.undo(undo),
+            Message::GivenBack(given) => self.take_back(given),
             Message::Move(order) => self.move_here(order),
             Message::Fetch { home, to } => self.send_post(home, to),
             Message::Parcel(post) => self.install(post),
@@ -241,7 +213,7 @@ impl<J: ServeNames, G: Gate, R: Wait> AtWork<'_, '_, J, G, R> {
     // An action asks at its post, and reports unless it waits there.
     fn act(&mut self, errand: Errand<J>) {
         let home = errand.home();
-        let Some(post) = self.own.post_mut(home) else {
+        let Some(post) = self.own.posts.get_mut(home) else {
             self.pass_on(home, Message::Errand(errand));
             return;
         };
@@ -252,34 +224,30 @@ impl<J: ServeNames, G: Gate, R: Wait> AtWork<'_, '_, J, G, R> {
     }
 
     // Claims come back to their post.
-    fn settle(&mut self, settle: Settle<J>) {
-        let home = settle.home();
-        let slot = settle.slot();
-        let Some(post) = self.own.post_mut(home) else {
-            self.pass_on(home, Message::Settle(settle));
-            return;
-        };
-        post.settle(settle);
-        self.give_back(slot);
-        self.take_turns(home);
+    fn take_back(&mut self, given: GivenBack<J>) {
+        let slot = given.slot();
+        match self.give_back_here(given) {
+            Ok(()) => self.count_back(slot),
+            Err(given) => self.pass_on(given.home(), Message::GivenBack(given)),
+        }
     }
 
-    // What was done under claims is taken back, and they come back to their post.
-    fn undo(&mut self, undo: Undo<J>) {
-        let home = undo.home();
-        let slot = undo.slot();
-        let Some(post) = self.own.post_mut(home) else {
-            self.pass_on(home, Message::Undo(undo));
-            return;
-        };
-        post.undo(undo);
-        self.give_back(slot);
-        self.take_turns(home);
+    // Claims go back to their post, if that is here.
+    fn give_back_here(&mut self, given: GivenBack<J>) -> Result<(), GivenBack<J>> {
+        let home = given.home();
+        self.own.posts.give_back(given)?;
+        if let Some(post) = self.own.posts.get_mut(home)
+            && post.may_have_waiters()
+            && self.own.freed.push_back(home).is_err()
+        {
+            self.engine.stop();
+        }
+        Ok(())
     }
 
-    // Each of those who wait at a post and need not any more has its turn, and reports. Mostly nobody waits.
-    fn take_turns(&mut self, home: u32) {
-        if let Some(post) = self.own.post_mut(home)
+    /// Each of those who wait at a post and need not any more has its turn, and reports. Mostly nobody waits.
+    pub(crate) fn take_turns(&mut self, home: u32) {
+        if let Some(post) = self.own.posts.get_mut(home)
             && post.may_have_waiters()
         {
             self.take_each_turn(home);
@@ -288,7 +256,7 @@ impl<J: ServeNames, G: Gate, R: Wait> AtWork<'_, '_, J, G, R> {
 
     fn take_each_turn(&mut self, home: u32) {
         for _ in self.rt.forever() {
-            let Some(post) = self.own.post_mut(home) else {
+            let Some(post) = self.own.posts.get_mut(home) else {
                 return;
             };
             let Some(report) = post.turn(self.alloc) else {
@@ -304,20 +272,38 @@ impl<J: ServeNames, G: Gate, R: Wait> AtWork<'_, '_, J, G, R> {
     fn report(&mut self, report: Report<J>) {
         let slot = report.slot();
         match self.engine.report(self.rt, slot, report) {
-            Ok(Some(met)) => self.follow(slot, met.follow(self.alloc)),
+            Ok(Some(met)) => self.go_on(slot, met.follow(self.alloc)),
             Ok(None) => {}
             Err(Strange) => self.engine.stop(),
         }
     }
 
-    fn follow(&mut self, slot: usize, following: Following<J>) {
-        match following {
-            Following::Phase(phase, errands) => {
-                self.engine.go_on(self.rt, slot, phase);
-                self.send_all(errands);
+    // A transaction goes on. Phases whose warehouses are all here run straight through, one after another, while nobody is in their
+    // way; any other goes by messages.
+    fn go_on(&mut self, slot: usize, following: Following<J>) {
+        let mut following = following;
+        for _ in self.rt.forever() {
+            match following {
+                Following::Next(paused) => match paused.run_here(self.alloc, &mut self.own.posts) {
+                    Tried::Done(next) => following = next,
+                    Tried::Apart(paused) => return self.send_out(slot, paused),
+                },
+                Following::Commit(commit) => return self.commit(slot, commit),
+                Following::Over(release) => return self.release(slot, release),
             }
-            Following::Commit(commit) => self.commit(slot, commit),
-            Following::Over(release) => self.release(slot, release),
+        }
+    }
+
+    // The next phase of a transaction goes by messages.
+    fn send_out(&mut self, slot: usize, paused: Paused<J>) {
+        match paused.send_out(self.alloc) {
+            Ok((phase, errands)) => {
+                self.engine.go_on(self.rt, slot, phase);
+                for errand in errands {
+                    self.send(errand.home(), Message::Errand(errand));
+                }
+            }
+            Err(release) => self.release(slot, release),
         }
     }
 
@@ -330,19 +316,25 @@ impl<J: ServeNames, G: Gate, R: Wait> AtWork<'_, '_, J, G, R> {
         self.release(slot, release);
     }
 
-    // The transaction is over: its session has the answer, and its claims go back.
+    // The transaction is over: its claims go back, and its session has the answer.
     fn release(&mut self, slot: usize, release: Release<J>) {
         let (told, mut returns, keeper) = release.into_parts();
         let session = told.session();
         let number = told.number();
-        let ending = returns.len();
+        let elsewhere = self.give_back_last(&mut returns);
+        let ending = returns
+            .len()
+            .saturating_add(usize::from(elsewhere.is_some()));
         let Ok(ended) = self.engine.end(self.rt, slot, told, keeper, ending) else {
             self.engine.stop();
             return;
         };
         self.engine.call_session(slot);
         self.tell_answered(session, number, ended);
-        for _ in 0..ending {
+        if let Some(given) = elsewhere {
+            self.send_back(given);
+        }
+        for _ in 0..returns.len() {
             let Some(given) = returns.next_back() else {
                 break;
             };
@@ -351,18 +343,19 @@ impl<J: ServeNames, G: Gate, R: Wait> AtWork<'_, '_, J, G, R> {
         self.send_over(slot, ended.over);
     }
 
+    // The claims of the last actions go back to their posts, as long as these are here. The first that go elsewhere, if some do.
+    fn give_back_last(&mut self, returns: &mut Returns<J>) -> Option<GivenBack<J>> {
+        for _ in 0..returns.len() {
+            if let Err(given) = self.give_back_here(returns.next_back()?) {
+                return Some(given);
+            }
+        }
+        None
+    }
+
     // The claims of an action go back to who has their warehouse.
     fn send_back(&mut self, given: GivenBack<J>) {
-        let to = self.engine.routing.route(home_of(&given));
-        if to != self.own.number {
-            self.push(to, going_back(given));
-            return;
-        }
-        let kept = match given {
-            GivenBack::Settle(settle) => self.own.settles.push_back(settle).is_ok(),
-            GivenBack::Undo(undo) => self.own.undos.push_back(undo).is_ok(),
-        };
-        self.stop_if(!kept);
+        self.send(given.home(), Message::GivenBack(given));
     }
 
     // The request of this number has its answer, unless it is asked again.
@@ -374,8 +367,8 @@ impl<J: ServeNames, G: Gate, R: Wait> AtWork<'_, '_, J, G, R> {
         }
     }
 
-    // An action of a transaction that is over has given its claims back.
-    fn give_back(&mut self, slot: usize) {
+    // The claims of an action of a transaction that is over have come back by a message.
+    fn count_back(&mut self, slot: usize) {
         let over = self.engine.give_back(self.rt, slot);
         self.send_over(slot, over);
     }
@@ -390,30 +383,6 @@ impl<J: ServeNames, G: Gate, R: Wait> AtWork<'_, '_, J, G, R> {
     }
 
     // ---- sending
-
-    fn send_all(&mut self, errands: Vec<Errand<J>>) {
-        if !self.are_all_here(&errands) {
-            self.send_each(errands);
-        } else if self.own.phases.push_back(errands).is_err() {
-            self.engine.stop();
-        }
-    }
-
-    // Whether these actions are all at its own warehouses.
-    fn are_all_here(&self, errands: &[Errand<J>]) -> bool {
-        for errand in errands {
-            if self.engine.routing.route(errand.home()) != self.own.number {
-                return false;
-            }
-        }
-        true
-    }
-
-    fn send_each(&mut self, errands: Vec<Errand<J>>) {
-        for errand in errands {
-            self.send(errand.home(), Message::Errand(errand));
-        }
-    }
 
     // Sends a message to who has this warehouse.
     fn send(&mut self, home: u32, message: Message<J>) {

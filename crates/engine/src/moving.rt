@@ -12,7 +12,7 @@ impl<J: ServeNames, G: Gate, R: Wait> AtWork<'_, '_, J, G, R> {
         let MoveOrder { lo, hi, .. } = order;
         for home in lo..=hi {
             self.own.note(home, None);
-            if self.own.has_post(home) {
+            if self.own.posts.has(home) {
                 self.report_moved();
             } else {
                 self.fetch(home);
@@ -30,7 +30,7 @@ impl<J: ServeNames, G: Gate, R: Wait> AtWork<'_, '_, J, G, R> {
 
     /// The post of a warehouse goes to this executor, with all who wait there.
     pub(crate) fn send_post(&mut self, home: u32, to: u32) {
-        match self.own.take_post(home) {
+        match self.own.posts.take(home) {
             Some(post) => {
                 self.own.note(home, Some(to));
                 self.send_to(to, Message::Parcel(post));
@@ -42,11 +42,13 @@ impl<J: ServeNames, G: Gate, R: Wait> AtWork<'_, '_, J, G, R> {
     /// The post of a warehouse has come.
     pub(crate) fn install(&mut self, post: Box<Post<J>>) {
         let home = post.home();
-        self.own.put_post(post);
+        self.own.posts.put(post);
         self.report_moved();
         if self.own.unpark(home).is_err() {
             self.engine.stop();
         }
+        // (claims may have come back just before it went)
+        self.take_turns(home);
     }
 
     // A warehouse of the move that is under way has come to where it goes. With the last one the next move begins; with the last
@@ -72,7 +74,7 @@ impl<J: ServeNames, G: Gate, R: Wait> AtWork<'_, '_, J, G, R> {
 
     // What is for no warehouse at all can't wait for one.
     fn park(&mut self, home: u32, message: Message<J>) {
-        if !self.own.is_warehouse(home) || self.own.park(home, message).is_err() {
+        if !self.own.posts.is_warehouse(home) || self.own.park(home, message).is_err() {
             self.engine.stop();
         }
     }

@@ -189,7 +189,7 @@ fn open_posts<J: ServeNames>(
 // An executor has this post. One that nobody has would be missed at the end.
 fn put_post<J: ServeNames>(executors: &mut Vec<Executor<J>>, to: usize, post: Box<Post<J>>) {
     if let Some(executor) = executors.get_mut(to) {
-        executor.put_post(post);
+        executor.posts.put(post);
     }
 }
 

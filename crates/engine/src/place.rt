@@ -3,7 +3,7 @@ ghost use Rattle.std.specs.Prelude.{◌≡◌};
 
 use crate::ServeNames;
 use crate::asking::{Asked, Next, Ready};
-use executor::{Errand, Following, Journey, Keeper, Met, Phase, Report, Reported, Told, start};
+use executor::{Journey, Keeper, Met, Paused, Phase, Report, Reported, Told};
 use schema::Scale;
 use std::alloc::Global;
 use std::sync::atomic::AtomicU64;
@@ -63,8 +63,8 @@ pub(crate) struct Ended {
 pub(crate) enum Advanced<J: ServeNames> {
     /// A request was answered at once, and the next one may follow.
     Answered,
-    /// A request is under way: these are its first actions. If it was not asked before, these are its session and its number.
-    Sends(Option<(u32, u32)>, Vec<Errand<J>>),
+    /// This request begins. If it was not asked before, these are its session and its number.
+    Begins(Option<(u32, u32)>, Paused<J>),
     /// It has to wait for what is under way.
     Waits,
     /// Its script has come to its end: this is answered once.
@@ -156,7 +156,7 @@ impl<'a, J: ServeNames> Place<'a, J> {
         }
         let ready = match self.stage.take() {
             Some(Stage::Ready(ready)) => ready,
-            other => return self.advance_by_hand(alloc, other, tries, executor),
+            other => return self.advance_by_hand(other, executor),
         };
         match ready.next(alloc, scale, ages, slot, tries) {
             Next::Ready(ready) => {
@@ -167,7 +167,7 @@ impl<'a, J: ServeNames> Place<'a, J> {
                 let first = asked.first_try(tries);
                 self.begun_by = executor;
                 self.stage = Some(Stage::Asked(asked));
-                self.begin(alloc, first, journey, tries)
+                self.begin(first, journey)
             }
             Next::Ended(ready) => {
                 self.stage = Some(Stage::Ended(ready));
@@ -179,16 +179,14 @@ impl<'a, J: ServeNames> Place<'a, J> {
     // What the session asks by hand begins, or it asks no more. It stays at any other stage.
     fn advance_by_hand(
         &mut self,
-        alloc: Global,
         stage: Option<Stage<'a, J>>,
-        tries: u32,
         executor: u32,
     ) -> Result<Advanced<J>, Strange> {
         match stage {
             Some(Stage::Calls { home: _, journey }) => {
                 self.begun_by = executor;
                 self.stage = Some(Stage::Away);
-                self.begin(alloc, None, journey, tries)
+                self.begin(None, journey)
             }
             Some(Stage::Leaves) => {
                 self.stage = Some(Stage::Gone);
@@ -204,28 +202,15 @@ impl<'a, J: ServeNames> Place<'a, J> {
     // A transaction begins.
     fn begin(
         &mut self,
-        alloc: Global,
         first: Option<(u32, u32)>,
         journey: Journey<J>,
-        tries: u32,
     ) -> Result<Advanced<J>, Strange> {
         let Some(keeper) = self.keeper.take() else {
             return Err(Strange);
         };
-        if !keeper.is_whole() || keeper.slot() != journey.slot() {
-            return Err(Strange);
-        }
-        match start(alloc, journey, keeper) {
-            Following::Phase(phase, errands) => {
-                self.phase = Some(phase);
-                Ok(Advanced::Sends(first, errands))
-            }
-            Following::Commit(_) => Err(Strange),
-            Following::Over(release) => {
-                let (told, returns, keeper) = release.into_parts();
-                self.end(told, keeper, returns.len(), tries)?;
-                Ok(Advanced::Answered)
-            }
+        match Paused::new(journey, keeper) {
+            Some(paused) => Ok(Advanced::Begins(first, paused)),
+            None => Err(Strange),
         }
     }
 
@@ -244,7 +229,7 @@ impl<'a, J: ServeNames> Place<'a, J> {
         }
     }
 
-    /// The next phase is under way.
+    /// A phase is under way by messages.
     pub(crate) fn go_on(&mut self, phase: Phase<J>) {
         self.phase = Some(phase);
     }

@@ -1,5 +1,5 @@
 -- What comes of the actions that ask and wait at a post.
-use Rattle.std.proofs.Common.{◌≡◌, ℕ, ◌<◌, ◌≤◌, ◌+◌, arith, List, ◌∷◌, length, Option, Some, None, sym, ap, subst, ◌∙◌}
+use Rattle.std.proofs.Common.{◌≡◌, ℕ, ◌<◌, ◌≤◌, ◌+◌, arith, List, ◌∷◌, length, Option, Some, None, refl, sym, ap, subst, ◌∙◌}
 use Rattle.std.specs.Prelude.{All, IfNone, IfSome, slice_index_or}
 use Rattle.std.specs.List.{remove}
 use Rattle.std.proofs.lemmas.List.Elements.{All-push, All-tail, All-weaker}
@@ -18,9 +18,9 @@ use Rattle.transactions.specs.declared.station.Parked.{Parked}
 use Rattle.transactions.specs.declared.station.Turned.{Turned}
 use Rattle.transactions.specs.declared.work.Found.{Found}
 use Rattle.transactions.specs.declared.work.Work.{Work}
-use Rattle.transactions.specs.Acting.{IsBy, IsDoneBy}
+use Rattle.transactions.specs.Acting.{IsBy, IsDoneBy, IsRan}
 use Rattle.transactions.specs.Laws.{WorksAreDoneAtHome}
-use Rattle.transactions.specs.Stations.{ActsAs, OneTurn, Stationed, parked}
+use Rattle.transactions.specs.Stations.{ActsAs, OneTurn, RunsAs, Stationed, parked}
 use Rattle.transactions.specs.Works.{HasDone, wishes_of}
 use Rattle.executor.specs.declared.errand.Carried.{Carried}
 use Rattle.executor.specs.Journeys.{AreUndoneBy, IsAged}
@@ -43,17 +43,22 @@ module _ (at_home : WorksAreDoneAtHome) (shared : Shared) where
   module _ {J : Type 0} where
     -- ---- an action asks
 
-    acted_by : (by : Holder) (age : ℕ) (work : Work) (carried told : Carried J) (old new : Stationed (Carried J)) (one : Ran J) → by.age ≡ age → shared_of old.slice.tables ≡ shared
-        → ActsAs by work carried old (acted.Ran one told) new → IsRanBy shared age work one
-    acted_by by age work carried told old new (ran.Done claims found) aged is acts = done_by by age old.slice work claims found aged is acts.1
-    acted_by by age work carried told old new (ran.Died group holder) aged is acts = dies_of_wished old.slice.holdings by.age (wishes_of work) group holder acts.1.0
-    acted_by by age work carried told old new ran.NoMemory aged is acts = tt
+    ran_by : (by : Holder) (age : ℕ) (work : Work) (old new : Sliced) (one : Ran J) → by.age ≡ age → shared_of old.tables ≡ shared → IsRan by old work one new → IsRanBy shared age work one
+    ran_by by age work old new (ran.Done claims found) aged is done = done_by by age old work claims found aged is done
+    ran_by by age work old new (ran.Died group holder) aged is dies = dies_of_wished old.holdings by.age (wishes_of work) group holder dies.0
+    ran_by by age work old new ran.NoMemory aged is none = tt
+
+    -- one who would not wait
+    pub ran_at_once : (by : Holder) (work : Work) (old new : Stationed (Carried J)) (came : Option (Ran J)) → shared_of old.slice.tables ≡ shared → IfSome came (λ one. RunsAs by work old one new)
+        → IfSome came (IsRanBy shared by.age work)
+    ran_at_once by work old new None is runs = tt
+    ran_at_once by work old new (Some one) is runs = ran_by by by.age work old.slice new.slice one refl is runs.0
 
     -- its report
     reports : (e : Erranding) (told : Carried J) (old new : Stationed (Carried J)) (one : Ran J) → CarriesErrand shared e → shared_of old.slice.tables ≡ shared
         → ActsAs e.by e.work (carried_by e) old (acted.Ran one told) new → CarriesReport shared (report_by e one)
     reports e told old new one h is acts = record {
-      ran_is = (e.work, (h.work_is, acted_by e.by e.course.age e.work (carried_by e) told old new one (ap (λ (b : Holder). b.age) h.by_is) is acts));
+      ran_is = (e.work, (h.work_is, ran_by e.by e.course.age e.work old.slice new.slice one (ap (λ (b : Holder). b.age) h.by_is) is acts.1));
       journey_is = h.journey_is;
     }
 
@@ -106,12 +111,6 @@ module _ (at_home : WorksAreDoneAtHome) (shared : Shared) where
         All-tail (CarriesWaiting shared) p (remove old.parked index)
         (All-permutation (CarriesWaiting shared) old.parked (p ∷ remove old.parked index) (IsPermutation-remove old.parked index p inside (sym (there p))) h.waiting)
 
-    turned_by : (age : ℕ) (old new : Stationed (Carried J)) (by : Holder) (one : Ran J) (carried : Carried J) → by.age ≡ age → shared_of old.slice.tables ≡ shared
-        → (turn : OneTurn old (record { by = by; ran = one; carried = carried }) new) → IsRanBy shared age turn.work one
-    turned_by age old new by (ran.Done claims found) carried aged is turn = done_by by age (with_waiters new.slice.waiters old.slice) turn.work claims found aged is turn.ran
-    turned_by age old new by (ran.Died group holder) carried aged is turn = dies_of_wished old.slice.holdings by.age (wishes_of turn.work) group holder turn.ran.0
-    turned_by age old new by ran.NoMemory carried aged is turn = tt
-
     -- its report
     pub turn_reports : (old new : Stationed (Carried J)) (turned : Turned J (Carried J)) → CarriesPost shared old → OneTurn old turned new → CarriesReport shared (report_turned turned)
     turn_reports old new turned h turn =
@@ -119,7 +118,10 @@ module _ (at_home : WorksAreDoneAtHome) (shared : Shared) where
         record {
           ran_is = (
             turn.work,
-            (own.work_is, turned_by turned.carried.share.course.age old new turned.by turned.ran turned.carried (ap (λ (b : Holder). b.age) own.by_is) h.shared_is turn),
+            (
+              own.work_is,
+              ran_by turned.by turned.carried.share.course.age turn.work (with_waiters new.slice.waiters old.slice) new.slice turned.ran (ap (λ (b : Holder). b.age) own.by_is) h.shared_is turn.ran,
+            ),
           );
           journey_is = own.journey_is;
         }

@@ -5,6 +5,7 @@ pub mod SortedOut
 pub mod Refusals
 pub mod AtPosts
 pub mod Onward
+pub mod AtOnce
 pub mod Logged
 pub mod Homes
 pub mod Sendable

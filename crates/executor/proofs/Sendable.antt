@@ -27,6 +27,8 @@ use Rattle.executor.specs.contracts.journey.Transaction as Transaction
 use Rattle.executor.specs.contracts.journey.Journey as Journey
 use Rattle.executor.specs.contracts.phase.Phase as Phase
 use Rattle.executor.specs.contracts.post.Post as Post
+use Rattle.executor.specs.contracts.posts.Posts as Posts
+use Rattle.executor.specs.contracts.release.GivenBack as GivenBack
 use Rattle.executor.specs.contracts.release.Told as Told
 
 -- an answer: a place in the log, or a refusal
@@ -146,7 +148,7 @@ module _ (J : RattleType) (course : CourseNames J.Denot) (log : LogNames J.Denot
     ),
   )
 
-  pub Settle-send : IsSend (Settle.the_row J course log groups)
+  Settle-send : IsSend (Settle.the_row J course log groups)
   Settle-send = view_send _ _ _ _ _ (declared_send (Settle.TheInside.the_type J course log groups) (
     search sendable depth 20,
     (
@@ -155,7 +157,7 @@ module _ (J : RattleType) (course : CourseNames J.Denot) (log : LogNames J.Denot
     ),
   ))
 
-  pub Undo-send : IsSend (Undo.the_row J course log groups)
+  Undo-send : IsSend (Undo.the_row J course log groups)
   Undo-send = view_send _ _ _ _ _ (declared_send (Undo.TheInside.the_type J course log groups) (
     search sendable depth 20,
     (
@@ -163,6 +165,15 @@ module _ (J : RattleType) (course : CourseNames J.Denot) (log : LogNames J.Denot
       tt,
     ),
   ))
+
+  pub GivenBack-send : IsSend (GivenBack.the_row J course log groups)
+  GivenBack-send = variants_send (GivenBack.enum J course log groups) (
+    (Settle-send, tt),
+    (
+      (Undo-send, tt),
+      tt,
+    ),
+  )
 
   pub Phase-send : IsSend (Phase.the_row J course log groups)
   Phase-send = view_send _ _ _ _ _ (declared_send (Phase.TheInside.the_type J course log groups) (
@@ -184,3 +195,9 @@ module _ (J : RattleType) (course : CourseNames J.Denot) (log : LogNames J.Denot
       tt,
     ),
   ))
+
+  pub Posts-send : IsSend (Posts.the_row J course log groups)
+  Posts-send = declared_send (Posts.the_type J course log groups) (
+    search (Post-send, Box-send, Vec-send, sendable) depth 20,
+    tt,
+  )

@@ -14,11 +14,11 @@ use Rattle.transactions.specs.declared.progress.Gathered.TheVariants.{Next, Fini
 use Rattle.transactions.specs.Works.{HaveAllDone}
 use Rattle.transactions.specs.Progresses.{FollowsFrom, IsReached, works_of}
 use Rattle.executor.specs.declared.following.Following.{Following}
-use Rattle.executor.specs.declared.following.Following.TheVariants.{Phase, Commit, Over}
+use Rattle.executor.specs.declared.following.Following.TheVariants as following
 use Rattle.executor.specs.Courses.{Keeping, KeepsWhole}
 use Rattle.executor.specs.Journeys.{Journeying, journeying}
 use Rattle.executor.specs.Transactions.{Transacting}
-use Rattle.executor.specs.Begins.{awaiting_all, errands_of}
+use Rattle.executor.specs.Pauses.{pausing}
 use Rattle.executor.specs.Phases.{Meeting}
 use Rattle.executor.specs.Sorted.{found_in, held_in, refusal_of}
 use Rattle.executor.specs.Released.{refused}
@@ -48,26 +48,20 @@ abbrev pub moved : Transacting → List (List Claiming) → Progress → Journey
 moved t held progress = journeying t.age t.slot t.number t.request t.pass held progress
 
 module _ {J : Type 0} where
-  -- The transaction's next phase is under way; or there is no memory for it, and the transaction is refused.
-  abbrev pub Starts : Keeping → Journeying → Following J → Type 0
-  Starts keeper j (Phase phase errands) = (phase ≡ awaiting_all j) × (errands.items ≡ errands_of j)
-  Starts keeper j (Commit commit) = ⊥
-  Starts keeper j (Over release) = release ≡ refused keeper (transaction_of j) j.held refusal.NoMemory
-
-  -- What follows of what was found is done: the next phase is under way, or the transaction is to be logged, with the reply; unless there is
+  -- What follows of what was found is done: the next phase is to begin, or the transaction is to be logged, with the reply; unless there is
   -- no memory for it: then the transaction is refused.
   abbrev pub Gathers : Keeping → Transacting → List (List Claiming) → Progress → List Found → Following J → Type 0
-  Gathers keeper t held progress found (Phase phase errands) =
-      (next : Progress) × (FollowsFrom progress found (Next next) × ((phase ≡ awaiting_all (moved t held next)) × (errands.items ≡ errands_of (moved t held next))))
-  Gathers keeper t held progress found (Commit commit) =
+  Gathers keeper t held progress found (following.Next paused) =
+      (next : Progress) × (FollowsFrom progress found (Next next) × (paused ≡ pausing keeper (moved t held next)))
+  Gathers keeper t held progress found (following.Commit commit) =
       (g : Gathered) × (FollowsFrom progress found g × (IsReplyOf g commit.shown × (commit ≡ committing keeper t held commit.shown)))
-  Gathers keeper t held progress found (Over release) = release ≡ refused keeper t held refusal.NoMemory
+  Gathers keeper t held progress found (following.Over release) = release ≡ refused keeper t held refusal.NoMemory
 
   -- One action has died or found no memory, and the transaction is refused; or all have done their work.
   abbrev pub FollowsUnless : Option Refusal → Keeping → Meeting J → Following J → Type 0
-  FollowsUnless (Some why) keeper m following = following ≡ Over (refused keeper (transaction_of m.journey) (m.journey.held ++ held_in m.rans) why)
-  FollowsUnless None keeper m following = Gathers keeper (transaction_of m.journey) (m.journey.held ++ held_in m.rans) m.journey.progress (found_in m.rans) following
+  FollowsUnless (Some why) keeper m after = after ≡ following.Over (refused keeper (transaction_of m.journey) (m.journey.held ++ held_in m.rans) why)
+  FollowsUnless None keeper m after = Gathers keeper (transaction_of m.journey) (m.journey.held ++ held_in m.rans) m.journey.progress (found_in m.rans) after
 
   -- What follows when these have met, while this one keeps the course.
   abbrev pub Follows : Meeting J → Following J → Type 0
-  Follows m following = (keeper : Keeping) × (KeepsWhole m.journey.slot keeper × FollowsUnless (refusal_of None m.rans) keeper m following)
+  Follows m after = (keeper : Keeping) × (KeepsWhole m.journey.slot keeper × FollowsUnless (refusal_of None m.rans) keeper m after)

@@ -11,4 +11,6 @@ pub mod Givings
 pub mod Answers
 pub mod Released
 pub mod Commits
+pub mod Pauses
 pub mod Followed
+pub mod AtOnce

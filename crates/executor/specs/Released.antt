@@ -5,9 +5,14 @@ use Rattle.tickets.specs.Claims.{Claiming}
 use Rattle.executor.specs.declared.release.GivenBack.{GivenBack}
 use Rattle.executor.specs.declared.release.GivenBack.TheVariants.{Settle, Undo}
 use Rattle.executor.specs.Courses.{Keeping}
-use Rattle.executor.specs.Givings.{giving}
+use Rattle.executor.specs.Givings.{Giving, giving}
 use Rattle.executor.specs.Transactions.{Transacting}
 use Rattle.executor.specs.Answers.{Releasing, Returning, releasing, returning, telling}
+
+-- what goes back, whichever way
+abbrev pub giving_of : {J : Type 0} → GivenBack J → Giving
+giving_of (Settle s) = s
+giving_of (Undo u) = u
 
 -- the claims go back as they are to: settled, or to be taken back
 abbrev pub IsGivenFor : {J : Type 0} → ℕ → Bool → List Claiming → GivenBack J → Type 0

@@ -3,22 +3,44 @@ ghost use Rattle.std.specs.Prelude.{◌≡◌, ◌<◌, ◌≤◌, ◌+◌, [], 
 ghost use Rattle.executor.specs.Begins.{awaiting_all, errand_at, errands_of};
 ghost use Rattle.executor.specs.Carrying.{IsCarriedAt, IsWorkAt, action_at, course_of};
 ghost use Rattle.executor.specs.Courses.{keeping};
+ghost use Rattle.executor.specs.Followed.{transaction_of};
+ghost use Rattle.executor.specs.Released.{refused};
 ghost use Rattle.partitions.specs.Parts.{shared_of};
 ghost use Rattle.transactions.specs.Progresses.{works_of};
 ghost use Rattle.transactions.specs.Works.{CanDo};
 
-use crate::{CourseNames, Errand, Journey, Keeper, Phase};
+use crate::{CourseNames, Errand, Journey, Keeper, Paused, Phase, Release};
 use rendezvous::Meeting;
+use requests::Refusal;
 use std::alloc::Global;
 use transactions::{
     Work, actions_can_do_their_work, phases_have_actions, transactions_have_few_actions,
 };
 use wait_die::Holder;
 
-/// A phase begins of a transaction, which has all shares of its course: it is told how far the transaction has come, and a
-/// share goes with each action. The first action brings the transaction. Want of memory leaves the transaction and the
-/// shares as they were.
-pub fn begin<J: CourseNames>(
+impl<J: CourseNames> Paused<J> {
+    /// The next phase begins by messages: these are its actions, by place. Where there is no memory for it the transaction
+    /// is refused.
+    pub fn send_out(self, alloc: Global) -> Result<(Phase<J>, Vec<Errand<J>>), Release<J>>
+        ensures phase { IfOk result (λ begun. begun.0 ≡ awaiting_all self.journey) }
+        ensures errands { IfOk result (λ begun. begun.1.items ≡ errands_of self.journey) }
+        ensures err { IfErr result (λ release. release ≡ refused self.keeper (transaction_of self.journey) self.journey.held Refusal.NoMemory) }
+    {
+        let (journey, keeper) = self.into_parts();
+        match begin(alloc, journey, keeper) {
+            Ok(begun) => Ok(begun),
+            Err((journey, keeper)) => {
+                let Journey { transaction, held } = journey;
+                Err(Release::refused(keeper, transaction, held, Refusal::NoMemory))
+            }
+        }
+    }
+}
+
+// A phase begins of a transaction, which has all shares of its course: it is told how far the transaction has come, and a
+// share goes with each action. The first action brings the transaction. Want of memory leaves the transaction and the
+// shares as they were.
+fn begin<J: CourseNames>(
     alloc: Global,
     journey: Journey<J>,
     mut keeper: Keeper<J>,

@@ -1,13 +1,13 @@
-//! What follows when a phase has met.
+//! What follows when a phase is over.
 ghost use Rattle.std.specs.Prelude.{◌≡◌, All};
 ghost use Rattle.partitions.specs.Parts.{shared_of};
 ghost use Rattle.executor.specs.Journeys.{AreUndoneBy, IsAskedBy};
-ghost use Rattle.executor.specs.Followed.{Follows, Gathers, HasMetUnder, Starts};
+ghost use Rattle.executor.specs.Followed.{Follows, Gathers, HasMetUnder};
 ghost use Rattle.executor.specs.Transactions.{transacting};
 
 use crate::journey::Transaction;
 use crate::sorting::Sorted;
-use crate::{Commit, CourseNames, Errand, HeldClaims, Journey, Keeper, Met, Phase, Release, begin};
+use crate::{Commit, CourseNames, HeldClaims, Journey, Keeper, Met, Paused, Release};
 use requests::{Refusal, Reply};
 use std::alloc::Global;
 use transactions::{
@@ -15,11 +15,11 @@ use transactions::{
     transactions_have_few_actions,
 };
 
-/// What follows when all actions of a phase have reported.
+/// What follows once all actions of a phase are over.
 #[derive(Drop)]
 pub enum Following<J: CourseNames> {
-    /// The next phase is under way, and these are its actions, by place.
-    Phase(Phase<J>, Vec<Errand<J>>),
+    /// The next phase is to begin.
+    Next(Paused<J>),
     /// It was carried out, and is to be logged.
     Commit(Commit<J>),
     /// It is refused.
@@ -59,24 +59,8 @@ impl<J: CourseNames> Met<J> {
     }
 }
 
-/// A phase begins of a transaction, which has all shares of its course; or there is no memory for it, and the transaction is
-/// refused.
-pub fn start<J: CourseNames>(alloc: Global, journey: Journey<J>, keeper: Keeper<J>) -> Following<J>
-    requires slot { journey.slot ≡ keeper.slot }
-    requires all { keeper.out ≡ 0 }
-    ensures { Starts keeper journey result }
-{
-    match begin(alloc, journey, keeper) {
-        Ok((phase, errands)) => Following::Phase(phase, errands),
-        Err((journey, keeper)) => {
-            let Journey { transaction, held } = journey;
-            Following::Over(Release::refused(keeper, transaction, held, Refusal::NoMemory))
-        }
-    }
-}
-
 // What follows of what the actions of a phase found, which all have done their work.
-fn gather<J: CourseNames>(
+pub(crate) fn gather<J: CourseNames>(
     alloc: Global,
     keeper: Keeper<J>,
     mut transaction: Transaction<J>,
@@ -98,7 +82,7 @@ fn gather<J: CourseNames>(
     match gathered {
         Gathered::Next(progress) => {
             transaction.put_progress(progress);
-            start(alloc, Journey { transaction, held }, keeper)
+            Following::Next(Paused::between(Journey { transaction, held }, keeper))
         }
         Gathered::Finish(reply) => {
             transaction.put_reply(reply);

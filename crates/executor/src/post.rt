@@ -1,16 +1,20 @@
 //! The slice of a warehouse, with the actions that wait there.
-ghost use Rattle.std.specs.Prelude.{◌≡◌, ◌<◌, ◌≤◌, ◌+◌, [], All, IsFalse};
+ghost use Rattle.std.specs.Prelude.{◌≡◌, ◌<◌, ◌≤◌, ◌+◌, [], All, IfNone, IfSome, IsFalse};
 ghost use Rattle.partitions.specs.Parts.{shared_of};
 ghost use Rattle.slices.specs.Sliced.{SliceKeeps};
-ghost use Rattle.transactions.specs.Works.{home_of};
+ghost use Rattle.transactions.specs.Stations.{RunsAs};
+ghost use Rattle.transactions.specs.Works.{CanDo, home_of};
+ghost use Rattle.executor.specs.Carrying.{IsRanBy};
 ghost use Rattle.executor.specs.Posts.{TurnsAt, WorksAt};
 ghost use Rattle.executor.specs.Givings.{home_of_claims};
+ghost use Rattle.executor.specs.Released.{giving_of};
 
-use crate::{Carried, CourseNames, Errand, Report, Settle, Undo};
+use crate::{Carried, CourseNames, Errand, GivenBack, Report, Settle, Undo};
 use slices::Slice;
 use std::alloc::Global;
 use std::marker::Model;
-use transactions::{Acted, Station, Turned, works_are_done_at_home};
+use transactions::{Acted, Ran, Station, Turned, Work, works_are_done_at_home};
+use wait_die::Holder;
 
 /// The post of a warehouse: its slice, and the actions that wait in its lock table, with what each carries.
 ///
@@ -118,6 +122,19 @@ impl<J: CourseNames> Post<J> {
         }
     }
 
+    /// An action does its work at once. `None` where somebody is in its way, or there is no memory to ask: nothing has changed
+    /// then, and it doesn't wait.
+    pub fn work_at_once(&mut self, alloc: Global, by: Holder, work: Work) -> Option<Ran<J>>
+        requires can { CanDo (shared_of J.opening) work }
+        requires home { home_of work ≡ self.old.slice.home }
+        ensures ran { IfSome result (λ ran. RunsAs by work self.old ran self.new) }
+        ensures sound { IfSome result (IsRanBy (shared_of J.opening) by.age work) }
+        ensures none { IfNone result (self.new ≡ self.old) }
+    {
+        works_are_done_at_home();
+        self.station.act_at_once(alloc, by, work)
+    }
+
     /// The turn of the oldest action that need not wait any more, and of one age of the one of the least place: it reports.
     /// `None` where all have to wait.
     pub fn turn(&mut self, alloc: Global) -> Option<Report<J>>
@@ -146,8 +163,21 @@ impl<J: CourseNames> Post<J> {
         })
     }
 
-    /// The claims of an action of a transaction that is logged come back. It takes no memory.
-    pub fn settle(&mut self, settle: Settle<J>)
+    /// The claims of an action come back: what they left is committed, or what it did under them is taken back. It takes no
+    /// memory.
+    pub fn give_back(&mut self, given: GivenBack<J>)
+        requires home { home_of_claims (giving_of given).claims ≡ self.old.slice.home }
+        ensures kept { SliceKeeps (giving_of given).claims self.old.slice [] self.new.slice }
+        ensures parked { self.new.parked ≡ self.old.parked }
+    {
+        match given {
+            GivenBack::Settle(settle) => self.settle(settle),
+            GivenBack::Undo(undo) => self.undo(undo),
+        }
+    }
+
+    // The claims of an action of a transaction that is logged come back.
+    fn settle(&mut self, settle: Settle<J>)
         requires home { home_of_claims settle.claims ≡ self.old.slice.home }
         ensures kept { SliceKeeps settle.claims self.old.slice [] self.new.slice }
         ensures parked { self.new.parked ≡ self.old.parked }
@@ -156,8 +186,8 @@ impl<J: CourseNames> Post<J> {
         self.station.settle(claims);
     }
 
-    /// What an action did under its claims is taken back, and they come back. It takes no memory.
-    pub fn undo(&mut self, undo: Undo<J>)
+    // What an action did under its claims is taken back, and they come back.
+    fn undo(&mut self, undo: Undo<J>)
         requires home { home_of_claims undo.claims ≡ self.old.slice.home }
         ensures kept { SliceKeeps undo.claims self.old.slice [] self.new.slice }
         ensures parked { self.new.parked ≡ self.old.parked }

@@ -3,7 +3,8 @@ ghost use Rattle.std.specs.Prelude.{◌≡◌, [], All, IfNone, IfSome, length};
 ghost use Rattle.executor.specs.Journeys.{AreUndoneBy, IsAskedBy};
 ghost use Rattle.executor.specs.Answers.{AreGiven, IsGiven, IsToldBy, MayBeRefused, returning};
 ghost use Rattle.executor.specs.Courses.{KeepsWhole};
-ghost use Rattle.executor.specs.Released.{IsGivenBack, IsGivenFor, refused};
+ghost use Rattle.executor.specs.Givings.{home_of_claims};
+ghost use Rattle.executor.specs.Released.{IsGivenBack, IsGivenFor, giving_of, refused};
 ghost use Rattle.executor.specs.Transactions.{transacting};
 
 use crate::journey::Transaction;
@@ -96,6 +97,28 @@ impl<J: CourseNames> Model for Returns<J> {
 pub enum GivenBack<J: CourseNames> {
     Settle(Settle<J>),
     Undo(Undo<J>),
+}
+
+impl<J: CourseNames> GivenBack<J> {
+    /// The slot of their transaction.
+    pub fn slot(&self) -> usize
+        ensures { result ≡ (giving_of self.now).slot }
+    {
+        match self {
+            GivenBack::Settle(settle) => settle.slot(),
+            GivenBack::Undo(undo) => undo.slot(),
+        }
+    }
+
+    /// The W_ID of the warehouse to whose slice they go back.
+    pub fn home(&self) -> u32
+        ensures { result ≡ home_of_claims (giving_of self.now).claims }
+    {
+        match self {
+            GivenBack::Settle(settle) => settle.home(),
+            GivenBack::Undo(undo) => undo.home(),
+        }
+    }
 }
 
 impl<J: CourseNames> Returns<J> {

@@ -119,6 +119,12 @@ module _ {J : Type 0} where
       MustWait old.holdings by.age wants × (new ≡ record old { waiters = old.waiters ++ waiting by wants ∷ [] })
   Answers by wants old (asked.Dies group holder) new = MustDie old.holdings by.age wants group holder × (new ≡ old)
 
+  -- what is answered to one who asks and would not wait, and what the table is then
+  abbrev pub AnswersAtOnce : Holder → List Want → Locking → Asked J → Locking → Type 0
+  AnswersAtOnce by wants old (asked.Granted claims) new = Grants by wants old claims.items new × (new.waiters ≡ old.waiters)
+  AnswersAtOnce by wants old asked.Waits new = MustWait old.holdings by.age wants × (new ≡ old)
+  AnswersAtOnce by wants old (asked.Dies group holder) new = MustDie old.holdings by.age wants group holder × (new ≡ old)
+
   -- whose turn it is and what is said to that one, and what the table is then
   abbrev pub TakesTurn : Locking → Turn J → Locking → Type 0
   TakesTurn old (turn.Granted index by claims) new =

@@ -5,7 +5,7 @@ ghost use Rattle.groups.specs.Groups.{warehouse_of};
 ghost use Rattle.groups.specs.declared.wishes.Mode.TheVariants.{Exclusive};
 ghost use Rattle.tickets.specs.Claims.{leaving};
 ghost use Rattle.tickets.specs.Places.{IsGroupOf};
-ghost use Rattle.local_locks.specs.Asking.{all_kept_after, held_by, kept_after, AreHeld, AreTogether, Answers, IsOfHome, IsSettled, StillWaits, TakesTurn, leaving_in};
+ghost use Rattle.local_locks.specs.Asking.{all_kept_after, held_by, kept_after, AreHeld, AreTogether, Answers, AnswersAtOnce, IsOfHome, IsSettled, StillWaits, TakesTurn, leaving_in};
 ghost use Rattle.local_locks.specs.Conflicts.{MustDie};
 ghost use Rattle.local_locks.specs.Laws.{AreUntouched, CouldAsk, IsClaimOf, NoneConflict};
 ghost use Rattle.local_locks.specs.Locking.{back_in, left_in, opened, AreBoxesOf, AreStandsOf};
@@ -112,17 +112,37 @@ impl<J: GroupNames> LockTable<J> {
         ensures death_takes_none { OnErr result ((group : AnyGroup) (age : ℕ) → MustDie self.old.holdings by.age wants.now group age → ⊥) }
         ensures nothing_takes_none { wants.now ≡ [] → IsOk result }
     {
+        match self.ask_at_once(alloc, by, wants)? {
+            Asked::Waits => {
+                let waiter = Waiter::new(alloc, by, wants, count_of::<J>(wants))?;
+                self.waiters.push(waiter)?;
+                Ok(Asked::Waits)
+            }
+            answered => Ok(answered),
+        }
+    }
+
+    /// An action asks, as `ask` has it, and doesn't wait: where it would have to, it is told so, and nothing has
+    /// changed.
+    pub fn ask_at_once(
+        &mut self,
+        alloc: Global,
+        by: Holder,
+        wants: &[Want],
+    ) -> Result<Asked<J>, NoMemory>
+        requires { CanAsk J.warehouses self.old.w_id wants.now }
+        ensures answers { IfOk result (λ asked. AnswersAtOnce by wants.now self.old asked self.new) }
+        ensures err { OnErr result (self.new ≡ self.old) }
+        ensures death_takes_none { OnErr result ((group : AnyGroup) (age : ℕ) → MustDie self.old.holdings by.age wants.now group age → ⊥) }
+        ensures nothing_takes_none { wants.now ≡ [] → IsOk result }
+    {
         match ruling_on(&self.locks, by.age, wants) {
             Ruling::Free => {
                 let mut claims = Vec::with_capacity(alloc, count_of::<J>(wants))?;
                 grant_all(&mut self.locks, wants, by, &mut claims);
                 Ok(Asked::Granted(claims))
             }
-            Ruling::Waits => {
-                let waiter = Waiter::new(alloc, by, wants, count_of::<J>(wants))?;
-                self.waiters.push(waiter)?;
-                Ok(Asked::Waits)
-            }
+            Ruling::Waits => Ok(Asked::Waits),
             Ruling::Dies(number, holder) => Ok(Asked::Dies {
                 group: self.locks[number].group(),
                 holder,

@@ -109,6 +109,13 @@ module _ (warehouses : ℕ) (p : Part) (old new : Locking) (grounds : List Groun
   turn_in : (index : ℕ) (one : Waiting) → IsTurnOf index one old new → IsTurnOf index one (locking_in (sliced p old)) (locking_in (sliced p new))
   turn_in index one t = record { inside = t.inside; there = t.there; rest = t.rest; waiters = t.waiters; first = t.first }
 
+  -- a grant to one who would not wait
+  pub granted_at_once : (by : Holder) (wants : List Want) (claims : List Claiming) → CanAsk warehouses old.w_id wants → Grants by wants old claims new → new.waiters ≡ old.waiters
+      → GrantsIn by wants (sliced p old) claims (sliced p new) × SliceKeeps [] (sliced p old) claims (sliced p new) × IsSlice warehouses p new grounds
+  granted_at_once by wants claims can grants same =
+      let granted = grants_in by wants claims can grants in
+      (granted, subst (λ ws. SliceKeeps [] (with_waiters ws (sliced p old)) claims (sliced p new)) same (grants_keep_slice by wants claims granted), stays_slice grants.stands grants.w_id)
+
   module _ {J : Type 0} where
     pub answered : (by : Holder) (wants : List Want) (result : Asked J) → CanAsk warehouses old.w_id wants → Answers by wants old result new
         → AnswersIn by wants (sliced p old) result (sliced p new) × SliceKeeps [] (with_waiters new.waiters (sliced p old)) (claims_asked result) (sliced p new) × IsSlice warehouses p new grounds

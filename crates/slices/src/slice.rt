@@ -19,7 +19,7 @@ ghost use Rattle.local_locks.specs.Asking.{StillWaits};
 ghost use Rattle.local_locks.specs.Conflicts.{MustDie};
 ghost use Rattle.local_locks.specs.Laws.{CouldAsk, IsClaimOf, NoneConflict};
 ghost use Rattle.local_locks.specs.Wishes.{CanAsk};
-ghost use Rattle.slices.specs.Asked.{claims_asked, claims_of_turn, AnswersIn, TakesTurnIn};
+ghost use Rattle.slices.specs.Asked.{claims_asked, claims_of_turn, AnswersIn, GrantsIn, TakesTurnIn};
 ghost use Rattle.slices.specs.Openings.{AreHomeBoxesOf};
 ghost use Rattle.slices.specs.Sliced.{at_rest, part_in, with_waiters, HasLocksOf, IsClaimAt, SliceKeeps};
 ghost use Rattle.slices.specs.Undo.{with_order_delivered, with_order_more, with_payment_more, AreNamesAt};
@@ -149,6 +149,30 @@ impl<J: GroupNames> Slice<J> {
         let asked = self.locks.ask(alloc, by, wants)?;
         self.locks.agree();
         Ok(asked)
+    }
+
+    /// An action asks for all its groups at once, and is granted a claim on each, want by want, those of a prefix in
+    /// the order of groups. `None` where somebody is in its way or there is no memory: nothing has changed then, and
+    /// it doesn't wait.
+    pub fn ask_at_once(
+        &mut self,
+        alloc: Global,
+        by: Holder,
+        wants: &[Want],
+    ) -> Option<Vec<Claim<J>>>
+        requires { CanAsk J.warehouses self.old.home wants.now }
+        ensures granted { IfSome result (λ claims. GrantsIn by wants.now self.old claims.items self.new) }
+        ensures waiters { self.new.waiters ≡ self.old.waiters }
+        ensures kept { IfSome result (λ claims. SliceKeeps [] self.old claims.items self.new) }
+        ensures none { IfNone result (self.new ≡ self.old) }
+    {
+        // What stands in the groups is known before; that no two claims conflict, is so after.
+        self.locks.agree();
+        let Ok(Asked::Granted(claims)) = self.locks.ask_at_once(alloc, by, wants) else {
+            return None;
+        };
+        self.locks.agree();
+        Some(claims)
     }
 
     /// The turn of the oldest of those who need not wait any more, and of one age of the one of the least

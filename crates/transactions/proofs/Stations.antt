@@ -22,7 +22,7 @@ use Rattle.transactions.specs.declared.station.Acted.TheVariants as acted
 use Rattle.transactions.specs.declared.station.Parked.{Parked}
 use Rattle.transactions.specs.declared.work.Work.{Work}
 use Rattle.transactions.specs.Acting.{IsRan, IsRanUnder, claims_of_ran}
-use Rattle.transactions.specs.Stations.{ActsAs, CanDoThere, IsStation, OneTurn, Stationed, parked, stationed, waiting_of}
+use Rattle.transactions.specs.Stations.{ActsAs, CanDoThere, IsStation, OneTurn, RunsAs, Stationed, parked, stationed, waiting_of}
 use Rattle.transactions.specs.Granted.{AreGrantedFor}
 use Rattle.transactions.specs.Works.{CanDo, home_of, wants_of, wishes_of}
 use Rattle.transactions.proofs.Kept as kept
@@ -54,6 +54,13 @@ module _ {T : Type 0} where
 
 -- ---- an action asks
 
+module _ {T : Type 0} (by : Holder) (work : Work) (old : Stationed T) (left : List (Parked T)) (same : left ≡ old.parked) where
+  -- it runs under the claims that it is granted
+  pub runs_granted : {J : Type 0} (ran : Ran J) (claims : List Claiming) (mid new : Sliced) → GrantsIn by (wants_of work) old.slice claims mid → mid.waiters ≡ old.slice.waiters
+      → SliceKeeps [] old.slice claims mid → IsRanUnder mid work claims ran new → SliceKeeps claims mid (claims_of_ran ran) new → RunsAs by work old ran (stationed new left)
+  runs_granted ran claims mid new grants wait first under keeps =
+      (ran_of by old.slice mid new work claims ran grants wait under keeps, kept.then [] claims (claims_of_ran ran) old.slice mid new first keeps, same)
+
 module _ {T : Type 0} (by : Holder) (work : Work) (carried : T) (old : Stationed T) (left : List (Parked T)) (same : left ≡ old.parked) where
   pub acts_and_dies : (J : Type 0) (group : Group) (holder : ℕ) (new : Sliced) → MustDie old.slice.holdings by.age (wants_of work) group holder → new ≡ old.slice
       → ActsAs {J = J} by work carried old (acted.Ran (Died group holder) carried) (stationed new left)
@@ -63,8 +70,8 @@ module _ {T : Type 0} (by : Holder) (work : Work) (carried : T) (old : Stationed
       → SliceKeeps [] (with_waiters mid.waiters old.slice) claims mid → IsRanUnder mid work claims ran new → SliceKeeps claims mid (claims_of_ran ran) new
       → ActsAs by work carried old (acted.Ran ran carried) (stationed new left)
   acts_at_once ran claims mid new grants wait first under keeps =
-      let here : SliceKeeps [] old.slice claims mid = subst (λ ws. SliceKeeps [] (with_waiters ws old.slice) claims mid) wait first in
-      (refl, ran_of by old.slice mid new work claims ran grants wait under keeps, kept.then [] claims (claims_of_ran ran) old.slice mid new here keeps, same)
+      let runs = runs_granted by work old left same ran claims mid new grants wait (subst (λ ws. SliceKeeps [] (with_waiters ws old.slice) claims mid) wait first) under keeps in
+      (refl, runs.0, runs.1, runs.2)
 
 -- ---- a turn
 

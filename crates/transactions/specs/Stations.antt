@@ -7,8 +7,9 @@ use Rattle.local_locks.specs.Asking.{StillWaits, WaitsIfBefore, waiting}
 use Rattle.local_locks.specs.Conflicts.{MustWait}
 use Rattle.local_locks.specs.Locking.{Waiting}
 use Rattle.slices.specs.Sliced.{SliceKeeps, Sliced, with_waiters}
+use Rattle.transactions.specs.declared.acting.Ran.{Ran}
 use Rattle.transactions.specs.declared.station.Acted.{Acted}
-use Rattle.transactions.specs.declared.station.Acted.TheVariants.{Ran, Waits}
+use Rattle.transactions.specs.declared.station.Acted.TheVariants as acted
 use Rattle.transactions.specs.declared.station.Parked.{Parked}
 use Rattle.transactions.specs.declared.station.Turned.{Turned}
 use Rattle.transactions.specs.declared.work.Work.{Work}
@@ -45,14 +46,18 @@ module _ {T : Type 0} where
   stationed slice all = record { slice = slice; parked = all }
 
 module _ {J T : Type 0} where
-  -- What comes of an action that asks and carries this, and what the station is then: it did its work, or died of somebody who
-  -- is not younger, or there was no memory, and it has what it carried again; or all who are in its way are younger, and it
-  -- waits, after all others.
+  -- What comes of an action that need not wait, and what the station is then: it did its work, or died of somebody who is not
+  -- younger, or there was no memory.
+  abbrev pub RunsAs : Holder → Work → Stationed T → Ran J → Stationed T → Type 0
+  RunsAs by work old ran new = IsRan by old.slice work ran new.slice × SliceKeeps [] old.slice (claims_of_ran ran) new.slice × (new.parked ≡ old.parked)
+
+  -- What comes of an action that asks and carries this, and what the station is then: it did its work, or died, or there was no
+  -- memory, and it has what it carried again; or all who are in its way are younger, and it waits, after all others.
   abbrev pub ActsAs : Holder → Work → T → Stationed T → Acted J T → Stationed T → Type 0
-  ActsAs by work carried old (Ran ran told) new =
+  ActsAs by work carried old (acted.Ran ran told) new =
       (told ≡ carried) × IsRan by old.slice work ran new.slice × SliceKeeps [] old.slice (claims_of_ran ran) new.slice
       × (new.parked ≡ old.parked)
-  ActsAs by work carried old Waits new =
+  ActsAs by work carried old acted.Waits new =
       MustWait old.slice.holdings by.age (wants_of work)
       × (new ≡ stationed (with_waiters (old.slice.waiters ++ waiting by (wants_of work) ∷ []) old.slice) (old.parked ++ parked by work carried ∷ []))
 

@@ -4,7 +4,7 @@ ghost use Rattle.partitions.specs.Parts.{shared_of};
 ghost use Rattle.local_locks.specs.Asking.{StillWaits};
 ghost use Rattle.slices.specs.Sliced.{IsClaimAt, SliceKeeps};
 ghost use Rattle.transactions.specs.Acting.{CanBeSettled, CanBeUndone};
-ghost use Rattle.transactions.specs.Stations.{stationed, ActsAs, IsStation, OneTurn};
+ghost use Rattle.transactions.specs.Stations.{stationed, ActsAs, IsStation, OneTurn, RunsAs};
 ghost use Rattle.transactions.specs.Works.{CanDo, home_of};
 
 use crate::acting::run_under;
@@ -122,6 +122,24 @@ impl<J: GroupNames, T: Drop> Station<J, T> {
                 Acted::Ran(Ran::NoMemory, carried)
             }
         }
+    }
+
+    /// An action asks for all that its work needs, and does it at once. `None` where somebody is in its way, or there is
+    /// no memory to ask: nothing has changed then, and it doesn't wait. One that finds no memory as it works holds no
+    /// claim, and has left the slice as it was.
+    pub fn act_at_once(&mut self, alloc: Global, by: Holder, work: Work) -> Option<Ran<J>>
+        requires can { CanDo (shared_of self.old.slice.tables) work }
+        requires home { home_of work ≡ self.old.slice.home }
+        ensures ran { IfSome result (λ ran. RunsAs by work self.old ran self.new) }
+        ensures none { IfNone result (self.new ≡ self.old) }
+    {
+        let Ok(wants) = work.wants(alloc) else {
+            return None;
+        };
+        let Some(claims) = self.slice.ask_at_once(alloc, by, &wants) else {
+            return None;
+        };
+        Some(run_under(alloc, &mut self.slice, claims, work))
     }
 
     /// The turn of the oldest action that need not wait any more, and of one age of the one of the least place: it

@@ -107,7 +107,7 @@ fn fill(places: &mut [Option<LineSold>], mut sold: Vec<LineSold>)
 fn filled_places(alloc: Global, places: Vec<Option<LineSold>>) -> Result<Vec<LineSold>, NoMemory>
     ensures { IfOk result (λ lines. lines.items ≡ filter_map (λ place. place) places.items) }
 {
-    let mut lines = Vec::new(alloc);
+    let mut lines = Vec::with_capacity(alloc, places.len())?;
     for place in places {
         if let Some(line) = place {
             lines.push(line)?;
@@ -181,8 +181,8 @@ fn columns(
     ensures rows { IfOk result (λ r. r.0.items ≡ map (λ line. line.row) sold.items) }
     ensures shown { IfOk result (λ r. r.1.items ≡ map (λ line. line.shown) sold.items) }
 {
-    let mut rows = Vec::new(alloc);
-    let mut shown = Vec::new(alloc);
+    let mut rows = Vec::with_capacity(alloc, sold.len())?;
+    let mut shown = Vec::with_capacity(alloc, sold.len())?;
     for line in sold {
         rows.push(line.row)?;
         shown.push(line.shown)?;

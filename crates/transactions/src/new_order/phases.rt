@@ -122,7 +122,7 @@ fn gather_rows(
 fn supplies(alloc: Global, lines: &[OrderedLine]) -> Result<Vec<Group>, NoMemory>
     ensures { IfOk result (λ groups. groups.items ≡ supplies_of lines.now) }
 {
-    let mut groups = Vec::new(alloc);
+    let mut groups = Vec::with_capacity(alloc, lines.len())?;
     for line in lines {
         let group = supply_of(*line);
         if !is_among(&groups, group) {

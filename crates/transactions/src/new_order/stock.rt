@@ -99,8 +99,9 @@ fn sell(
         (all_there (map (line_sold rows.now.tables order.now) (lines_in group order.now.lines)) ≡ None)
         (IsSaleOf rows.now.tables order.now (lines_in group order.now.lines))) }
 {
-    let mut sold = Vec::new(alloc);
-    let mut puts = Vec::new(alloc);
+    // (mostly a group supplies one line)
+    let mut sold = Vec::with_capacity(alloc, 1)?;
+    let mut puts = Vec::with_capacity(alloc, 1)?;
     for (index, line) in order.lines.as_slice().iter().enumerate() {
         if is_supplied(*line, group) {
             let number = index + 1;

@@ -1,143 +1,62 @@
-use Rattle.std.proofs.Common.{◌≡◌, ◌++◌, ◌∷◌, [], ℕ, List, Result, Ok, Err, length, take, drop, get_or, refl, sym, ap, subst, ◌∙◌}
+use Rattle.std.proofs.Common.{◌≡◌, ◌++◌, ◌∷◌, [], ℕ, List, Result, Ok, Err, sym, ap, subst, ◌∙◌}
 use Rattle.std.specs.Prelude.{All, OnErr}
-use Rattle.std.specs.List.{flat_map}
 use Rattle.requests.specs.declared.group.Group.{Group}
 use Rattle.groups.specs.declared.wants.Want.{Want}
 use Rattle.wait_die.specs.declared.deciding.Holder.{Holder}
-use Rattle.local_locks.specs.declared.rulings.Ruling.TheVariants.{Free, Waits, Dies}
+use Rattle.local_locks.specs.declared.table.Asked.{Asked}
+use Rattle.local_locks.specs.declared.table.Asked.TheVariants.{Waits}
+use Rattle.local_locks.specs.Asking.{AnswersAtOnce}
+use Rattle.local_locks.specs.Conflicts.{MustDie, MustWait}
 use Rattle.local_locks.specs.Locking.{Locking}
-use Rattle.local_locks.specs.Conflicts.{IsFree, MustWait, MustDie}
-use Rattle.local_locks.specs.Wishes.{IsOwn, CanAsk}
-use Rattle.local_locks.specs.Asking.{waiting}
-use Rattle.local_locks.specs.Locks.{Locked, Parked, parked, holdings_of, locking, AreLocksOf, IsParked}
-use Rattle.local_locks.specs.Rulings.{IsRuling, spots_of}
-use Rattle.local_locks.proofs.Apartness.{few_places, places_apart}
+use Rattle.local_locks.specs.Locks.{IsParked, Parked, parked}
+use Rattle.local_locks.specs.Wishes.{CanAsk}
+use Rattle.local_locks.proofs.Apartness.{few_places}
 use Rattle.local_locks.proofs.Asks as asks
-use Rattle.local_locks.proofs.Asks.{no_lock}
-use Rattle.local_locks.proofs.Grants.{same_length}
-use Rattle.local_locks.proofs.Views.{tells_free, tells_wait, tells_death}
 use Rattle.local_locks.proofs.table.LockTable.ask.Goals as goal
 
 on_err : {T E : Type 0} (r : Result T E) (P : Type 0) → P → OnErr r P
 on_err (Ok x) P p = tt
 on_err (Err e) P p = p
 
--- what is asked is asked of this warehouse
-own_of : (warehouses w_id : ℕ) (table : Locking) (locks : List Locked) (waiters : List Parked) (wants : List Want) → locking w_id locks waiters ≡ table → CanAsk warehouses table.w_id wants → CanAsk warehouses w_id wants
-own_of warehouses w_id table locks waiters wants view can =
-    subst (λ (w : ℕ). CanAsk warehouses w wants) (sym (ap (λ (t : Locking). t.w_id) view)) can
+-- who has to wait is told so, and nothing has changed
+told_to_wait : {J : Type 0} (by : Holder) (wants : List Want) (old new : Locking) (answered : Asked J) → answered ≡ Waits → AnswersAtOnce by wants old answered new → MustWait old.holdings by.age wants × (new ≡ old)
+told_to_wait {J} by wants old new answered is answers = subst (λ (a : Asked J). AnswersAtOnce by wants old a new) is answers
 
-no_death_free : (warehouses w_id age : ℕ) (table : Locking) (locks shown : List Locked) (waiters : List Parked) (wants : List Want) → locking w_id locks waiters ≡ table → shown ≡ locks → AreLocksOf warehouses w_id locks
-    → IsRuling age shown (flat_map spots_of wants) Free → (group : Group) (oldest : ℕ) → MustDie table.holdings age wants group oldest → ⊥
-no_death_free warehouses w_id age table locks shown waiters wants view showing are free group oldest death =
-    let P : List Locked → Type 0 = λ ls. IsRuling age ls (flat_map spots_of wants) Free in
-    let Q : Locking → Type 0 = λ t. IsFree t.holdings wants in
-    asks.free_is_no_death table.holdings age wants group oldest (subst Q view (tells_free warehouses w_id locks wants age are (subst P showing free))) death
-
-waits_of : (warehouses w_id age : ℕ) (table : Locking) (locks shown : List Locked) (waiters : List Parked) (wants : List Want) → locking w_id locks waiters ≡ table → shown ≡ locks → AreLocksOf warehouses w_id locks
-    → All (IsOwn warehouses w_id) wants → IsRuling age shown (flat_map spots_of wants) Waits → MustWait table.holdings age wants
-waits_of warehouses w_id age table locks shown waiters wants view showing are own waits =
-    let P : List Locked → Type 0 = λ ls. IsRuling age ls (flat_map spots_of wants) Waits in
-    let Q : Locking → Type 0 = λ t. MustWait t.holdings age wants in
-    subst Q view (tells_wait warehouses w_id locks wants age no_lock are own (subst P showing waits))
-
-dies_of : (warehouses w_id age : ℕ) (table : Locking) (locks shown : List Locked) (waiters : List Parked) (wants : List Want) (number oldest : ℕ) (lock : Locked) (group : Group) → locking w_id locks waiters ≡ table → shown ≡ locks
-    → AreLocksOf warehouses w_id locks → All (IsOwn warehouses w_id) wants → IsRuling age shown (flat_map spots_of wants) (Dies number oldest) → lock ≡ get_or locks number lock → group ≡ lock.ticket_box.group → MustDie table.holdings age wants group oldest
-dies_of warehouses w_id age table locks shown waiters wants number oldest lock group view showing are own dies is named =
-    let P : List Locked → Type 0 = λ ls. IsRuling age ls (flat_map spots_of wants) (Dies number oldest) in
-    let Q : Locking → Type 0 = λ t. MustDie t.holdings age wants group oldest in
-    let R : Group → Type 0 = λ own. MustDie (flat_map holdings_of locks) age wants own oldest in
-    let same : (get_or locks number lock).ticket_box.group ≡ group = ap (λ (l : Locked). l.ticket_box.group) (sym is) ∙ sym named in
-    subst Q view (subst R same (tells_death warehouses w_id locks wants age number oldest lock are own (subst P showing dies)).1)
+-- so what is asked is asked of this warehouse still
+still_own : (warehouses w_id : ℕ) (old new : Locking) (wants : List Want) → w_id ≡ new.w_id → new ≡ old → CanAsk warehouses old.w_id wants → CanAsk warehouses w_id wants
+still_own warehouses w_id old new wants here same can = subst (λ (w : ℕ). CanAsk warehouses w wants) (sym (here ∙ ap (λ (t : Locking). t.w_id) same)) can
 
 -- one more stands last
 put_last : (old new : List Parked) (waiter : Parked) (by : Holder) (wants : List Want) (count : ℕ) → new ≡ old ++ waiter ∷ [] → waiter ≡ parked by wants count → new ≡ old ++ parked by wants count ∷ []
 put_last old new waiter by wants count put is = put ∙ ap (λ (w : Parked). old ++ w ∷ []) is
 
+-- and for what has to wait nothing dies
+no_death : {J : Type 0} (by : Holder) (wants : List Want) (old new : Locking) (answered : Asked J) → answered ≡ Waits → AnswersAtOnce by wants old answered new
+    → (group : Group) (oldest : ℕ) → MustDie old.holdings by.age wants group oldest → ⊥
+no_death by wants old new answered is answers group oldest death =
+    asks.wait_is_no_death old.holdings by.age wants group oldest (told_to_wait by wants old new answered is answers).0 death
+
 pub count_of-requires-clause-few : goal.count_of-requires-clause-few
 count_of-requires-clause-few g c =
-    let can = own_of g.J.GroupNames.warehouses c.self.inside.w_id c.args.self.now c.self.inside.locks.items c.self.inside.waiters.items c.args.wants.now c.self.view_is c.requires in
+    let waits = told_to_wait c.args.by c.args.wants.now c.args.self.now c.ask_at_once.new.self c.in_ok-answered.answered c.in-Waits.is c.in_ok-answered.ensures.answers in
+    let can = still_own g.J.GroupNames.warehouses c.self.inside.w_id c.args.self.now c.ask_at_once.new.self c.args.wants.now (ap (λ (t : Locking). t.w_id) c.self.view_is) waits.1 c.requires in
     few_places g.J.GroupNames.warehouses c.self.inside.w_id c.self.inside.locks.items c.args.wants.now c.self.invariant.0 can.own can.once
-
-pub count_of-requires-in-Waits-clause-few : goal.count_of-requires-in-Waits-clause-few
-count_of-requires-in-Waits-clause-few g c =
-    let can = own_of g.J.GroupNames.warehouses c.self.inside.w_id c.args.self.now c.self.inside.locks.items c.self.inside.waiters.items c.args.wants.now c.self.view_is c.requires in
-    few_places g.J.GroupNames.warehouses c.self.inside.w_id c.self.inside.locks.items c.args.wants.now c.self.invariant.0 can.own can.once
-
-pub returns-in_err-claims-in-Free-clause-death_takes_none : goal.returns-in_err-claims-in-Free-clause-death_takes_none
-returns-in_err-claims-in-Free-clause-death_takes_none g c =
-    on_err c.from_residual.result _
-    (no_death_free g.J.GroupNames.warehouses c.self.inside.w_id c.args.by.age c.args.self.now c.self.inside.locks.items c.deref.result.now c.self.inside.waiters.items c.args.wants.now c.self.view_is c.deref.ensures.value c.self.invariant.0 c.in-Free.ensures)
 
 pub returns-in_err-waiter-in-Waits-clause-death_takes_none : goal.returns-in_err-waiter-in-Waits-clause-death_takes_none
 returns-in_err-waiter-in-Waits-clause-death_takes_none g c =
-    let can = own_of g.J.GroupNames.warehouses c.self.inside.w_id c.args.self.now c.self.inside.locks.items c.self.inside.waiters.items c.args.wants.now c.self.view_is c.requires in
-    on_err c.from_residual-in_err-waiter-in-Waits.result _
-    (λ group oldest death. asks.wait_is_no_death c.args.self.now.holdings c.args.by.age c.args.wants.now group oldest
-    (waits_of g.J.GroupNames.warehouses c.self.inside.w_id c.args.by.age c.args.self.now c.self.inside.locks.items c.deref.result.now c.self.inside.waiters.items c.args.wants.now c.self.view_is c.deref.ensures.value c.self.invariant.0 can.own c.in-Waits.ensures) death)
+    on_err c.from_residual-in_err-waiter-in-Waits.result _ (no_death c.args.by c.args.wants.now c.args.self.now c.ask_at_once.new.self c.in_ok-answered.answered c.in-Waits.is c.in_ok-answered.ensures.answers)
 
 pub returns-in_err-push-in-Waits-clause-death_takes_none : goal.returns-in_err-push-in-Waits-clause-death_takes_none
 returns-in_err-push-in-Waits-clause-death_takes_none g c =
-    let can = own_of g.J.GroupNames.warehouses c.self.inside.w_id c.args.self.now c.self.inside.locks.items c.self.inside.waiters.items c.args.wants.now c.self.view_is c.requires in
-    on_err c.from_residual-in_err-push-in-Waits.result _
-    (λ group oldest death. asks.wait_is_no_death c.args.self.now.holdings c.args.by.age c.args.wants.now group oldest
-    (waits_of g.J.GroupNames.warehouses c.self.inside.w_id c.args.by.age c.args.self.now c.self.inside.locks.items c.deref.result.now c.self.inside.waiters.items c.args.wants.now c.self.view_is c.deref.ensures.value c.self.invariant.0 can.own c.in-Waits.ensures) death)
-
-pub grant_all-requires-clause-open : goal.grant_all-requires-clause-open
-grant_all-requires-clause-open g c =
-    let P : List Locked → Type 0 = λ ls. IsRuling c.args.by.age ls (flat_map spots_of c.args.wants.now) Free in
-    asks.all_open c.args.by.age c.deref_mut.result.now (flat_map spots_of c.args.wants.now) (subst P (c.deref.ensures.value ∙ sym c.deref_mut.ensures.value) c.in-Free.ensures)
-
-pub grant_all-requires-clause-once : goal.grant_all-requires-clause-once
-grant_all-requires-clause-once g c =
-    let can = own_of g.J.GroupNames.warehouses c.self.inside.w_id c.args.self.now c.self.inside.locks.items c.self.inside.waiters.items c.args.wants.now c.self.view_is c.requires in
-    places_apart g.J.GroupNames.warehouses c.self.inside.w_id c.self.inside.locks.items c.args.wants.now c.self.invariant.0 can.own can.once
-
-pub invariant_of-self : goal.invariant_of-self
-invariant_of-self g c =
-    let locks = c.self.inside.locks in
-    let long : length c.grant_all.new.locks ≡ length locks.items = same_length g.J.GroupNames.warehouses c.args.by (flat_map spots_of c.args.wants.now) c.deref_mut.result.now c.grant_all.new.locks c.grant_all.ensures.granted ∙ ap length c.deref_mut.ensures.value in (
-      asks.still_locks g.J.GroupNames.warehouses c.self.inside.w_id c.args.by (flat_map spots_of c.args.wants.now) locks.items c.deref_mut.result.now c.grant_all.new.locks (take locks.len (c.grant_all.new.locks ++ drop (length c.grant_all.new.locks) locks.items))
-          c.deref_mut.ensures.value (asks.refilled locks.len locks.items c.grant_all.new.locks locks.ok.0 long) c.self.invariant.0 c.grant_all.ensures.granted,
-      c.self.invariant.1,
-    )
+    on_err c.from_residual-in_err-push-in-Waits.result _ (no_death c.args.by c.args.wants.now c.args.self.now c.ask_at_once.new.self c.in_ok-answered.answered c.in-Waits.is c.in_ok-answered.ensures.answers)
 
 pub invariant_of-self-in-Waits : goal.invariant_of-self-in-Waits
 invariant_of-self-in-Waits g c =
-    let can = own_of g.J.GroupNames.warehouses c.self.inside.w_id c.args.self.now c.self.inside.locks.items c.self.inside.waiters.items c.args.wants.now c.self.view_is c.requires in
+    let waits = told_to_wait c.args.by c.args.wants.now c.args.self.now c.ask_at_once.new.self c.in_ok-answered.answered c.in-Waits.is c.in_ok-answered.ensures.answers in
+    let can = still_own g.J.GroupNames.warehouses c.self.inside.w_id c.args.self.now c.ask_at_once.new.self c.args.wants.now (ap (λ (t : Locking). t.w_id) c.self.view_is) waits.1 c.requires in
     let home = asks.home_there g.J.GroupNames.warehouses c.self.inside.w_id c.self.inside.locks.items c.self.invariant.0 in
-    let more = asks.parked_more g.J.GroupNames.warehouses c.self.inside.w_id c.self.inside.waiters.items c.args.by c.args.wants.now c.count_of-in-Waits.result c.self.invariant.1 can home c.count_of-in-Waits.ensures in (
+    let more = asks.parked_more g.J.GroupNames.warehouses c.self.inside.w_id c.self.inside.waiters.items c.args.by c.args.wants.now c.count_of.result c.self.invariant.1 can home c.count_of.ensures in (
       c.self.invariant.0,
       subst (All (IsParked g.J.GroupNames.warehouses c.self.inside.w_id))
-          (sym (put_last c.self.inside.waiters.items c.push.new.self.items c.in_ok-waiter-in-Waits.waiter c.args.by c.args.wants.now c.count_of-in-Waits.result c.in_ok-push-in-Waits.ensures.items c.in_ok-waiter-in-Waits.ensures)) more,
-    )
-
-pub returns-in_ok-claims-in-Free-clause-answers : goal.returns-in_ok-claims-in-Free-clause-answers
-returns-in_ok-claims-in-Free-clause-answers g c =
-    let can = own_of g.J.GroupNames.warehouses c.self.inside.w_id c.args.self.now c.self.inside.locks.items c.self.inside.waiters.items c.args.wants.now c.self.view_is c.requires in
-    let locks = c.self.inside.locks in
-    let long : length c.grant_all.new.locks ≡ length locks.items = same_length g.J.GroupNames.warehouses c.args.by (flat_map spots_of c.args.wants.now) c.deref_mut.result.now c.grant_all.new.locks c.grant_all.ensures.granted ∙ ap length c.deref_mut.ensures.value in
-    let P : List Locked → Type 0 = λ ls. IsRuling c.args.by.age ls (flat_map spots_of c.args.wants.now) Free in (
-      asks.answered_free g.J.GroupNames.warehouses c.self.inside.w_id c.args.by.age c.args.by c.args.wants.now c.args.self.now locks.items c.deref_mut.result.now c.grant_all.new.locks (take locks.len (c.grant_all.new.locks ++ drop (length c.grant_all.new.locks) locks.items))
-          c.self.inside.waiters.items c.self.inside.waiters.items c.in_ok-claims-in-Free.claims.items c.grant_all.new.claims.items c.self.view_is c.deref_mut.ensures.value (asks.refilled locks.len locks.items c.grant_all.new.locks locks.ok.0 long)
-          c.in_ok-claims-in-Free.ensures.items c.self.invariant.0 can.own (subst P c.deref.ensures.value c.in-Free.ensures) c.grant_all.ensures.claims c.grant_all.ensures.granted,
-      ap (λ (t : Locking). t.waiters) c.self.view_is,
-    )
-
-pub returns-in_ok-push-in-Waits-clause-answers : goal.returns-in_ok-push-in-Waits-clause-answers
-returns-in_ok-push-in-Waits-clause-answers g c =
-    let can = own_of g.J.GroupNames.warehouses c.self.inside.w_id c.args.self.now c.self.inside.locks.items c.self.inside.waiters.items c.args.wants.now c.self.view_is c.requires in
-    let last = put_last c.self.inside.waiters.items c.push.new.self.items c.in_ok-waiter-in-Waits.waiter c.args.by c.args.wants.now c.count_of-in-Waits.result c.in_ok-push-in-Waits.ensures.items c.in_ok-waiter-in-Waits.ensures in (
-      waits_of g.J.GroupNames.warehouses c.self.inside.w_id c.args.by.age c.args.self.now c.self.inside.locks.items c.deref.result.now c.self.inside.waiters.items c.args.wants.now c.self.view_is c.deref.ensures.value c.self.invariant.0 can.own c.in-Waits.ensures,
-      ap (λ (ws : List Parked). locking c.self.inside.w_id c.self.inside.locks.items ws) last
-          ∙ asks.waits_more c.self.inside.w_id c.self.inside.locks.items c.self.inside.waiters.items c.args.by c.args.wants.now c.count_of-in-Waits.result
-          ∙ ap (λ (t : Locking). record t { waiters = t.waiters ++ waiting c.args.by c.args.wants.now ∷ [] }) c.self.view_is,
-    )
-
-pub returns-in-Dies-clause-answers : goal.returns-in-Dies-clause-answers
-returns-in-Dies-clause-answers g c =
-    let can = own_of g.J.GroupNames.warehouses c.self.inside.w_id c.args.self.now c.self.inside.locks.items c.self.inside.waiters.items c.args.wants.now c.self.view_is c.requires in (
-      dies_of g.J.GroupNames.warehouses c.self.inside.w_id c.args.by.age c.args.self.now c.self.inside.locks.items c.deref.result.now c.self.inside.waiters.items c.args.wants.now c.in-Dies.number c.in-Dies.holder c.index.result.now c.group.result
-          c.self.view_is c.deref.ensures.value c.self.invariant.0 can.own c.in-Dies.ensures c.index.ensures c.group.ensures,
-      refl,
+          (sym (put_last c.self.inside.waiters.items c.push.new.self.items c.in_ok-waiter-in-Waits.waiter c.args.by c.args.wants.now c.count_of.result c.in_ok-push-in-Waits.ensures.items c.in_ok-waiter-in-Waits.ensures)) more,
     )

@@ -5,8 +5,8 @@ use Rattle.std.proofs.lemmas.List.Elements.{filter_map-append}
 use Rattle.transactions.specs.declared.new_order.LineSold.{LineSold}
 use Rattle.transactions.proofs.new_order.deciding.filled_places.Goals as goal
 
-pub loop-place-preserved-in-Continue-1 : goal.loop-place-preserved-in-Continue-1
-loop-place-preserved-in-Continue-1 c =
+pub loop-place-preserved-in-Continue-branch-2 : goal.loop-place-preserved-in-Continue-branch-2
+loop-place-preserved-in-Continue-branch-2 c =
     c.in_ok-push.ensures.items ∙ ap (λ lines. lines ++ c.in-Some-place.line ∷ []) c.loop-place.invariant
     ∙ ap (λ (place : Option LineSold). filter_map (λ place. place) c.loop-place.yielded ++ cons_option place []) (sym c.in-Some-place.is)
     ∙ sym (filter_map-append (λ place. place) c.loop-place.yielded (c.in-Some.place ∷ []))
