@@ -1,31 +1,37 @@
-"""The wrong programs of the crates: what is read of them before any prover runs, whose turn it is, and the further ones.
+"""The wrong programs of the crates: edits of a crate's code that the prover must refuse.
 
-A wrong program is an edit of a crate's code that the prover must refuse. Those of `must-fail/` are tried by `rt ci`: in a run of
-the gate those of the crates that have changed, and of the others each fifth crate's in turn. Those of `wrong-programs/`, which
-are written alike, are tried by `further` alone.
+Those of `must-fail/` are tried in each run of the gate, those of `wrong-programs/`, which are written alike, with --whole too. The
+last line of each tells the function that has no proof then: `# refused by: CLAUSE of FUNCTION`, or `CLAUSE of CALLEE in FUNCTION`,
+the function as the prover prints it, or the end of its name. The prover is asked for that function, and for those that it calls,
+over the libraries that `rt ci` has built. That takes seconds, where a check of the whole crate takes minutes; and first it has to
+prove the same functions of the crate as it stands, so that an edit is refused for what it turns.
 """
 
-import contextlib
 import os
 import re
 import shutil
 import subprocess
+import sys
 import tempfile
 from concurrent.futures import ThreadPoolExecutor
+from typing import NamedTuple, Optional
 
 KINDS = ["must-fail", "wrong-programs"]
-LANES = 4
-TURNS = 5
-HOURS = 4
+LANES = min(4, len(os.sched_getaffinity(0)))
 
 
-def edits_of(crate):
-    """Returns the paths of a crate's edits in their folders of the crate."""
-    return [f"{kind}/{name}" for kind in KINDS for name in sorted(ls(f"{crate}/{kind}")) if name.endswith(".edit")]
+class Edit(NamedTuple):
+    """An edit: its crate, its path in the crate's folder, the texts that it leaves of the files that it turns, the function that
+    refuses it, and what keeps it from being tried, if anything does."""
 
+    crate: str
+    path: str
+    texts: dict
+    function: str
+    fault: Optional[str]
 
-def ls(folder):
-    return os.listdir(folder) if os.path.isdir(folder) else []
+    def __str__(self):
+        return f"{self.crate}/{self.path}"
 
 
 def text_of(path):
@@ -33,82 +39,114 @@ def text_of(path):
         return file.read()
 
 
-def fault_of(crate, edit):
-    """Returns what keeps an edit from turning just what it names, or None: a line that nothing reads, or an old text that doesn't stand in
-    its file exactly once."""
-    path, old, pairs, texts = None, None, 0, {}
-    for line in text_of(f"{crate}/{edit}").splitlines():
+def read(folder, crate, path):
+    """Returns the edit at that path of the crate's folder. It has a fault where it doesn't turn just what it names, at a line that nothing
+    reads, say, or an old text that doesn't stand in its file exactly once; and where it names no function."""
+    file, old, pairs, texts, function, fault = None, None, 0, {}, "", None
+    for line in text_of(f"{folder}/{path}").splitlines():
         word, _, rest = line.partition(" ")
         if word == "file:":
-            path = rest.strip()
-            texts.setdefault(path, text_of(f"{crate}/{path}"))
-        elif word == "old:" and path and old is None:
-            old = rest
-            if texts[path].count(old) != 1:
-                return f"an old text is in {path} {texts[path].count(old)} times"
+            file = rest.strip()
+            texts.setdefault(file, text_of(f"{folder}/{file}"))
+        elif word == "old:" and file and old is None:
+            old, found = rest, texts[file].count(rest)
+            if found != 1:
+                fault = fault or f"an old text is in {file} {found} times"
         elif word == "new:" and old is not None:
-            texts[path], old, pairs = texts[path].replace(old, rest), None, pairs + 1
+            texts[file], old, pairs = texts[file].replace(old, rest), None, pairs + 1
+        elif line.startswith("# refused by: "):
+            function = line.split()[-1]
         elif not line.startswith("#"):
-            return f"nothing reads the line: {line}"
-    return None if pairs and old is None else "it turns nothing, or an old text has no new one"
+            fault = fault or f"nothing reads the line: {line}"
+    if not pairs or old is not None:
+        fault = fault or "it turns nothing, or an old text has no new one"
+    if not function:
+        fault = fault or "it doesn't tell the function that refuses it"
+    return Edit(crate, path, texts, function, fault)
 
 
-def faults(root, crates):
-    """Returns a line for each edit that has a fault."""
-    told = [(name, edit, fault_of(f"{root}/crates/{name}", edit)) for name in crates for edit in edits_of(f"{root}/crates/{name}")]
-    return [f"crates/{name}/{edit}: {fault}" for name, edit, fault in told if fault]
+def edits_of(root, crates, kinds):
+    """Returns the edits of these kinds of all crates."""
+    paths = [(name, kind) for name in crates for kind in kinds if os.path.isdir(f"{root}/crates/{name}/{kind}")]
+    files = [(name, f"{kind}/{file}") for name, kind in paths for file in sorted(os.listdir(f"{root}/crates/{name}/{kind}"))]
+    return [read(f"{root}/crates/{name}", name, path) for name, path in files if path.endswith(".edit")]
 
 
-def told_by_git(root, *words):
-    """Returns what git tells, or nothing where it tells nothing."""
-    told = subprocess.run(["git", *words], cwd=root, capture_output=True, text=True, check=False)
-    return told.stdout.strip() if told.returncode == 0 else ""
+class Prover:
+    """Asks the prover for functions of the crates below a folder in which `rt ci` has built their libraries."""
+
+    def __init__(self, root):
+        # The library of `rt` knows what words a check of a crate takes.
+        sys.path.insert(0, os.path.dirname(os.path.realpath(shutil.which("rt"))))
+        import rtlib
+
+        self.rt, self.crates, self.running = rtlib, {it.name: it for it in rtlib.crates_below(root)}, set()
+
+    def check(self, name, texts, functions, kept):
+        """Returns the status of a check of these functions, with these texts in the place of the crate's own, and what it prints. It begins
+        with what lies in the folder kept, and leaves there what it proves."""
+        crate = self.crates[name]
+        with tempfile.TemporaryDirectory(prefix="gate-edit-") as room:
+            for part in ["src", "specs", "proofs"]:
+                if os.path.isdir(f"{crate.folder}/{part}"):
+                    shutil.copytree(f"{crate.folder}/{part}", f"{room}/{part}")
+            for path, text in texts.items():
+                with open(f"{room}/{path}", "w", encoding="utf-8") as file:
+                    file.write(text)
+            flags = ["--jobs", "1", *[word for it in functions for word in ("--only", it)]]
+            words = [self.rt.RATTLE, "check", *crate.words(flags, keeps=False), "--incremental", kept]
+            how = {"stdin": subprocess.DEVNULL, "stdout": subprocess.PIPE, "stderr": subprocess.STDOUT, "errors": "replace"}
+            with subprocess.Popen(words, cwd=room, **how) as ran:
+                self.running.add(ran)
+                told = ran.communicate()[0]
+                self.running.discard(ran)
+        return ran.returncode, told
+
+    def stop(self):
+        for ran in list(self.running):
+            ran.kill()
 
 
-def changed(root):
-    """Returns the names of the crates of which a commit has changed something, in the hours before the commit that stands here."""
-    if told_by_git(root, "rev-parse", "--is-shallow-repository") != "false":
-        return set()
-    second = told_by_git(root, "show", "-s", "--format=%ct")
-    since = f"--since=@{int(second) - HOURS * 60 * 60}"
-    files = told_by_git(root, "log", since, "--format=", "--name-only", "--", "crates").splitlines()
-    return {found[1] for file in files if (found := re.match(r"crates/(\w+)/(src|specs|proofs|must-fail)/", file))}
+def refuses(edit, status, told):
+    """Returns whether a check refuses the edit in the function that it names, and what to say."""
+    lacking = re.findall(r"^fn (\S+): (?!proved)", told, re.MULTILINE)
+    last = told.rstrip().rpartition("\n")[2]
+    if status == 1 and last.startswith("only="):
+        if any(f"::{it}".endswith(f"::{edit.function}") for it in lacking):
+            return True, f"refused by {edit.function}"
+        return False, f"NOT REFUSED by {edit.function}, but by {', '.join(lacking)}"
+    return False, "NOT REFUSED" if status == 0 else f"NOT TRIED, the check's status is {status}: {told[-1000:]}"
 
 
-def in_turn(root, crates):
-    """Returns the crates whose edits are tried in a run of the commit that stands here: those that have changed, and every fifth of
-    those that have edits, which fifth by the commit's name. (A check of the whole crate comes before its first edit, and costs more than
-    the edits.)"""
-    having = [name for name in crates if ls(f"{root}/crates/{name}/must-fail")]
-    turn = int(told_by_git(root, "rev-parse", "HEAD") or "0", 16) % TURNS
-    new = changed(root)
-    return [name for number, name in enumerate(having) if number % TURNS == turn or name in new]
+def tried(prover, edits, say):
+    """Tries the edits of one crate, one after another, and returns how many were refused."""
+    name, refused = edits[0].crate, 0
+    with tempfile.TemporaryDirectory(prefix="gate-edits-") as room:
+        status, told = prover.check(name, {}, sorted({it.function for it in edits}), f"{room}/base")
+        if status:
+            say(f"{name}: the functions that refuse its edits aren't proved as they stand: {told[-1000:]}")
+            return 0
+        for edit in edits:
+            shutil.copytree(f"{room}/base", f"{room}/over")
+            well, why = refuses(edit, *prover.check(name, edit.texts, [edit.function], f"{room}/over"))
+            shutil.rmtree(f"{room}/over")
+            refused += well
+            say(f"{edit}: {why}")
+    return refused
 
 
-@contextlib.contextmanager
-def only_edits_of(root, names, crates):
-    """Gives a copy of what `rt ci` reads here, in which only these crates have must-fail edits."""
-    with tempfile.TemporaryDirectory(prefix="gate-") as room:
-        shutil.copytree(f"{root}/crates", f"{room}/crates", ignore=shutil.ignore_patterns("out", "wrong-programs"))
-        for file in ["crates.txt", "HANDLES"]:
-            shutil.copy(f"{root}/{file}", room)
-        for name in crates:
-            if name not in names:
-                shutil.rmtree(f"{room}/crates/{name}/must-fail", ignore_errors=True)
-        yield room
-
-
-def further(root, crates):
-    """Has the prover refuse the edits of `wrong-programs/`, in a copy of the crates, over the libraries that were built here. Returns how many
-    crates passed and how many failed."""
-    named = [name for name in crates if ls(f"{root}/crates/{name}/wrong-programs")]
-    with tempfile.TemporaryDirectory(prefix="wrong-programs-") as room:
-        shutil.copytree(f"{root}/crates", f"{room}/crates")
-        for file in ["crates.txt", "HANDLES"]:
-            shutil.copy(f"{root}/{file}", room)
-        for name in named:
-            shutil.rmtree(f"{room}/crates/{name}/must-fail", ignore_errors=True)
-            os.rename(f"{room}/crates/{name}/wrong-programs", f"{room}/crates/{name}/must-fail")
-        with ThreadPoolExecutor(LANES) as lanes:
-            statuses = list(lanes.map(lambda name: subprocess.run(["rt", "must-fail", name], cwd=room, check=False).returncode, named))
-    return statuses.count(0), len(statuses) - statuses.count(0)
+def refused(root, edits, say):
+    """Has the prover refuse the edits, over the libraries that `rt ci` has built below root. Returns how many it refused, and how many not."""
+    of = {}
+    for edit in edits:
+        of.setdefault(edit.crate, []).append(edit)
+    prover = Prover(root)
+    cost = lambda it: len(of[it]) * sum(os.path.getsize(f"{at}/{file}") for at, _, files in os.walk(f"{root}/crates/{it}/proofs") for file in files)
+    with ThreadPoolExecutor(LANES) as lanes:
+        try:
+            counts = list(lanes.map(lambda it: tried(prover, of[it], say), sorted(of, key=cost, reverse=True)))
+        except KeyboardInterrupt:
+            lanes.shutdown(wait=False, cancel_futures=True)
+            prover.stop()
+            raise
+    return sum(counts), len(edits) - sum(counts)

@@ -1,13 +1,12 @@
 """Passes the tests: ./gate.sh [--anew] [--whole] [--record NAME]
 
-First come the definitions that documents quote and list, a look at each edit, and the examples by a program that is built without its
-proofs. Then `rt ci` proves every crate and its tests from nothing, runs the tests and the stored run, and has the prover refuse
-must-fail edits: those of the crates that changed in the four hours before this commit, and of each fifth crate in turn, which fifth
-by the commit's name. Last, all scenarios are run by the program that was proved, and each of its allocations is refused in turn.
-The last line is `rt ci`'s: N passed, 0 failed. The exit status is 0 where all is well.
+First come the definitions that documents quote and list, a look at each wrong program, and the examples by a program that is built
+without its proofs. Then `rt ci` proves every crate and its tests from nothing, and runs the tests and the stored run. Over what it
+has built, the prover has to refuse the wrong programs of must-fail/, each at the function that it names. Last, all scenarios are run
+by the program that was proved, and each of its allocations is refused in turn. The last line is as `rt ci`'s: N passed, 0 failed,
+of the crates and the wrong programs. The exit status is 0 where all is well.
 
-With --whole the prover has to refuse the must-fail edits of all crates, as where `rt ci` is called by itself, and their further wrong
-programs too, those of wrong-programs/, which takes some three times as long; each crate of these counts as one that passed or failed.
+With --whole the further wrong programs, those of wrong-programs/, have to be refused too.
 
 Where the toolchain's `rt ci` keeps what it passed before on this machine, it does not do that again, of the same files over the
 same libraries; with --anew it does. Where it keeps nothing it does all in every run, and --anew asks for nothing more. (It keeps
@@ -18,16 +17,18 @@ early, by Ctrl-C or SIGTERM. With --record a run that came to its end writes its
 """
 
 import argparse
+import contextlib
 import os
 import re
 import shutil
 import signal
 import subprocess
 import sys
+import tempfile
 import time
 
 from costs import Costs, record
-from edits import faults, further, in_turn, only_edits_of
+from edits import KINDS, edits_of, refused
 
 ROOT = os.path.dirname(os.path.dirname(os.path.abspath(__file__)))
 PROGRAM = "crates/tpcc/out/tpcc"
@@ -55,7 +56,6 @@ class Progress:
         self.parts = {
             "proofs": (re.compile(r"rt: \w+ (proved|is kept)"), len(named)),
             "tests": (re.compile(r"rt: \w+: its tests are proved"), sum(has(it, "#[test]", "src") for it in named)),
-            "edits begun": (re.compile(r"rt: \w+: trying its must-fail edits"), sum(has(it, "old:", "must-fail") for it in named)),
         }
         self.done = dict.fromkeys(self.parts, 0)
 
@@ -95,16 +95,14 @@ def prove(root, words):
     return verdict if ran.returncode == 0 else (verdict[0], max(verdict[1], 1))
 
 
-def prove_in_turn(words):
-    """Runs `rt ci` over a copy that has the must-fail edits whose turn it is, and takes the program from there."""
-    names = in_turn(ROOT, crates())
-    say(f"must-fail edits of these crates are tried in this run: {', '.join(names)}")
-    with only_edits_of(ROOT, names, crates()) as room:
-        counts = prove(room, words)
-        if not counts[1]:
-            os.makedirs(f"{ROOT}/{os.path.dirname(PROGRAM)}", exist_ok=True)
-            shutil.copy(f"{room}/{PROGRAM}", f"{ROOT}/{PROGRAM}")
-    return counts
+@contextlib.contextmanager
+def without_edits():
+    """Gives a copy of what `rt ci` reads here, in which no crate has wrong programs."""
+    with tempfile.TemporaryDirectory(prefix="gate-") as room:
+        shutil.copytree(f"{ROOT}/crates", f"{room}/crates", ignore=shutil.ignore_patterns("out", *KINDS))
+        for file in ["crates.txt", "HANDLES"]:
+            shutil.copy(f"{ROOT}/{file}", room)
+        yield room
 
 
 def passes(what, *words):
@@ -120,23 +118,26 @@ def run(anew, whole):
         return 0, 1
     if not passes("the definitions that the documents list", "docs/definitions.py"):
         return 0, 1
-    say("that each edit turns what it names")
-    found = faults(ROOT, crates())
-    if found:
-        print("\n".join(found))
+    say("that each wrong program turns what it names")
+    faults = [f"crates/{it}: {it.fault}" for it in edits_of(ROOT, crates(), KINDS) if it.fault]
+    if faults:
+        print("\n".join(faults))
         return 0, 1
-    if not passes("part 1 of 4: the examples by a program that is built without its proofs", "scenarios/run", *examples):
+    if not passes("part 1 of 5: the examples by a program that is built without its proofs", "scenarios/run", *examples):
         return 0, 1
-    say("part 2 of 4: every crate and its tests proved from nothing; must-fail edits; the tests")
-    words = words_for(anew)
-    passed, failed = prove(ROOT, words) if whole else prove_in_turn(words)
-    if not failed:
-        failed += not passes("part 3 of 4: all scenarios by the program that was proved", "scenarios/run", "--program", PROGRAM)
-        failed += not passes("part 4 of 4: each allocation of that program refused in turn", "gate/allocations.py", PROGRAM)
-    if whole and not failed:
-        say("the further wrong programs")
-        counts = further(ROOT, crates())
+    say("part 2 of 5: every crate and its tests proved from nothing; the tests")
+    with without_edits() as room:
+        passed, failed = prove(room, words_for(anew))
+        if failed:
+            return passed, failed
+        edits = edits_of(ROOT, crates(), KINDS if whole else KINDS[:1])
+        say(f"part 3 of 5: {len(edits)} wrong programs, which the prover has to refuse")
+        counts = refused(room, edits, say)
         passed, failed = passed + counts[0], failed + counts[1]
+        os.makedirs(f"{ROOT}/{os.path.dirname(PROGRAM)}", exist_ok=True)
+        shutil.copy(f"{room}/{PROGRAM}", f"{ROOT}/{PROGRAM}")
+    failed += not passes("part 4 of 5: all scenarios by the program that was proved", "scenarios/run", "--program", PROGRAM)
+    failed += not passes("part 5 of 5: each allocation of that program refused in turn", "gate/allocations.py", PROGRAM)
     return passed, failed
 
 
@@ -149,7 +150,7 @@ def commit():
 def main():
     words = argparse.ArgumentParser(prog="gate.sh", description=__doc__, formatter_class=argparse.RawDescriptionHelpFormatter)
     words.add_argument("--anew", action="store_true", help="do also what the toolchain keeps of earlier runs on this machine")
-    words.add_argument("--whole", action="store_true", help="have the prover refuse the edits of all crates, and the further wrong programs too")
+    words.add_argument("--whole", action="store_true", help="have the prover refuse the further wrong programs too")
     words.add_argument("--record", metavar="NAME", help="write the costs of this run into docs/COSTS.md under this name")
     words = words.parse_args()
     signal.signal(signal.SIGTERM, signal.default_int_handler)
