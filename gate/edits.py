@@ -1,4 +1,5 @@
-"""The wrong programs of the crates: edits of a crate's code that the prover must refuse.
+"""The wrong programs of the crates: edits of a crate's code that the prover must refuse. As a program: edits.py CRATE.. tries all of these
+crates, over the libraries that `rt` has built here.
 
 Those of `must-fail/` are tried in each run of the gate, those of `wrong-programs/`, which are written alike, with --whole too. The
 last line of each tells the function that has no proof then: `# refused by: CLAUSE of FUNCTION`, or `CLAUSE of CALLEE in FUNCTION`,
@@ -150,3 +151,19 @@ def refused(root, edits, say):
             prover.stop()
             raise
     return sum(counts), len(edits) - sum(counts)
+
+
+def main():
+    root, names = os.path.dirname(os.path.dirname(os.path.abspath(__file__))), sys.argv[1:]
+    edits = edits_of(root, names, KINDS)
+    faults = [f"{it}: {it.fault}" for it in edits if it.fault]
+    if faults:
+        print("\n".join(faults))
+        return 1
+    well, ill = refused(root, edits, lambda text: print(text, flush=True))
+    print(f"{well} refused, {ill} not")
+    return 1 if ill else 0
+
+
+if __name__ == "__main__":
+    sys.exit(main())

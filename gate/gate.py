@@ -1,10 +1,10 @@
 """Passes the tests: ./gate.sh [--anew] [--whole] [--record NAME]
 
-First come the definitions that documents quote and list, a look at each wrong program, and the examples by a program that is built
-without its proofs. Then `rt ci` proves every crate and its tests from nothing, and runs the tests and the stored run. Over what it
-has built, the prover has to refuse the wrong programs of must-fail/, each at the function that it names. Last, all scenarios are run
-by the program that was proved, and each of its allocations is refused in turn. The last line is as `rt ci`'s: N passed, 0 failed,
-of the crates and the wrong programs. The exit status is 0 where all is well.
+First come the definitions that documents quote and list, and a look at each wrong program. Then `rt ci` proves every crate and its
+tests from nothing, and runs the tests and the stored run. Over what it has built, the prover has to refuse the wrong programs of
+must-fail/, each at the function that it names. Last, all scenarios are run by the program that was proved, and each of its
+allocations is refused in turn. The last line is as `rt ci`'s: N passed, 0 failed, of the crates and the wrong programs. The exit
+status is 0 where all is well.
 
 With --whole the further wrong programs, those of wrong-programs/, have to be refused too.
 
@@ -113,7 +113,6 @@ def passes(what, *words):
 
 def run(anew, whole):
     """Runs all parts, up to the first that fails. Returns how many passed and failed."""
-    examples = sorted(it for it in os.listdir(f"{ROOT}/scenarios") if it.startswith("the_examples"))
     if not passes("the definitions that the documents quote", "docs/quotes.py"):
         return 0, 1
     if not passes("the definitions that the documents list", "docs/definitions.py"):
@@ -123,21 +122,19 @@ def run(anew, whole):
     if faults:
         print("\n".join(faults))
         return 0, 1
-    if not passes("part 1 of 5: the examples by a program that is built without its proofs", "scenarios/run", *examples):
-        return 0, 1
-    say("part 2 of 5: every crate and its tests proved from nothing; the tests")
+    say("part 1 of 4: every crate and its tests proved from nothing; the tests")
     with without_edits() as room:
         passed, failed = prove(room, words_for(anew))
         if failed:
             return passed, failed
         edits = edits_of(ROOT, crates(), KINDS if whole else KINDS[:1])
-        say(f"part 3 of 5: {len(edits)} wrong programs, which the prover has to refuse")
+        say(f"part 2 of 4: {len(edits)} wrong programs, which the prover has to refuse")
         counts = refused(room, edits, say)
         passed, failed = passed + counts[0], failed + counts[1]
         os.makedirs(f"{ROOT}/{os.path.dirname(PROGRAM)}", exist_ok=True)
         shutil.copy(f"{room}/{PROGRAM}", f"{ROOT}/{PROGRAM}")
-    failed += not passes("part 4 of 5: all scenarios by the program that was proved", "scenarios/run", "--program", PROGRAM)
-    failed += not passes("part 5 of 5: each allocation of that program refused in turn", "gate/allocations.py", PROGRAM)
+    failed += not passes("part 3 of 4: all scenarios by the program that was proved", "scenarios/run", "--program", PROGRAM)
+    failed += not passes("part 4 of 4: each allocation of that program refused in turn", "gate/allocations.py", PROGRAM)
     return passed, failed
 
 
