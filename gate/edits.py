@@ -14,11 +14,14 @@ import shutil
 import subprocess
 import sys
 import tempfile
+import time
 from concurrent.futures import ThreadPoolExecutor
 from typing import NamedTuple, Optional
 
 KINDS = ["must-fail", "wrong-programs"]
 LANES = min(4, len(os.sched_getaffinity(0)))
+# With less free memory, in bytes, no check begins beside another.
+LEAST_FREE = 6_000_000_000
 
 
 class Edit(NamedTuple):
@@ -73,6 +76,11 @@ def edits_of(root, crates, kinds):
     return [read(f"{root}/crates/{name}", name, path) for name, path in files if path.endswith(".edit")]
 
 
+def free_memory():
+    """Returns the free memory in bytes."""
+    return 1024 * int(re.search(r"MemAvailable:\s+(\d+)", text_of("/proc/meminfo"))[1])
+
+
 class Prover:
     """Asks the prover for functions of the crates below a folder in which `rt ci` has built their libraries."""
 
@@ -87,6 +95,8 @@ class Prover:
         """Returns the status of a check of these functions, with these texts in the place of the crate's own, and what it prints. It begins
         with what lies in the folder kept, and leaves there what it proves."""
         crate = self.crates[name]
+        while self.running and free_memory() < LEAST_FREE:
+            time.sleep(1)
         with tempfile.TemporaryDirectory(prefix="gate-edit-") as room:
             for part in ["src", "specs", "proofs"]:
                 if os.path.isdir(f"{crate.folder}/{part}"):
@@ -95,7 +105,7 @@ class Prover:
                 with open(f"{room}/{path}", "w", encoding="utf-8") as file:
                     file.write(text)
             flags = ["--jobs", "1", *[word for it in functions for word in ("--only", it)]]
-            words = [self.rt.RATTLE, "check", *crate.words(flags, keeps=False), "--incremental", kept]
+            words = ["nice", "-n", "19", self.rt.RATTLE, "check", *crate.words(flags, keeps=False), "--incremental", kept]
             how = {"stdin": subprocess.DEVNULL, "stdout": subprocess.PIPE, "stderr": subprocess.STDOUT, "errors": "replace"}
             with subprocess.Popen(words, cwd=room, **how) as ran:
                 self.running.add(ran)
@@ -119,38 +129,53 @@ def refuses(edit, status, told):
     return False, "NOT REFUSED" if status == 0 else f"NOT TRIED, the check's status is {status}: {told[-1000:]}"
 
 
-def tried(prover, edits, say):
-    """Tries the edits of one crate, one after another, and returns how many were refused."""
-    name, refused = edits[0].crate, 0
-    with tempfile.TemporaryDirectory(prefix="gate-edits-") as room:
-        status, told = prover.check(name, {}, sorted({it.function for it in edits}), f"{room}/base")
-        if status:
-            say(f"{name}: the functions that refuse its edits aren't proved as they stand: {told[-1000:]}")
-            return 0
+class Trials:
+    """Tries the edits of crates in lanes of their own, beside the proofs of the crates above and behind them in turn: those of a crate once
+    its libraries are built. It is entered and left; left early, what is under way ends."""
+
+    def __init__(self, root, edits, say):
+        self.say, self.prover, self.of, self.pending, self.refused, self.count = say, Prover(root), {}, [], 0, len(edits)
         for edit in edits:
-            shutil.copytree(f"{room}/base", f"{room}/over")
-            well, why = refuses(edit, *prover.check(name, edit.texts, [edit.function], f"{room}/over"))
-            shutil.rmtree(f"{room}/over")
-            refused += well
-            say(f"{edit}: {why}")
-    return refused
+            self.of.setdefault(edit.crate, []).append(edit)
 
+    def __enter__(self):
+        self.room, self.lanes = tempfile.TemporaryDirectory(prefix="gate-edits-"), ThreadPoolExecutor(LANES)
+        return self
 
-def refused(root, edits, say):
-    """Has the prover refuse the edits, over the libraries that `rt ci` has built below root. Returns how many it refused, and how many not."""
-    of = {}
-    for edit in edits:
-        of.setdefault(edit.crate, []).append(edit)
-    prover = Prover(root)
-    cost = lambda it: len(of[it]) * sum(os.path.getsize(f"{at}/{file}") for at, _, files in os.walk(f"{root}/crates/{it}/proofs") for file in files)
-    with ThreadPoolExecutor(LANES) as lanes:
-        try:
-            counts = list(lanes.map(lambda it: tried(prover, of[it], say), sorted(of, key=cost, reverse=True)))
-        except KeyboardInterrupt:
-            lanes.shutdown(wait=False, cancel_futures=True)
-            prover.stop()
-            raise
-    return sum(counts), len(edits) - sum(counts)
+    def __exit__(self, *_):
+        self.lanes.shutdown(wait=False, cancel_futures=True)
+        self.prover.stop()
+        self.lanes.shutdown()
+        self.room.cleanup()
+
+    def begin(self, name):
+        """Begins with the edits of that crate, whose libraries are built."""
+        edits = self.of.pop(name, None)
+        if edits:
+            self.pending.append(self.lanes.submit(self.prove_as_it_stands, name, edits))
+
+    def prove_as_it_stands(self, name, edits):
+        base = f"{self.room.name}/{name}"
+        status, told = self.prover.check(name, {}, sorted({it.function for it in edits}), base)
+        if status:
+            self.say(f"{name}: the functions that refuse its edits aren't proved as they stand: {told[-1000:]}")
+            return
+        for edit in edits:
+            self.pending.append(self.lanes.submit(self.try_one, edit, base))
+
+    def try_one(self, edit, base):
+        over = f"{base}.{os.path.basename(edit.path)}"
+        shutil.copytree(base, over)
+        well, why = refuses(edit, *self.prover.check(edit.crate, edit.texts, [edit.function], over))
+        shutil.rmtree(over)
+        self.say(f"{edit}: {why}")
+        self.refused += well
+
+    def end(self):
+        """Waits until all that has begun is tried, and returns how many edits were refused, and how many not."""
+        while self.pending:
+            self.pending.pop().result()
+        return self.refused, self.count - self.refused
 
 
 def main():
@@ -160,7 +185,10 @@ def main():
     if faults:
         print("\n".join(faults))
         return 1
-    well, ill = refused(root, edits, lambda text: print(text, flush=True))
+    with Trials(root, edits, lambda text: print(text, flush=True)) as trials:
+        for name in names:
+            trials.begin(name)
+        well, ill = trials.end()
     print(f"{well} refused, {ill} not")
     return 1 if ill else 0
 

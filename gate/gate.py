@@ -1,8 +1,8 @@
 """Passes the tests: ./gate.sh [--anew] [--whole] [--record NAME]
 
 First come the definitions that documents quote and list, and a look at each wrong program. Then `rt ci` proves every crate and its
-tests from nothing, and runs the tests and the stored run. Over what it has built, the prover has to refuse the wrong programs of
-must-fail/, each at the function that it names. Last, all scenarios are run by the program that was proved, and each of its
+tests from nothing, and runs the tests and the stored run. Beside it, over what it has built so far, the prover has to refuse the wrong
+programs of must-fail/, each at the function that it names. Last, all scenarios are run by the program that was proved, and each of its
 allocations is refused in turn. The last line is as `rt ci`'s: N passed, 0 failed, of the crates and the wrong programs. The exit
 status is 0 where all is well.
 
@@ -28,7 +28,7 @@ import tempfile
 import time
 
 from costs import Costs, record
-from edits import KINDS, edits_of, refused
+from edits import KINDS, Trials, edits_of
 
 ROOT = os.path.dirname(os.path.dirname(os.path.abspath(__file__)))
 PROGRAM = "crates/tpcc/out/tpcc"
@@ -48,22 +48,25 @@ def crates():
 
 
 class Progress:
-    """Says after each part of `rt ci` how many of how many crates have passed it."""
+    """Says after each part of `rt ci` how many of how many crates have passed it, and tells of each crate that is proved."""
 
-    def __init__(self, root):
+    def __init__(self, root, proved):
         named = crates()
         has = lambda it, *words: subprocess.run(["grep", "-rqF", *words], cwd=f"{root}/crates/{it}", stderr=subprocess.DEVNULL).returncode == 0
-        self.parts = {
-            "proofs": (re.compile(r"rt: \w+ (proved|is kept)"), len(named)),
-            "tests": (re.compile(r"rt: \w+: its tests are proved"), sum(has(it, "#[test]", "src") for it in named)),
+        self.proved, self.parts = proved, {
+            "proofs": (re.compile(r"rt: (\w+) (proved|is kept)"), len(named)),
+            "tests": (re.compile(r"rt: (\w+): its tests are proved"), sum(has(it, "#[test]", "src") for it in named)),
         }
         self.done = dict.fromkeys(self.parts, 0)
 
     def look(self, line):
         for part, (pattern, _) in self.parts.items():
-            if pattern.match(line):
+            found = pattern.match(line)
+            if found:
                 self.done[part] += 1
                 say(", ".join(f"{name} of {self.done[name]} of {of} crates" for name, (_, of) in self.parts.items()))
+                if part == "proofs":
+                    self.proved(found[1])
 
 
 def words_for(anew):
@@ -76,9 +79,9 @@ def words_for(anew):
     return ["--anew"] if anew and keeps else []
 
 
-def prove(root, words):
-    """Runs `rt ci` there, and returns how many passed and failed."""
-    progress, verdict = Progress(root), (0, 1)
+def prove(root, words, proved):
+    """Runs `rt ci` there, and returns how many passed and failed. Of each crate that is proved it tells `proved`."""
+    progress, verdict = Progress(root, proved), (0, 1)
     with subprocess.Popen(["rt", "ci", *words], cwd=root, stdout=subprocess.PIPE, text=True, errors="replace") as ran:
         try:
             for line in ran.stdout:
@@ -122,19 +125,18 @@ def run(anew, whole):
     if faults:
         print("\n".join(faults))
         return 0, 1
-    say("part 1 of 4: every crate and its tests proved from nothing; the tests")
-    with without_edits() as room:
-        passed, failed = prove(room, words_for(anew))
+    edits = edits_of(ROOT, crates(), KINDS if whole else KINDS[:1])
+    say(f"part 1 of 3: every crate and its tests proved from nothing, and {len(edits)} wrong programs refused; the tests")
+    with without_edits() as room, Trials(room, edits, say) as trials:
+        passed, failed = prove(room, words_for(anew), trials.begin)
         if failed:
             return passed, failed
-        edits = edits_of(ROOT, crates(), KINDS if whole else KINDS[:1])
-        say(f"part 2 of 4: {len(edits)} wrong programs, which the prover has to refuse")
-        counts = refused(room, edits, say)
+        counts = trials.end()
         passed, failed = passed + counts[0], failed + counts[1]
         os.makedirs(f"{ROOT}/{os.path.dirname(PROGRAM)}", exist_ok=True)
         shutil.copy(f"{room}/{PROGRAM}", f"{ROOT}/{PROGRAM}")
-    failed += not passes("part 3 of 4: all scenarios by the program that was proved", "scenarios/run", "--program", PROGRAM)
-    failed += not passes("part 4 of 4: each allocation of that program refused in turn", "gate/allocations.py", PROGRAM)
+    failed += not passes("part 2 of 3: all scenarios by the program that was proved", "scenarios/run", "--program", PROGRAM)
+    failed += not passes("part 3 of 3: each allocation of that program refused in turn", "gate/allocations.py", PROGRAM)
     return passed, failed
 
 
