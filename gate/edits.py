@@ -134,7 +134,7 @@ class Trials:
     its libraries are built. It is entered and left; left early, what is under way ends."""
 
     def __init__(self, root, edits, say):
-        self.say, self.prover, self.of, self.pending, self.refused, self.count = say, Prover(root), {}, [], 0, len(edits)
+        self.say, self.prover, self.of, self.pending, self.count = say, Prover(root), {}, [], len(edits)
         for edit in edits:
             self.of.setdefault(edit.crate, []).append(edit)
 
@@ -159,23 +159,26 @@ class Trials:
         status, told = self.prover.check(name, {}, sorted({it.function for it in edits}), base)
         if status:
             self.say(f"{name}: the functions that refuse its edits aren't proved as they stand: {told[-1000:]}")
-            return
+            return 0
         for edit in edits:
             self.pending.append(self.lanes.submit(self.try_one, edit, base))
+        return 0
 
     def try_one(self, edit, base):
-        over = f"{base}.{os.path.basename(edit.path)}"
+        over = f"{base}.{edit.path.replace(os.sep, '.')}"
         shutil.copytree(base, over)
         well, why = refuses(edit, *self.prover.check(edit.crate, edit.texts, [edit.function], over))
         shutil.rmtree(over)
         self.say(f"{edit}: {why}")
-        self.refused += well
+        return int(well)
 
     def end(self):
         """Waits until all that has begun is tried, and returns how many edits were refused, and how many not."""
+        refused = 0
         while self.pending:
-            self.pending.pop().result()
-        return self.refused, self.count - self.refused
+            # (a crate's first check adds its edits before it ends)
+            refused += self.pending.pop().result()
+        return refused, self.count - refused
 
 
 def main():
