@@ -1,5 +1,5 @@
 -- What follows when a phase has met.
-use Rattle.std.proofs.Common.{◌≡◌, ◌≤◌, ◌⊎◌, inl, inr, ◌+◌, List, [], ◌∷◌, ◌++◌, length, Option, Some, None, refl, sym, ap, ◌∙◌, subst, arith}
+use Rattle.std.proofs.Common.{◌≡◌, ◌≤◌, ◌⊎◌, inl, inr, ◌+◌, List, ◌++◌, length, Option, Some, None, refl, sym, ap, ◌∙◌, subst, arith}
 use Rattle.std.specs.Prelude.{All, IfSome}
 use Rattle.std.proofs.lemmas.List.Elements.{All-append}
 use Rattle.partitions.specs.Parts.{Shared, shared_of}
@@ -13,7 +13,6 @@ use Rattle.requests.specs.declared.refusal.Refusal.TheVariants as refusal
 use Rattle.tickets.specs.Claims.{Claiming, all_claims}
 use Rattle.commit_log.specs.Claimed.{IsCarriedOut}
 use Rattle.transactions.specs.declared.acting.Ran.{Ran}
-use Rattle.transactions.specs.declared.acting.Ran.TheVariants as ran
 use Rattle.transactions.specs.declared.work.Found.{Found}
 use Rattle.transactions.specs.declared.progress.Progress.{Progress}
 use Rattle.transactions.specs.declared.progress.Gathered.TheVariants.{Next, Finish, RollBack}
@@ -23,7 +22,8 @@ use Rattle.executor.specs.declared.following.Following.TheVariants.{Over}
 use Rattle.executor.specs.Courses.{Keeping, KeepsWhole}
 use Rattle.executor.specs.Journeys.{AreUndoneBy, CarriesJourney, Journeying}
 use Rattle.executor.specs.Phases.{AreAllRans, Meeting}
-use Rattle.executor.specs.Sorted.{found_in, held_in, refusal_of}
+use Rattle.transactions.specs.SortedOut.{found_in, held_in, refusal_of}
+use Rattle.transactions.proofs.SortedOut.{memory_last, none_before}
 use Rattle.executor.specs.Released.{refused}
 use Rattle.executor.specs.Followed.{Follows, FollowsUnless, Gathers, HasMetUnder, transaction_of}
 use Rattle.executor.proofs.SortedOut.{all_done, all_undone, as_many}
@@ -61,25 +61,6 @@ module _ {J : Type 0} where
     -- and there is room for what they hold
     pub room_then : length j.held + length (works_of j.progress) ≤ 18 → length j.held + length rans ≤ 18
     room_then few = omega (arith, few, as_many shared j.age (works_of j.progress) rans are)
-
-  -- want of memory is answered only where no one died
-  memory_last : (rans : List (Ran J))
-      → ((refusal_of None rans ≡ None) × (refusal_of (Some refusal.NoMemory) rans ≡ Some refusal.NoMemory)) ⊎ (refusal_of (Some refusal.NoMemory) rans ≡ refusal_of None rans)
-  memory_last [] = inl (refl, refl)
-  memory_last (ran.Done claims found ∷ rans) = memory_last rans
-  memory_last (ran.Died group holder ∷ rans) = inr refl
-  memory_last (ran.NoMemory ∷ rans) = inr refl
-
-  not_refused : (why : Refusal) (rans : List (Ran J)) → refusal_of (Some why) rans ≡ None → ⊥
-  not_refused why [] is = cc
-  not_refused why (ran.Done claims found ∷ rans) is = not_refused why rans is
-  not_refused why (ran.Died group holder ∷ rans) is = not_refused _ rans is
-  not_refused why (ran.NoMemory ∷ rans) is = not_refused why rans is
-
-  -- a transaction that isn't refused had no reason to be
-  pub none_before : (start : Option Refusal) (rans : List (Ran J)) → refusal_of start rans ≡ None → refusal_of None rans ≡ None
-  none_before None rans is = is
-  none_before (Some why) rans is = absurd (not_refused why rans is)
 
   -- ---- what follows
 

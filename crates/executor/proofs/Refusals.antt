@@ -29,7 +29,7 @@ use Rattle.executor.specs.Answers.{MayBeRefused}
 use Rattle.executor.specs.Carrying.{IsRanBy}
 use Rattle.executor.specs.Journeys.{CarriesJourney, Journeying}
 use Rattle.executor.specs.Phases.{AreAllRans}
-use Rattle.executor.specs.Sorted.{earlier_death, refusal_of, refused_by}
+use Rattle.transactions.specs.SortedOut.{earlier_death, refusal_of, refused_by}
 
 -- ---- wishes for a group
 

@@ -10,7 +10,7 @@ use Rattle.requests.proofs.Sendable.{Refusal-send, Reply-send, Request-send}
 use Rattle.agreement.proofs.Sendable.{Seat-send}
 use Rattle.tickets.proofs.Sendable.{Claims-send}
 use Rattle.commit_log.proofs.Sendable.{Pass-send}
-use Rattle.transactions.proofs.Sendable.{Progress-send, Work-send, Ran-send, Station-send}
+use Rattle.transactions.proofs.Sendable.{HeldClaims-send, Progress-send, Work-send, Ran-send, Station-send}
 use Rattle.rendezvous.proofs.Sendable.{Meeting-send}
 use Rattle.tickets.specs.declared.group_names.GroupNames.{Ghosts as GroupNames}
 use Rattle.commit_log.specs.declared.log_names.LogNames.{Ghosts as LogNames}
@@ -21,7 +21,6 @@ use Rattle.executor.specs.contracts.errand.Errand as Errand
 use Rattle.executor.specs.contracts.errand.Carried as Carried
 use Rattle.executor.specs.contracts.giving_back.Settle as Settle
 use Rattle.executor.specs.contracts.giving_back.Undo as Undo
-use Rattle.executor.specs.contracts.held.HeldClaims as HeldClaims
 use Rattle.executor.specs.contracts.journey.Matter as Matter
 use Rattle.executor.specs.contracts.journey.Transaction as Transaction
 use Rattle.executor.specs.contracts.journey.Journey as Journey
@@ -43,10 +42,6 @@ Answer-send = variants_send (Result.enum u32 Refusal.the_row) (
 
 Matter-send : IsSend Matter.the_row
 Matter-send = declared_send Matter.the_type (Request-send, (Progress-send, (Reply-send, tt)))
-
-module _ (J : RattleType) (names : GroupNames J.Denot) (s : IsSend J) where
-  HeldClaims-send : IsSend (HeldClaims.the_row J names)
-  HeldClaims-send = view_send _ _ _ _ _ (declared_send (HeldClaims.TheInside.the_type J names) (search (Claims-send, Vec-send) depth 10, tt))
 
 module _ (J : RattleType) (course : CourseNames J.Denot) (log : LogNames J.Denot) (groups : GroupNames J.Denot) (s : IsSend J) where
   Share-send : IsSend (Share.the_row J course log groups)

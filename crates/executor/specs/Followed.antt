@@ -20,7 +20,7 @@ use Rattle.executor.specs.Journeys.{Journeying, journeying}
 use Rattle.executor.specs.Transactions.{Transacting}
 use Rattle.executor.specs.Pauses.{pausing}
 use Rattle.executor.specs.Phases.{Meeting}
-use Rattle.executor.specs.Sorted.{found_in, held_in, refusal_of}
+use Rattle.transactions.specs.SortedOut.{found_in, held_in, refusal_of}
 use Rattle.executor.specs.Released.{refused}
 use Rattle.executor.specs.Commits.{committing}
 

@@ -6,7 +6,6 @@ pub mod Phases
 pub mod Reports
 pub mod Begins
 pub mod Posts
-pub mod Sorted
 pub mod Givings
 pub mod Answers
 pub mod Released

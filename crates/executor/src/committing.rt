@@ -1,10 +1,8 @@
 //! A transaction is logged.
-ghost use Rattle.std.specs.Prelude.{◌≡◌, ◌<◌, ◌≤◌, ◌↔◌, ◌∷◌, ◌++◌, [], All, IfErr, IfOk, length, map};
+ghost use Rattle.std.specs.Prelude.{◌≡◌, ◌<◌, All};
 ghost use Rattle.requests.specs.Check.{IsAccepted};
 ghost use Rattle.tickets.specs.Claims.{all_claims};
-ghost use Rattle.commit_log.specs.Claimed.{IsCarriedOut, claims_logged};
-ghost use Rattle.commit_log.specs.Items.{item};
-ghost use Rattle.commit_log.specs.Passing.{after_item, after_refusal};
+ghost use Rattle.commit_log.specs.Claimed.{IsCarriedOut};
 ghost use Rattle.executor.specs.Commits as spec;
 ghost use Rattle.executor.specs.Commits.{Commits, committing};
 ghost use Rattle.executor.specs.Courses.{KeepsWhole};
@@ -13,10 +11,11 @@ ghost use Rattle.executor.specs.Transactions.{transacting};
 
 use crate::journey::Transaction;
 use crate::release::Returns;
-use crate::{CourseNames, HeldClaims, Keeper, Release, Told};
-use commit_log::{AppendFault, Entry, Log, Pass};
+use crate::{CourseNames, Keeper, Release, Told};
+use commit_log::{AppendFault, Entry, Log};
 use requests::{Refusal, Reply, Request};
 use std::marker::Model;
+use transactions::HeldClaims;
 
 /// A transaction that was carried out, on its way to the log.
 ///
@@ -115,7 +114,7 @@ impl<J: CourseNames> Commit<J> {
         };
         let is_settled = is_settled(&entry.reply);
         let mut held = held;
-        match append(log, &mut held, pass, entry) {
+        match held.append(log, pass, entry) {
             Ok((place, pass)) => Release {
                 told: Told {
                     age,
@@ -145,30 +144,6 @@ fn is_settled(reply: &Reply) -> bool
     ensures { result ≡ spec.is_settled reply.now }
 {
     !matches!(reply, Reply::RolledBack(_))
-}
-
-// The log has the entry more, or refuses it.
-fn append<J: CourseNames>(
-    log: &mut Log<J>,
-    held: &mut HeldClaims<J>,
-    pass: Pass<J>,
-    entry: Entry,
-) -> Result<(u32, Pass<J>), (AppendFault, Pass<J>)>
-    requires session { entry.session ≡ pass.session }
-    requires number { pass.asks.number ≡ entry.number }
-    requires request { pass.asks.request ≡ entry.request }
-    requires accepted { IsAccepted J.opening.scale entry.request }
-    requires carried_out { IsCarriedOut J.opening entry.request (all_claims held.old) entry.reply }
-    ensures entry { IfOk result (λ done. (length log.old < 16777216) × (log.new ≡ log.old ++ entry ∷ [])) }
-    ensures place { IfOk result (λ done. done.0 ≡ length log.old) }
-    ensures later { IfOk result (λ done. pass.seen ≤ done.0) }
-    ensures pass { IfOk result (λ done. done.1 ≡ after_item pass (item done.0 entry.number entry.request entry.reply)) }
-    ensures held { IfOk result (λ done. held.new ≡ map (claims_logged entry.reply) held.old) }
-    ensures err { IfErr result (λ refused. (log.new ≡ log.old) × (held.new ≡ held.old)) }
-    ensures full { IfErr result (λ refused. (refused.0 ≡ AppendFault.LogFull) ↔ (16777216 ≤ length log.old)) }
-    ensures refused { IfErr result (λ refused. refused.1 ≡ after_refusal refused.0 (length log.old) pass) }
-{
-    log.append(&mut held.places, pass, entry)
 }
 
 fn why_refused(fault: AppendFault) -> Refusal

@@ -1,18 +1,19 @@
 //! What follows when a phase is over.
-ghost use Rattle.std.specs.Prelude.{◌≡◌, All};
+ghost use Rattle.std.specs.Prelude.{◌≡◌, ◌≤◌, ◌+◌, ◌++◌, All, None, [], length, vec_capacity};
 ghost use Rattle.partitions.specs.Parts.{shared_of};
 ghost use Rattle.executor.specs.Journeys.{AreUndoneBy, IsAskedBy};
 ghost use Rattle.executor.specs.Followed.{Follows, Gathers, HasMetUnder};
 ghost use Rattle.executor.specs.Transactions.{transacting};
+ghost use Rattle.transactions.specs.SortedOut.{found_in, held_in, refusal_of};
 
 use crate::journey::Transaction;
-use crate::sorting::Sorted;
-use crate::{Commit, CourseNames, HeldClaims, Journey, Keeper, Met, Paused, Release};
+use crate::{Commit, CourseNames, Journey, Keeper, Met, Paused, Release};
+use rendezvous::Results;
 use requests::{Refusal, Reply};
 use std::alloc::Global;
 use transactions::{
-    Found, Gathered, Progress, claims_are_of_the_footprint, reached_requests_are_accepted,
-    transactions_have_few_actions,
+    Found, Gathered, HeldClaims, MOST_ACTIONS, Progress, Ran, Sorted, claims_are_of_the_footprint,
+    reached_requests_are_accepted, transactions_have_few_actions,
 };
 
 /// What follows once all actions of a phase are over.
@@ -43,12 +44,9 @@ impl<J: CourseNames> Met<J> {
             mut transaction,
             held,
         } = journey;
-        let sorted = Sorted::start(alloc, held, rans.len());
-        let Sorted {
-            held,
-            found,
-            refusal,
-        } = sorted.sort_out(rans);
+        let start = Sorted::start(alloc, rans.len());
+        let (held, sorted) = sort_out(rans, held, start);
+        let Sorted { found, refusal } = sorted;
         match refusal {
             Some(why) => Following::Over(Release::refused(keeper, transaction, held, why)),
             None => {
@@ -57,6 +55,24 @@ impl<J: CourseNames> Met<J> {
             }
         }
     }
+}
+
+// The transaction holds what its actions hold, and what they found stands in order, unless it is refused.
+fn sort_out<J: CourseNames>(
+    mut rans: Results<Ran<J>>,
+    mut held: HeldClaims<J>,
+    mut sorted: Sorted,
+) -> (HeldClaims<J>, Sorted)
+    requires room { length held + length rans ≤ MOST_ACTIONS }
+    requires found { sorted.refusal ≡ None → (sorted.found.items ≡ []) × (length rans ≤ vec_capacity sorted.found) }
+    ensures held { result.0 ≡ held ++ held_in rans }
+    ensures refusal { result.1.refusal ≡ refusal_of sorted.refusal rans }
+    ensures found { result.1.refusal ≡ None → result.1.found.items ≡ found_in rans }
+{
+    while let Some(ran) = rans.next() {
+        sorted.sort_one(ran, &mut held);
+    }
+    (held, sorted)
 }
 
 // What follows of what the actions of a phase found, which all have done their work.

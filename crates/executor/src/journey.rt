@@ -9,14 +9,14 @@ ghost use Rattle.transactions.specs.Progresses.{IsReached};
 ghost use Rattle.executor.specs.Journeys.{HasBegun, IsAskedBy};
 ghost use Rattle.executor.specs.Transactions.{transacting};
 
-use crate::{CourseNames, HeldClaims};
+use crate::CourseNames;
 use commit_log::Pass;
 use requests::{Fault, Reply, Request, StockLevel};
 use schema::{DistrictKey, NoMemory};
 use std::alloc::Global;
 use std::marker::Model;
 use std::mem;
-use transactions::{Progress, stock_level};
+use transactions::{HeldClaims, Progress, stock_level};
 
 /// What is large of a transaction, in a box: that is made as the transaction begins, and goes with it until its session is told
 /// what came of it, so whoever passes the transaction on copies none of it.

@@ -8,10 +8,12 @@ ghost use Rattle.executor.specs.Journeys.{AreUndoneBy, CanAllBeUndone};
 ghost use Rattle.executor.specs.Pauses.{pausing};
 
 use crate::following::gather;
-use crate::{CourseNames, Following, GivenBack, HeldClaims, Journey, Keeper, Posts, Undo};
+use crate::{CourseNames, Following, GivenBack, Journey, Keeper, Posts, Undo};
 use std::alloc::Global;
 use std::marker::Model;
-use transactions::{Found, Work, actions_can_do_their_work, transactions_have_few_actions};
+use transactions::{
+    Found, HeldClaims, Work, actions_can_do_their_work, transactions_have_few_actions,
+};
 use wait_die::{Age, Holder};
 
 /// A transaction between two phases: no action of it is under way, and all shares of its course are here.

@@ -8,11 +8,12 @@ ghost use Rattle.executor.specs.Released.{IsGivenBack, IsGivenFor, giving_of, re
 ghost use Rattle.executor.specs.Transactions.{transacting};
 
 use crate::journey::Transaction;
-use crate::{CourseNames, HeldClaims, Keeper, Settle, Undo};
+use crate::{CourseNames, Keeper, Settle, Undo};
 use commit_log::Pass;
 use requests::Refusal;
 use std::marker::Model;
 use tickets::Claims;
+use transactions::HeldClaims;
 
 /// An answer on its way to its session, with the session's pass: the place in the log at which the transaction's entry stands, with
 /// its reply, or why it was refused.

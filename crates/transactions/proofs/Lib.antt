@@ -48,4 +48,5 @@ pub mod DeliverySteps
 pub mod Stations
 pub mod Wanted
 pub mod Held
+pub mod SortedOut
 pub mod Sendable

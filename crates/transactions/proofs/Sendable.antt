@@ -14,6 +14,7 @@ use Rattle.transactions.specs.contracts.acting.Ran as Ran
 use Rattle.transactions.specs.contracts.delivery.phases.Progress as DeliveryProgress
 use Rattle.transactions.specs.contracts.delivery.work.Work as DeliveryWork
 use Rattle.transactions.specs.contracts.delivery.work.Found as DeliveryFound
+use Rattle.transactions.specs.contracts.holding.HeldClaims as HeldClaims
 use Rattle.transactions.specs.contracts.listed.Listed as Listed
 use Rattle.transactions.specs.contracts.new_order.HomeFound as HomeFound
 use Rattle.transactions.specs.contracts.new_order.HomeShown as HomeShown
@@ -379,6 +380,9 @@ Found-send = variants_send Found.enum (
 
 -- ---- at a station
 module _ (J : RattleType) (names : GroupNames J.Denot) (s : IsSend J) where
+  pub HeldClaims-send : IsSend (HeldClaims.the_row J names)
+  HeldClaims-send = view_send _ _ _ _ _ (declared_send (HeldClaims.TheInside.the_type J names) (search (Claims-send, Vec-send) depth 10, tt))
+
   pub Ran-send : IsSend (Ran.the_row J names)
   Ran-send = variants_send (Ran.enum J names) (
     (Claims-send J names s, (Found-send, tt)),

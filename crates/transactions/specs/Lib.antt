@@ -14,4 +14,5 @@ pub mod Stations
 pub mod Works
 pub mod Progresses
 pub mod Acting
+pub mod SortedOut
 pub mod Laws

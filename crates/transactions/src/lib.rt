@@ -14,17 +14,20 @@
 
 mod acting;
 pub mod delivery;
+mod holding;
 mod laws;
 mod listed;
 pub mod new_order;
 pub mod order_status;
 pub mod payment;
 mod progress;
+mod sorting;
 mod station;
 pub mod stock_level;
 mod work;
 
 pub use acting::{Ran, settle, undo};
+pub use holding::HeldClaims;
 pub use laws::{
     MOST_ACTIONS, accepted_requests_have_their_groups, actions_can_do_their_work,
     claims_are_of_the_footprint, phases_have_actions, reached_requests_are_accepted,
@@ -33,5 +36,6 @@ pub use laws::{
 };
 pub use listed::Listed;
 pub use progress::{Gathered, Progress};
+pub use sorting::Sorted;
 pub use station::{Acted, Parked, Station, Turned};
 pub use work::{Found, Work, run};

@@ -23,7 +23,9 @@ use Rattle.world.specs.declared.flight.Flow.{Flow}
 use Rattle.world.specs.declared.flight.Report.{Report}
 use Rattle.world.specs.Flights.{part, join, parts, part_carried, part_met, unanswered_transaction}
 use Rattle.world.specs.Parted.{AreUndoneBy}
-use Rattle.world.specs.Following.{earlier_death, found_by, found_in, held_by, held_in, refusal_of, refused_by, refused_still}
+use Rattle.transactions.specs.SortedOut.{earlier_death, found_by, held_by, refused_by}
+use Rattle.transactions.proofs.SortedOut.{one_holds, stays_refused}
+use Rattle.world.specs.Following.{found_in, held_in, rans_of, refusal_of}
 use Rattle.world.specs.Sound.{NamesOlder, UnderWay, IsPlaceOf, IsWorkAt, IsSoundFlow, IsCarriedAt, IsSoundRan, IsSoundReport, IsSoundPhase}
 use Rattle.world.proofs.Joins.{IsSame, same-refl, same-trans, same-join, same-middle}
 use Rattle.world.proofs.OnGroups.{first_wish, later_wish}
@@ -101,18 +103,6 @@ module _ {J : Type 0} where
   held_by_ran (ran.Done claims found) = sym (append-nil claims)
   held_by_ran (ran.Died group holder) = refl
   held_by_ran ran.NoMemory = refl
-
-  -- an action holds the claims of one at most
-  pub one_holds : (own : Ran J) → length (held_by own) ≤ 1
-  one_holds (ran.Done claims found) = omega arith
-  one_holds (ran.Died group holder) = omega arith
-  one_holds ran.NoMemory = omega arith
-
-  -- ---- refusals
-
-  pub stays_refused : (why : Refusal) (reports : List (Report J)) → refusal_of (Some why) reports ≡ None → ⊥
-  stays_refused why [] is = absurd (cc)
-  stays_refused why (r ∷ reports) is = stays_refused (refused_still why r.ran) reports is
 
   -- ---- the reports of a phase
 
@@ -228,8 +218,8 @@ module _ {J : Type 0} where
         → refusal_of (refused_by None own) reports ≡ None
         → HaveAllDone shared (work ∷ works) (found_by own ++ found_in reports) (held_by own ++ held_in reports)
     one_done work works reports (ran.Done claims found) has rest none = (has.0, rest none)
-    one_done work works reports (ran.Died group holder) has rest none = absurd (stays_refused (refusal.Died group holder) reports none)
-    one_done work works reports ran.NoMemory has rest none = absurd (stays_refused refusal.NoMemory reports none)
+    one_done work works reports (ran.Died group holder) has rest none = absurd (stays_refused (refusal.Died group holder) (rans_of reports) none)
+    one_done work works reports ran.NoMemory has rest none = absurd (stays_refused refusal.NoMemory (rans_of reports) none)
 
     pub all_done : (place : ℕ) (works : List Work) (reports : List (Report J)) → HaveReported place works reports → refusal_of None reports ≡ None
         → HaveAllDone shared works (found_in reports) (held_in reports)

@@ -1,7 +1,7 @@
 -- What the actions of a phase reported is sorted out, one report after another.
-use Rattle.std.proofs.Common.{◌≡◌, ◌↔◌, ◌⊎◌, inl, inr, false, ℕ, ◌+◌, ◌<◌, ◌≤◌, List, [], ◌∷◌, ◌++◌, length, Option, Some, None, refl, sym, ◌∙◌, ap, subst, arith, append-nil, append_assoc, IsSome}
-use Rattle.std.specs.Prelude.{slice_set}
-use Rattle.std.proofs.lemmas.List.{length-append, set-set}
+use Rattle.std.proofs.Common.{◌≡◌, ◌⊎◌, inl, inr, false, ℕ, ◌+◌, ◌<◌, ◌≤◌, List, [], ◌∷◌, ◌++◌, length, Option, Some, None, sym, ◌∙◌, ap, subst, arith, append-nil, append_assoc}
+use Rattle.std.specs.Prelude.{IfSome, slice_set}
+use Rattle.std.proofs.lemmas.List.{length-append, length-map, set-set}
 use Rattle.requests.specs.declared.refusal.Refusal.{Refusal}
 use Rattle.requests.specs.declared.refusal.Refusal.TheVariants as refusal
 use Rattle.tickets.specs.Claims.{Claiming}
@@ -9,8 +9,6 @@ use Rattle.transactions.specs.declared.progress.Progress.{Progress}
 use Rattle.transactions.specs.declared.progress.Gathered.{Gathered}
 use Rattle.transactions.specs.declared.progress.Gathered.TheVariants.{Next, Finish, RollBack}
 use Rattle.transactions.specs.declared.work.Found.{Found}
-use Rattle.transactions.specs.declared.acting.Ran.{Ran}
-use Rattle.transactions.specs.declared.acting.Ran.TheVariants as ran
 use Rattle.transactions.specs.Progresses.{FollowsFrom, works_of}
 use Rattle.transactions.specs.declared.laws.TheConstants.{MOST_ACTIONS}
 use Rattle.world.specs.declared.desk.Active.{Active}
@@ -18,15 +16,11 @@ use Rattle.world.specs.declared.flight.Flow.{Flow}
 use Rattle.world.specs.declared.flight.Item.{Item}
 use Rattle.world.specs.declared.flight.Report.{Report}
 use Rattle.world.specs.declared.world.Parts.{Parts}
-use Rattle.world.specs.Following.{CarriesFirst, IfCarried, found_by, found_in, held_by, held_in, holding, putting, refusal_of, refused, refused_by, releasing, with_active}
+use Rattle.transactions.specs.SortedOut.{found_by, held_by, refused_by}
+use Rattle.world.specs.Following.{CarriesFirst, IfCarried, found_in, held_in, holding, putting, rans_of, refusal_of, refused, releasing, with_active}
 use Rattle.world.specs.Events.{CanMeet, CanMeetFor, GathersInto, HasMet, MeetsAs, MeetsUnless, goes_on}
 use Rattle.transactions.proofs.Reached.{few_actions}
-use Rattle.world.proofs.Reported.{one_holds, stays_refused}
-
--- where nothing is told nothing is left
-pub none_left : {X : Type 0} (results : List X) (told : Option X) → told ≡ None → (IsSome told ↔ (0 < length results)) → results ≡ []
-none_left [] told none some = refl
-none_left {X} (x ∷ results) told none some = let there : IsSome {T = X} None = subst (λ (o : Option X). IsSome o) none (some.1 (omega arith)) in absurd (cc)
+use Rattle.transactions.proofs.SortedOut.{few_held, memory_last, none_before, not_refused, one_finds, one_holds, was_none}
 
 -- the actions of the phase that follows are few
 pub next_few : (progress next : Progress) (found : List Found) → HasMet progress found → FollowsFrom progress found (Next next) → length (works_of next) ≤ MOST_ACTIONS
@@ -40,16 +34,6 @@ pub put_twice : {X : Type 0} (slots mid now : List (Option X)) (slot : ℕ) (a :
 put_twice slots mid now slot a free put = put ∙ ap (λ l. slice_set l slot a) free ∙ set-set slots slot None a
 
 module _ {J : Type 0} where
-  -- who isn't refused now wasn't before
-  was_none : (why : Option Refusal) (own : Ran J) → refused_by why own ≡ None → why ≡ None
-  was_none None own is = refl
-  was_none (Some why) own is = absurd (cc)
-
-  one_finds : (own : Ran J) → length (found_by own) ≤ 1
-  one_finds (ran.Done claims found) = omega arith
-  one_finds (ran.Died group holder) = omega arith
-  one_finds ran.NoMemory = omega arith
-
   -- ---- one report more
 
   module _ (r : Report J) (rest results : List (Report J)) (is : results ≡ r ∷ rest) where
@@ -104,16 +88,12 @@ module _ {J : Type 0} where
   refusal_all r rest all results why first last is empty told end =
       ap (λ rs. refusal_of last rs) (sym empty) ∙ end ∙ ap (λ o. refusal_of o rest) told ∙ ap (λ rs. refusal_of why rs) (sym is)
 
-  not_refused : (why : Option Refusal) (reports : List (Report J)) → refusal_of why reports ≡ None → why ≡ None
-  not_refused None reports is = refl
-  not_refused (Some why) reports is = absurd (stays_refused why reports is)
-
   -- and where there is none, what was found is what all found
   pub found_all : (r : Report J) (rest all results : List (Report J)) (why first last : Option Refusal) (given put found : List Found) → all ≡ r ∷ rest → results ≡ []
       → first ≡ refused_by why r.ran → refusal_of last results ≡ refusal_of first rest → (why ≡ None → given ≡ []) → (first ≡ None → put ≡ given ++ found_by r.ran)
       → (last ≡ None → found ++ found_in results ≡ put ++ found_in rest) → last ≡ None → found ≡ found_in all
   found_all r rest all results why first last given put found is empty told end start one more none =
-      let first_none : first ≡ None = not_refused first rest (sym end ∙ ap (λ rs. refusal_of last rs) empty ∙ none) in
+      let first_none : first ≡ None = not_refused first (rans_of rest) (sym end ∙ ap (λ rs. refusal_of last rs) empty ∙ none) in
       let why_none : why ≡ None = was_none why r.ran (sym told ∙ first_none) in
       sym (append-nil found) ∙ ap (λ rs. found ++ found_in rs) (sym empty) ∙ more none
       ∙ ap (λ fs. fs ++ found_in rest) (one first_none ∙ ap (λ fs. fs ++ found_by r.ran) (start why_none)) ∙ ap (λ rs. found_in rs) (sym is)
@@ -142,15 +122,11 @@ module _ {J : Type 0} where
   abbrev pub IsSorted : List (Report J) → Flow J → Type 0
   IsSorted reports last = CarriesFirst reports (λ f. last ≡ record f { transaction = holding f.transaction (held_in reports) })
 
-  few_held : (reports : List (Report J)) → length (held_in reports) ≤ length reports
-  few_held [] = omega arith
-  few_held (r ∷ reports) = omega (arith, one_holds r.ran, few_held reports, length-append (held_by r.ran) (held_in reports))
-
   pub sorted_room : (reports : List (Report J)) (last : Flow J) → CanMeet reports → IsSorted reports last → length last.transaction.held ≤ MOST_ACTIONS
   sorted_room reports last can sorted =
       carried_both reports (CanMeetFor reports) (λ f. last ≡ record f { transaction = holding f.transaction (held_in reports) }) (length last.transaction.held ≤ MOST_ACTIONS)
       (λ f meets is.
-      omega (arith, meets.room, ap (λ (x : Flow J). length x.transaction.held) is, length-append f.transaction.held (held_in reports), few_held reports)) can sorted
+      omega (arith, meets.room, ap (λ (x : Flow J). length x.transaction.held) is, length-append f.transaction.held (held_in reports), few_held (rans_of reports), length-map reports (λ r. r.ran))) can sorted
 
   -- the transaction is still in its slot
   pub sorted_slot : (reports : List (Report J)) (last : Flow J) → CanMeet reports → IsSorted reports last → last.transaction.slot < 64
@@ -162,32 +138,18 @@ module _ {J : Type 0} where
   pub sorted_done : (reports : List (Report J)) (last : Flow J) (start : Option Refusal) (found : List Found) → CanMeet reports → IsSorted reports last → refusal_of start reports ≡ None → found ≡ found_in reports
       → HasMet last.progress found
   sorted_done reports last start found can sorted none is_found =
-      let from_none : refusal_of None reports ≡ None = ap (λ o. refusal_of o reports) (sym (not_refused start reports none)) ∙ none in
+      let from_none : refusal_of None reports ≡ None = none_before start (rans_of reports) none in
       carried_both reports (CanMeetFor reports) (λ f. last ≡ record f { transaction = holding f.transaction (held_in reports) })
       (HasMet last.progress found)
       (λ f meets is.
       subst (λ fs. HasMet last.progress fs) (sym is_found) (subst (λ (x : Flow J). HasMet x.progress (found_in reports)) (sym is) (meets.done from_none))) can sorted
 
-  -- want of memory is answered only where no one died
-  memory_last : (reports : List (Report J))
-      → ((refusal_of None reports ≡ None) × (refusal_of (Some refusal.NoMemory) reports ≡ Some refusal.NoMemory)) ⊎ (refusal_of (Some refusal.NoMemory) reports ≡ refusal_of None reports)
-  memory_last [] = inl (refl, refl)
-  memory_last (r ∷ reports) = by r.ran (memory_last reports)
-    where
-      by : (own : Ran J)
-          → ((refusal_of None reports ≡ None) × (refusal_of (Some refusal.NoMemory) reports ≡ Some refusal.NoMemory)) ⊎ (refusal_of (Some refusal.NoMemory) reports ≡ refusal_of None reports)
-          → ((refusal_of (refused_by None own) reports ≡ None) × (refusal_of (refused_by (Some refusal.NoMemory) own) reports ≡ Some refusal.NoMemory))
-          ⊎ (refusal_of (refused_by (Some refusal.NoMemory) own) reports ≡ refusal_of (refused_by None own) reports)
-      by (ran.Done claims found) rest = rest
-      by (ran.Died group holder) rest = inr refl
-      by ran.NoMemory rest = inr refl
-
   -- it is refused, where an action has died or found no memory, or there was none to gather what they found
   pub meets_refused : (reports : List (Report J)) (last : Flow J) (start : Option Refusal) (why : Refusal) (old new : Parts J) → IsSorted reports last
-      → (start ≡ None) ⊎ (start ≡ Some refusal.NoMemory) → refusal_of start reports ≡ Some why → new ≡ releasing false (refused last.transaction why) old → MeetsAs reports old new
+      → IfSome start (λ w. w ≡ refusal.NoMemory) → refusal_of start reports ≡ Some why → new ≡ releasing false (refused last.transaction why) old → MeetsAs reports old new
   meets_refused reports last start why old new sorted begun told is =
       carried_there reports (λ f. last ≡ record f { transaction = holding f.transaction (held_in reports) }) (λ f. MeetsUnless (refusal_of None reports) reports f old new)
-      (λ f same. by f (is ∙ ap (λ (x : Flow J). releasing false (refused x.transaction why) old) same) begun) sorted
+      (λ f same. by f (is ∙ ap (λ (x : Flow J). releasing false (refused x.transaction why) old) same) start begun told) sorted
     where
       refused_at : (f : Flow J) → new ≡ releasing false (refused (holding f.transaction (held_in reports)) why) old → refusal_of None reports ≡ Some why → MeetsUnless (refusal_of None reports) reports f old new
       refused_at f so is_why = subst (λ o. MeetsUnless o reports f old new) (sym is_why) so
@@ -201,15 +163,16 @@ module _ {J : Type 0} where
           subst (λ o. MeetsUnless o reports f old new) (sym none.0) (inl (so ∙ ap (λ w. releasing false (refused (holding f.transaction (held_in reports)) w) old) same))
       by_memory f so is_why (inr alike) = refused_at f so (sym alike ∙ is_why)
 
-      by : (f : Flow J) → new ≡ releasing false (refused (holding f.transaction (held_in reports)) why) old → (start ≡ None) ⊎ (start ≡ Some refusal.NoMemory) → MeetsUnless (refusal_of None reports) reports f old new
-      by f so (inl none) = refused_at f so (ap (λ o. refusal_of o reports) (sym none) ∙ told)
-      by f so (inr memory) = by_memory f so (ap (λ o. refusal_of o reports) (sym memory) ∙ told) (memory_last reports)
+      by : (f : Flow J) → new ≡ releasing false (refused (holding f.transaction (held_in reports)) why) old → (before : Option Refusal) → IfSome before (λ w. w ≡ refusal.NoMemory)
+          → refusal_of before reports ≡ Some why → MeetsUnless (refusal_of None reports) reports f old new
+      by f so None begun told = refused_at f so told
+      by f so (Some w) begun told = by_memory f so (ap (λ (r : Refusal). refusal_of (Some r) reports) (sym begun) ∙ told) (memory_last (rans_of reports))
 
   -- or what they found is gathered
   pub meets_gathered : (reports : List (Report J)) (last : Flow J) (start : Option Refusal) (found : List Found) (old new : Parts J) → IsSorted reports last
       → refusal_of start reports ≡ None → found ≡ found_in reports → GathersInto last.progress found last.transaction old new → MeetsAs reports old new
   meets_gathered reports last start found old new sorted none is_found gathers =
-      let from_none : refusal_of None reports ≡ None = ap (λ o. refusal_of o reports) (sym (not_refused start reports none)) ∙ none in
+      let from_none : refusal_of None reports ≡ None = none_before start (rans_of reports) none in
       carried_there reports (λ f. last ≡ record f { transaction = holding f.transaction (held_in reports) }) (λ f. MeetsUnless (refusal_of None reports) reports f old new)
       (λ f same.
       subst (λ o. MeetsUnless o reports f old new) (sym from_none)

@@ -1,17 +1,15 @@
 -- What follows when a phase has met, and when a transaction is over.
 use Rattle.std.specs.Prelude.{ℕ, ◌+◌, Bool, true, false, zero, suc, List, [], ◌∷◌, ◌++◌, Option, Some, None, Result, Err, map, length, slice_set}
-use Rattle.requests.specs.declared.group.Group.{Group}
 use Rattle.requests.specs.declared.reply.Reply.{Reply}
 use Rattle.requests.specs.declared.reply.Reply.TheVariants as reply
 use Rattle.requests.specs.declared.refusal.Refusal.{Refusal}
-use Rattle.requests.specs.declared.refusal.Refusal.TheVariants as refusal
 use Rattle.tickets.specs.Claims.{Claiming}
 use Rattle.commit_log.specs.declared.entry.Entry.{Entry}
 use Rattle.commit_log.specs.Passing.{Passing}
 use Rattle.transactions.specs.declared.work.Work.{Work}
 use Rattle.transactions.specs.declared.work.Found.{Found}
 use Rattle.transactions.specs.declared.acting.Ran.{Ran}
-use Rattle.transactions.specs.declared.acting.Ran.TheVariants.{Done, Died, NoMemory}
+use Rattle.transactions.specs.SortedOut as sorted
 use Rattle.world.specs.declared.desk.Active.{Active}
 use Rattle.world.specs.declared.desk.Active.TheVariants.{Acting, Committing, Ending}
 use Rattle.world.specs.declared.flight.Transaction.{Transaction}
@@ -29,11 +27,6 @@ abbrev pub is_settled : Reply → Bool
 is_settled (reply.Done shown) = true
 is_settled (reply.RolledBack fault) = false
 
--- the first who died comes before want of memory
-abbrev pub earlier_death : Refusal → Group → ℕ → Refusal
-earlier_death (refusal.Died first older) group holder = refusal.Died first older
-earlier_death _ group holder = refusal.Died group holder
-
 module _ {J : Type 0} where
   -- ---- the actions of a phase
 
@@ -49,45 +42,21 @@ module _ {J : Type 0} where
 
   -- ---- what they report
 
-  -- the claims of an action that has done its work
-  abbrev pub held_by : Ran J → List (List Claiming)
-  held_by (Done claims found) = claims ∷ []
-  held_by (Died group holder) = []
-  held_by NoMemory = []
+  -- what came of them
+  abbrev pub rans_of : List (Report J) → List (Ran J)
+  rans_of reports = map (λ r. r.ran) reports
 
-  -- what it found
-  abbrev pub found_by : Ran J → List Found
-  found_by (Done claims found) = found ∷ []
-  found_by (Died group holder) = []
-  found_by NoMemory = []
-
-  -- the claims of the actions that have done their work, by place, those of each together
+  -- the claims of those that have done their work, by place, those of each together
   abbrev pub held_in : List (Report J) → List (List Claiming)
-  held_in [] = []
-  held_in (r ∷ reports) = held_by r.ran ++ held_in reports
+  held_in reports = sorted.held_in (rans_of reports)
 
-  -- what these actions found, by place
+  -- what they found, by place
   abbrev pub found_in : List (Report J) → List Found
-  found_in [] = []
-  found_in (r ∷ reports) = found_by r.ran ++ found_in reports
+  found_in reports = sorted.found_in (rans_of reports)
 
-  -- why a transaction is refused for which there was a reason before, after one more report
-  abbrev pub refused_still : Refusal → Ran J → Refusal
-  refused_still why (Done claims found) = why
-  refused_still why (Died group holder) = earlier_death why group holder
-  refused_still why NoMemory = why
-
-  -- why the transaction is refused, if it is, after one more has reported
-  abbrev pub refused_by : Option Refusal → Ran J → Option Refusal
-  refused_by (Some why) ran = Some (refused_still why ran)
-  refused_by None (Done claims found) = None
-  refused_by None (Died group holder) = Some (refusal.Died group holder)
-  refused_by None NoMemory = Some refusal.NoMemory
-
-  -- and after all of these have, by place
+  -- why the transaction is refused, if it is, where this was so before them
   abbrev pub refusal_of : Option Refusal → List (Report J) → Option Refusal
-  refusal_of why [] = why
-  refusal_of why (r ∷ reports) = refusal_of (refused_by why r.ran) reports
+  refusal_of why reports = sorted.refusal_of why (rans_of reports)
 
   -- what is carried is there, and this is so of it
   abbrev pub IfCarried : Option (Flow J) → (Flow J → Type 0) → Type 0

@@ -8,14 +8,13 @@ ghost use Rattle.world.specs.Happening.{Admits, CanAsk, CanSubmit, SubmitsAt};
 use crate::beginning::Phase;
 use crate::desk::{Active, SessionDesk};
 use crate::flight::{Flow, Message, Transaction};
-use crate::held::HeldClaims;
 use crate::world::Parts;
 use commit_log::{Names, Pass};
 use history::EventAnswer;
 use requests::{Refusal, Request, check};
 use schema::NoMemory;
 use std::alloc::Global;
-use transactions::Progress;
+use transactions::{HeldClaims, Progress};
 
 impl<J: Names> Parts<J> {
     // A session submits a request. Whether there is room in the inbox where it would begin, its caller tells.

@@ -1,19 +1,13 @@
 //! A transaction is logged.
-ghost use Rattle.std.specs.Prelude.{◌≡◌, ◌↔◌, ◌≤◌, ◌<◌, ◌+◌, IfErr, IfOk, ◌∷◌, ◌++◌, [], length, map};
-ghost use Rattle.requests.specs.Check.{IsAccepted};
-ghost use Rattle.tickets.specs.Claims.{all_claims};
-ghost use Rattle.commit_log.specs.Claimed.{IsCarriedOut, claims_logged};
-ghost use Rattle.commit_log.specs.Items.{item};
-ghost use Rattle.commit_log.specs.Passing.{after_item, after_refusal};
+ghost use Rattle.std.specs.Prelude.{◌≡◌, ◌≤◌, ◌<◌, ◌+◌, length};
 ghost use Rattle.world.specs.Events as spec;
 ghost use Rattle.world.specs.Events.{CanCommit, Commits};
 ghost use Rattle.world.specs.Following as following;
 
 use crate::flight::{CommitItem, Transaction};
-use crate::held::HeldClaims;
 use crate::sending::Release;
 use crate::world::Parts;
-use commit_log::{AppendFault, Entry, Log, Names, Pass};
+use commit_log::{AppendFault, Entry, Names};
 use history::EventAnswer;
 use requests::{Refusal, Reply};
 use transactions::MOST_ACTIONS;
@@ -41,7 +35,7 @@ impl<J: Names> Parts<J> {
             request,
             reply,
         };
-        match append(&mut self.log, &mut held, pass, entry) {
+        match held.append(&mut self.log, pass, entry) {
             Ok((place, pass)) => {
                 let over = Release {
                     age,
@@ -75,29 +69,6 @@ fn is_settled(reply: &Reply) -> bool
     ensures { result ≡ following.is_settled reply.now }
 {
     !matches!(reply, Reply::RolledBack(_))
-}
-
-// The log has the entry more, or refuses it.
-fn append<J: Names>(
-    log: &mut Log<J>,
-    held: &mut HeldClaims<J>,
-    pass: Pass<J>,
-    entry: Entry,
-) -> Result<(u32, Pass<J>), (AppendFault, Pass<J>)>
-    requires session { entry.session ≡ pass.session }
-    requires number { pass.asks.number ≡ entry.number }
-    requires request { pass.asks.request ≡ entry.request }
-    requires accepted { IsAccepted J.opening.scale entry.request }
-    requires carried_out { IsCarriedOut J.opening entry.request (all_claims held.old) entry.reply }
-    ensures entry { IfOk result (λ done. (length log.old < 16777216) × (log.new ≡ log.old ++ entry ∷ [])) }
-    ensures place { IfOk result (λ done. done.0 ≡ length log.old) }
-    ensures pass { IfOk result (λ done. done.1 ≡ after_item pass (item done.0 entry.number entry.request entry.reply)) }
-    ensures held { IfOk result (λ done. held.new ≡ map (claims_logged entry.reply) held.old) }
-    ensures err { IfErr result (λ refused. (log.new ≡ log.old) × (held.new ≡ held.old)) }
-    ensures full { IfErr result (λ refused. (refused.0 ≡ AppendFault.LogFull) ↔ (16777216 ≤ length log.old)) }
-    ensures refused { IfErr result (λ refused. refused.1 ≡ after_refusal refused.0 (length log.old) pass) }
-{
-    log.append(&mut held.places, pass, entry)
 }
 
 fn why_refused(fault: AppendFault) -> Refusal

@@ -1,10 +1,9 @@
 //! What is under way: messages to an executor, and items of its outbox.
-use crate::held::HeldClaims;
 use commit_log::{Names, Pass};
 use range_moves::Moving;
 use requests::{Refusal, Reply, Request};
 use tickets::Claims;
-use transactions::{Progress, Ran, Work};
+use transactions::{HeldClaims, Progress, Ran, Work};
 
 /// A transaction on its way, with its session's pass.
 #[derive(Drop)]

@@ -1,5 +1,5 @@
 //! All actions of a phase have reported: what they found is gathered, and what follows is done.
-ghost use Rattle.std.specs.Prelude.{◌≡◌, ◌≤◌, ◌<◌, ◌+◌, ◌∷◌, ◌++◌, [], length, vec_capacity, None, Some};
+ghost use Rattle.std.specs.Prelude.{◌≡◌, ◌≤◌, ◌<◌, ◌+◌, [], length, vec_capacity, None};
 ghost use Rattle.world.specs.Following as spec;
 ghost use Rattle.world.specs.Following.{CarriesFirst, found_in, held_in, holding, refusal_of};
 ghost use Rattle.world.specs.Events.{CanMeet, GathersInto, HasMet, MeetsAs};
@@ -7,14 +7,13 @@ ghost use Rattle.world.specs.Events.{CanMeet, GathersInto, HasMet, MeetsAs};
 use crate::beginning::Phase;
 use crate::desk::Active;
 use crate::flight::{CommitItem, Flow, Item, Report, Transaction};
-use crate::held::HeldClaims;
 use crate::sending::Release;
 use crate::world::Parts;
 use commit_log::Names;
 use rendezvous::Results;
 use requests::{Refusal, Reply};
 use std::alloc::Global;
-use transactions::{Found, Gathered, MOST_ACTIONS, Progress, Ran};
+use transactions::{Found, Gathered, MOST_ACTIONS, Progress, Ran, Sorted};
 
 impl<J: Names> Parts<J> {
     // All actions of a phase have reported. The first death by place is answered, and else want of memory;
@@ -24,15 +23,13 @@ impl<J: Names> Parts<J> {
         requires can { CanMeet results }
         ensures { MeetsAs results self.old self.new }
     {
-        let (found, refusal) = match Vec::with_capacity(alloc, results.len()) {
-            Ok(found) => (found, None),
-            Err(_) => (Vec::new(alloc), Some(Refusal::NoMemory)),
-        };
-        let (flow, found, refusal) = sort_out(results, found, refusal);
+        let start = Sorted::start(alloc, results.len());
+        let (flow, sorted) = sort_out(results, start);
         let Flow {
             transaction,
             progress,
         } = flow;
+        let Sorted { found, refusal } = sorted;
         match refusal {
             Some(why) => self.release(Release::refused(transaction, why), false),
             None => self.gather(alloc, transaction, progress, found),
@@ -90,18 +87,14 @@ impl<J: Names> Parts<J> {
     }
 }
 
-// The transaction holds what its actions hold, and what they found stands in order, unless one has died or
-// found no memory.
-fn sort_out<J: Names>(
-    mut results: Results<Report<J>>,
-    mut found: Vec<Found>,
-    refusal: Option<Refusal>,
-) -> (Flow<J>, Vec<Found>, Option<Refusal>)
+// The transaction, which came with the first report, holds what its actions hold, and what they found stands in
+// order, unless it is refused.
+fn sort_out<J: Names>(mut results: Results<Report<J>>, mut sorted: Sorted) -> (Flow<J>, Sorted)
     requires can { CanMeet results }
-    requires found { refusal ≡ None → (found.items ≡ []) × (length results ≤ vec_capacity found) }
+    requires found { sorted.refusal ≡ None → (sorted.found.items ≡ []) × (length results ≤ vec_capacity sorted.found) }
     ensures flow { CarriesFirst results (λ flow. result.0 ≡ record flow { transaction = holding flow.transaction (held_in results) }) }
-    ensures refusal { result.2 ≡ refusal_of refusal results }
-    ensures found { result.2 ≡ None → result.1.items ≡ found_in results }
+    ensures refusal { result.1.refusal ≡ refusal_of sorted.refusal results }
+    ensures found { result.1.refusal ≡ None → result.1.found.items ≡ found_in results }
 {
     let Some(first) = results.next() else {
         unreachable!()
@@ -113,68 +106,16 @@ fn sort_out<J: Names>(
         ran,
     } = first;
     let Some(mut flow) = flow else { unreachable!() };
-    let mut refusal = sort_one(ran, &mut flow.transaction.held, &mut found, refusal);
+    sorted.sort_one(ran, &mut flow.transaction.held);
     while let Some(report) = results.next() {
-        refusal = sort_later(report, &mut flow.transaction.held, &mut found, refusal);
+        sorted.sort_one(ran_of(report), &mut flow.transaction.held);
     }
-    (flow, found, refusal)
+    (flow, sorted)
 }
 
-// What came of one action, whose report is not the first: no transaction goes with it.
-fn sort_later<J: Names>(
-    report: Report<J>,
-    held: &mut HeldClaims<J>,
-    found: &mut Vec<Found>,
-    refusal: Option<Refusal>,
-) -> Option<Refusal>
-    requires held { length held.old + 1 ≤ MOST_ACTIONS }
-    requires found { refusal ≡ None → length found.old.items + 1 ≤ vec_capacity found.old }
-    ensures refusal { result ≡ spec.refused_by refusal report.ran }
-    ensures held { held.new ≡ held.old ++ spec.held_by report.ran }
-    ensures found { result ≡ None → found.new.items ≡ found.old.items ++ spec.found_by report.ran }
-    ensures room { result ≡ None → vec_capacity found.new ≡ vec_capacity found.old }
+// What came of an action whose report is not the first of its phase: no transaction goes with it.
+fn ran_of<J: Names>(report: Report<J>) -> Ran<J>
+    ensures { result ≡ report.ran }
 {
-    sort_one(report.ran, held, found, refusal)
-}
-
-// What came of one action: its claims are held, and what it found stands behind what others found.
-fn sort_one<J: Names>(
-    ran: Ran<J>,
-    held: &mut HeldClaims<J>,
-    found: &mut Vec<Found>,
-    refusal: Option<Refusal>,
-) -> Option<Refusal>
-    requires held { length held.old + 1 ≤ MOST_ACTIONS }
-    requires found { refusal ≡ None → length found.old.items + 1 ≤ vec_capacity found.old }
-    ensures refusal { result ≡ spec.refused_by refusal ran }
-    ensures held { held.new ≡ held.old ++ spec.held_by ran }
-    ensures found { result ≡ None → found.new.items ≡ found.old.items ++ spec.found_by ran }
-    ensures room { result ≡ None → vec_capacity found.new ≡ vec_capacity found.old }
-{
-    match ran {
-        Ran::Done(claims, one) => {
-            held.put(claims);
-            keep(found, one, &refusal);
-            refusal
-        }
-        Ran::Died { group, holder } => match refusal {
-            Some(Refusal::Died { .. }) => refusal,
-            _ => Some(Refusal::Died { group, holder }),
-        },
-        Ran::NoMemory => match refusal {
-            Some(_) => refusal,
-            None => Some(Refusal::NoMemory),
-        },
-    }
-}
-
-// What an action found stands behind what others found, unless the transaction is refused.
-fn keep(found: &mut Vec<Found>, one: Found, refusal: &Option<Refusal>)
-    requires { refusal.now ≡ None → length found.old.items + 1 ≤ vec_capacity found.old }
-    ensures found { refusal.now ≡ None → found.new.items ≡ found.old.items ++ one ∷ [] }
-    ensures room { refusal.now ≡ None → vec_capacity found.new ≡ vec_capacity found.old }
-{
-    if refusal.is_none() {
-        found.push_reserved(one);
-    }
+    report.ran
 }

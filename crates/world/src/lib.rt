@@ -16,7 +16,6 @@ mod desk;
 mod flight;
 mod gathering;
 mod happening;
-mod held;
 mod homes;
 mod moving;
 mod opening;
@@ -35,7 +34,6 @@ pub use flight::{
     Act, Carried, CommitItem, Flow, Item, Letter, Load, Message, Posted, ReplyItem, Report,
     Transaction,
 };
-pub use held::HeldClaims;
 pub use opening::{OpenFault, Opening};
 pub use queue::Queue;
 pub use queues::Queues;

@@ -7,14 +7,13 @@ ghost use Rattle.world.specs.Letters.{IsNoPush};
 
 use crate::desk::Active;
 use crate::flight::{Item, Message, ReplyItem, Report, Transaction};
-use crate::held::HeldClaims;
 use crate::world::Parts;
 use commit_log::{Names, Pass};
 use history::EventAnswer;
 use rendezvous::{Meeting, Reported};
 use requests::Refusal;
 use std::alloc::Global;
-use transactions::MOST_ACTIONS;
+use transactions::{HeldClaims, MOST_ACTIONS};
 
 /// A transaction that is over: its answer, which is the place of its entry in the log or why it was refused, and what its
 /// actions hold.

@@ -10,9 +10,9 @@ invariant-loop-report g l = record {
   flow : l.flow ≡ record l.initial.flow { transaction = record l.initial.flow.transaction { held = l.flow.transaction.held } };
   held : l.flow.transaction.held ++ held_in l.results ≡ l.initial.flow.transaction.held ++ held_in l.initial.results;
   room : length l.flow.transaction.held + length l.results ≤ MOST_ACTIONS;
-  refusal : refusal_of l.refusal l.results ≡ refusal_of l.initial.refusal l.initial.results;
-  found : l.refusal ≡ None → l.found.items ++ found_in l.results ≡ l.initial.found.items ++ found_in l.initial.results;
-  found_room : l.refusal ≡ None → length l.found.items + length l.results ≤ vec_capacity l.found;
+  refusal : refusal_of l.sorted.refusal l.results ≡ refusal_of l.initial.sorted.refusal l.initial.results;
+  found : l.sorted.refusal ≡ None → l.sorted.found.items ++ found_in l.results ≡ l.initial.sorted.found.items ++ found_in l.initial.results;
+  found_room : l.sorted.refusal ≡ None → length l.sorted.found.items + length l.results ≤ vec_capacity l.sorted.found;
 }
 
 abbrev pub decreases-loop-report : goal.decreases-loop-report

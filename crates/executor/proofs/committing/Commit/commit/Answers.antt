@@ -7,5 +7,5 @@ use Rattle.executor.proofs.committing.Commit.commit.Goals as goal
 
 pub new-requires : goal.new-requires
 new-requires g c =
-    subst (λ b. AreGiven b c.append.new.held) (sym c.is_settled-is_settled.ensures)
+    subst (λ b. AreGiven b c.append.new.self) (sym c.is_settled-is_settled.ensures)
     (subst (λ (h : List (List Claiming)). AreGiven (is_settled c.take_reply.result) h) (sym c.in-Ok.ensures.held) (all_logged_given c.take_reply.result c.self.inside.transaction.age c.self.inside.held c.self.invariant.undone))

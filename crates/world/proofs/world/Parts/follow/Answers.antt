@@ -1,9 +1,7 @@
-use Rattle.std.proofs.Common.{◌≡◌, ◌<◌, ◌⊎◌, inl, inr, false, length, None, Some, sym, ◌∙◌, ap, subst, arith}
-use Rattle.requests.specs.declared.refusal.Refusal.TheVariants as refusal
+use Rattle.std.proofs.Common.{◌<◌, false, length, sym, ◌∙◌, ap, subst, arith}
 use Rattle.world.specs.Following.{releasing}
 use Rattle.world.proofs.Sorting.{meets_gathered, meets_refused, sorted_done, sorted_room, sorted_slot}
 use Rattle.world.proofs.world.Parts.follow.Goals as goal
-use Rattle.world.proofs.world.Parts.follow.Goals.{in-Ok, in-Err}
 
 pub release-requires : goal.release-requires
 release-requires g c =
@@ -21,17 +19,15 @@ gather-requires-clause-slot g c = sorted_slot c.args.results c.sort_out-flow.res
 
 pub gather-requires-clause-done : goal.gather-requires-clause-done
 gather-requires-clause-done g c =
-    sorted_done c.args.results c.sort_out-flow.result.0 c.match-with_capacity.found.1 c.sort_out-flow.result.1.items c.requires.can c.sort_out-flow.ensures.flow
+    sorted_done c.args.results c.sort_out-flow.result.0 c.start-start.result.refusal c.sort_out-flow.result.1.found.items c.requires.can c.sort_out-flow.ensures.flow
     (sym c.sort_out-flow.ensures.refusal ∙ c.in-None.is) (c.sort_out-flow.ensures.found c.in-None.is)
 
 pub returns-in-Some : goal.returns-in-Some
 returns-in-Some g c =
-    let start : (c.match-with_capacity.found.1 ≡ None) ⊎ (c.match-with_capacity.found.1 ≡ Some refusal.NoMemory) =
-    elim c.match-with_capacity.branch [ in-Ok w ↦ inl (ap (λ f. f.1) w.found-is) | in-Err w ↦ inr (ap (λ f. f.1) w.found-is) ] in
-    meets_refused c.args.results c.sort_out-flow.result.0 c.match-with_capacity.found.1 c.in-Some.why c.args.self.now c.release.new.self c.sort_out-flow.ensures.flow start
+    meets_refused c.args.results c.sort_out-flow.result.0 c.start-start.result.refusal c.in-Some.why c.args.self.now c.release.new.self c.sort_out-flow.ensures.flow c.start-start.ensures.refusal
     (sym c.sort_out-flow.ensures.refusal ∙ c.in-Some.is) (c.release.ensures ∙ ap (λ r. releasing false r c.args.self.now) c.refused.ensures)
 
 pub returns-in-None : goal.returns-in-None
 returns-in-None g c =
-    meets_gathered c.args.results c.sort_out-flow.result.0 c.match-with_capacity.found.1 c.sort_out-flow.result.1.items c.args.self.now c.gather.new.self c.sort_out-flow.ensures.flow
+    meets_gathered c.args.results c.sort_out-flow.result.0 c.start-start.result.refusal c.sort_out-flow.result.1.found.items c.args.self.now c.gather.new.self c.sort_out-flow.ensures.flow
     (sym c.sort_out-flow.ensures.refusal ∙ c.in-None.is) (c.sort_out-flow.ensures.found c.in-None.is) c.gather.ensures

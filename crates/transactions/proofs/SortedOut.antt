@@ -1,0 +1,52 @@
+-- What comes of the actions of a phase, sorted out.
+use Rattle.std.proofs.Common.{◌≡◌, ◌≤◌, ◌⊎◌, inl, inr, List, [], ◌∷◌, length, Option, Some, None, refl, arith}
+use Rattle.std.proofs.lemmas.List.{length-append}
+use Rattle.requests.specs.declared.refusal.Refusal.{Refusal}
+use Rattle.requests.specs.declared.refusal.Refusal.TheVariants as refusal
+use Rattle.transactions.specs.declared.acting.Ran.{Ran}
+use Rattle.transactions.specs.declared.acting.Ran.TheVariants as ran
+use Rattle.transactions.specs.SortedOut.{found_by, held_by, held_in, refusal_of, refused_by, refused_still}
+
+module _ {J : Type 0} where
+  -- an action holds the claims of one at most, and finds one thing at most
+  pub one_holds : (own : Ran J) → length (held_by own) ≤ 1
+  one_holds (ran.Done claims found) = omega arith
+  one_holds (ran.Died group holder) = omega arith
+  one_holds ran.NoMemory = omega arith
+
+  pub one_finds : (own : Ran J) → length (found_by own) ≤ 1
+  one_finds (ran.Done claims found) = omega arith
+  one_finds (ran.Died group holder) = omega arith
+  one_finds ran.NoMemory = omega arith
+
+  -- no more hold something than there are
+  pub few_held : (rans : List (Ran J)) → length (held_in rans) ≤ length rans
+  few_held [] = omega arith
+  few_held (r ∷ rans) = omega (arith, one_holds r, few_held rans, length-append (held_by r) (held_in rans))
+
+  -- who isn't refused now wasn't before
+  pub was_none : (why : Option Refusal) (own : Ran J) → refused_by why own ≡ None → why ≡ None
+  was_none None own is = refl
+  was_none (Some why) own is = absurd (cc)
+
+  -- a transaction for whose refusal there is a reason is refused
+  pub stays_refused : (why : Refusal) (rans : List (Ran J)) → refusal_of (Some why) rans ≡ None → ⊥
+  stays_refused why [] is = absurd (cc)
+  stays_refused why (r ∷ rans) is = stays_refused (refused_still why r) rans is
+
+  -- so one that isn't refused had no reason to be
+  pub not_refused : (start : Option Refusal) (rans : List (Ran J)) → refusal_of start rans ≡ None → start ≡ None
+  not_refused None rans is = refl
+  not_refused (Some why) rans is = absurd (stays_refused why rans is)
+
+  pub none_before : (start : Option Refusal) (rans : List (Ran J)) → refusal_of start rans ≡ None → refusal_of None rans ≡ None
+  none_before None rans is = is
+  none_before (Some why) rans is = absurd (stays_refused why rans is)
+
+  -- want of memory is answered only where no one died
+  pub memory_last : (rans : List (Ran J))
+      → ((refusal_of None rans ≡ None) × (refusal_of (Some refusal.NoMemory) rans ≡ Some refusal.NoMemory)) ⊎ (refusal_of (Some refusal.NoMemory) rans ≡ refusal_of None rans)
+  memory_last [] = inl (refl, refl)
+  memory_last (ran.Done claims found ∷ rans) = memory_last rans
+  memory_last (ran.Died group holder ∷ rans) = inr refl
+  memory_last (ran.NoMemory ∷ rans) = inr refl
