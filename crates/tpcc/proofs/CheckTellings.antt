@@ -2,8 +2,8 @@
 use Rattle.std.proofs.Common.{◌≡◌, inl, inr, ℕ, List, Option}
 use Rattle.tpcc.specs.declared.command_fault.CommandFault.{CommandFault}
 use Rattle.tpcc.specs.declared.command_fault.CommandFault.TheVariants as fault
-use Rattle.tpcc.specs.declared.settings.check.CheckSettings.{CheckSettings}
-use Rattle.tpcc.specs.declared.status.Status.{Status}
+use Rattle.command_line.specs.declared.settings.check.CheckSettings.{CheckSettings}
+use Rattle.command_line.specs.declared.status.Status.{Status}
 use Rattle.tpcc.specs.Check.{CheckEnds, ChecksSome}
 use Rattle.tpcc.specs.EarlyEnds.{IsOfChecking}
 use Rattle.tpcc.specs.Faults.{Tells, status_of}

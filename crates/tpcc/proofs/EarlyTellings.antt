@@ -2,8 +2,8 @@
 use Rattle.std.proofs.Common.{◌≡◌, ℕ, List, Option, refl, sym, subst}
 use Rattle.tpcc.specs.declared.command_fault.CommandFault.{CommandFault}
 use Rattle.tpcc.specs.declared.command_fault.CommandFault.TheVariants as fault
-use Rattle.tpcc.specs.declared.status.Status.{Status}
-use Rattle.tpcc.specs.declared.status.Status.TheVariants as status
+use Rattle.command_line.specs.declared.status.Status.{Status}
+use Rattle.command_line.specs.declared.status.Status.TheVariants as status
 use Rattle.tpcc.specs.Faults.{EndsEarly, Tells, status_of}
 
 -- where its fault is no broken condition, whose status other ends have too

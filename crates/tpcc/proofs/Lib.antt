@@ -11,11 +11,5 @@ pub mod SimulationEnds
 pub mod EarlyTellings
 pub mod ReplayTellings
 pub mod CheckTellings
-pub mod BuiltCommands
-pub mod ParsedWords
-pub mod MixTexts
-pub mod PathLists
-pub mod ScriptFaults
-pub mod AskedWords
 pub mod ScriptFiles
 pub mod FaultsOfSources

@@ -9,8 +9,8 @@ use Rattle.commit_log.specs.Replay.{IsReplayOf}
 use Rattle.dataset.specs.Records.{AreRecords}
 use Rattle.terminals.specs.LogRecord.{IsLog}
 use Rattle.tpcc.specs.declared.command_fault.CommandFault.{CommandFault}
-use Rattle.tpcc.specs.declared.settings.replay.ReplaySettings.{ReplaySettings}
-use Rattle.tpcc.specs.declared.status.Status.{Status}
+use Rattle.command_line.specs.declared.settings.replay.ReplaySettings.{ReplaySettings}
+use Rattle.command_line.specs.declared.status.Status.{Status}
 use Rattle.tpcc.specs.declared.command_fault.CommandFault.TheVariants as fault
 use Rattle.tpcc.specs.EarlyEnds.{IsOfReplaying}
 use Rattle.tpcc.specs.Edges.{Gives}

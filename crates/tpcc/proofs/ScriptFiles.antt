@@ -6,7 +6,7 @@ use Rattle.tpcc.specs.Edges.{NamesFile}
 use Rattle.std.specs.Borrow.{Bor}
 use Rattle.tpcc.specs.declared.command_fault.CommandFault.{CommandFault}
 use Rattle.tpcc.specs.declared.command_fault.CommandFault.TheVariants.{NoMemory}
-use Rattle.tpcc.specs.declared.settings.script.ScriptSettings.{ScriptSettings}
+use Rattle.command_line.specs.declared.settings.script.ScriptSettings.{ScriptSettings}
 use Rattle.dataset.specs.FirstFault.{first_fault}
 use Rattle.tpcc.specs.Faults.{IsFirst, IsOfReading, IsOfWritingOneOf}
 use Rattle.tpcc.specs.Script.{AreDrawn, IsOfMaking, NamesFirstScripts, NamesScripts}

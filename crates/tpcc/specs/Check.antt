@@ -7,11 +7,11 @@ use Rattle.schema.specs.Database.{Database}
 use Rattle.consistency.specs.Conditions.{AreExact}
 use Rattle.dataset.specs.Records.{AreRecords}
 use Rattle.tpcc.specs.declared.command_fault.CommandFault.{CommandFault}
-use Rattle.tpcc.specs.declared.status.Status.{Status}
-use Rattle.tpcc.specs.declared.status.Status.TheVariants as status
+use Rattle.command_line.specs.declared.status.Status.{Status}
+use Rattle.command_line.specs.declared.status.Status.TheVariants as status
 use Rattle.tpcc.specs.Verdicts.{verdict_text, verdicts_of, is_broken}
 use Rattle.tpcc.specs.Edges.{Gives, lines_text}
-use Rattle.tpcc.specs.declared.settings.check.CheckSettings.{CheckSettings}
+use Rattle.command_line.specs.declared.settings.check.CheckSettings.{CheckSettings}
 use Rattle.tpcc.specs.EarlyEnds.{IsOfChecking}
 use Rattle.tpcc.specs.Faults.{EndsEarly}
 

@@ -19,10 +19,10 @@ use Rattle.world.specs.declared.world.GatherFault.{GatherFault}
 use Rattle.world.specs.declared.world.GatherFault.TheVariants as gather
 use Rattle.tpcc.specs.declared.command_fault.CommandFault.{CommandFault}
 use Rattle.tpcc.specs.declared.command_fault.CommandFault.TheVariants as fault
-use Rattle.tpcc.specs.declared.settings.check.CheckSettings.{CheckSettings}
-use Rattle.tpcc.specs.declared.settings.replay.ReplaySettings.{ReplaySettings}
-use Rattle.tpcc.specs.declared.settings.run.RunSettings.{RunSettings}
-use Rattle.tpcc.specs.declared.settings.sim.SimSettings.{SimSettings}
+use Rattle.command_line.specs.declared.settings.check.CheckSettings.{CheckSettings}
+use Rattle.command_line.specs.declared.settings.replay.ReplaySettings.{ReplaySettings}
+use Rattle.command_line.specs.declared.settings.run.RunSettings.{RunSettings}
+use Rattle.command_line.specs.declared.settings.sim.SimSettings.{SimSettings}
 use Rattle.tpcc.specs.Edges.{Gives}
 use Rattle.tpcc.specs.Faults.{IsFirst, IsOfReading, IsOfWriting, IsOfWritingSome, standard_output}
 use Rattle.tpcc.specs.Run.{GivesMoves}

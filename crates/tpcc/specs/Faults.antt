@@ -2,9 +2,6 @@
 use Rattle.std.specs.Prelude.{◌≡◌, ◌<◌, ◌-◌, ◌^◌, ℕ, List, [], ◌∷◌, ◌++◌, codes, get_or, length, Option, None, Some}
 use Rattle.std.specs.Borrow.{Bor}
 use Rattle.std.specs.Fmt.{decimal}
-use Rattle.clap.specs.Words.{kind_of}
-use Rattle.clap.specs.declared.error.ErrorKind.{ErrorKind}
-use Rattle.clap.specs.declared.error.ErrorKind.TheVariants.{OutOfMemory}
 use Rattle.engine.specs.declared.outcome.ServeFault.{ServeFault}
 use Rattle.engine.specs.declared.outcome.ServeFault.TheVariants as serve
 use Rattle.files.specs.declared.fault.FileFault.{FileFault}
@@ -15,10 +12,8 @@ use Rattle.files.specs.Place.{IsCsv}
 use Rattle.tpcc.specs.Escaped.{shown}
 use Rattle.tpcc.specs.declared.command_fault.CommandFault.{CommandFault}
 use Rattle.tpcc.specs.declared.command_fault.CommandFault.TheVariants as fault
-use Rattle.tpcc.specs.declared.usage.UsageFault.{UsageFault}
-use Rattle.tpcc.specs.declared.usage.UsageFault.TheVariants as usage
-use Rattle.tpcc.specs.declared.status.Status.{Status}
-use Rattle.tpcc.specs.declared.status.Status.TheVariants as status
+use Rattle.command_line.specs.declared.status.Status.{Status}
+use Rattle.command_line.specs.declared.status.Status.TheVariants as status
 
 -- the status after each fault of a command
 abbrev pub status_of : CommandFault → Status
@@ -31,25 +26,6 @@ status_of (fault.NoWarehouse warehouse) = status.Usage
 status_of fault.NoThread = status.Failed
 status_of fault.Unsettled = status.Failed
 status_of fault.NotIdle = status.Failed
-
--- the status where clap did not understand the words, or had no memory
-abbrev pub status_of_words : ErrorKind → Status
-status_of_words OutOfMemory = status.NoMemory
-status_of_words _ = status.Usage
-
--- the status after each mistake in the words
-abbrev pub status_of_usage : UsageFault → Status
-status_of_usage (usage.Words error) = status_of_words (kind_of error)
-status_of_usage (usage.NotText place shown) = status.Usage
-status_of_usage usage.NoCommand = status.Usage
-status_of_usage usage.ScriptCount = status.Usage
-status_of_usage usage.SameOutput = status.Usage
-status_of_usage usage.FileCount = status.Usage
-status_of_usage usage.SameFile = status.Usage
-status_of_usage usage.Mix = status.Usage
-status_of_usage usage.Remote = status.Usage
-status_of_usage (usage.Number option low high) = status.Usage
-status_of_usage usage.Moment = status.Usage
 
 -- what was wrong with the file of that path, or that there was no memory
 abbrev pub fault_of_file : Bor (List ℕ) → FileError → CommandFault

@@ -1,13 +1,6 @@
-pub mod Status
-pub mod Settings
 pub mod OtherName
-pub mod MixText
 pub mod Shelf
 pub mod Tally
-pub mod Words
-pub mod CommandLine
-pub mod Mistakes
-pub mod Asked
 pub mod Edges
 pub mod Sim
 pub mod Escaped

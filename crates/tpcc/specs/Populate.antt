@@ -5,11 +5,11 @@ use Rattle.schema.specs.Database.{Database}
 use Rattle.population.specs.Population.{IsOpening}
 use Rattle.dataset.specs.Records.{AreRecords}
 use Rattle.tpcc.specs.declared.command_fault.CommandFault.{CommandFault}
-use Rattle.tpcc.specs.declared.status.Status.{Status}
-use Rattle.tpcc.specs.declared.status.Status.TheVariants as status
+use Rattle.command_line.specs.declared.status.Status.{Status}
+use Rattle.command_line.specs.declared.status.Status.TheVariants as status
 use Rattle.tpcc.specs.Shelf.{Shelves}
 use Rattle.files.specs.Sending.{Writes}
-use Rattle.tpcc.specs.declared.settings.populate.PopulateSettings.{PopulateSettings}
+use Rattle.command_line.specs.declared.settings.populate.PopulateSettings.{PopulateSettings}
 use Rattle.tpcc.specs.Faults.{IsOfWriting, EndsEarly}
 
 module _ {F : Type 0} (contents : F → Option (List ℕ)) (scale : Scale) (seed now : ℕ) (file : F)

@@ -13,10 +13,10 @@ use Rattle.terminals.specs.LogRecord.{IsLog}
 use Rattle.tpcc.specs.declared.replay.Found.{Found}
 use Rattle.tpcc.specs.declared.replay.Found.TheVariants as found
 use Rattle.tpcc.specs.declared.command_fault.CommandFault.{CommandFault}
-use Rattle.tpcc.specs.declared.status.Status.{Status}
-use Rattle.tpcc.specs.declared.status.Status.TheVariants as status
+use Rattle.command_line.specs.declared.status.Status.{Status}
+use Rattle.command_line.specs.declared.status.Status.TheVariants as status
 use Rattle.tpcc.specs.Edges.{Gives, NamesFile, lines_text}
-use Rattle.tpcc.specs.declared.settings.replay.ReplaySettings.{ReplaySettings}
+use Rattle.command_line.specs.declared.settings.replay.ReplaySettings.{ReplaySettings}
 use Rattle.tpcc.specs.EarlyEnds.{IsOfReplaying}
 use Rattle.tpcc.specs.Faults.{EndsEarly}
 

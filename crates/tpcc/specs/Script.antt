@@ -10,11 +10,11 @@ use Rattle.requests.specs.Check.{IsAccepted}
 use Rattle.workload.specs.declared.sessions.Workload.{Workload}
 use Rattle.workload.specs.Sessions.{script_drawn}
 use Rattle.terminals.specs.Script.{IsScript}
-use Rattle.tpcc.specs.declared.settings.script.ScriptSettings.{ScriptSettings}
+use Rattle.command_line.specs.declared.settings.script.ScriptSettings.{ScriptSettings}
 use Rattle.tpcc.specs.declared.command_fault.CommandFault.{CommandFault}
 use Rattle.tpcc.specs.declared.command_fault.CommandFault.TheVariants as fault
-use Rattle.tpcc.specs.declared.status.Status.{Status}
-use Rattle.tpcc.specs.declared.status.Status.TheVariants as status
+use Rattle.command_line.specs.declared.status.Status.{Status}
+use Rattle.command_line.specs.declared.status.Status.TheVariants as status
 use Rattle.tpcc.specs.Edges.{NamesFile}
 use Rattle.tpcc.specs.Faults.{IsFirst, IsOfReading, IsOfWritingOneOf, EndsEarly}
 

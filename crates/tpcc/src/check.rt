@@ -1,14 +1,13 @@
-ghost use Rattle.std.specs.Prelude.{◌≡◌, List, Option, IfOk, IfErr, OnErr};
+ghost use Rattle.std.specs.Prelude.{List, Option, IfOk, IfErr, OnErr};
 ghost use Rattle.tpcc.specs.declared.command_fault.CommandFault as command_fault;
 ghost use Rattle.tpcc.specs.Check.{Checks, ChecksSome, CheckEnds};
 ghost use Rattle.tpcc.specs.EarlyEnds.{IsOfChecking};
 
 use crate::command_fault::CommandFault;
 use crate::report::Report;
-use crate::settings::CheckSettings;
-use crate::status::Status;
 use crate::streams::{print_lines, read_tables};
 use crate::verdicts::{any_broken, verdicts};
+use command_line::{CheckSettings, Status};
 use files::Input;
 use std::alloc::Global;
 use std::io::Write;

@@ -2,7 +2,7 @@ ghost use Rattle.tpcc.specs.declared.command_fault.CommandFault.TheVariants.{NoM
 ghost use Rattle.std.specs.Prelude.{◌≡◌};
 
 use crate::escaped::Escaped;
-use crate::status::Status;
+use command_line::Status;
 use engine::ServeFault;
 use files::{FileError, FileFault};
 use std::alloc::{AllocError, AllocFailed};

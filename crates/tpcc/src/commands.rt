@@ -1,13 +1,12 @@
 ghost use Rattle.std.specs.Prelude.{◌≡◌, IfErr, OnOk};
-ghost use Rattle.tpcc.specs.Settings.{IsWithinLimits};
+ghost use Rattle.command_line.specs.Settings.{IsWithinLimits};
 
 use crate::meaning::Inputs;
 use crate::progress::NotingWriter;
 use crate::report::{Report, Teller};
-use crate::settings::Settings;
-use crate::status::Status;
 use crate::streams::STANDARD_OUTPUT;
 use crate::trouble::Trouble;
+use command_line::{Settings, Status};
 use files::send;
 use std::io::{Stderr, Stdout};
 use std::rt::{Clock, Files};

@@ -3,10 +3,8 @@
 
 mod check;
 mod command_fault;
-mod command_line;
 mod commands;
 mod escaped;
-mod help;
 mod latencies;
 mod lines;
 mod meaning;
@@ -19,23 +17,17 @@ mod replay;
 mod report;
 mod run;
 mod script;
-mod settings;
 mod shelf;
 mod sim;
-mod status;
 mod stopwatch;
 mod streams;
 mod summary;
 mod tally;
 mod trouble;
-mod usage;
 mod verdicts;
 mod watch;
 
-use crate::command_line::words_of;
-use crate::settings::read_words;
-use crate::status::Status;
-use crate::usage::UsageFault;
+use command_line::{Status, UsageFault, read_words, words_of};
 use std::process::ExitCode;
 
 fn main(rt: HostRuntime) -> ExitCode {

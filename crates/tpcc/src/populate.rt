@@ -4,10 +4,9 @@ ghost use Rattle.tpcc.specs.Populate.{Populates, PopulateEnds};
 
 use crate::command_fault::CommandFault;
 use crate::report::Report;
-use crate::settings::PopulateSettings;
 use crate::shelf::Shelf;
-use crate::status::Status;
 use crate::streams::name_tables;
+use command_line::{PopulateSettings, Status};
 use population::populate;
 use std::alloc::Global;
 use std::io::Write;

@@ -11,13 +11,12 @@ ghost use Rattle.tpcc.specs.Replay.{TellsReplay, ReplayEnds, ReplaysSome, found_
 
 use crate::command_fault::CommandFault;
 use crate::report::Report;
-use crate::settings::ReplaySettings;
 use crate::shelf::Shelf;
-use crate::status::Status;
 use crate::stopwatch::Stopwatch;
 use crate::streams::{print_lines, read_tables, write_tables};
 use crate::summary::Summary;
 use crate::tally::Tally;
+use command_line::{ReplaySettings, Status};
 use commit_log::{Entry, Replay, replay};
 use files::Input;
 use std::alloc::Global;

@@ -5,9 +5,9 @@ ghost use Rattle.tpcc.specs.Faults.{status_of, told_line, Tells};
 
 use crate::command_fault::CommandFault;
 use crate::meaning::{Inputs, tell_meaning};
-use crate::status::Status;
 use crate::summary::{Summary, tell_summary};
 use crate::trouble::Trouble;
+use command_line::Status;
 use std::io;
 use std::io::{IsTerminal, Stderr, Write};
 use std::rt::Files;

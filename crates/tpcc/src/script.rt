@@ -2,14 +2,13 @@ ghost use Rattle.std.specs.Prelude.{◌≡◌, ◌⊎◌, ◌≤◌, length, IfO
 ghost use Rattle.dataset.specs.FirstFault.{first_fault};
 ghost use Rattle.tpcc.specs.Faults.{IsFirst, IsOfReading, IsOfWritingOneOf};
 ghost use Rattle.tpcc.specs.Script.{GivesScale, IsNoWarehouse, IsOfMaking, MakesAll, MakesSome, NamesFirstScripts, NamesScripts, ScriptEnds, IsWorkload};
-ghost use Rattle.tpcc.specs.Settings.{HasFiles};
+ghost use Rattle.command_line.specs.Settings.{HasFiles};
 
 use crate::command_fault::CommandFault;
 use crate::report::Report;
-use crate::settings::ScriptSettings;
 use crate::shelf::Shelf;
-use crate::status::Status;
 use crate::streams::write_requests;
+use command_line::{ScriptSettings, Status};
 use dataset::read_scale;
 use files::Input;
 use schema::Scale;

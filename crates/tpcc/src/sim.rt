@@ -6,17 +6,16 @@ ghost use Rattle.files.specs.Sending.{BeginsToWrite, OfFirst, Writes};
 ghost use Rattle.tpcc.specs.Edges.{Gives};
 ghost use Rattle.tpcc.specs.EarlyEnds.{IsOfGathering, IsOfShowing, IsOfSimulating};
 ghost use Rattle.tpcc.specs.Faults.{IsFirst, IsOfReading, IsOfWriting, IsOfWritingSome, standard_output, EndsEarly};
-ghost use Rattle.tpcc.specs.Settings.{HasExecutors};
+ghost use Rattle.command_line.specs.Settings.{HasExecutors};
 ghost use Rattle.tpcc.specs.Sim.{NamesPicture, NamesTables, Shows, ShowsSome, SimulatesAll, SimulatesSome};
 
 use crate::command_fault::CommandFault;
 use crate::report::Report;
-use crate::settings::SimSettings;
 use crate::shelf::Shelf;
-use crate::status::Status;
 use crate::streams::{
     STANDARD_OUTPUT, finished, name_printed, read_tables, write_entries, write_tables,
 };
+use command_line::{SimSettings, Status};
 use commit_log::Entry;
 use files::Input;
 use history::{Output, Scheduled};

@@ -3,9 +3,8 @@ use crate::meaning::Inputs;
 use crate::opening::Opener;
 use crate::progress::NotingWriter;
 use crate::report::{Report, Teller};
-use crate::settings::CheckSettings;
-use crate::status::Status;
 use crate::trouble::Trouble;
+use command_line::{CheckSettings, Status};
 use std::io::{Stderr, Stdout};
 use std::rt::Files;
 

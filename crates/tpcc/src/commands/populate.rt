@@ -3,9 +3,8 @@ use crate::opening::Opener;
 use crate::output::{Folders, make};
 use crate::populate::populate_over;
 use crate::report::{Report, Teller};
-use crate::settings::PopulateSettings;
-use crate::status::Status;
 use crate::trouble::Trouble;
+use command_line::{PopulateSettings, Status};
 use std::io::Stderr;
 use std::rt::Files;
 

@@ -7,9 +7,8 @@ use crate::output::{Folders, NewFile};
 use crate::progress::NotingWriter;
 use crate::replay::replay_over;
 use crate::report::{Report, Teller};
-use crate::settings::ReplaySettings;
-use crate::status::Status;
 use crate::trouble::Trouble;
+use command_line::{ReplaySettings, Status};
 use std::io::{Stderr, Stdout};
 use std::rt::{Clock, Files};
 

@@ -1,5 +1,5 @@
 ghost use Rattle.std.specs.Prelude.{◌≡◌, length, is_some, IfOk};
-ghost use Rattle.tpcc.specs.Settings.{IsRunnable};
+ghost use Rattle.command_line.specs.Settings.{IsRunnable};
 
 use crate::command_fault::CommandFault;
 use crate::commands::ended;
@@ -9,10 +9,9 @@ use crate::output::{Folders, NewFile};
 use crate::progress::NotingWriter;
 use crate::report::{Report, Teller};
 use crate::run::run_over;
-use crate::settings::RunSettings;
-use crate::status::Status;
 use crate::trouble::Trouble;
 use crate::watch::Watch;
+use command_line::{RunSettings, Status};
 use std::io::{Stderr, Stdout};
 use std::rt::{Clock, Files};
 use std::sync::Wait;

@@ -1,5 +1,5 @@
 ghost use Rattle.std.specs.Prelude.{◌≡◌, length, IfOk};
-ghost use Rattle.tpcc.specs.Settings.{HasFiles};
+ghost use Rattle.command_line.specs.Settings.{HasFiles};
 
 use crate::command_fault::CommandFault;
 use crate::meaning::Inputs;
@@ -7,9 +7,8 @@ use crate::opening::{Opener, Watched};
 use crate::output::{Folders, NewFile, make};
 use crate::report::{Report, Teller};
 use crate::script::script_over;
-use crate::settings::ScriptSettings;
-use crate::status::Status;
 use crate::trouble::Trouble;
+use command_line::{ScriptSettings, Status};
 use std::io::Stderr;
 use std::rt::Files;
 

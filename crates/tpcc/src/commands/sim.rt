@@ -1,5 +1,5 @@
 ghost use Rattle.std.specs.Prelude.{◌≡◌, is_some, IfOk};
-ghost use Rattle.tpcc.specs.Settings.{HasExecutors};
+ghost use Rattle.command_line.specs.Settings.{HasExecutors};
 
 use crate::command_fault::CommandFault;
 use crate::commands::ended;
@@ -8,10 +8,9 @@ use crate::opening::{Opener, Watched};
 use crate::output::{Folders, NewFile};
 use crate::progress::NotingWriter;
 use crate::report::{Report, Teller};
-use crate::settings::SimSettings;
 use crate::sim::sim_over;
-use crate::status::Status;
 use crate::trouble::Trouble;
+use command_line::{SimSettings, Status};
 use std::io::{Stderr, Stdout};
 use std::rt::Files;
 

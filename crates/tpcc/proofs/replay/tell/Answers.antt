@@ -1,6 +1,6 @@
 use Rattle.std.proofs.Common.{[], ◌∷◌, refl, sym, subst}
 use Rattle.commit_log.specs.declared.verdict.Replay.{Replay}
-use Rattle.tpcc.specs.declared.status.Status.TheVariants as status
+use Rattle.command_line.specs.declared.status.Status.TheVariants as status
 use Rattle.files.specs.Sending.{Begins}
 use Rattle.files.proofs.Sent.{on_any_err, sends_all}
 use Rattle.tpcc.specs.Edges.{lines_text}

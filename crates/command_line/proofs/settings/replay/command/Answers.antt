@@ -1,0 +1,5 @@
+use Rattle.command_line.proofs.BuiltCommands.{one_more}
+use Rattle.command_line.proofs.settings.replay.command.Goals as goal
+
+pub returns : goal.returns
+returns c = one_more (one_more (one_more (one_more (one_more c.named.ensures c.data.ensures c.in_ok-arg.ensures) c.argument-entries.ensures c.in_ok-arg-2.ensures) c.option-tables.ensures c.in_ok-arg-3.ensures) c.summary.ensures c.in_ok-arg-4.ensures) c.quiet.ensures c.in_ok-command.ensures

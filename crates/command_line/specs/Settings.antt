@@ -1,0 +1,34 @@
+-- Settings within their limits.
+use Rattle.std.specs.Prelude.{◌≤◌, length}
+use Rattle.command_line.specs.declared.settings.Settings.{Settings}
+use Rattle.command_line.specs.declared.settings.Settings.TheVariants.{Run, Sim, Populate, Script, Check, Replay, Text}
+use Rattle.command_line.specs.declared.settings.run.RunSettings.{RunSettings}
+use Rattle.command_line.specs.declared.settings.script.ScriptSettings.{ScriptSettings}
+use Rattle.command_line.specs.declared.settings.sim.SimSettings.{SimSettings}
+
+-- a run has 1 to 64 scripts, one for each session
+abbrev pub HasSessions : RunSettings → Type 0
+HasSessions run = (1 ≤ length run.scripts.items) × (length run.scripts.items ≤ 64)
+
+-- a run has its sessions, 1 to 16 executors that serve them, and 1 to 10000 tries
+abbrev pub IsRunnable : RunSettings → Type 0
+IsRunnable run = HasSessions run × (1 ≤ run.executors) × (run.executors ≤ 16) × (1 ≤ run.tries) × (run.tries ≤ 10000)
+
+-- a simulation has 1 to 16 executors
+abbrev pub HasExecutors : SimSettings → Type 0
+HasExecutors sim = (1 ≤ sim.executors) × (sim.executors ≤ 16)
+
+-- there are 1 to 64 files for scripts, one for each session
+abbrev pub HasFiles : ScriptSettings → Type 0
+HasFiles script = (1 ≤ length script.files.items) × (length script.files.items ≤ 64)
+
+-- a run has its sessions, executors and tries, a simulation its executors, and scripts that are made their files; of the others
+-- nothing is asked here
+abbrev pub IsWithinLimits : Settings → Type 0
+IsWithinLimits (Run run) = IsRunnable run
+IsWithinLimits (Sim sim) = HasExecutors sim
+IsWithinLimits (Populate populate) = Unit {0}
+IsWithinLimits (Script script) = HasFiles script
+IsWithinLimits (Check check) = Unit {0}
+IsWithinLimits (Replay replay) = Unit {0}
+IsWithinLimits (Text text) = Unit {0}

@@ -1,0 +1,200 @@
+ghost use Rattle.std.specs.Prelude.{◌≡◌, codes, false, map, option_map, IfOk, IfErr, IsTrue, OnOk};
+ghost use Rattle.clap.specs.Words.{found_of};
+ghost use Rattle.command_line.specs.CommandLine.{alone, script_command, IsCommand};
+ghost use Rattle.command_line.specs.Mistakes.{AreFiles, HasPathTwice, IsFilesFault, IsNumberFault, IsNumberWord, IsOptionFault, IsRemoteFault, IsRemoteWord, IsScriptFault};
+ghost use Rattle.command_line.specs.Settings.{HasFiles};
+ghost use Rattle.command_line.specs.Words.{all_words, AsksForScripts, IsHome, IsRemote};
+
+use crate::paths::are_one;
+use crate::settings::MOST_SCRIPTS;
+use crate::settings::arguments::{
+    arguments, counted, data, moment, named, number, option, quiet, word,
+};
+use crate::settings::mix::mix;
+use crate::usage::UsageFault;
+use clap::{ArgMatches, Command};
+use schema::Moment;
+use std::alloc::{AllocError, Global};
+use workload::Mix;
+
+/// What `tpcc script` was asked to do: paths of files, and what the scripts are drawn for.
+#[derive(Debug, Drop)]
+pub struct ScriptSettings<'a> {
+    pub data: &'a str,
+    /// 1 to 64, of different paths. File s, from 0, gets the script of session s.
+    pub files: Vec<&'a str>,
+    /// How many requests each script has.
+    pub requests: u32,
+    pub seed: u32,
+    pub mix: Mix,
+    /// The home warehouse of all sessions, 1 to 64; each has its own where there is none.
+    pub home: Option<u32>,
+    /// Whether other warehouses take part.
+    pub remote: bool,
+    /// The moment of each script's first request.
+    pub start: Moment,
+    /// Whether nothing is to be told but faults.
+    pub quiet: bool,
+}
+
+/// What the words of `tpcc script` ask for.
+pub fn read<'a>(alloc: Global, matches: &ArgMatches<'a>) -> Result<ScriptSettings<'a>, UsageFault>
+    ensures limits { IfOk result HasFiles }
+    ensures asked { IfOk result (AsksForScripts (found_of matches.now)) }
+    ensures mistake { IfErr result (IsScriptFault (found_of matches.now)) }
+{
+    let files = matches.get_strs("FILE").unwrap_or(&[]);
+    check_files(files)?;
+    let settings = with_files(matches, files.to_vec(alloc)?)?;
+    Ok(settings)
+}
+
+// Whether there are 1 to 64 files, of different paths.
+fn check_files(files: &[&str]) -> Result<(), UsageFault>
+    ensures fit { OnOk result (AreFiles (map (λ file. file.now) files.now)) }
+    ensures mistake { IfErr result (IsFilesFault (map (λ file. file.now) files.now)) }
+{
+    if !(1..=MOST_SCRIPTS).contains(&files.len()) {
+        return Err(UsageFault::FileCount);
+    }
+    if has_twice(files) {
+        return Err(UsageFault::SameFile);
+    }
+    Ok(())
+}
+
+// The settings of these files, with what the options ask for.
+#[tactic(auto, using(crate::proofs::ScriptFaults::of_mix, crate::proofs::ScriptFaults::of_home, crate::proofs::ScriptFaults::of_remote, crate::proofs::ScriptFaults::of_moment))]
+fn with_files<'a>(
+    matches: &ArgMatches<'a>,
+    files: Vec<&'a str>,
+) -> Result<ScriptSettings<'a>, UsageFault>
+    requires { map (λ path. path.now) files.items ≡ all_words (found_of matches.now) (codes "FILE") }
+    ensures same { IfOk result (λ settings. settings.files.items ≡ files.entry.items) }
+    ensures asked { IfOk result (AsksForScripts (found_of matches.now)) }
+    ensures mistake { IfErr result (IsOptionFault (found_of matches.now)) }
+{
+    Ok(ScriptSettings {
+        data: word(matches, "DATA"),
+        files,
+        requests: number(
+            matches.get_str("requests"),
+            1_000,
+            0,
+            16_777_216,
+            "--requests",
+        )?,
+        seed: number(matches.get_str("seed"), 1, 0, u32::MAX, "--seed")?,
+        mix: mix(matches.get_str("mix"))?,
+        home: home(matches.get_str("home"))?,
+        remote: remote(matches.get_str("remote"))?,
+        start: moment(matches.get_str("now"))?,
+        quiet: matches.get_flag("quiet"),
+    })
+}
+
+// Whether a path is there twice.
+fn has_twice(files: &[&str]) -> bool
+    ensures twice { IsTrue result → HasPathTwice (map (λ file. file.now) files.now) }
+    ensures once { result ≡ false → HasPathTwice (map (λ file. file.now) files.now) → ⊥ }
+{
+    for (place, file) in files.iter().enumerate() {
+        for earlier in &files[..place] {
+            if are_one(earlier, file) {
+                return true;
+            }
+        }
+    }
+    false
+}
+
+// The home warehouse that an option asks for.
+fn home(words: Option<&str>) -> Result<Option<u32>, UsageFault>
+    ensures value { IfOk result (IsHome (option_map (λ word. word.now) words.entry)) }
+    ensures fits { OnOk result (IsNumberWord 1 64 (option_map (λ word. word.now) words.entry)) }
+    ensures mistake { IfErr result (IsNumberFault (codes "--home") 1 64 (option_map (λ word. word.now) words.entry)) }
+{
+    match words {
+        None => Ok(None),
+        words => Ok(Some(number(words, 1, 1, 64, "--home")?)),
+    }
+}
+
+// Whether other warehouses take part, which they do where no option tells.
+fn remote(words: Option<&str>) -> Result<bool, UsageFault>
+    ensures value { IfOk result (IsRemote (option_map (λ word. word.now) words.entry)) }
+    ensures fits { OnOk result (IsRemoteWord (option_map (λ word. word.now) words.entry)) }
+    ensures mistake { IfErr result (λ fault. (fault ≡ UsageFault.Remote) × IsRemoteFault (option_map (λ word. word.now) words.entry)) }
+{
+    match words {
+        None | Some("on") => Ok(true),
+        Some("off") => Ok(false),
+        Some(_) => Err(UsageFault::Remote),
+    }
+}
+
+/// The command and its options.
+pub fn command<'a>(alloc: Global) -> Result<Command<'a>, AllocError>
+    ensures { IfOk result (IsCommand (alone script_command)) }
+{
+    let about =
+        "Makes scripts of requests as the benchmark's terminals would, after clauses 2.4 to 2.8";
+    let files = arguments(
+        alloc,
+        "FILE",
+        "Where the scripts are written, one for each session, at most 64",
+    );
+    let command = named(alloc, "script", about, HELP)
+        .arg(data(alloc))?
+        .arg(files)?
+        .arg(counted(
+            alloc,
+            "requests",
+            "How many requests each script has, 0 to 16,777,216; 1,000 by default",
+        ))?
+        .arg(counted(
+            alloc,
+            "seed",
+            "The seed of all draws, 0 to 4,294,967,295; 1 by default",
+        ))?
+        .arg(option(
+            alloc,
+            "mix",
+            "LIST",
+            "How many cards of each kind a deck has; N=45,P=43,O=4,D=4,L=4 by default",
+        ))?
+        .arg(option(
+            alloc,
+            "home",
+            "W",
+            "The home warehouse of all sessions; each has its own by default",
+        ))?
+        .arg(option(
+            alloc,
+            "remote",
+            "WORD",
+            "Whether other warehouses take part, on or off; on by default",
+        ))?
+        .arg(option(
+            alloc,
+            "now",
+            "MOMENT",
+            "The date and time of each first request; 2024-01-01T00:00:00 by default",
+        ))?
+        .arg(quiet(alloc))?;
+    Ok(command)
+}
+
+// What is told after the arguments by `tpcc script --help`.
+const HELP: &str = "\
+Of DATA the header is read, which tells the scale, and nothing behind it. The first FILE is session 0's, the
+next session 1's, and so on, as `tpcc run DATA FILE..` takes them. Session s is at home in warehouse s + 1, and
+again from the first on behind the last. Each request comes a second after the one before. The same words and
+the same scale give the same bytes; docs/FORMATS.md tells each draw. Prints nothing.
+
+The kinds of a script are dealt from a shuffled deck of cards, and again from the deck shuffled anew: N a
+New-Order, P a payment, O an Order-Status, D a Delivery, L a Stock-Level. A kind has 0 to 1,000 cards, none if it
+is left out of LIST, and one is there at least.
+
+Exit statuses: 0 the scripts are written, 1 a fault of a file, 2 the words are wrong, or `tpcc: no warehouse: W`:
+DATA has fewer warehouses than --home names, 4 no memory";

@@ -1,0 +1,99 @@
+ghost use Rattle.std.specs.Prelude.{IfOk, IfErr};
+ghost use Rattle.clap.specs.Words.{found_of};
+ghost use Rattle.command_line.specs.CommandLine.{alone, sim_command, IsCommand};
+ghost use Rattle.command_line.specs.Mistakes.{IsSimFault};
+ghost use Rattle.command_line.specs.Settings.{HasExecutors};
+ghost use Rattle.command_line.specs.Words.{AsksToSimulate};
+
+use crate::settings::arguments::{
+    argument, data, executors, log, named, number, option, quiet, same, word,
+};
+use crate::usage::UsageFault;
+use clap::{ArgMatches, Command};
+use std::alloc::{AllocError, Global};
+
+/// What `tpcc sim` was asked to do: paths of files, and how many executors there are.
+#[derive(Debug, Drop)]
+pub struct SimSettings<'a> {
+    pub data: &'a str,
+    pub schedule: &'a str,
+    /// 1 to 16.
+    pub executors: u32,
+    pub log: Option<&'a str>,
+    pub picture: Option<&'a str>,
+    pub tables: Option<&'a str>,
+    /// Whether nothing is to be told but the result and faults.
+    pub quiet: bool,
+}
+
+/// What the words of `tpcc sim` ask for.
+pub fn read<'a>(matches: &ArgMatches<'a>) -> Result<SimSettings<'a>, UsageFault>
+    ensures limits { IfOk result HasExecutors }
+    ensures asked { IfOk result (AsksToSimulate (found_of matches.now)) }
+    ensures mistake { IfErr result (IsSimFault (found_of matches.now)) }
+{
+    let log = matches.get_str("log");
+    let picture = matches.get_str("picture");
+    let tables = matches.get_str("tables");
+    if same(log, picture) || same(log, tables) || same(picture, tables) {
+        return Err(UsageFault::SameOutput);
+    }
+    Ok(SimSettings {
+        data: word(matches, "DATA"),
+        schedule: word(matches, "SCHEDULE"),
+        executors: number(matches.get_str("executors"), 2, 1, 16, "--executors")?,
+        log,
+        picture,
+        tables,
+        quiet: matches.get_flag("quiet"),
+    })
+}
+
+/// The command and its options.
+pub fn command<'a>(alloc: Global) -> Result<Command<'a>, AllocError>
+    ensures { IfOk result (IsCommand (alone sim_command)) }
+{
+    let about = "Plays a schedule, event by event, and prints what comes of each event";
+    let schedule = argument(
+        alloc,
+        "SCHEDULE",
+        "What is to happen: submissions, moves, takes, sends and rounds, one after another",
+    );
+    let picture = option(
+        alloc,
+        "picture",
+        "FILE",
+        "Where a picture of the schedule is written, as SVG",
+    );
+    let tables = option(
+        alloc,
+        "tables",
+        "FILE",
+        "Where the tables are written, as a dataset, if no transaction is active and no move outstanding at the end",
+    );
+    let command = named(alloc, "sim", about, HELP)
+        .arg(data(alloc))?
+        .arg(schedule)?
+        .arg(executors(alloc))?
+        .arg(log(alloc))?
+        .arg(picture)?
+        .arg(tables)?
+        .arg(quiet(alloc))?;
+    Ok(command)
+}
+
+// What is told after the arguments by `tpcc sim --help`.
+const HELP: &str = "\
+Items of a schedule:
+  S,session,number,..   the session, 0 to 63, submits the request that follows
+  M,lo,hi,to            a move of the warehouses from lo to hi is ordered, at the executor to, to which they go
+  T,executor            the executor, from 0, takes the first message of its inbox
+  X,executor            the first item of its outbox is sent
+  R                     rounds: each executor takes and sends in turn, until nothing can happen in a round, at most
+                        100,000 rounds
+Prints a record for each event: accepted, answered, ordered, took, sent, full, logged, moved or nothing; for R
+only those that tell of a transaction or of the end of a move, and then quiet or limit.
+
+Exit statuses: 0 all was played, 1 a fault of a file, or `tpcc: not idle`: --tables was asked for and a
+transaction is active or a move outstanding at the end, 2 the words are wrong, 3 the dataset is not consistent,
+4 no memory";

@@ -1,0 +1,108 @@
+use crate::status::Status;
+use clap::Error;
+use clap::error::ErrorKind;
+use std::alloc::AllocError;
+use std::fmt;
+
+/// Why the words of the command line give no settings. Its `Display` is the text for the user, which
+/// ends with a line feed.
+#[derive(Debug, Drop)]
+pub enum UsageFault {
+    /// The words are not understood, or ask for help.
+    Words(Error),
+    /// The word at this place, from 1 after the program's name, is no text in UTF-8. It is shown with its
+    /// other bytes as numbers.
+    NotText {
+        place: usize,
+        shown: String,
+    },
+    /// The words name no command.
+    NoCommand,
+    /// There are not 1 to 64 scripts.
+    ScriptCount,
+    /// Two files that are to be written have one path.
+    SameOutput,
+    /// There are not 1 to 64 files for scripts.
+    FileCount,
+    /// Two files for scripts have one path.
+    SameFile,
+    /// What stands for a mix is none.
+    Mix,
+    /// Whether other warehouses take part is told by another word.
+    Remote,
+    /// What stands for this option is no number, or none in its limits.
+    Number {
+        option: &'static str,
+        low: u32,
+        high: u32,
+    },
+    /// What stands for the moment is none.
+    Moment,
+}
+
+impl UsageFault {
+    ghost use Rattle.std.specs.Prelude.{◌≡◌};
+    ghost use Rattle.command_line.specs.Status.{status_of_usage};
+
+    /// How the program ends after it.
+    pub fn status(&self) -> Status
+        ensures { result ≡ status_of_usage self.now }
+    {
+        match self {
+            UsageFault::Words(error) if error.kind() == ErrorKind::OutOfMemory => Status::NoMemory,
+            _ => Status::Usage,
+        }
+    }
+}
+
+impl fmt::Display for UsageFault {
+    fn fmt<W: fmt::Write>(&self, f: &mut fmt::Formatter<W>) -> fmt::Result {
+        match self {
+            UsageFault::Words(error) => match error.kind() {
+                ErrorKind::OutOfMemory => f.write_str("tpcc: no memory\n"),
+                _ => write!(f, "{error}"),
+            },
+            UsageFault::NotText { place, shown } => {
+                writeln!(f, "error: argument {place} is not UTF-8: {shown}")
+            }
+            UsageFault::NoCommand => f.write_str("error: no command: try `tpcc --help`\n"),
+            UsageFault::ScriptCount => f.write_str("error: `tpcc run` takes 1 to 64 scripts\n"),
+            UsageFault::SameOutput => {
+                f.write_str("error: two files that are to be written have one path\n")
+            }
+            UsageFault::FileCount => f.write_str("error: `tpcc script` takes 1 to 64 files\n"),
+            UsageFault::SameFile => f.write_str("error: two scripts have the same file\n"),
+            UsageFault::Mix => f.write_str(
+                "error: --mix takes cards of kinds, 0 to 1000 of each and one at least, as N=45,P=43,O=4,D=4,L=4\n",
+            ),
+            UsageFault::Remote => f.write_str("error: --remote takes on or off\n"),
+            UsageFault::Number { option, low, high } => {
+                writeln!(f, "error: {option} takes a number from {low} to {high}")
+            }
+            UsageFault::Moment => {
+                f.write_str("error: --now takes a date and time, as 2024-01-01T00:00:00\n")
+            }
+        }
+    }
+}
+
+impl From<Error> for UsageFault {
+    ghost use Rattle.std.specs.Prelude.{◌≡◌};
+    ghost use Rattle.command_line.specs.declared.usage.UsageFault.TheVariants.{Words};
+
+    ghost from_gives = { λ error fault. fault ≡ Words error };
+
+    fn from(error: Error) -> UsageFault {
+        UsageFault::Words(error)
+    }
+}
+
+impl From<AllocError> for UsageFault {
+    ghost use Rattle.command_line.specs.Mistakes.{IsNoMemory};
+
+    ghost from_gives = { λ _ fault. IsNoMemory fault };
+
+    fn from(error: AllocError) -> UsageFault {
+        UsageFault::Words(Error::from(error))
+    }
+}

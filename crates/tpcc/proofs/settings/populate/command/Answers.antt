@@ -1,5 +1,0 @@
-use Rattle.tpcc.proofs.BuiltCommands.{one_more}
-use Rattle.tpcc.proofs.settings.populate.command.Goals as goal
-
-pub returns : goal.returns
-returns c = one_more (one_more (one_more (one_more (one_more (one_more (one_more c.named.ensures c.argument.ensures c.in_ok-arg.ensures) c.counted.ensures c.in_ok-arg-2.ensures) c.counted-2.ensures c.in_ok-arg-3.ensures) c.counted-3.ensures c.in_ok-arg-4.ensures) c.counted-4.ensures c.in_ok-arg-5.ensures) c.option.ensures c.in_ok-arg-6.ensures) c.quiet.ensures c.in_ok-command.ensures

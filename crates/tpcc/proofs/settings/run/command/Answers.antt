@@ -1,5 +1,0 @@
-use Rattle.tpcc.proofs.BuiltCommands.{one_more}
-use Rattle.tpcc.proofs.settings.run.command.Goals as goal
-
-pub returns : goal.returns
-returns c = one_more (one_more (one_more (one_more (one_more (one_more (one_more (one_more (one_more c.named.ensures c.data.ensures c.in_ok-arg.ensures) c.arguments-scripts.ensures c.in_ok-arg-2.ensures) c.executors.ensures c.in_ok-arg-3.ensures) c.counted-tries.ensures c.in_ok-arg-4.ensures) c.option-moves.ensures c.in_ok-arg-5.ensures) c.log.ensures c.in_ok-arg-6.ensures) c.option-tables.ensures c.in_ok-arg-7.ensures) c.summary.ensures c.in_ok-arg-8.ensures) c.quiet.ensures c.in_ok-command.ensures
