@@ -1,8 +1,8 @@
 """Passes the tests: ./gate.sh [--anew] [--whole] [--record NAME]
 
 First come the definitions that documents quote and list, and a look at each wrong program. Then `rt ci` proves every crate and its
-tests from nothing, and runs the tests and the stored run. Beside it, over what it has built so far, the prover has to refuse the wrong
-programs of must-fail/, each at the function that it names. Last, all scenarios are run by the program that was proved, and each of its
+tests from nothing, and runs the tests and the stored run; where it keeps what it has proved, the longest chain of crates goes first.
+Beside it, over what it has built so far, the prover has to refuse the wrong programs of must-fail/, each at the function that it names. Last, all scenarios are run by the program that was proved, and each of its
 allocations is refused in turn. The last line is as `rt ci`'s: N passed, 0 failed, of the crates and the wrong programs. The exit
 status is 0 where all is well.
 
@@ -25,13 +25,20 @@ import signal
 import subprocess
 import sys
 import tempfile
+import threading
 import time
 
 from costs import Costs, record
-from edits import KINDS, Trials, edits_of
+from edits import KINDS, Trials, edits_of, free_memory
 
 ROOT = os.path.dirname(os.path.dirname(os.path.abspath(__file__)))
 PROGRAM = "crates/tpcc/out/tpcc"
+# The crate whose proof takes longest. `rt ci` gives a proof its processors as it begins, and this one would begin beside others with one:
+# so a run of this crate and of those below comes first, and beside it, for what it leaves free, one of all that don't stand on this
+# crate. The run that judges takes what these two have proved, and proves the rest.
+TOP = "engine"
+# The free memory, in bytes, with which two runs go side by side.
+ENOUGH_FOR_TWO = 16_000_000_000
 VERDICT = re.compile(r"(\d+) passed, (\d+) failed")
 START = time.monotonic()
 
@@ -42,31 +49,90 @@ def say(text):
 
 
 def crates():
-    """Returns the names of crates.txt."""
+    """Returns the names of crates.txt, lowest first, and what each stands on."""
     with open(f"{ROOT}/crates.txt", encoding="utf-8") as file:
-        return [line.split(":")[0].split()[0] for line in file if line.strip() and not line.startswith("#")]
+        lines = [line.partition(":") for line in file if line.strip() and not line.startswith("#")]
+    return {name.strip(): stands_on.split() for name, _, stands_on in lines}
+
+
+def with_all_below():
+    """Returns the names of each crate and of all crates that it stands on."""
+    found = {}
+    for name, stands_on in crates().items():
+        found[name] = {name}.union(*(found.get(it, ()) for it in stands_on))
+    return found
 
 
 class Progress:
-    """Says after each part of `rt ci` how many of how many crates have passed it, and tells of each crate that is proved."""
+    """Says of each part of `rt ci` how many of how many crates have passed it, and tells `proved` of each crate that is, once, and
+    of the folder in which its library is built. It knows whether a crate was proved once more, which `rt ci` does where it keeps
+    nothing."""
 
-    def __init__(self, root, proved):
+    def __init__(self, proved):
         named = crates()
-        has = lambda it, *words: subprocess.run(["grep", "-rqF", *words], cwd=f"{root}/crates/{it}", stderr=subprocess.DEVNULL).returncode == 0
-        self.proved, self.parts = proved, {
+        has = lambda it, *words: subprocess.run(["grep", "-rqF", *words], cwd=f"{ROOT}/crates/{it}", stderr=subprocess.DEVNULL).returncode == 0
+        self.proved, self.lock, self.parts = proved, threading.Lock(), {
             "proofs": (re.compile(r"rt: (\w+) (proved|is kept)"), len(named)),
             "tests": (re.compile(r"rt: (\w+): its tests are proved"), sum(has(it, "#[test]", "src") for it in named)),
         }
-        self.done = dict.fromkeys(self.parts, 0)
+        self.done, self.made, self.is_done_again = {part: set() for part in self.parts}, set(), False
 
-    def look(self, line):
+    def look(self, folder, line):
         for part, (pattern, _) in self.parts.items():
             found = pattern.match(line)
+            with self.lock:
+                if found and line.rstrip().endswith("proved"):
+                    self.is_done_again = self.is_done_again or (part, found[1]) in self.made
+                    self.made.add((part, found[1]))
+                if found and found[1] not in self.done[part]:
+                    self.done[part].add(found[1])
+                    say(", ".join(f"{name} of {len(self.done[name])} of {of} crates" for name, (_, of) in self.parts.items()))
+                    if part == "proofs":
+                        self.proved(folder, found[1])
+
+
+class Run:
+    """A run of `rt ci` in a folder. It is entered and left; left early it ends, and with it the provers that it has started."""
+
+    def __init__(self, folder, words, progress, priority=0):
+        self.folder, self.progress, self.verdict = folder, progress, (0, 1)
+        self.words = ["nice", "-n", str(priority), "rt", "ci", *words]
+        self.reader = threading.Thread(target=self.read)
+
+    def __enter__(self):
+        self.ran = subprocess.Popen(self.words, cwd=self.folder, stdout=subprocess.PIPE, text=True, errors="replace")
+        self.reader.start()
+        return self
+
+    def __exit__(self, *_):
+        self.ran.terminate()
+        self.reader.join()
+
+    def read(self):
+        for line in self.ran.stdout:
+            found = VERDICT.fullmatch(line.strip())
             if found:
-                self.done[part] += 1
-                say(", ".join(f"{name} of {self.done[name]} of {of} crates" for name, (_, of) in self.parts.items()))
-                if part == "proofs":
-                    self.proved(found[1])
+                self.verdict = int(found[1]), int(found[2])
+            else:
+                print(line, end="", flush=True)
+                self.progress.look(self.folder, line)
+        if self.ran.wait():
+            self.verdict = self.verdict[0], max(self.verdict[1], 1)
+
+    def is_under_way(self):
+        return self.reader.is_alive()
+
+
+def ahead(chain, others):
+    """Waits until these two runs have ended, or one has failed, or what one has proved is not kept for the other. Returns how many
+    passed and failed."""
+    with chain, others:
+        while True:
+            ended = [it.verdict for it in (chain, others) if not it.is_under_way()]
+            passed, failed = (sum(counts) for counts in zip((0, 0), *ended))
+            if len(ended) == 2 or failed or chain.progress.is_done_again:
+                return passed, failed
+            time.sleep(1)
 
 
 def words_for(anew):
@@ -79,32 +145,16 @@ def words_for(anew):
     return ["--anew"] if anew and keeps else []
 
 
-def prove(root, words, proved):
-    """Runs `rt ci` there, and returns how many passed and failed. Of each crate that is proved it tells `proved`."""
-    progress, verdict = Progress(root, proved), (0, 1)
-    with subprocess.Popen(["rt", "ci", *words], cwd=root, stdout=subprocess.PIPE, text=True, errors="replace") as ran:
-        try:
-            for line in ran.stdout:
-                found = VERDICT.fullmatch(line.strip())
-                if found:
-                    verdict = int(found[1]), int(found[2])
-                    continue
-                print(line, end="", flush=True)
-                progress.look(line)
-        except KeyboardInterrupt:
-            # The provers that it started end with it.
-            ran.terminate()
-            raise
-    return verdict if ran.returncode == 0 else (verdict[0], max(verdict[1], 1))
-
-
 @contextlib.contextmanager
-def without_edits():
-    """Gives a copy of what `rt ci` reads here, in which no crate has wrong programs."""
+def without_edits(names):
+    """Gives a folder with a copy of these crates, which has what `rt ci` reads, but no wrong programs."""
+    names = set(names)
     with tempfile.TemporaryDirectory(prefix="gate-") as room:
-        shutil.copytree(f"{ROOT}/crates", f"{room}/crates", ignore=shutil.ignore_patterns("out", *KINDS))
-        for file in ["crates.txt", "HANDLES"]:
-            shutil.copy(f"{ROOT}/{file}", room)
+        for name in names:
+            shutil.copytree(f"{ROOT}/crates/{name}", f"{room}/crates/{name}", ignore=shutil.ignore_patterns("out", *KINDS))
+        with open(f"{room}/crates.txt", "w", encoding="utf-8") as file:
+            file.writelines(f"{name}: {' '.join(stands_on)}\n" for name, stands_on in crates().items() if name in names)
+        shutil.copy(f"{ROOT}/HANDLES", room)
         yield room
 
 
@@ -127,8 +177,19 @@ def run(anew, whole):
         return 0, 1
     edits = edits_of(ROOT, crates(), KINDS if whole else KINDS[:1])
     say(f"part 1 of 3: every crate and its tests proved from nothing, and {len(edits)} wrong programs refused; the tests")
-    with without_edits() as room, Trials(room, edits, say) as trials:
-        passed, failed = prove(room, words_for(anew), trials.begin)
+    below = with_all_below()
+    with contextlib.ExitStack() as held:
+        copy_of = lambda names: held.enter_context(without_edits(names))
+        room, chain, others = copy_of(crates()), copy_of(below[TOP]), copy_of(it for it in crates() if TOP not in below[it])
+        trials = held.enter_context(Trials(edits, say))
+        progress = Progress(trials.begin)
+        if not anew and free_memory() > ENOUGH_FOR_TWO:
+            passed, failed = ahead(Run(chain, [], progress), Run(others, [], progress, priority=10))
+            if failed:
+                return passed, failed
+        with Run(room, words_for(anew), progress) as judge:
+            judge.reader.join()
+        passed, failed = judge.verdict
         if failed:
             return passed, failed
         counts = trials.end()
