@@ -1,10 +1,11 @@
 """Passes the tests: ./gate.sh [--anew] [--whole] [--record NAME]
 
-First come the definitions that documents quote and list, and a look at each wrong program. Then `rt ci` proves every crate and its
-tests from nothing, and runs the tests and the stored run; where it keeps what it has proved, the longest chain of crates goes first.
-Beside it, over what it has built so far, the prover has to refuse the wrong programs of must-fail/, each at the function that it names. Last, all scenarios are run by the program that was proved, and each of its
-allocations is refused in turn. The last line is as `rt ci`'s: N passed, 0 failed, of the crates and the wrong programs. The exit
-status is 0 where all is well.
+First come the definitions that documents quote and list, and a look at each wrong program. Then `rt ci` proves every
+crate and its tests from nothing, and runs the tests and the stored run; where it keeps what it has proved, the longest
+chain of crates goes first. Beside it, over what it has built so far, the prover has to refuse the wrong programs of
+must-fail/, each at the function that it names. Last, all scenarios are run by the program that was proved, and each of
+its allocations is refused in turn. The last line is as `rt ci`'s: N passed, 0 failed, of the crates and the wrong
+programs. The exit status is 0 where all is well.
 
 With --whole the further wrong programs, those of wrong-programs/, have to be refused too.
 

@@ -25,7 +25,7 @@ use Rattle.dataset.specs.declared.place.Place.TheVariants as at
 use Rattle.dataset.specs.Ranges.{InRange, IsFrom, ItemInRange, WarehouseInRange, DistrictInRange, StockInRange, CustomerInRange, HistoryInRange, OrderInRange, LineInRange, IsOrderKey, IsLine, IsLineKey}
 use Rattle.dataset.specs.Records.{Field, records_by_table, row_records, payment_records, history_fields, item_fields, warehouse_fields, district_fields, stock_fields, customer_fields, order_fields, new_order_fields, line_fields}
 use Rattle.dataset.specs.TableRow.{TableRow, OfItem, OfWarehouse, OfDistrict, OfStock, OfCustomer, OfHistory, OfOrder, OfNewOrder, OfLine, RowFits, row_fields, row_place}
-use Rattle.dataset.specs.Expecting.{AreInOrder, all_records}
+use Rattle.dataset.specs.Loading.{AreInOrder}
 use Rattle.dataset.proofs.Bounds.{bounds, both}
 use Rattle.dataset.proofs.Keys.{all-append, all-weaker}
 use Rattle.dataset.proofs.Order.{place_number, earlier_table, follows_less, place_itself, item_above, warehouse_above, district_above, stock_above, customer_above, history_above, order_above, new_order_above, line_above}
@@ -33,10 +33,10 @@ use Rattle.dataset.proofs.TableEntries.{entries_ascend, rows_pass, keys_pass, al
 
 -- ---- the rows
 
-abbrev rows_of : {K X : Type 0} → (K → X → TableRow) → List (K × X) → List TableRow
+abbrev pub rows_of : {K X : Type 0} → (K → X → TableRow) → List (K × X) → List TableRow
 rows_of make es = map (λ e. make e.0 e.1) es
 
-abbrev rows_paid : List (DistrictKey × List History) → List TableRow
+abbrev pub rows_paid : List (DistrictKey × List History) → List TableRow
 rows_paid es = flat_map (λ e. map (OfHistory e.0) e.1) es
 
 unfoldable pub rows_by_table : Database → List (List TableRow)
@@ -49,7 +49,11 @@ all_rows t = flat_map (λ rows. rows) (rows_by_table t)
 
 -- ---- their records
 
-fields_of_rows : {K X : Type 0} (make : K → X → TableRow) (fields : K → X → List Field) → ((k : K) (x : X) → row_fields (make k x) ≡ fields k x) → (es : List (K × X)) → map row_fields (rows_of make es) ≡ row_records fields es
+-- the records of all rows
+abbrev pub all_records : Database → List (List Field)
+all_records t = flat_map (λ records. records) (records_by_table t)
+
+pub fields_of_rows : {K X : Type 0} (make : K → X → TableRow) (fields : K → X → List Field) → ((k : K) (x : X) → row_fields (make k x) ≡ fields k x) → (es : List (K × X)) → map row_fields (rows_of make es) ≡ row_records fields es
 fields_of_rows make fields same [] = refl
 fields_of_rows make fields same (e ∷ es) = let rest = fields_of_rows make fields same es in λ i. same e.0 e.1 i ∷ rest i
 

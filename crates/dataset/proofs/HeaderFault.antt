@@ -1,11 +1,13 @@
 -- The fault of a header.
-use Rattle.std.proofs.Common.{◌≡◌, ◌≢◌, ◌≤◌, ◌==◌, ◌&&◌, ◌+◌, ◌⊎◌, inl, inr, ℕ, List, [], ◌∷◌, length, drop, get_or, Bool, true, false, nat_lt, Option, Some, None, Result, IsUtf8, codes, refl, sym, ap, subst, ◌∙◌, arith}
+use Rattle.std.proofs.Common.{◌≡◌, ◌≢◌, ◌≤◌, ◌==◌, ◌&&◌, ◌+◌, ◌⊎◌, inl, inr, ℕ, List, [], ◌∷◌, ◌++◌, length, not, drop, get_or, Bool, true, false, nat_lt, Option, Some, None, Result, IsUtf8, codes, refl, sym, ap, subst, ◌∙◌, arith}
 use Rattle.std.specs.Prelude.{IsSome}
 use Rattle.std.specs.Option.{ok_or}
 use Rattle.std.specs.Str.{bytes_eq}
 use Rattle.std.specs.Str.Parse.{digits_value}
 use Rattle.std.proofs.lemmas.Bool.Decides.{nat_tests}
 use Rattle.std.proofs.lemmas.Fmt.{decimal_is_IsNumeral}
+use Rattle.std.proofs.lemmas.List.{length-append}
+use Rattle.std.specs.Cmp.Lexicographic.{pointwise, bytes_decides}
 use Rattle.schema.specs.declared.scale.Scale.{Scale}
 use Rattle.files.specs.declared.fault.FaultKind.{FaultKind}
 use Rattle.files.specs.declared.fault.FaultKind.TheVariants as fault
@@ -21,16 +23,13 @@ use Rattle.files.specs.Taken.{fault_of, fields_left}
 use Rattle.files.proofs.Ascii.{utf8_words}
 use Rattle.std.specs.Prelude.{MatchOption}
 use Rattle.dataset.specs.declared.loader.Loader.{Loader}
-use Rattle.dataset.specs.declared.place.Place.TheVariants as at
-use Rattle.dataset.specs.Expecting.{IsFault}
 use Rattle.dataset.specs.Loading.{HasLoaded}
-use Rattle.dataset.specs.Order.{place_numbers}
-use Rattle.dataset.specs.Columns.{kind_of, sizes}
+use Rattle.dataset.specs.Columns.{sizes}
 use Rattle.files.specs.Columns.{at_end, columns_fault, take_columns}
-use Rattle.dataset.specs.FirstFault.{HasNoTables, Tells, kind_place, first_fault, header_columns, header_fault, header_sizes, is_header, rows_fault, told_header}
-use Rattle.files.specs.FirstFault.{behind_end, fault_at}
-use Rattle.dataset.specs.Records.{AreSpelt, header_fields}
-use Rattle.dataset.specs.TakenAs.{IsAt, IsHeaderAs, TellsEnd}
+use Rattle.dataset.specs.FirstFault.{HasNoTables, Tells, first_fault, header_columns, header_fault, header_first, header_sizes, is_header, rows_fault, told_header}
+use Rattle.files.specs.FirstFault.{behind_end, fault_at, fault_or}
+use Rattle.dataset.specs.Records.{AreSpelt, AreRecords, header_fields}
+use Rattle.dataset.specs.TakenAs.{IsHeaderAs, TellsEnd}
 use Rattle.files.specs.FirstFault.{TellsFault}
 use Rattle.files.proofs.Unlike.{other}
 use Rattle.dataset.proofs.LetterFault.{some_word}
@@ -41,6 +40,13 @@ no_header fields e = rw e refl
 
 pub not_five : (fields : List (List ℕ)) → length fields ≢ 5 → is_header fields ≡ false
 not_five fields apart = let no : (length fields == 5) ≡ false = grind (arith, nat_tests, apart) in rw no refl
+
+-- words that do not differ
+pub no_difference : (word other : List ℕ) (differs : Bool) → differs ≡ not (pointwise ◌==◌ word other) → word ≡ other → differs ≡ true → ⊥
+no_difference word other differs is same h =
+    let alike : pointwise ◌==◌ word other ≡ true = (bytes_decides word other).1 same in
+    let no : true ≡ false = sym h ∙ is ∙ ap not alike in
+    cc
 
 -- the first word is another one
 not_word : (left : List (List ℕ)) (known word : List ℕ) → ((field : List ℕ) (rest : List (List ℕ)) → left ≡ field ∷ rest → IsUtf8 field → word ≡ field) → length left ≢ 0 → IsUtf8 known → (word ≡ known → ⊥)
@@ -120,43 +126,43 @@ header_passes scale header more short none spelt =
     let pass : first_fault (header ∷ more) ≡ rows_fault (header_sizes header) (header ∷ []) more = rw (short_header header short ∙ none) refl in
     pass ∙ ap (λ s. rows_fault s (header ∷ []) more) (sym (sizes_spelt scale header spelt))
 
-pub header_fails : (kind : FaultKind) (header : List (List ℕ)) (more : List (List (List ℕ))) → record_size header ≤ 65536 → told_header header ≡ Some kind → first_fault (header ∷ more) ≡ Some (fault_at kind 1)
-unfolding first_fault
+pub header_fails : (kind : FaultKind) (header : List (List ℕ)) (more : List (List (List ℕ))) → record_size header ≤ 65536 → told_header header ≡ Some kind → header_first (header ∷ more) ≡ Some (fault_at kind 1)
 header_fails kind header more short told = rw (short_header header short ∙ told) refl
 
-pub no_records : first_fault [] ≡ Some (fault_at fault.NoHeader 1)
-unfolding first_fault
-no_records = refl
-
-long_header : (rows : List (List (List ℕ))) → FirstIsTooLong rows → first_fault rows ≡ Some (fault_at fault.WrongShape 1)
-unfolding first_fault
+long_header : (rows : List (List (List ℕ))) → FirstIsTooLong rows → header_first rows ≡ Some (fault_at fault.WrongShape 1)
 long_header [] long = absurd long
 long_header (header ∷ more) long = let yes : nat_lt 65536 (record_size header) ≡ true = grind (arith, nat_tests) in rw yes refl
 
 pub header_unread : (error : FileError) (number : ℕ) (rows : List (List (List ℕ))) → number ≡ 1 → (error ≡ NoMemory) ⊎ (error ≡ Failed number) ⊎ (error ≡ file_fault fault.WrongShape number)
-    → (error ≡ file_fault fault.WrongShape number → FirstIsTooLong rows) → TellsFault error (first_fault rows)
+    → (error ≡ file_fault fault.WrongShape number → FirstIsTooLong rows) → TellsFault error (header_first rows)
 header_unread error number rows one faults long =
-    not_advanced error number (first_fault rows) faults (λ e. long_header rows (long e) ∙ ap (λ n. Some (fault_at fault.WrongShape n)) (sym one))
+    not_advanced error number (header_first rows) faults (λ e. long_header rows (long e) ∙ ap (λ n. Some (fault_at fault.WrongShape n)) (sym one))
 
 pub header_error : (error : FileError) (kind : FaultKind) (number : ℕ) (first : Option FileFault) → error ≡ file_fault kind number → number ≡ 1 → first ≡ Some (fault_at kind 1) → TellsFault error first
 header_error error kind number first is one found = subst (λ e. TellsFault e first) (sym is) (found ∙ ap (λ n. Some (fault_at kind n)) (sym one))
 
+-- a fault of the header is the first one of the text
+pub first_of_header : (error : FileError) (rows : List (List (List ℕ))) → TellsFault error (header_first rows) → TellsFault error (first_fault rows)
+unfolding first_fault
+first_of_header NoMemory rows tells = tt
+first_of_header (Failed number) rows tells = tt
+first_of_header (File f) [] tells = tells
+first_of_header (File f) (header ∷ rows) tells = by (header_fault header) refl
+  where
+    by : (kind : Option FaultKind) → header_fault header ≡ kind → fault_or (header_fault header) 1 (rows_fault (header_sizes header) (header ∷ []) rows) ≡ Some f
+    by None none = let clash : None ≡ Some f = sym (ap (λ k. fault_or k 1 None) none) ∙ tells in cc
+    by (Some kind) some = ap (λ k. fault_or k 1 (rows_fault (header_sizes header) (header ∷ []) rows)) some ∙ sym (ap (λ k. fault_or k 1 None) some) ∙ tells
+
 -- ---- behind the end record
 
-pub more_found : (error : FileError) (more : List (List (List ℕ))) (number next : ℕ) → next ≡ number + 1
-    → (error ≡ NoMemory) ⊎ (error ≡ Failed next) ⊎ (error ≡ file_fault fault.AfterEnd next) → (error ≡ file_fault fault.AfterEnd next → more ≡ [] → ⊥) → TellsEnd error more number
-more_found error more number next is (inl e) some = subst (λ x. TellsEnd x more number) (sym e) tt
-more_found error more number next is (inr (inl e)) some = subst (λ x. TellsEnd x more number) (sym e) tt
-more_found error [] number next is (inr (inr e)) some = absurd (some e refl)
-more_found error (row ∷ rows) number next is (inr (inr e)) some = subst (λ x. TellsEnd x (row ∷ rows) number) (sym e) (inl (ap (λ n. Some (fault_at fault.AfterEnd n)) (sym is)))
+pub more_found : (error : FileError) (l : Loader) (more : List (List (List ℕ))) (number next : ℕ) → next ≡ number + 1
+    → (error ≡ NoMemory) ⊎ (error ≡ Failed next) ⊎ (error ≡ file_fault fault.AfterEnd next) → (error ≡ file_fault fault.AfterEnd next → more ≡ [] → ⊥) → TellsEnd error l more number
+more_found error l more number next is (inl e) some = subst (λ x. TellsEnd x l more number) (sym e) tt
+more_found error l more number next is (inr (inl e)) some = subst (λ x. TellsEnd x l more number) (sym e) tt
+more_found error l [] number next is (inr (inr e)) some = absurd (some e refl)
+more_found error l (row ∷ rows) number next is (inr (inr e)) some = subst (λ x. TellsEnd x l (row ∷ rows) number) (sym e) (inl (ap (λ n. Some (fault_at fault.AfterEnd n)) (sym is)))
 
 -- ---- in all
-
--- the loader before the first row
-pub header_at : (l : Loader) (header : List (List ℕ)) → l.last ≡ at.Header → HasLoaded l (header ∷ []) → IsAt l (header ∷ [])
-header_at l [] last loaded = absurd loaded.are_spelt.0
-header_at l (name ∷ fields) last loaded =
-    record { loaded = loaded; last = ap place_numbers last ∙ sym (ap (λ word. kind_place (sizes l.scale) (kind_of word) fields) loaded.are_spelt.0.0) }
 
 -- the first fault is told
 pub tells_first : (error : FileError) (rows : List (List (List ℕ))) (first : Option FileFault) → first_fault rows ≡ first → TellsFault error first → Tells rows error
@@ -164,11 +170,13 @@ tells_first NoMemory rows first is tells = tt
 tells_first (Failed number) rows first is tells = tt
 tells_first (File f) rows first is e = subst (λ o. MatchOption o ((f ≡ fault_at fault.ScaleBroken (length rows)) × HasNoTables rows) (λ x. f ≡ x)) (sym (is ∙ e)) refl
 
-pub tells_end : (error : FileError) (rows more : List (List (List ℕ))) (number : ℕ) → first_fault rows ≡ behind_end number more → number + length more ≡ length rows → TellsEnd error more number → (IsFault error → HasNoTables rows) → Tells rows error
-tells_end NoMemory rows more number is long tells none = tt
-tells_end (Failed at) rows more number is long tells none = tt
-tells_end (File f) rows more number is long (inl e) none = tells_first (File f) rows (behind_end number more) is e
-tells_end (File f) rows more number is long (inr h) none =
-    let all : number ≡ length rows = let e = ap length h.0 in omega (arith, long, e) in
+pub tells_end : (error : FileError) (l : Loader) (rows before more : List (List (List ℕ))) (end : List (List ℕ)) (number : ℕ) → HasLoaded l before → rows ≡ before ++ (end ∷ more) → number ≡ length before + 1
+    → first_fault rows ≡ behind_end number more → TellsEnd error l more number → Tells rows error
+tells_end NoMemory l rows before more end number loaded are counted is tells = tt
+tells_end (Failed at) l rows before more end number loaded are counted is tells = tt
+tells_end (File f) l rows before more end number loaded are counted is (inl e) = tells_first (File f) rows (behind_end number more) is e
+tells_end (File f) l rows before more end number loaded are counted is (inr h) =
+    let read : rows ≡ before ++ (end ∷ []) = are ∙ ap (λ m. before ++ (end ∷ m)) h.0 in
+    let all : number ≡ length rows = let long = ap length read in let parts = length-append before (end ∷ []) in omega (arith, long, parts, counted) in
     subst (λ o. MatchOption o ((f ≡ fault_at fault.ScaleBroken (length rows)) × HasNoTables rows) (λ x. f ≡ x)) (sym (is ∙ ap (behind_end number) h.0))
-    (h.1 ∙ ap (λ n. fault_at fault.ScaleBroken n) all, none tt)
+    (h.1 ∙ ap (λ n. fault_at fault.ScaleBroken n) all, λ t within range records. h.2 t before end within range loaded (subst (AreRecords t) read records))

@@ -1,14 +1,14 @@
 -- The fault of a record, by what its first field says that it is.
-use Rattle.std.proofs.Common.{◌≡◌, ◌<◌, ◌^◌, ℕ, suc, List, [], ◌∷◌, map, length, sum, Bool, true, false, Option, Some, None, codes, IsUtf8, refl, sym, ap, subst, ◌∙◌}
-use Rattle.std.specs.Prelude.{if◌then◌else◌}
+use Rattle.std.proofs.Common.{◌≡◌, ◌<◌, ◌^◌, ℕ, suc, List, [], ◌∷◌, ◌++◌, map, length, sum, Bool, true, false, Option, Some, None, codes, IsUtf8, refl, sym, ap, subst, ◌∙◌}
 use Rattle.std.specs.Str.{bytes_eq, is_utf8}
+use Rattle.std.proofs.lemmas.List.{append-nil}
 use Rattle.std.proofs.lemmas.Str.{is_utf8-from_IsUtf8, IsUtf8-from_is_utf8}
 use Rattle.files.specs.declared.fault.FaultKind.{FaultKind}
 use Rattle.files.specs.declared.fault.FaultKind.TheVariants as fault
 use Rattle.files.specs.declared.fields.Fields.{Fields}
 use Rattle.files.specs.FieldRead.{Taking, taking, field_read, next_read}
 use Rattle.files.specs.KindsRead.{word_read}
-use Rattle.files.specs.Taken.{fault_of, fields_left, with_fault}
+use Rattle.files.specs.Taken.{Takes, fault_of, fields_left, with_fault}
 use Rattle.files.proofs.Ascii.{utf8_words}
 use Rattle.files.proofs.Unlike.{other}
 use Rattle.files.proofs.KindsRead.{word_is, no_word}
@@ -16,10 +16,10 @@ use Rattle.dataset.specs.declared.loader.Loader.{Loader}
 use Rattle.dataset.specs.declared.loader.Taken.TheVariants.{Row, End}
 use Rattle.files.specs.Columns.{Column, Count, at_end, take_columns}
 use Rattle.dataset.specs.Columns.{Of, Table, Items, Warehouses, Districts, Stocks, Customers, Histories, Orders, NewOrders, Lines, fields_fault, kind_fault, kind_of, letter, sizes}
-use Rattle.dataset.specs.FirstFault.{is_end, kind_place, record_place}
 use Rattle.dataset.specs.Order.{place_numbers}
-use Rattle.dataset.specs.TakenAs.{IsRowOf, IsTakenAs}
-use Rattle.dataset.specs.Writing.{table_counts}
+use Rattle.dataset.specs.Records.{AreSpelt}
+use Rattle.dataset.specs.TakenAs.{HasRow, IsDone, IsRowOf, IsTakenAs}
+use Rattle.dataset.specs.Writing.{row_counts, table_counts}
 
 -- a word that was taken, and what is left behind it
 pub record TookWord (word : List ℕ) (before : List (List ℕ)) (known : Option FaultKind) (new : Taking) : Type 0 where
@@ -48,7 +48,7 @@ some_word letter n word (field ∷ rest) known new some is e = by (is_utf8 field
         let clash : suc n ≡ 0 = sym some ∙ ap length (sym is ∙ none) in
         absurd cc
 
-kind_of_letter : (table : Table) → kind_of (letter table) ≡ Some (Of table)
+pub kind_of_letter : (table : Table) → kind_of (letter table) ≡ Some (Of table)
 kind_of_letter Items = refl
 kind_of_letter Warehouses = refl
 kind_of_letter Districts = refl
@@ -59,7 +59,7 @@ kind_of_letter Orders = refl
 kind_of_letter NewOrders = refl
 kind_of_letter Lines = refl
 
-letter_is_not_end : (table : Table) → bytes_eq (letter table) (codes "END") ≡ false
+pub letter_is_not_end : (table : Table) → bytes_eq (letter table) (codes "END") ≡ false
 letter_is_not_end Items = refl
 letter_is_not_end Warehouses = refl
 letter_is_not_end Districts = refl
@@ -86,31 +86,38 @@ pub row_is : (table : Table) (l m : Loader) (old mid new : Fields) (word : List 
     → ◌≡◌ {A = List ℕ × Taking} (word, taking mid) (field_read word_read [] (taking old)) → (fault_of mid ≡ None → IsRowOf table l m mid new)
     → fault_of old ≡ None → IsTakenAs Row l m old new
 row_is table l m old mid new word is field taken none =
-    let took = some_word (letter table) 0 word (fields_left old) (fault_of old) (taking mid) (one_letter table) is field in
-    let row = taken (took.fault ∙ none) in
+    let read = some_word (letter table) 0 word (fields_left old) (fault_of old) (taking mid) (one_letter table) is field in
+    let row = taken (read.fault ∙ none) in
     record {
-      fault = λ few. row.fault ∙ sym (ap (λ fields. fields_fault (sizes l.scale) (place_numbers l.last) (table_counts l.rows) fields) took.left
+      fault = λ few. row.fault ∙ sym (ap (λ fields. fields_fault (sizes l.scale) (place_numbers l.last) (table_counts l.rows) fields) read.left
           ∙ ap (λ kind. kind_fault (sizes l.scale) (place_numbers l.last) (table_counts l.rows) kind (fields_left mid)) (kind_of_letter table));
-      kind = λ free. sym (ap (λ fields. if is_end fields then End else Row) took.left ∙ ap (λ b. if b then End else Row) (letter_is_not_end table));
-      last = λ free row_taken. row.last free ∙ sym (ap (record_place (sizes l.scale)) took.left ∙ ap (λ kind. kind_place (sizes l.scale) kind (fields_left mid)) (kind_of_letter table));
-      scale = row.scale;
+      done = λ free.
+          let has : HasRow l m (letter table) (fields_left mid) = record { table = table; is_letter = refl; none = sym row.fault ∙ free; added = row.added free } in
+          subst (IsDone Row l m) (sym read.left) has;
     }
+
+end_none : (left : List (List ℕ)) (known : Option FaultKind) → at_end left known ≡ None → (left ≡ []) × (known ≡ None)
+end_none [] known e = (refl, e)
+end_none (field ∷ fields) known e = absurd cc
 
 -- the end record
 pub end_is : (l : Loader) (old mid checked new : Fields) (word : List ℕ) → word ≡ codes "END"
     → ◌≡◌ {A = List ℕ × Taking} (word, taking mid) (field_read word_read [] (taking old))
     → (sum (map length l.rows.histories.items) < 2 ^ 64 → taking checked ≡ take_columns (map (λ count. Count count) (table_counts l.rows)) (taking mid))
+    → Takes mid checked (AreSpelt (row_counts l.rows))
     → fault_of new ≡ at_end (fields_left checked) (fault_of checked) → fault_of old ≡ None → IsTakenAs End l l old new
-end_is l old mid checked new word is field counted ended none =
-    let took = some_word (codes "END") 2 word (fields_left old) (fault_of old) (taking mid) refl is field in
-    let start : taking mid ≡ record { left = fields_left mid; fault = None } = ap (λ (f : Option FaultKind). record { left = fields_left mid; fault = f }) (took.fault ∙ none) in
+end_is l old mid checked new word is field counted takes ended none =
+    let read = some_word (codes "END") 2 word (fields_left old) (fault_of old) (taking mid) refl is field in
+    let start : taking mid ≡ record { left = fields_left mid; fault = None } = ap (λ (f : Option FaultKind). record { left = fields_left mid; fault = f }) (read.fault ∙ none) in
     let columns : List Column = map (λ count. Count count) (table_counts l.rows) in
     record {
       fault = λ few. ended ∙ ap (λ (t : Taking). at_end t.left t.fault) (counted few ∙ ap (take_columns columns) start)
-          ∙ sym (ap (λ fields. fields_fault (sizes l.scale) (place_numbers l.last) (table_counts l.rows) fields) took.left);
-      kind = λ free. sym (ap (λ fields. if is_end fields then End else Row) took.left);
-      last = λ free row. let clash : End ≡ Row = row in absurd cc;
-      scale = refl;
+          ∙ sym (ap (λ fields. fields_fault (sizes l.scale) (place_numbers l.last) (table_counts l.rows) fields) read.left);
+      done = λ free.
+          let whole = end_none (fields_left checked) (fault_of checked) (sym ended ∙ free) in
+          let counts = takes whole.1 in
+          let texts : fields_left mid ≡ counts.texts = counts.left ∙ ap (λ l. counts.texts ++ l) whole.0 ∙ append-nil counts.texts in
+          subst (IsDone End l l) (sym read.left) (refl, refl, (refl, subst (AreSpelt (row_counts l.rows)) (sym texts) counts.are_said));
     }
 
 no_kind : (word : List ℕ) → (word ≡ codes "I" → ⊥) → (word ≡ codes "W" → ⊥) → (word ≡ codes "D" → ⊥) → (word ≡ codes "S" → ⊥) → (word ≡ codes "C" → ⊥) → (word ≡ codes "H" → ⊥) → (word ≡ codes "O" → ⊥) → (word ≡ codes "N" → ⊥) → (word ≡ codes "L" → ⊥) → (word ≡ codes "END" → ⊥) → kind_of word ≡ None
@@ -164,9 +171,7 @@ other_is l old mid new word n0 n1 n2 n3 n4 n5 n6 n7 n8 n9 field is none =
     let e : ◌≡◌ {A = List ℕ × Taking} (word, taking mid) (next_read word_read [] (fields_left old) None) = field ∙ ap (next_read word_read [] (fields_left old)) none in
     record {
       fault = λ few. other_fault word (fields_left old) (taking mid) (fault_of new) e (no_kind word n0 n1 n2 n3 n4 n5 n6 n7 n8 n9) is l;
-      kind = λ free. absurd (some free);
-      last = λ free row. absurd (some free);
-      scale = refl;
+      done = λ free. absurd (some free);
     }
   where
     some : fault_of new ≡ None → ⊥

@@ -151,7 +151,7 @@ place_number (at.Order key) = 7
 place_number (at.NewOrder key) = 8
 place_number (at.Line key) = 9
 
-numbers_of : (p : Place) → (rest : List ℕ) × (place_numbers p ≡ place_number p ∷ rest)
+pub numbers_of : (p : Place) → (rest : List ℕ) × (place_numbers p ≡ place_number p ∷ rest)
 numbers_of at.Header = ([], refl)
 numbers_of (at.Item key) = (key ∷ [], refl)
 numbers_of (at.Warehouse key) = (key ∷ [], refl)

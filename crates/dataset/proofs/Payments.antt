@@ -1,7 +1,8 @@
 -- The lists of payments, one payment more at a time.
 use Rattle.std.proofs.Common.{◌≡◌, ℕ, zero, suc, ◌+◌, ◌≤◌, List, [], ◌∷◌, ◌++◌, Option, map, sum, length, take, slice_set, Some, IsTrue, refl, sym, ap, subst, ◌∙◌, arith, append_assoc, zero-add}
-use Rattle.std.specs.List.{AllByRecursion, zip, slice_get}
+use Rattle.std.specs.List.{AllByRecursion, flat_map, zip, slice_get}
 use Rattle.std.specs.List.Sorted.{IsStrictlySortedBy}
+use Rattle.std.specs.Map.{keys_of}
 use Rattle.std.specs.Ordering.{is_le}
 use Rattle.std.specs.declared.cmp.Ordering.TheVariants.{Less, Greater}
 use Rattle.std.proofs.lemmas.Cmp.{tied_itself}
@@ -19,16 +20,13 @@ use Rattle.dataset.specs.declared.place.Place.{Place}
 use Rattle.dataset.specs.declared.place.Place.TheVariants as at
 use Rattle.dataset.specs.Order.{place_cmp}
 use Rattle.dataset.specs.Payments.{Pays}
-use Rattle.dataset.specs.Records.{Field, payment_records, history_fields}
-use Rattle.dataset.specs.Loading.{places}
+use Rattle.dataset.specs.Records.{payment_records, history_fields}
 use Rattle.dataset.proofs.Keys.{get-place}
 use Rattle.dataset.proofs.Order.{same_history, turned}
 
--- no key of a table stands up to a place that is before the table
-pub none_reached : {K X : Type 0} (place : K → Place) (p : Place) → ((k : K) → IsTrue (is_le (place_cmp (place k) p)) → ⊥) → (rows : List (K × X))
-    → AllByRecursion (λ q. IsTrue (is_le (place_cmp q p))) (places place rows) → rows ≡ []
-none_reached place p never [] h = refl
-none_reached place p never (e ∷ es) h = absurd (never e.0 h.0)
+-- where the records of a table stand
+abbrev pub places : {K X : Type 0} → (K → Place) → List (K × X) → List Place
+places place rows = map place (keys_of rows)
 
 -- ---- which lists were opened
 
@@ -77,19 +75,35 @@ all_reached (k ∷ ks) (list ∷ more ∷ lists) zero d sorted get many = absurd
 all_reached (k ∷ ks) (list ∷ lists) (suc n) d sorted get many =
     (ap is_le (same_history k d ∙ all-get (λ j. district_cmp k j ≡ Less) ks n d get sorted.0), all_reached ks lists n d sorted.1 get (omega arith))
 
--- ---- their records
+-- ---- each with its district
 
-no_payments : (ks : List DistrictKey) (opened : List (List History)) → AllByRecursion (λ list. list ≡ []) opened → payment_records (zip ks opened) ≡ []
+-- the payments of each district, each with the district
+abbrev pub payments_of : List (DistrictKey × List History) → List (DistrictKey × History)
+payments_of lists = flat_map (λ e. map (λ row. (e.0, row)) e.1) lists
+
+list_records : (home : DistrictKey) (rows : List History) → map (λ (p : DistrictKey × History). history_fields p.0 p.1) (map (λ row. (home, row)) rows) ≡ map (history_fields home) rows
+list_records home [] = refl
+list_records home (row ∷ rows) = ap (λ l. history_fields home row ∷ l) (list_records home rows)
+
+-- their records are those of the lists
+pub payments_recorded : (lists : List (DistrictKey × List History)) → map (λ (p : DistrictKey × History). history_fields p.0 p.1) (payments_of lists) ≡ payment_records lists
+payments_recorded [] = refl
+payments_recorded (e ∷ lists) =
+    map-append (λ (p : DistrictKey × History). history_fields p.0 p.1) (map (λ row. (e.0, row)) e.1) (payments_of lists)
+    ∙ ap (λ l. l ++ map (λ (p : DistrictKey × History). history_fields p.0 p.1) (payments_of lists)) (list_records e.0 e.1)
+    ∙ ap (λ l. map (history_fields e.0) e.1 ++ l) (payments_recorded lists)
+
+no_payments : (ks : List DistrictKey) (opened : List (List History)) → AllByRecursion (λ list. list ≡ []) opened → payments_of (zip ks opened) ≡ []
 no_payments [] opened h = refl
 no_payments (k ∷ ks) [] h = refl
-no_payments (k ∷ ks) (list ∷ opened) h = ap (λ l. map (history_fields k) l ++ payment_records (zip ks opened)) h.0 ∙ no_payments ks opened h.1
+no_payments (k ∷ ks) (list ∷ opened) h = ap (λ l. map (λ row. (k, row)) l ++ payments_of (zip ks opened)) h.0 ∙ no_payments ks opened h.1
 
--- empty lists have no records
+-- empty lists have no payments
 pub payments-opened : (ks : List DistrictKey) (lists opened : List (List History)) → AllByRecursion (λ list. list ≡ []) opened
-    → payment_records (zip ks (lists ++ opened)) ≡ payment_records (zip ks lists)
+    → payments_of (zip ks (lists ++ opened)) ≡ payments_of (zip ks lists)
 payments-opened [] lists opened h = refl
 payments-opened (k ∷ ks) [] opened h = no_payments (k ∷ ks) opened h
-payments-opened (k ∷ ks) (list ∷ lists) opened h = ap (λ l. map (history_fields k) list ++ l) (payments-opened ks lists opened h)
+payments-opened (k ∷ ks) (list ∷ lists) opened h = ap (λ l. map (λ row. (k, row)) list ++ l) (payments-opened ks lists opened h)
 
 pub count-cons : (list : List History) (lists : List (List History)) → sum (map length (list ∷ lists)) ≡ length list + sum (map length lists)
 count-cons list lists = sum-map length (list ∷ lists) ∙ sum_by-cons length list lists ∙ ap (λ n. length list + n) (sym (sum-map length lists))
@@ -103,17 +117,17 @@ counts-opened (list ∷ lists) opened h =
 
 -- the list at the end
 payments-last : (ks : List DistrictKey) (before : List (List History)) (list : List History) (n : ℕ) (d : DistrictKey) → length before ≡ n → slice_get ks n ≡ Some d
-    → payment_records (zip ks (before ++ (list ∷ []))) ≡ payment_records (zip ks before) ++ map (history_fields d) list
+    → payments_of (zip ks (before ++ (list ∷ []))) ≡ payments_of (zip ks before) ++ map (λ row. (d, row)) list
 payments-last [] before list n d many get = absurd cc
 payments-last (k ∷ ks) [] list zero d many get =
     let same : k ≡ d = cc in
-    let none : payment_records (zip {X = List History} ks []) ≡ [] = no_payments ks [] tt in
-    ap (λ l. map (history_fields k) list ++ l) none ∙ append-nil (map (history_fields k) list) ∙ ap (λ j. map (history_fields j) list) same
+    let none : payments_of (zip {X = List History} ks []) ≡ [] = no_payments ks [] tt in
+    ap (λ l. map (λ row. (k, row)) list ++ l) none ∙ append-nil (map (λ row. (k, row)) list) ∙ ap (λ j. map (λ row. (j, row)) list) same
 payments-last (k ∷ ks) [] list (suc n) d many get = absurd (omega arith)
 payments-last (k ∷ ks) (first ∷ before) list zero d many get = absurd (omega arith)
 payments-last (k ∷ ks) (first ∷ before) list (suc n) d many get =
-    ap (λ l. map (history_fields k) first ++ l) (payments-last ks before list n d (omega arith) get)
-    ∙ sym (append_assoc (map (history_fields k) first) (payment_records (zip ks before)) (map (history_fields d) list))
+    ap (λ l. map (λ row. (k, row)) first ++ l) (payments-last ks before list n d (omega arith) get)
+    ∙ sym (append_assoc (map (λ row. (k, row)) first) (payments_of (zip ks before)) (map (λ row. (d, row)) list))
 
 -- the last list, as it was and as it is written
 last_list : {X : Type 0} (xs : List X) (n : ℕ) (x : X) → length xs ≡ n + 1 → slice_get xs n ≡ Some x → xs ≡ take n xs ++ (x ∷ [])
@@ -138,18 +152,18 @@ module _ {place : Option ℕ} {row : History} {old new : List (List History)} (p
   stands : length (take pays.slot pays.opened) ≡ pays.slot
   stands = length-take-le pays.slot pays.opened (omega (arith, many))
 
-  -- a payment more is a record more
+  -- a payment more
   pub lists_paid : (ks : List DistrictKey) (key : DistrictKey) → slice_get ks pays.slot ≡ Some key
-      → payment_records (zip ks new) ≡ payment_records (zip ks old) ++ (history_fields key row ∷ [])
+      → payments_of (zip ks new) ≡ payments_of (zip ks old) ++ ((key, row) ∷ [])
   lists_paid ks key get =
-      let of_lists : List (List History) → List (List Field) = λ lists. payment_records (zip ks lists) in
+      let of_lists : List (List History) → List (DistrictKey × History) = λ lists. payments_of (zip ks lists) in
       let first = of_lists (take pays.slot pays.opened) in
-      let start : of_lists old ≡ first ++ map (history_fields key) pays.list =
+      let start : of_lists old ≡ first ++ map (λ row. (key, row)) pays.list =
       sym (payments-opened ks old pays.opens.opened pays.opens.are_empty) ∙ ap of_lists (sym pays.opens.more)
       ∙ ap of_lists (last_list pays.opened pays.slot pays.list many pays.is_list)
       ∙ payments-last ks (take pays.slot pays.opened) pays.list pays.slot key stands get in
       ap of_lists (pays.paid ∙ last_set pays.opened pays.slot (pays.list ++ (row ∷ [])) many)
       ∙ payments-last ks (take pays.slot pays.opened) (pays.list ++ (row ∷ [])) pays.slot key stands get
-      ∙ ap (λ l. first ++ l) (map-append (history_fields key) pays.list (row ∷ []))
-      ∙ sym (append_assoc first (map (history_fields key) pays.list) (history_fields key row ∷ []))
-      ∙ ap (λ l. l ++ (history_fields key row ∷ [])) (sym start)
+      ∙ ap (λ l. first ++ l) (map-append (λ row. (key, row)) pays.list (row ∷ []))
+      ∙ sym (append_assoc first (map (λ row. (key, row)) pays.list) ((key, row) ∷ []))
+      ∙ ap (λ l. l ++ ((key, row) ∷ [])) (sym start)

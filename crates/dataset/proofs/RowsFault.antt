@@ -1,12 +1,15 @@
 -- The first fault of the records that are left.
-use Rattle.std.proofs.Common.{◌≡◌, ◌≤◌, ◌<◌, ◌^◌, ◌+◌, ◌-◌, ◌⊎◌, ℕ, suc, List, [], ◌∷◌, ◌++◌, map, sum, length, Bool, true, false, Option, Some, None, codes, get_or, refl, sym, ap, subst, ◌∙◌, arith}
+use Rattle.std.proofs.Common.{◌≡◌, ◌≤◌, ◌<◌, ◌^◌, ◌+◌, ◌-◌, ◌⊎◌, ◌==◌, ℕ, suc, List, [], ◌∷◌, ◌++◌, map, sum, length, Bool, true, false, Option, Some, None, codes, get_or, refl, sym, ap, subst, ◌∙◌, append_assoc, arith}
 use Rattle.std.specs.Prelude.{if◌then◌else◌}
-use Rattle.std.specs.List.{AllByRecursion, AllZip, flat_map}
+use Rattle.std.specs.List.{AllZip, zip}
+use Rattle.std.specs.Map.{values_of}
 use Rattle.std.specs.Str.{bytes_eq}
-use Rattle.std.proofs.lemmas.List.{length-append}
+use Rattle.std.proofs.lemmas.List.{length-append, length-map}
+use Rattle.std.proofs.lemmas.List.Sums.{sum-map, sum_by-cons}
 use Rattle.rows.specs.declared.keys.DistrictKey.{DistrictKey}
 use Rattle.rows.specs.declared.records.History.{History}
 use Rattle.schema.specs.declared.scale.Scale.{Scale}
+use Rattle.schema.specs.Scale.{district_keys}
 use Rattle.files.specs.declared.fault.FaultKind.TheVariants as fault
 use Rattle.files.specs.declared.fault.FileFault.{FileFault}
 use Rattle.files.specs.declared.fault.FileError.{FileError}
@@ -16,98 +19,96 @@ use Rattle.files.specs.Place.{FirstIsTooLong, HasLeft, HasLeftAfter, file_fault,
 use Rattle.files.specs.Span.{record_size}
 use Rattle.dataset.specs.declared.loader.Loader.{Loader}
 use Rattle.dataset.specs.declared.loader.Taken.TheVariants.{Row, End}
-use Rattle.dataset.specs.Columns.{Sizes, Table, Items, Warehouses, Districts, Stocks, Customers, Histories, Orders, NewOrders, Lines, fields_fault, letter, record_fault, sizes}
-use Rattle.files.specs.FirstFault.{behind_end, fault_at}
-use Rattle.dataset.specs.FirstFault.{counts, is_end, is_of, last_place, number_of, record_place, rows_fault}
-use Rattle.dataset.specs.Loading.{Entries, HasLoaded, entry_records}
+use Rattle.dataset.specs.Columns.{Sizes, Table, Items, Warehouses, Districts, Stocks, Customers, Histories, Orders, NewOrders, Lines, fields_fault, letter, record_fault, sizes, table_number}
+use Rattle.files.specs.FirstFault.{TellsFault, TellsKind, behind_end, fault_at}
+use Rattle.dataset.specs.FirstFault.{counts, is_end, is_of, last_place, number_of, rows_fault}
+use Rattle.dataset.specs.Loading.{HasLoaded, HasRows}
 use Rattle.dataset.specs.Order.{place_numbers}
-use Rattle.dataset.specs.Records.{Field, Words, AreSpelt, header_fields, row_records, payment_records, history_fields, item_fields, warehouse_fields, district_fields, stock_fields, customer_fields, order_fields, new_order_fields, line_fields}
-use Rattle.dataset.specs.TakenAs.{IsAt, IsReadWell, ReachesEnd}
-use Rattle.files.specs.FirstFault.{TellsKind}
-use Rattle.files.specs.FirstFault.{TellsFault}
+use Rattle.dataset.specs.Records.{AreSpelt, header_fields}
+use Rattle.dataset.specs.TableRow.{TableRow, OfItem, OfWarehouse, OfDistrict, OfStock, OfCustomer, OfHistory, OfOrder, OfNewOrder, OfLine, row_fields, row_letter, rows_read}
+use Rattle.dataset.specs.TakenAs.{IsDone, ReachesEnd}
 use Rattle.dataset.specs.Writing.{table_counts}
-use Rattle.dataset.proofs.Counted.{count_rows, count_entries, payments_counted}
+use Rattle.dataset.proofs.Contents.{IsTable, entries_in, get_item, get_warehouse, get_district, get_stock, get_customer, get_history, get_order, get_new_order, get_line, is_item, is_warehouse, is_district, is_stock, is_customer, is_history, is_order, is_new_order, is_line, number_of_row, of_entries, of_table, with_row}
+use Rattle.dataset.proofs.Finished.{customers_are, districts_are, items_are, lines_are, new_orders_are, orders_are, paid, payments_are, stocks_are, warehouses_are}
 use Rattle.files.proofs.RecordsLeft.{long_record, next_row, no_row, not_advanced, short_record}
-use Rattle.dataset.proofs.Keys.{all-append}
+use Rattle.dataset.proofs.LetterFault.{letter_is_not_end}
+use Rattle.dataset.proofs.Loading.{record_loaded}
+use Rattle.dataset.proofs.Payments.{payments_of}
 
 -- ---- how many records of each table were read
 
--- a record begins with that word
-abbrev Begins : List ℕ → List Field → Type 0
-Begins word [] = ⊥
-Begins word (Words words ∷ fields) = words ≡ word
-Begins word (f ∷ fields) = ⊥
+-- a letter tells its table
+same_letter : (a b : Table) → bytes_eq (letter a) (letter b) ≡ (table_number a == table_number b)
+same_letter Items Items = refl
+same_letter Items b = refl
+same_letter Warehouses Warehouses = refl
+same_letter Warehouses b = refl
+same_letter Districts Districts = refl
+same_letter Districts b = refl
+same_letter Stocks Stocks = refl
+same_letter Stocks b = refl
+same_letter Customers Customers = refl
+same_letter Customers b = refl
+same_letter Histories Histories = refl
+same_letter Histories b = refl
+same_letter Orders Orders = refl
+same_letter Orders b = refl
+same_letter NewOrders NewOrders = refl
+same_letter NewOrders b = refl
+same_letter Lines Lines = refl
+same_letter Lines b = refl
 
-begin-rows : {K X : Type 0} (word : List ℕ) (fields : K → X → List Field) → ((k : K) (x : X) → Begins word (fields k x)) → (rows : List (K × X)) → AllByRecursion (Begins word) (row_records fields rows)
-begin-rows word fields begins [] = tt
-begin-rows word fields begins (row ∷ rows) = (begins row.0 row.1, begin-rows word fields begins rows)
+letter_is : (row : TableRow) (table : Table) → bytes_eq (row_letter row) (letter table) ≡ (number_of_row row == table_number table)
+letter_is (OfItem key x) table = same_letter Items table
+letter_is (OfWarehouse key x) table = same_letter Warehouses table
+letter_is (OfDistrict key x) table = same_letter Districts table
+letter_is (OfStock key x) table = same_letter Stocks table
+letter_is (OfCustomer key x) table = same_letter Customers table
+letter_is (OfHistory key x) table = same_letter Histories table
+letter_is (OfOrder key x) table = same_letter Orders table
+letter_is (OfNewOrder key x) table = same_letter NewOrders table
+letter_is (OfLine key x) table = same_letter Lines table
 
-begin-list : (home : DistrictKey) (list : List History) → AllByRecursion (Begins (codes "H")) (map (history_fields home) list)
-begin-list home [] = tt
-begin-list home (row ∷ list) = (refl, begin-list home list)
+first_letter : (row : TableRow) (texts : List (List ℕ)) (table : Table) → AreSpelt (row_fields row) texts → is_of table texts ≡ (number_of_row row == table_number table)
+first_letter row texts table spelt = by row texts spelt ∙ letter_is row table
+  where
+    by : (row : TableRow) (texts : List (List ℕ)) → AreSpelt (row_fields row) texts → is_of table texts ≡ bytes_eq (row_letter row) (letter table)
+    by (OfItem key x) [] spelt = absurd spelt
+    by (OfItem key x) (text ∷ texts) spelt = ap (λ w. bytes_eq w (letter table)) spelt.0
+    by (OfWarehouse key x) [] spelt = absurd spelt
+    by (OfWarehouse key x) (text ∷ texts) spelt = ap (λ w. bytes_eq w (letter table)) spelt.0
+    by (OfDistrict key x) [] spelt = absurd spelt
+    by (OfDistrict key x) (text ∷ texts) spelt = ap (λ w. bytes_eq w (letter table)) spelt.0
+    by (OfStock key x) [] spelt = absurd spelt
+    by (OfStock key x) (text ∷ texts) spelt = ap (λ w. bytes_eq w (letter table)) spelt.0
+    by (OfCustomer key x) [] spelt = absurd spelt
+    by (OfCustomer key x) (text ∷ texts) spelt = ap (λ w. bytes_eq w (letter table)) spelt.0
+    by (OfHistory key x) [] spelt = absurd spelt
+    by (OfHistory key x) (text ∷ texts) spelt = ap (λ w. bytes_eq w (letter table)) spelt.0
+    by (OfOrder key x) [] spelt = absurd spelt
+    by (OfOrder key x) (text ∷ texts) spelt = ap (λ w. bytes_eq w (letter table)) spelt.0
+    by (OfNewOrder key x) [] spelt = absurd spelt
+    by (OfNewOrder key x) (text ∷ texts) spelt = ap (λ w. bytes_eq w (letter table)) spelt.0
+    by (OfLine key x) [] spelt = absurd spelt
+    by (OfLine key x) (text ∷ texts) spelt = ap (λ w. bytes_eq w (letter table)) spelt.0
 
-begin-payments : (lists : List (DistrictKey × List History)) → AllByRecursion (Begins (codes "H")) (payment_records lists)
-begin-payments [] = tt
-begin-payments (list ∷ lists) = all-append (Begins (codes "H")) (map (history_fields list.0) list.1) (payment_records lists) (begin-list list.0 list.1) (begin-payments lists)
+counted_first : (b : Bool) (row : TableRow) (rows : List TableRow) → (if b then 1 else 0) + length rows ≡ length (with_row b row rows)
+counted_first true row rows = omega arith
+counted_first false row rows = omega arith
 
--- the texts behind those of a part, and how many the part has
-record Behind (table : Table) (word : List ℕ) (part rest : List (List Field)) (rows : List (List (List ℕ))) : Type 0 where
-  others : List (List (List ℕ))
-  are_spelt : AllZip AreSpelt rest others
-  number : number_of table rows ≡ (if bytes_eq word (letter table) then length part else 0) + number_of table others
-
-one_more : (b : Bool) (n k : ℕ) → (if b then 1 else 0) + ((if b then n else 0) + k) ≡ (if b then suc n else 0) + k
-one_more true n k = omega arith
-one_more false n k = omega arith
-
-none_of : (b : Bool) → ◌≡◌ {A = ℕ} (if b then 0 else 0) 0
-none_of true = refl
-none_of false = refl
-
-first_text : (table : Table) (word : List ℕ) (fields : List Field) (row : List (List ℕ)) → Begins word fields → AreSpelt fields row → is_of table row ≡ bytes_eq word (letter table)
-first_text table word [] row b s = absurd b
-first_text table word (Words words ∷ fields) [] b s = absurd s
-first_text table word (Words words ∷ fields) (text ∷ row) b s = ap (λ w. bytes_eq w (letter table)) (s.0 ∙ b)
-first_text table word (f ∷ fields) row b s = absurd b
-
-behind : (table : Table) (word : List ℕ) (part rest : List (List Field)) (rows : List (List (List ℕ))) → AllByRecursion (Begins word) part → AllZip AreSpelt (part ++ rest) rows → Behind table word part rest rows
+-- the records of a table are as many as its rows
+pub rows_counted : (table : Table) (rows : List TableRow) (records : List (List (List ℕ))) → AllZip AreSpelt (map row_fields rows) records → number_of table records ≡ length (of_table (table_number table) rows)
 unfolding number_of
-behind table word [] rest rows b s = record { others = rows; are_spelt = s; number = let none = none_of (bytes_eq word (letter table)) in omega (arith, none) }
-behind table word (fields ∷ part) rest [] b s = absurd s
-behind table word (fields ∷ part) rest (row ∷ rows) b s =
-    let more = behind table word part rest rows b.1 s.1 in
-    record {
-      others = more.others;
-      are_spelt = more.are_spelt;
-      number = ap (λ t. (if t then 1 else 0) + number_of table rows) (first_text table word fields row b.0 s.0)
-          ∙ ap (λ n. (if bytes_eq word (letter table) then 1 else 0) + n) more.number ∙ one_more (bytes_eq word (letter table)) (length part) (number_of table more.others);
-    }
+rows_counted table [] [] spelt = refl
+rows_counted table [] (record_ ∷ records) spelt = absurd spelt
+rows_counted table (row ∷ rows) [] spelt = absurd spelt
+rows_counted table (row ∷ rows) (record_ ∷ records) spelt =
+    ap (λ b. (if b then 1 else 0) + number_of table records) (first_letter row record_ table spelt.0)
+    ∙ ap (λ n. (if number_of_row row == table_number table then 1 else 0) + n) (rows_counted table rows records spelt.1)
+    ∙ counted_first (number_of_row row == table_number table) row (of_table (table_number table) rows)
 
-no_rows : (table : Table) (rows : List (List (List ℕ))) → AllZip AreSpelt [] rows → number_of table rows ≡ 0
-unfolding number_of
-no_rows table [] s = refl
-no_rows table (row ∷ rows) s = absurd s
-
--- how many of nine numbers are counted
-abbrev nine : (table : Table) (a b c d e f g h i : ℕ) → ℕ
-nine table a b c d e f g h i =
-    (if bytes_eq (codes "I") (letter table) then a else 0) + ((if bytes_eq (codes "W") (letter table) then b else 0) + ((if bytes_eq (codes "D") (letter table) then c else 0)
-    + ((if bytes_eq (codes "S") (letter table) then d else 0) + ((if bytes_eq (codes "C") (letter table) then e else 0) + ((if bytes_eq (codes "H") (letter table) then f else 0)
-    + ((if bytes_eq (codes "O") (letter table) then g else 0) + ((if bytes_eq (codes "N") (letter table) then h else 0) + ((if bytes_eq (codes "L") (letter table) then i else 0) + 0))))))))
-
-counted : (table : Table) (e : Entries) (rows : List (List (List ℕ))) → AllZip AreSpelt (flat_map (λ records. records) (entry_records e)) rows
-    → number_of table rows ≡ nine table (length (row_records item_fields e.items)) (length (row_records warehouse_fields e.warehouses)) (length (row_records district_fields e.districts)) (length (row_records stock_fields e.stocks)) (length (row_records customer_fields e.customers)) (length (payment_records e.histories)) (length (row_records order_fields e.orders)) (length (row_records new_order_fields e.new_orders)) (length (row_records line_fields e.lines))
-counted table e rows s =
-    let p1 = behind table (codes "I") (row_records item_fields e.items) _ rows (begin-rows (codes "I") item_fields (λ k x. refl) e.items) s in
-    let p2 = behind table (codes "W") (row_records warehouse_fields e.warehouses) _ p1.others (begin-rows (codes "W") warehouse_fields (λ k x. refl) e.warehouses) p1.are_spelt in
-    let p3 = behind table (codes "D") (row_records district_fields e.districts) _ p2.others (begin-rows (codes "D") district_fields (λ k x. refl) e.districts) p2.are_spelt in
-    let p4 = behind table (codes "S") (row_records stock_fields e.stocks) _ p3.others (begin-rows (codes "S") stock_fields (λ k x. refl) e.stocks) p3.are_spelt in
-    let p5 = behind table (codes "C") (row_records customer_fields e.customers) _ p4.others (begin-rows (codes "C") customer_fields (λ k x. refl) e.customers) p4.are_spelt in
-    let p6 = behind table (codes "H") (payment_records e.histories) _ p5.others (begin-payments e.histories) p5.are_spelt in
-    let p7 = behind table (codes "O") (row_records order_fields e.orders) _ p6.others (begin-rows (codes "O") order_fields (λ k x. refl) e.orders) p6.are_spelt in
-    let p8 = behind table (codes "N") (row_records new_order_fields e.new_orders) _ p7.others (begin-rows (codes "N") new_order_fields (λ k x. refl) e.new_orders) p7.are_spelt in
-    let p9 = behind table (codes "L") (row_records line_fields e.lines) [] p8.others (begin-rows (codes "L") line_fields (λ k x. refl) e.lines) p8.are_spelt in
-    omega (arith, p1.number, p2.number, p3.number, p4.number, p5.number, p6.number, p7.number, p8.number, p9.number, no_rows table p9.others p9.are_spelt)
+pub entries_counted : {K X : Type 0} (make : K → X → TableRow) (get : TableRow → Option (K × X)) (n : ℕ) → IsTable make get n → (rows : List TableRow) → length (of_table n rows) ≡ length (entries_in get rows)
+entries_counted make get n table rows = ap length (of_entries make get n table rows) ∙ length-map (entries_in get rows) (λ e. make e.0 e.1)
 
 not_of : (table : Table) → bytes_eq (codes "TPCC") (letter table) ≡ false
 not_of Items = refl
@@ -120,48 +121,49 @@ not_of Orders = refl
 not_of NewOrders = refl
 not_of Lines = refl
 
-header_uncounted : (table : Table) (scale : Scale) (header : List (List ℕ)) (rows : List (List (List ℕ))) → AreSpelt (header_fields scale) header → number_of table (header ∷ rows) ≡ number_of table rows
+pub header_uncounted : (table : Table) (scale : Scale) (header : List (List ℕ)) (rows : List (List (List ℕ))) → AreSpelt (header_fields scale) header → number_of table (header ∷ rows) ≡ number_of table rows
 unfolding number_of
 header_uncounted table scale [] rows s = absurd s
-header_uncounted table scale (text ∷ texts) rows s = ap (λ b. (if b then 1 else 0) + number_of table rows) (ap (λ w. bytes_eq w (letter table)) s.0 ∙ not_of table) ∙ (let none : 0 + number_of table rows ≡ number_of table rows = omega arith in none)
+header_uncounted table scale (text ∷ texts) rows s =
+    ap (λ b. (if b then 1 else 0) + number_of table rows) (ap (λ w. bytes_eq w (letter table)) s.0 ∙ not_of table) ∙ (let none : 0 + number_of table rows ≡ number_of table rows = omega arith in none)
 
-module _ (l : Loader) where
-  all_counted : (read : List (List (List ℕ))) (h : HasLoaded l read) (table : Table)
-      → number_of table read ≡ nine table (length l.rows.items.items) (length l.rows.warehouses.items) (length l.rows.districts.items) (length l.rows.stocks.items) (length l.rows.customers.items) (sum (map length l.rows.histories.items)) (length l.rows.orders.entries) (length l.rows.new_orders.entries) (length l.rows.lines.entries)
-  all_counted [] h table = absurd h.are_spelt
-  all_counted (header ∷ rows) h table =
-      let e = h.entries in
-      header_uncounted table l.scale header rows h.are_spelt.0 ∙ counted table e rows h.are_spelt.1
-      ∙ (λ i. nine table (count_rows item_fields e.items l.rows.items.items h.items.are_rows i) (count_rows warehouse_fields e.warehouses l.rows.warehouses.items h.warehouses.are_rows i)
-      (count_rows district_fields e.districts l.rows.districts.items h.districts.are_rows i) (count_rows stock_fields e.stocks l.rows.stocks.items h.stocks.are_rows i)
-      (count_rows customer_fields e.customers l.rows.customers.items h.customers.are_rows i) (payments_counted l (header ∷ rows) h i)
-      (count_entries order_fields e.orders l.rows.orders.entries h.orders i) (count_entries new_order_fields e.new_orders l.rows.new_orders.entries h.new_orders i)
-      (count_entries line_fields e.lines l.rows.lines.entries h.lines i))
+payments_counted : (ks : List DistrictKey) (lists : List (List History)) → length lists ≤ length ks → length (payments_of (zip ks lists)) ≡ sum (map length lists)
+payments_counted [] [] few = refl
+payments_counted [] (list ∷ lists) few = absurd (omega arith)
+payments_counted (k ∷ ks) [] few = refl
+payments_counted (k ∷ ks) (list ∷ lists) few =
+    length-append (map (λ row. (k, row)) list) (payments_of (zip ks lists)) ∙ ap (λ n. n + length (payments_of (zip ks lists))) (length-map list (λ row. (k, row)))
+    ∙ ap (λ n. length list + n) (payments_counted ks lists (omega arith) ∙ sum-map length lists) ∙ sym (sum-map length (list ∷ lists) ∙ sum_by-cons length list lists)
+
+module _ (l : Loader) (header : List (List ℕ)) (records : List (List (List ℕ))) (rows : List TableRow) (spelt : AreSpelt (header_fields l.scale) header) (h : HasRows l.scale l.rows l.last records rows) where
+  dense_counted : {K X : Type 0} (make : K → X → TableRow) (get : TableRow → Option (K × X)) (table : Table) → IsTable make get (table_number table) → (list : List X) → values_of (entries_in get rows) ≡ list → length list ≡ number_of table (header ∷ records)
+  dense_counted make get table is list are =
+      ap length (sym are) ∙ length-map (entries_in get rows) (λ e. e.1) ∙ sym (entries_counted make get (table_number table) is rows) ∙ sym (rows_counted table rows records h.are_spelt)
+      ∙ sym (header_uncounted table l.scale header records spelt)
+
+  ordered_counted : {K X : Type 0} (make : K → X → TableRow) (get : TableRow → Option (K × X)) (table : Table) → IsTable make get (table_number table) → (list : List (K × X)) → list ≡ entries_in get rows → length list ≡ number_of table (header ∷ records)
+  ordered_counted make get table is list are =
+      ap length are ∙ sym (entries_counted make get (table_number table) is rows) ∙ sym (rows_counted table rows records h.are_spelt) ∙ sym (header_uncounted table l.scale header records spelt)
 
   -- what the end record has to count
-  pub counts_loaded : (read : List (List (List ℕ))) → HasLoaded l read → table_counts l.rows ≡ counts read
-  counts_loaded read h =
-      let c1 = all_counted read h Items in
-      let c2 = all_counted read h Warehouses in
-      let c3 = all_counted read h Districts in
-      let c4 = all_counted read h Stocks in
-      let c5 = all_counted read h Customers in
-      let c6 = all_counted read h Histories in
-      let c7 = all_counted read h Orders in
-      let c8 = all_counted read h NewOrders in
-      let c9 = all_counted read h Lines in
-      let e1 : length l.rows.items.items ≡ number_of Items read = omega (arith, c1) in
-      let e2 : length l.rows.warehouses.items ≡ number_of Warehouses read = omega (arith, c2) in
-      let e3 : length l.rows.districts.items ≡ number_of Districts read = omega (arith, c3) in
-      let e4 : length l.rows.stocks.items ≡ number_of Stocks read = omega (arith, c4) in
-      let e5 : length l.rows.customers.items ≡ number_of Customers read = omega (arith, c5) in
-      let e6 : sum (map length l.rows.histories.items) ≡ number_of Histories read = omega (arith, c6) in
-      let e7 : length l.rows.orders.entries ≡ number_of Orders read = omega (arith, c7) in
-      let e8 : length l.rows.new_orders.entries ≡ number_of NewOrders read = omega (arith, c8) in
-      let e9 : length l.rows.lines.entries ≡ number_of Lines read = omega (arith, c9) in
-      λ i. e1 i ∷ e2 i ∷ e3 i ∷ e4 i ∷ e5 i ∷ e6 i ∷ e7 i ∷ e8 i ∷ e9 i ∷ []
+  all_counted : table_counts l.rows ≡ counts (header ∷ records)
+  all_counted =
+      let paid_count = sym (payments_counted (district_keys l.scale) l.rows.histories.items (paid h).few)
+      ∙ ordered_counted OfHistory get_history Histories is_history (payments_of (zip (district_keys l.scale) l.rows.histories.items)) (payments_are h) in
+      λ i. dense_counted OfItem get_item Items is_item l.rows.items.items (items_are h) i
+      ∷ dense_counted OfWarehouse get_warehouse Warehouses is_warehouse l.rows.warehouses.items (warehouses_are h) i
+      ∷ dense_counted OfDistrict get_district Districts is_district l.rows.districts.items (districts_are h) i
+      ∷ dense_counted OfStock get_stock Stocks is_stock l.rows.stocks.items (stocks_are h) i
+      ∷ dense_counted OfCustomer get_customer Customers is_customer l.rows.customers.items (customers_are h) i
+      ∷ paid_count i
+      ∷ ordered_counted OfOrder get_order Orders is_order l.rows.orders.entries (orders_are h) i
+      ∷ ordered_counted OfNewOrder get_new_order NewOrders is_new_order l.rows.new_orders.entries (new_orders_are h) i
+      ∷ ordered_counted OfLine get_line Lines is_line l.rows.lines.entries (lines_are h) i ∷ []
 
-number_le : (table : Table) (rows : List (List (List ℕ))) → number_of table rows ≤ length rows
+pub counts_loaded : (l : Loader) (read : List (List (List ℕ))) → HasLoaded l read → table_counts l.rows ≡ counts read
+counts_loaded l read h = all_counted l h.header h.records (rows_read (sizes l.scale) h.records) h.is_spelt h.rows ∙ ap counts (sym h.are)
+
+pub number_le : (table : Table) (rows : List (List (List ℕ))) → number_of table rows ≤ length rows
 unfolding number_of
 number_le table [] = omega arith
 number_le table (row ∷ rows) = let rest = number_le table rows in elim (is_of table row) as (λ b. (if b then 1 else 0) + number_of table rows ≤ suc (length rows)) [ true ↦ omega (arith, rest) | false ↦ omega (arith, rest) ]
@@ -172,19 +174,12 @@ few_payments_read l read h few =
     let most = number_le Histories read in
     omega (arith, same, most, few)
 
--- ---- where the last record stands
-
-pub last-push : (scale : Sizes) (read : List (List (List ℕ))) (row : List (List ℕ)) → last_place scale (read ++ (row ∷ [])) ≡ record_place scale row
-last-push scale [] row = refl
-last-push scale (first ∷ []) row = refl
-last-push scale (first ∷ next ∷ read) row = last-push scale (next ∷ read) row
-
 -- ---- one record more
 
-module _ (l : Loader) (read : List (List (List ℕ))) (at : IsAt l read) (row : List (List ℕ)) (rest : List (List (List ℕ))) (short : record_size row ≤ 65536) where
+module _ (l : Loader) (read : List (List (List ℕ))) (at : HasLoaded l read) (row : List (List ℕ)) (rest : List (List (List ℕ))) (short : record_size row ≤ 65536) where
   known : record_fault (sizes l.scale) (last_place (sizes l.scale) read) (counts read) row ≡ fields_fault (sizes l.scale) (place_numbers l.last) (table_counts l.rows) row
   known = short_record row (fields_fault (sizes l.scale) (last_place (sizes l.scale) read) (counts read) row) short
-      ∙ (λ i. fields_fault (sizes l.scale) (sym at.last i) (sym (counts_loaded l read at.loaded) i) row)
+      ∙ (λ i. fields_fault (sizes l.scale) (sym at.last i) (sym (counts_loaded l read at) i) row)
 
   -- a row's record without a fault
   pub row_passes : fields_fault (sizes l.scale) (place_numbers l.last) (table_counts l.rows) row ≡ None → is_end row ≡ false → rows_fault (sizes l.scale) read (row ∷ rest) ≡ rows_fault (sizes l.scale) (read ++ (row ∷ [])) rest
@@ -221,7 +216,8 @@ no_end scale read = refl
 pub record GoesOnAt {R : Type 0} (remaining : R → Option (List ℕ)) (scale : Sizes) (read rows : List (List (List ℕ))) (l : Loader) (r : Records R) (counter : ℕ) : Type 0 where
   pub before : List (List (List ℕ))
   pub left : List (List (List ℕ))
-  pub at : IsAt l before
+  pub at : HasLoaded l before
+  pub whole : before ++ left ≡ read ++ rows
   pub same_scale : sizes l.scale ≡ scale
   pub number : record_number r ≡ length before
   pub has_left : HasLeft remaining left r
@@ -233,7 +229,8 @@ pub record GoesOnAt {R : Type 0} (remaining : R → Option (List ℕ)) (scale : 
 pub record AtRecord {R : Type 0} (remaining : R → Option (List ℕ)) (read rows : List (List (List ℕ))) (l : Loader) (old new : Records R) (counter : ℕ) : Type 0 where
   pub before : List (List (List ℕ))
   pub rest : List (List (List ℕ))
-  pub at : IsAt l before
+  pub at : HasLoaded l before
+  pub whole : before ++ (record_fields new ∷ rest) ≡ read ++ rows
   pub number : record_number new ≡ length before + 1
   pub has_left : HasLeft remaining rest new
   pub fault : rows_fault (sizes l.scale) read rows ≡ rows_fault (sizes l.scale) before (record_fields new ∷ rest)
@@ -254,22 +251,29 @@ at_record remaining scale read rows l old new counter found few g is_found next 
       before = g.before;
       rest = row.0;
       at = g.at;
+      whole = ap (λ l. g.before ++ l) (sym row.1) ∙ g.whole;
       number = number small ∙ ap (λ n. n + 1) g.number;
       has_left = row.2;
       fault = subst (λ s. rows_fault s read rows ≡ rows_fault s g.before (record_fields new ∷ row.0)) (sym g.same_scale) (g.fault ∙ ap (rows_fault scale g.before) row.1);
       long = omega (arith, long, one);
       counted = omega (arith, counted, one);
-      few = few_payments_read l g.before g.at.loaded (omega (arith, long, few, one));
+      few = few_payments_read l g.before g.at (omega (arith, long, few, one));
     }
+
+-- a row's record has a word
+pub row_done : (l m : Loader) (before : List (List (List ℕ))) (fields : List (List ℕ)) → IsDone Row l m fields → HasLoaded l before → (is_end fields ≡ false) × (m.scale ≡ l.scale) × HasLoaded m (before ++ (fields ∷ []))
+row_done l m before [] done h = absurd done
+row_done l m before (word ∷ fields) done h =
+    (ap (λ w. bytes_eq w (codes "END")) done.is_letter ∙ letter_is_not_end done.table, done.added.scale, record_loaded l m before word fields done h)
 
 -- a row more was read
 pub next_at : {R : Type 0} (remaining : R → Option (List ℕ)) (scale : Sizes) (read rows : List (List (List ℕ))) (l m : Loader) (old new : Records R) (counter : ℕ) → sizes l.scale ≡ scale
-    → (a : AtRecord remaining read rows l old new counter) → IsReadWell Row l m (record_fields new) → record_size (record_fields new) ≤ 65536 → HasLoaded m (a.before ++ (record_fields new ∷ []))
-    → GoesOnAt remaining scale read rows m new (counter + 1)
-next_at remaining scale read rows l m old new counter same a well short loaded =
-    let no_end = row_no_end (is_end (record_fields new)) well.kind in
-    let passes = row_passes l a.before a.at (record_fields new) a.rest short well.none no_end in
-    let sizes_same : sizes m.scale ≡ sizes l.scale = ap sizes well.scale in
+    → (a : AtRecord remaining read rows l old new counter) → fields_fault (sizes l.scale) (place_numbers l.last) (table_counts l.rows) (record_fields new) ≡ None → IsDone Row l m (record_fields new)
+    → record_size (record_fields new) ≤ 65536 → GoesOnAt remaining scale read rows m new (counter + 1)
+next_at remaining scale read rows l m old new counter same a none done short =
+    let row = row_done l m a.before (record_fields new) done a.at in
+    let passes = row_passes l a.before a.at (record_fields new) a.rest short none row.0 in
+    let sizes_same : sizes m.scale ≡ sizes l.scale = ap sizes row.1 in
     let pushed = length-append a.before (record_fields new ∷ []) in
     let number = a.number in
     let long = a.long in
@@ -277,7 +281,8 @@ next_at remaining scale read rows l m old new counter same a well short loaded =
     record {
       before = a.before ++ (record_fields new ∷ []);
       left = a.rest;
-      at = record { loaded = loaded; last = well.last refl ∙ sym (last-push (sizes l.scale) a.before (record_fields new)) ∙ ap (λ s. last_place s (a.before ++ (record_fields new ∷ []))) (sym sizes_same) };
+      at = row.2;
+      whole = append_assoc a.before (record_fields new ∷ []) a.rest ∙ a.whole;
       same_scale = sizes_same ∙ same;
       number = omega (arith, number, pushed);
       has_left = a.has_left;
@@ -285,28 +290,23 @@ next_at remaining scale read rows l m old new counter same a well short loaded =
       long = omega (arith, long, pushed);
       counted = omega (arith, counted);
     }
-  where
-    row_no_end : (b : Bool) → Row ≡ (if b then End else Row) → b ≡ false
-    row_no_end true e = absurd cc
-    row_no_end false e = refl
 
 -- the end record was read
 pub end_at : {R : Type 0} (remaining : R → Option (List ℕ)) (scale : Sizes) (read rows : List (List (List ℕ))) (l m : Loader) (old new : Records R) (counter : ℕ) → sizes l.scale ≡ scale
-    → (a : AtRecord remaining read rows l old new counter) → IsReadWell End l m (record_fields new) → record_size (record_fields new) ≤ 65536 → ReachesEnd remaining scale read rows new
-end_at remaining scale read rows l m old new counter same a well short =
-    let passes = end_passes l a.before a.at (record_fields new) a.rest short well.none (is_at_end (is_end (record_fields new)) well.kind) in
-    let number = a.number in
-    let long = a.long in
+    → (a : AtRecord remaining read rows l old new counter) → fields_fault (sizes l.scale) (place_numbers l.last) (table_counts l.rows) (record_fields new) ≡ None → IsDone End l m (record_fields new)
+    → record_size (record_fields new) ≤ 65536 → ReachesEnd remaining scale read rows m new
+end_at remaining scale read rows l m old new counter same a none done short =
+    let passes = end_passes l a.before a.at (record_fields new) a.rest short none done.0 in
     record {
+      before = a.before;
+      end = record_fields new;
       more = a.rest;
-      fault = subst (λ s. rows_fault s read rows ≡ behind_end (length a.before + 1) a.rest) same (a.fault ∙ passes) ∙ ap (λ n. behind_end n a.rest) (sym number);
+      loaded = subst (λ k. HasLoaded k a.before) (sym done.1) a.at;
+      are = sym a.whole;
+      fault = subst (λ s. rows_fault s read rows ≡ behind_end (length a.before + 1) a.rest) same (a.fault ∙ passes) ∙ ap (λ n. behind_end n a.rest) (sym a.number);
       left = a.has_left;
-      number = omega (arith, number, long);
+      number = a.number;
     }
-  where
-    is_at_end : (b : Bool) → End ≡ (if b then End else Row) → b ≡ true
-    is_at_end true e = refl
-    is_at_end false e = absurd cc
 
 -- a record has a fault
 pub fault_at_record : {R : Type 0} (remaining : R → Option (List ℕ)) (scale : Sizes) (read rows : List (List (List ℕ))) (l : Loader) (old new : Records R) (counter : ℕ) (error : FileError) → sizes l.scale ≡ scale

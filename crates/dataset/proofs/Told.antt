@@ -1,174 +1,173 @@
 -- Tables within their scale and the ranges of their columns are told by their records.
-use Rattle.std.proofs.Common.{◌≡◌, ◌<◌, ◌≤◌, ◌^◌, ℕ, List, [], ◌∷◌, ◌++◌, Option, Some, None, IsTrue, is_some, refl, sym, ap, subst, ◌∙◌, arith}
+use Rattle.std.proofs.Common.{◌≡◌, ℕ, List, [], ◌∷◌, ◌++◌, map, Option, Some, None, refl, sym, ap, subst, ◌∙◌, arith}
 use Rattle.std.specs.List.{AllByRecursion, AllZip, flat_map}
-use Rattle.std.specs.Map.{keys_of, values_of}
-use Rattle.std.specs.Cmp.{nat_cmp_total}
-use Rattle.std.specs.FinMap as map
-use Rattle.std.specs.FinMap.{entries, nat_cmp-IsAntisymmetric, same_entries_map}
+use Rattle.std.specs.List.Sorted.{IsStrictlySortedBy}
+use Rattle.std.specs.Map.{keys_of}
+use Rattle.std.specs.declared.cmp.Ordering.TheVariants.{Less}
+use Rattle.std.specs.FinMap.{entries, same_entries_map}
+use Rattle.std.proofs.lemmas.Cmp.{tied_itself}
+use Rattle.std.proofs.lemmas.Fmt.{decimal_injective}
+use Rattle.std.proofs.lemmas.List.{append-nil}
+use Rattle.std.proofs.lemmas.Slice.Zip.{AllZip-long}
 use mathlib.Core.HLevel.{Σ_prop_path}
 use native.Mathlib.Bridge.{le_prop}
 use Rattle.rows.specs.declared.keys.DistrictKey.{DistrictKey}
-use Rattle.rows.specs.declared.keys.StockKey.{StockKey}
-use Rattle.rows.specs.declared.keys.CustomerKey.{CustomerKey}
-use Rattle.rows.specs.declared.keys.OrderKey.{OrderKey}
-use Rattle.rows.specs.declared.keys.OrderLineKey.{OrderLineKey}
 use Rattle.rows.specs.declared.records.History.{History}
-use Rattle.rows.specs.declared.records.Order.{Order}
-use Rattle.rows.specs.declared.records.OrderLine.{OrderLine}
-use Rattle.rows.specs.Keys.{order_of_line}
+use Rattle.rows.specs.Keys.{district_cmp}
 use Rattle.schema.specs.declared.scale.Scale.{Scale}
 use Rattle.schema.specs.Limits.{IsScale}
-use Rattle.schema.specs.Scale.{has_item, has_warehouse, has_district, has_stock, has_customer}
-use Rattle.schema.specs.Database.{Database, IsWithinScale, customer_of_order, are_payers_known, is_order_id, is_line_number}
-use Rattle.schema.proofs.KeyOrders.{districts_total, districts_exact, stocks_total, stocks_exact, customers_total, customers_exact, orders_total, orders_exact, lines_total, lines_exact}
-use Rattle.dataset.specs.Records.{Field, AreSpelt, AreRecords, records, records_by_table, header_fields, end_fields, item_fields, warehouse_fields, district_fields, stock_fields, customer_fields, order_fields, new_order_fields, line_fields}
-use Rattle.dataset.specs.Ranges.{InRange, ItemInRange, WarehouseInRange, DistrictInRange, StockInRange, CustomerInRange, HistoryInRange, OrderInRange, LineInRange}
+use Rattle.schema.specs.Scale.{has_district}
+use Rattle.schema.specs.Database.{Database, IsWithinScale}
+use Rattle.schema.proofs.KeyOrders.{districts_total, districts_exact}
+use Rattle.dataset.specs.Columns.{sizes}
+use Rattle.dataset.specs.Ranges.{InRange}
 use Rattle.dataset.specs.RecordLaws.{RecordsTellTables}
-use Rattle.dataset.proofs.FieldTexts.{same_fields}
-use Rattle.dataset.proofs.RowTexts.{ExactDistrict, ExactStock, ExactCustomer, ExactOrder, ExactLine, item_told, warehouse_told, district_told, stock_told, customer_told, order_told, new_order_told, line_told}
-use Rattle.dataset.proofs.Parts.{PartsMarked, are_apart, parts_shared, flat-last, same_rows, marked-rows}
-use Rattle.dataset.proofs.PaymentTexts.{FitsPayment, payments_told, marked-payments}
-use Rattle.dataset.proofs.TableEntries.{entries_ascend, rows_pass, keys_pass, all-true, all-both, all-of_values, all-of_keys, between_small, same_keys}
-use Rattle.dataset.proofs.Bounds.{both}
+use Rattle.dataset.specs.Records.{IsSpelt, AreSpelt, AreRecords, records, records_by_table, header_fields, end_fields}
+use Rattle.dataset.specs.TableRow.{TableRow, OfItem, OfWarehouse, OfDistrict, OfStock, OfCustomer, OfHistory, OfOrder, OfNewOrder, OfLine, RowFits, kind_rows, record_rows, row_fields, rows_read}
+use Rattle.dataset.proofs.AllRows.{all_records, all_rows, records_of_rows, rows_by_table, rows_fit, rows_of, rows_paid}
+use Rattle.dataset.proofs.Contents.{entries_in, get_item, get_warehouse, get_district, get_stock, get_customer, get_history, get_order, get_new_order, get_line, with_entry}
+use Rattle.dataset.proofs.LetterFault.{kind_of_letter}
+use Rattle.dataset.proofs.Payments.{payments_of}
+use Rattle.dataset.proofs.RowFields.{row_reads}
+use Rattle.dataset.proofs.TableEntries.{entries_ascend, same_keys}
 
--- ---- numbers within the scale are small
+-- ---- what the rows of tables are read as
 
-module _ (scale : Scale) where
-  small_warehouse : (w_id : ℕ) → IsTrue (has_warehouse scale w_id) → w_id ≤ 64
-  small_warehouse w_id h = between_small 1 scale.warehouses w_id 64 scale.limits.most_warehouses h
+pub read_all : (scale : Scale) (rows : List TableRow) (texts : List (List (List ℕ))) → AllByRecursion (RowFits scale) rows → AllZip AreSpelt (map row_fields rows) texts → rows_read (sizes scale) texts ≡ rows
+read_all scale [] [] fit spelt = refl
+read_all scale [] (text ∷ texts) fit spelt = absurd spelt
+read_all scale (row ∷ rows) [] fit spelt = absurd spelt
+read_all scale (row ∷ rows) (text ∷ texts) fit spelt =
+    let r = row_reads scale row text fit.0 spelt.0 in
+    let first : record_rows (sizes scale) text ≡ row ∷ [] =
+    ap (record_rows (sizes scale)) r.are ∙ ap (λ k. kind_rows (sizes scale) k r.fields) (kind_of_letter r.table) ∙ ap (λ x. x ∷ []) r.is_row in
+    ap (λ l. l ++ rows_read (sizes scale) texts) first ∙ ap (λ l. row ∷ l) (read_all scale rows texts fit.1 spelt.1)
 
-  small_item : (i_id : ℕ) → IsTrue (has_item scale i_id) → i_id ≤ 100000
-  small_item i_id h = between_small 1 scale.items i_id 100000 scale.limits.most_items h
+-- ---- what each table has of all rows
 
-  pub exact_district : (key : DistrictKey) → IsTrue (has_district scale key) → ExactDistrict key
-  exact_district key h =
-      let parts = both _ _ h in
-      let w = small_warehouse key.w_id parts.0 in
-      let d = between_small 1 10 key.d_id 10 (omega arith) parts.1 in
-      record { w_id = omega arith; d_id = omega arith }
+in-append : {K X : Type 0} (get : TableRow → Option (K × X)) (xs ys : List TableRow) → entries_in get (xs ++ ys) ≡ entries_in get xs ++ entries_in get ys
+in-append get [] ys = refl
+in-append {K} {X} get (x ∷ xs) ys = ap (with_entry (get x)) (in-append get xs ys) ∙ front (get x) (entries_in get xs) (entries_in get ys)
+  where
+    front : (r : Option (K × X)) (es ds : List (K × X)) → with_entry r (es ++ ds) ≡ with_entry r es ++ ds
+    front None es ds = refl
+    front (Some e) es ds = refl
 
-  pub exact_stock : (key : StockKey) → IsTrue (has_stock scale key) → ExactStock key
-  exact_stock key h =
-      let parts = both _ _ h in
-      let w = small_warehouse key.w_id parts.0 in
-      let i = small_item key.i_id parts.1 in
-      record { w_id = omega arith; i_id = omega arith }
+in-flat : {K X : Type 0} (get : TableRow → Option (K × X)) (parts : List (List TableRow)) (all : List (List (K × X))) → AllZip (λ part es. entries_in get part ≡ es) parts all
+    → entries_in get (flat_map (λ part. part) parts) ≡ flat_map (λ es. es) all
+in-flat get [] [] h = refl
+in-flat get [] (es ∷ all) h = absurd h
+in-flat get (part ∷ parts) [] h = absurd h
+in-flat get (part ∷ parts) (es ∷ all) h =
+    in-append get part (flat_map (λ p. p) parts) ∙ ap (λ l. l ++ entries_in get (flat_map (λ p. p) parts)) h.0 ∙ ap (λ l. es ++ l) (in-flat get parts all h.1)
 
-  pub exact_customer : (key : CustomerKey) → IsTrue (has_customer scale key) → ExactCustomer key
-  exact_customer key h =
-      let parts = both _ _ h in
-      let home = exact_district (record { w_id = key.w_id; d_id = key.d_id }) parts.0 in
-      let c = between_small 1 scale.customers key.c_id 3000 scale.limits.most_customers parts.1 in
-      record { w_id = home.w_id; d_id = home.d_id; c_id = omega arith }
+module _ {K X : Type 0} (get : TableRow → Option (K × X)) where
+  own : (make : K → X → TableRow) → ((k : K) (x : X) → get (make k x) ≡ Some (k, x)) → (es : List (K × X)) → entries_in get (rows_of make es) ≡ es
+  own make found [] = refl
+  own make found (e ∷ es) = ap (λ r. with_entry r (entries_in get (rows_of make es))) (found e.0 e.1) ∙ ap (λ l. e ∷ l) (own make found es)
 
-  exact_payments : (rows : List History) → IsTrue (are_payers_known scale rows) → AllByRecursion HistoryInRange rows → AllByRecursion FitsPayment rows
-  exact_payments rows known range =
-      all-both (λ row. IsTrue (has_customer scale row.customer)) HistoryInRange FitsPayment (λ row k h. record { payer = exact_customer row.customer k; in_range = h }) rows (all-true _ rows known) range
+  none : {J Y : Type 0} (make : J → Y → TableRow) → ((k : J) (x : Y) → get (make k x) ≡ None) → (es : List (J × Y)) → entries_in get (rows_of make es) ≡ []
+  none make other [] = refl
+  none make other (e ∷ es) = ap (λ r. with_entry r (entries_in get (rows_of make es))) (other e.0 e.1) ∙ none make other es
 
--- ---- the rows of tables
+  none_of_list : (home : DistrictKey) → ((x : History) → get (OfHistory home x) ≡ None) → (rows : List History) → entries_in get (map (OfHistory home) rows) ≡ []
+  none_of_list home other [] = refl
+  none_of_list home other (row ∷ rows) = ap (λ r. with_entry r (entries_in get (map (OfHistory home) rows))) (other row) ∙ none_of_list home other rows
 
-pub record FitsOrder (key : OrderKey) (row : Order) : Type 0 where
-  pub order : ExactOrder key
-  pub c_id : row.c_id < 2 ^ 64
-  pub in_range : OrderInRange row
+  none_paid : ((k : DistrictKey) (x : History) → get (OfHistory k x) ≡ None) → (es : List (DistrictKey × List History)) → entries_in get (rows_paid es) ≡ []
+  none_paid other [] = refl
+  none_paid other (e ∷ es) =
+      in-append get (map (OfHistory e.0) e.1) (rows_paid es) ∙ ap (λ l. l ++ entries_in get (rows_paid es)) (none_of_list e.0 (other e.0) e.1) ∙ none_paid other es
 
-pub record FitsLine (key : OrderLineKey) (row : OrderLine) : Type 0 where
-  pub line : ExactLine key
-  pub i_id : row.i_id < 2 ^ 64
-  pub supply_w_id : row.supply_w_id < 2 ^ 64
-  pub in_range : LineInRange row
+own_list : (home : DistrictKey) (rows : List History) → entries_in get_history (map (OfHistory home) rows) ≡ map (λ row. (home, row)) rows
+own_list home [] = refl
+own_list home (row ∷ rows) = ap (λ l. (home, row) ∷ l) (own_list home rows)
 
-module _ (t : Database) (w : IsWithinScale t) (h : InRange t) where
-  fit_items : AllByRecursion (λ e. (e.0 < 2 ^ 64) × ItemInRange e.1) (entries t.items)
-  fit_items =
-      all-both (λ e. IsTrue (has_item t.scale e.0)) (λ e. ItemInRange e.1) _ (λ e known range. (let small = small_item t.scale e.0 known in omega arith, range)) (entries t.items)
-      (all-true _ (entries t.items) (rows_pass nat_cmp_total nat_cmp-IsAntisymmetric (λ key _. has_item t.scale key) t.items (keys_pass (has_item t.scale) t.items w.items))) (all-of_values ItemInRange (entries t.items) h.items)
+own_paid : (es : List (DistrictKey × List History)) → entries_in get_history (rows_paid es) ≡ payments_of es
+own_paid [] = refl
+own_paid (e ∷ es) =
+    in-append get_history (map (OfHistory e.0) e.1) (rows_paid es) ∙ ap (λ l. l ++ entries_in get_history (rows_paid es)) (own_list e.0 e.1)
+    ∙ ap (λ l. map (λ row. (e.0, row)) e.1 ++ l) (own_paid es)
 
-  fit_warehouses : AllByRecursion (λ e. (e.0 < 2 ^ 64) × WarehouseInRange e.1) (entries t.warehouses)
-  fit_warehouses =
-      all-both (λ e. IsTrue (has_warehouse t.scale e.0)) (λ e. WarehouseInRange e.1) _ (λ e known range. (let small = small_warehouse t.scale e.0 known in omega arith, range)) (entries t.warehouses)
-      (all-true _ (entries t.warehouses) (rows_pass nat_cmp_total nat_cmp-IsAntisymmetric (λ key _. has_warehouse t.scale key) t.warehouses (keys_pass (has_warehouse t.scale) t.warehouses w.warehouses))) (all-of_values WarehouseInRange (entries t.warehouses) h.warehouses)
+module _ (t : Database) where
+  pub all_items : entries_in get_item (all_rows t) ≡ entries t.items
+  unfolding all_rows rows_by_table
+  all_items = in-flat get_item (rows_by_table t) (entries t.items ∷ [] ∷ [] ∷ [] ∷ [] ∷ [] ∷ [] ∷ [] ∷ [] ∷ []) (own get_item OfItem (λ k x. refl) (entries t.items), (none get_item OfWarehouse (λ k x. refl) (entries t.warehouses), (none get_item OfDistrict (λ k x. refl) (entries t.districts), (none get_item OfStock (λ k x. refl) (entries t.stocks), (none get_item OfCustomer (λ k x. refl) (entries t.customers), (none_paid get_item (λ k x. refl) (entries t.histories), (none get_item OfOrder (λ k x. refl) (entries t.orders), (none get_item OfNewOrder (λ k x. refl) (entries t.new_orders), (none get_item OfLine (λ k x. refl) (entries t.lines), tt))))))))) ∙ append-nil (entries t.items)
 
-  fit_districts : AllByRecursion (λ e. ExactDistrict e.0 × DistrictInRange e.1) (entries t.districts)
-  fit_districts =
-      all-both (λ e. IsTrue (has_district t.scale e.0)) (λ e. DistrictInRange e.1) _ (λ e known range. (exact_district t.scale e.0 known, range)) (entries t.districts)
-      (all-true _ (entries t.districts) (rows_pass districts_total districts_exact (λ key _. has_district t.scale key) t.districts (keys_pass (has_district t.scale) t.districts w.districts))) (all-of_values DistrictInRange (entries t.districts) h.districts)
+  pub all_warehouses : entries_in get_warehouse (all_rows t) ≡ entries t.warehouses
+  unfolding all_rows rows_by_table
+  all_warehouses = in-flat get_warehouse (rows_by_table t) ([] ∷ entries t.warehouses ∷ [] ∷ [] ∷ [] ∷ [] ∷ [] ∷ [] ∷ [] ∷ []) (none get_warehouse OfItem (λ k x. refl) (entries t.items), (own get_warehouse OfWarehouse (λ k x. refl) (entries t.warehouses), (none get_warehouse OfDistrict (λ k x. refl) (entries t.districts), (none get_warehouse OfStock (λ k x. refl) (entries t.stocks), (none get_warehouse OfCustomer (λ k x. refl) (entries t.customers), (none_paid get_warehouse (λ k x. refl) (entries t.histories), (none get_warehouse OfOrder (λ k x. refl) (entries t.orders), (none get_warehouse OfNewOrder (λ k x. refl) (entries t.new_orders), (none get_warehouse OfLine (λ k x. refl) (entries t.lines), tt))))))))) ∙ append-nil (entries t.warehouses)
 
-  fit_stocks : AllByRecursion (λ e. ExactStock e.0 × StockInRange e.1) (entries t.stocks)
-  fit_stocks =
-      all-both (λ e. IsTrue (has_stock t.scale e.0)) (λ e. StockInRange e.1) _ (λ e known range. (exact_stock t.scale e.0 known, range)) (entries t.stocks)
-      (all-true _ (entries t.stocks) (rows_pass stocks_total stocks_exact (λ key _. has_stock t.scale key) t.stocks (keys_pass (has_stock t.scale) t.stocks w.stocks))) (all-of_values StockInRange (entries t.stocks) h.stocks)
+  pub all_districts : entries_in get_district (all_rows t) ≡ entries t.districts
+  unfolding all_rows rows_by_table
+  all_districts = in-flat get_district (rows_by_table t) ([] ∷ [] ∷ entries t.districts ∷ [] ∷ [] ∷ [] ∷ [] ∷ [] ∷ [] ∷ []) (none get_district OfItem (λ k x. refl) (entries t.items), (none get_district OfWarehouse (λ k x. refl) (entries t.warehouses), (own get_district OfDistrict (λ k x. refl) (entries t.districts), (none get_district OfStock (λ k x. refl) (entries t.stocks), (none get_district OfCustomer (λ k x. refl) (entries t.customers), (none_paid get_district (λ k x. refl) (entries t.histories), (none get_district OfOrder (λ k x. refl) (entries t.orders), (none get_district OfNewOrder (λ k x. refl) (entries t.new_orders), (none get_district OfLine (λ k x. refl) (entries t.lines), tt))))))))) ∙ append-nil (entries t.districts)
 
-  fit_customers : AllByRecursion (λ e. ExactCustomer e.0 × CustomerInRange e.1) (entries t.customers)
-  fit_customers =
-      all-both (λ e. IsTrue (has_customer t.scale e.0)) (λ e. CustomerInRange e.1) _ (λ e known range. (exact_customer t.scale e.0 known, range)) (entries t.customers)
-      (all-true _ (entries t.customers) (rows_pass customers_total customers_exact (λ key _. has_customer t.scale key) t.customers (keys_pass (has_customer t.scale) t.customers w.customers))) (all-of_values CustomerInRange (entries t.customers) h.customers)
+  pub all_stocks : entries_in get_stock (all_rows t) ≡ entries t.stocks
+  unfolding all_rows rows_by_table
+  all_stocks = in-flat get_stock (rows_by_table t) ([] ∷ [] ∷ [] ∷ entries t.stocks ∷ [] ∷ [] ∷ [] ∷ [] ∷ [] ∷ []) (none get_stock OfItem (λ k x. refl) (entries t.items), (none get_stock OfWarehouse (λ k x. refl) (entries t.warehouses), (none get_stock OfDistrict (λ k x. refl) (entries t.districts), (own get_stock OfStock (λ k x. refl) (entries t.stocks), (none get_stock OfCustomer (λ k x. refl) (entries t.customers), (none_paid get_stock (λ k x. refl) (entries t.histories), (none get_stock OfOrder (λ k x. refl) (entries t.orders), (none get_stock OfNewOrder (λ k x. refl) (entries t.new_orders), (none get_stock OfLine (λ k x. refl) (entries t.lines), tt))))))))) ∙ append-nil (entries t.stocks)
 
-  exact_homes : AllByRecursion ExactDistrict (keys_of (entries t.histories))
-  exact_homes =
-      all-of_keys ExactDistrict (entries t.histories)
-      (all-both (λ e. IsTrue (has_district t.scale e.0)) (λ e. Unit {0}) (λ e. ExactDistrict e.0) (λ e known _. exact_district t.scale e.0 known) (entries t.histories)
-      (all-true _ (entries t.histories) (rows_pass districts_total districts_exact (λ key _. has_district t.scale key) t.histories (keys_pass (has_district t.scale) t.histories w.histories))) (units (entries t.histories)))
-    where
-      units : {X : Type 0} (xs : List X) → AllByRecursion (λ _. Unit {0}) xs
-      units [] = tt
-      units (x ∷ xs) = (tt, units xs)
+  pub all_customers : entries_in get_customer (all_rows t) ≡ entries t.customers
+  unfolding all_rows rows_by_table
+  all_customers = in-flat get_customer (rows_by_table t) ([] ∷ [] ∷ [] ∷ [] ∷ entries t.customers ∷ [] ∷ [] ∷ [] ∷ [] ∷ []) (none get_customer OfItem (λ k x. refl) (entries t.items), (none get_customer OfWarehouse (λ k x. refl) (entries t.warehouses), (none get_customer OfDistrict (λ k x. refl) (entries t.districts), (none get_customer OfStock (λ k x. refl) (entries t.stocks), (own get_customer OfCustomer (λ k x. refl) (entries t.customers), (none_paid get_customer (λ k x. refl) (entries t.histories), (none get_customer OfOrder (λ k x. refl) (entries t.orders), (none get_customer OfNewOrder (λ k x. refl) (entries t.new_orders), (none get_customer OfLine (λ k x. refl) (entries t.lines), tt))))))))) ∙ append-nil (entries t.customers)
 
-  fit_payments : AllByRecursion (AllByRecursion FitsPayment) (values_of (entries t.histories))
-  fit_payments =
-      of_entries (entries t.histories)
-      (all-true _ (entries t.histories) (rows_pass districts_total districts_exact (λ _ rows. are_payers_known t.scale rows) t.histories w.payers_known)) h.histories
-    where
-      of_entries : (es : List (DistrictKey × List History)) → AllByRecursion (λ e. IsTrue (are_payers_known t.scale e.1)) es → AllByRecursion (AllByRecursion HistoryInRange) (values_of es) → AllByRecursion (AllByRecursion FitsPayment) (values_of es)
-      of_entries [] known range = tt
-      of_entries (e ∷ es) known range = (exact_payments t.scale e.1 known.0 range.0, of_entries es known.1 range.1)
+  pub all_histories : entries_in get_history (all_rows t) ≡ payments_of (entries t.histories)
+  unfolding all_rows rows_by_table
+  all_histories = in-flat get_history (rows_by_table t) ([] ∷ [] ∷ [] ∷ [] ∷ [] ∷ payments_of (entries t.histories) ∷ [] ∷ [] ∷ [] ∷ []) (none get_history OfItem (λ k x. refl) (entries t.items), (none get_history OfWarehouse (λ k x. refl) (entries t.warehouses), (none get_history OfDistrict (λ k x. refl) (entries t.districts), (none get_history OfStock (λ k x. refl) (entries t.stocks), (none get_history OfCustomer (λ k x. refl) (entries t.customers), (own_paid (entries t.histories), (none get_history OfOrder (λ k x. refl) (entries t.orders), (none get_history OfNewOrder (λ k x. refl) (entries t.new_orders), (none get_history OfLine (λ k x. refl) (entries t.lines), tt))))))))) ∙ append-nil (payments_of (entries t.histories))
 
-  exact_order : (key : OrderKey) (row : Order) → IsTrue (is_order_id key.o_id) → IsTrue (has_customer t.scale (customer_of_order key row)) → ExactOrder key × (row.c_id < 2 ^ 64)
-  exact_order key row numbered known =
-      let customer = exact_customer t.scale (customer_of_order key row) known in
-      let o = between_small 1 9999999 key.o_id 9999999 (omega arith) numbered in
-      (record { w_id = customer.w_id; d_id = customer.d_id; o_id = omega arith }, customer.c_id)
+  pub all_orders : entries_in get_order (all_rows t) ≡ entries t.orders
+  unfolding all_rows rows_by_table
+  all_orders = in-flat get_order (rows_by_table t) ([] ∷ [] ∷ [] ∷ [] ∷ [] ∷ [] ∷ entries t.orders ∷ [] ∷ [] ∷ []) (none get_order OfItem (λ k x. refl) (entries t.items), (none get_order OfWarehouse (λ k x. refl) (entries t.warehouses), (none get_order OfDistrict (λ k x. refl) (entries t.districts), (none get_order OfStock (λ k x. refl) (entries t.stocks), (none get_order OfCustomer (λ k x. refl) (entries t.customers), (none_paid get_order (λ k x. refl) (entries t.histories), (own get_order OfOrder (λ k x. refl) (entries t.orders), (none get_order OfNewOrder (λ k x. refl) (entries t.new_orders), (none get_order OfLine (λ k x. refl) (entries t.lines), tt))))))))) ∙ append-nil (entries t.orders)
 
-  known_order : (key : OrderKey) → IsTrue (map.contains_key t.orders key) → ExactOrder key
-  known_order key there = by (map.get t.orders key) refl there
-    where
-      by : (r : Option Order) → map.get t.orders key ≡ r → IsTrue (is_some r) → ExactOrder key
-      by None e there = absurd cc
-      by (Some order) e there = (exact_order key order (w.orders_numbered key order e) (w.orders_have_customers key order e)).0
+  pub all_new_orders : entries_in get_new_order (all_rows t) ≡ entries t.new_orders
+  unfolding all_rows rows_by_table
+  all_new_orders = in-flat get_new_order (rows_by_table t) ([] ∷ [] ∷ [] ∷ [] ∷ [] ∷ [] ∷ [] ∷ entries t.new_orders ∷ [] ∷ []) (none get_new_order OfItem (λ k x. refl) (entries t.items), (none get_new_order OfWarehouse (λ k x. refl) (entries t.warehouses), (none get_new_order OfDistrict (λ k x. refl) (entries t.districts), (none get_new_order OfStock (λ k x. refl) (entries t.stocks), (none get_new_order OfCustomer (λ k x. refl) (entries t.customers), (none_paid get_new_order (λ k x. refl) (entries t.histories), (none get_new_order OfOrder (λ k x. refl) (entries t.orders), (own get_new_order OfNewOrder (λ k x. refl) (entries t.new_orders), (none get_new_order OfLine (λ k x. refl) (entries t.lines), tt))))))))) ∙ append-nil (entries t.new_orders)
 
-  fit_orders : AllByRecursion (λ e. FitsOrder e.0 e.1) (entries t.orders)
-  fit_orders =
-      let es = entries t.orders in
-      let numbered = all-true _ es (rows_pass orders_total orders_exact (λ key _. is_order_id key.o_id) t.orders w.orders_numbered) in
-      let known = all-true _ es (rows_pass orders_total orders_exact (λ key row. has_customer t.scale (customer_of_order key row)) t.orders w.orders_have_customers) in
-      let exact = all-both (λ e. IsTrue (is_order_id e.0.o_id)) (λ e. IsTrue (has_customer t.scale (customer_of_order e.0 e.1))) (λ e. ExactOrder e.0 × (e.1.c_id < 2 ^ 64)) (λ e n k. exact_order e.0 e.1 n k) es numbered known in
-      all-both (λ e. ExactOrder e.0 × (e.1.c_id < 2 ^ 64)) (λ e. OrderInRange e.1) _ (λ e x range. record { order = x.0; c_id = x.1; in_range = range }) es exact (all-of_values OrderInRange es h.orders)
+  pub all_lines : entries_in get_line (all_rows t) ≡ entries t.lines
+  unfolding all_rows rows_by_table
+  all_lines = in-flat get_line (rows_by_table t) ([] ∷ [] ∷ [] ∷ [] ∷ [] ∷ [] ∷ [] ∷ [] ∷ entries t.lines ∷ []) (none get_line OfItem (λ k x. refl) (entries t.items), (none get_line OfWarehouse (λ k x. refl) (entries t.warehouses), (none get_line OfDistrict (λ k x. refl) (entries t.districts), (none get_line OfStock (λ k x. refl) (entries t.stocks), (none get_line OfCustomer (λ k x. refl) (entries t.customers), (none_paid get_line (λ k x. refl) (entries t.histories), (none get_line OfOrder (λ k x. refl) (entries t.orders), (none get_line OfNewOrder (λ k x. refl) (entries t.new_orders), (own get_line OfLine (λ k x. refl) (entries t.lines), tt))))))))) ∙ append-nil (entries t.lines)
 
-  fit_new_orders : AllByRecursion (λ e. ExactOrder e.0) (entries t.new_orders)
-  fit_new_orders =
-      let es = entries t.new_orders in
-      let there = all-true _ es (rows_pass orders_total orders_exact (λ key _. map.contains_key t.orders key) t.new_orders w.new_orders_have_orders) in
-      all-both (λ e. IsTrue (map.contains_key t.orders e.0)) (λ e. IsTrue (map.contains_key t.orders e.0)) _ (λ e k _. known_order e.0 k) es there there
+-- ---- the payments of districts
 
-  fit_lines : AllByRecursion (λ e. FitsLine e.0 e.1) (entries t.lines)
-  fit_lines =
-      let es = entries t.lines in
-      let there = all-true _ es (rows_pass lines_total lines_exact (λ key _. map.contains_key t.orders (order_of_line key)) t.lines w.lines_have_orders) in
-      let numbered = all-true _ es (rows_pass lines_total lines_exact (λ key _. is_line_number key.number) t.lines w.lines_numbered) in
-      let items = all-true _ es (rows_pass lines_total lines_exact (λ _ row. has_item t.scale row.i_id) t.lines w.lines_have_items) in
-      let suppliers = all-true _ es (rows_pass lines_total lines_exact (λ _ row. has_warehouse t.scale row.supply_w_id) t.lines w.lines_have_suppliers) in
-      let keys = all-both (λ e. IsTrue (map.contains_key t.orders (order_of_line e.0))) (λ e. IsTrue (is_line_number e.0.number)) (λ e. ExactLine e.0) (λ e k n. exact_line e.0 k n) es there numbered in
-      let refers = all-both (λ e. IsTrue (has_item t.scale e.1.i_id)) (λ e. IsTrue (has_warehouse t.scale e.1.supply_w_id)) (λ e. (e.1.i_id < 2 ^ 64) × (e.1.supply_w_id < 2 ^ 64))
-      (λ e i s. let item = small_item t.scale e.1.i_id i in let supplier = small_warehouse t.scale e.1.supply_w_id s in (omega arith, omega arith)) es items suppliers in
-      let whole = all-both (λ e. ExactLine e.0) (λ e. (e.1.i_id < 2 ^ 64) × (e.1.supply_w_id < 2 ^ 64)) (λ e. ExactLine e.0 × ((e.1.i_id < 2 ^ 64) × (e.1.supply_w_id < 2 ^ 64))) (λ e k r. (k, r)) es keys refers in
-      all-both (λ e. ExactLine e.0 × ((e.1.i_id < 2 ^ 64) × (e.1.supply_w_id < 2 ^ 64))) (λ e. LineInRange e.1) _
-      (λ e x range. record { line = x.0; i_id = x.1.0; supply_w_id = x.1.1; in_range = range }) es whole (all-of_values LineInRange es h.lines)
-    where
-      exact_line : (key : OrderLineKey) → IsTrue (map.contains_key t.orders (order_of_line key)) → IsTrue (is_line_number key.number) → ExactLine key
-      exact_line key there numbered =
-          let order = known_order (order_of_line key) there in
-          let n = between_small 1 15 key.number 15 (omega arith) numbered in
-          record { w_id = order.w_id; d_id = order.d_id; o_id = order.o_id; number = omega arith }
+-- two lists of payments of a district, each before those of others
+split_paid : (home : DistrictKey) (xs ys : List History) (ps qs : List (DistrictKey × History)) → AllByRecursion (λ (p : DistrictKey × History). p.0 ≡ home → ⊥) ps → AllByRecursion (λ (p : DistrictKey × History). p.0 ≡ home → ⊥) qs
+    → map (λ row. (home, row)) xs ++ ps ≡ map (λ row. (home, row)) ys ++ qs → (xs ≡ ys) × (ps ≡ qs)
+split_paid home [] [] ps qs h g e = (refl, e)
+split_paid home [] (y ∷ ys) [] qs h g e = absurd cc
+split_paid home [] (y ∷ ys) (p ∷ ps) qs h g e = let first : ◌≡◌ {A = DistrictKey × History} p (home, y) = cc in absurd (h.0 (ap (λ (q : DistrictKey × History). q.0) first))
+split_paid home (x ∷ xs) [] ps [] h g e = absurd cc
+split_paid home (x ∷ xs) [] ps (q ∷ qs) h g e = let first : ◌≡◌ {A = DistrictKey × History} (home, x) q = cc in absurd (g.0 (sym (ap (λ (p : DistrictKey × History). p.0) first)))
+split_paid home (x ∷ xs) (y ∷ ys) ps qs h g e =
+    let pair : ◌≡◌ {A = DistrictKey × History} (home, x) (home, y) = cc in
+    let first : x ≡ y = ap (λ (p : DistrictKey × History). p.1) pair in
+    let tails : map (λ row. (home, row)) xs ++ ps ≡ map (λ row. (home, row)) ys ++ qs = cc in
+    let rest = split_paid home xs ys ps qs h g tails in
+    (λ i. first i ∷ rest.0 i, rest.1)
+
+not_home : (home other : DistrictKey) → district_cmp home other ≡ Less → other ≡ home → ⊥
+not_home home other less e = let same = ap (district_cmp home) e ∙ tied_itself districts_total home in let clash = sym less ∙ same in cc
+
+not_of_list : (home other : DistrictKey) → district_cmp home other ≡ Less → (rows : List History) (ps : List (DistrictKey × History)) → AllByRecursion (λ (p : DistrictKey × History). p.0 ≡ home → ⊥) ps
+    → AllByRecursion (λ (p : DistrictKey × History). p.0 ≡ home → ⊥) (map (λ row. (other, row)) rows ++ ps)
+not_of_list home other less [] ps h = h
+not_of_list home other less (row ∷ rows) ps h = (not_home home other less, not_of_list home other less rows ps h)
+
+not_later : (home : DistrictKey) (es : List (DistrictKey × List History)) → AllByRecursion (λ k. district_cmp home k ≡ Less) (keys_of es) → AllByRecursion (λ (p : DistrictKey × History). p.0 ≡ home → ⊥) (payments_of es)
+not_later home [] h = tt
+not_later home (e ∷ es) h = not_of_list home e.0 h.0 e.1 (payments_of es) (not_later home es h.1)
+
+-- the lists of the same districts are told by their payments
+pub same_lists : (es ds : List (DistrictKey × List History)) → keys_of es ≡ keys_of ds → IsStrictlySortedBy district_cmp (keys_of es) → payments_of es ≡ payments_of ds → es ≡ ds
+unfolding IsStrictlySortedBy
+same_lists [] [] keys sorted e = refl
+same_lists [] (d ∷ ds) keys sorted e = absurd cc
+same_lists (x ∷ es) [] keys sorted e = absurd cc
+same_lists (x ∷ es) (d ∷ ds) keys sorted e =
+    let key : x.0 ≡ d.0 = cc in
+    let later : keys_of es ≡ keys_of ds = cc in
+    let here : map (λ row. (x.0, row)) x.1 ++ payments_of es ≡ map (λ row. (x.0, row)) d.1 ++ payments_of ds = e ∙ ap (λ k. map (λ row. (k, row)) d.1 ++ payments_of ds) (sym key) in
+    let parts = split_paid x.0 x.1 d.1 (payments_of es) (payments_of ds) (not_later x.0 es sorted.0) (not_later x.0 ds (subst (AllByRecursion (λ k. district_cmp x.0 k ≡ Less)) later sorted.0)) here in
+    let rest = same_lists es ds later sorted.1 parts.1 in
+    λ i. (key i, parts.0 i) ∷ rest i
 
 -- ---- the scale
 
@@ -178,92 +177,66 @@ same_scale s r w i c =
     Σ_prop_path (λ p. hlevel le_prop) (λ n. (w n, (i n, c n))) in
     λ n. record { warehouses = (pairs n).0.0; items = (pairs n).0.1.0; customers = (pairs n).0.1.1; limits = (pairs n).1 }
 
-scale_told : (s r : Scale) (texts : List (List ℕ)) → AreSpelt (header_fields s) texts → AreSpelt (header_fields r) texts → s ≡ r
-scale_told s r texts a b =
+pub scale_told : (s r : Scale) (texts : List (List ℕ)) → AreSpelt (header_fields s) texts → AreSpelt (header_fields r) texts → s ≡ r
+scale_told s r (a ∷ b ∷ c ∷ d ∷ e ∷ []) h g =
     let limits = s.limits in
     let others = r.limits in
-    let e = same_fields (header_fields s) (header_fields r) (tt, (tt, (tt, (tt, (tt, tt))))) (tt, (omega arith, (omega arith, (omega arith, (omega arith, tt))))) (tt, (omega arith, (omega arith, (omega arith, (omega arith, tt))))) texts a b in
-    let w : s.warehouses ≡ r.warehouses = cc in
-    let i : s.items ≡ r.items = cc in
-    let c : s.customers ≡ r.customers = cc in
-    same_scale s r w i c
+    let w = decimal_injective s.warehouses r.warehouses (omega (arith, limits.most_warehouses)) (omega (arith, others.most_warehouses)) (sym h.1.1.0 ∙ g.1.1.0) in
+    let i = decimal_injective s.items r.items (omega (arith, limits.most_items)) (omega (arith, others.most_items)) (sym h.1.1.1.0 ∙ g.1.1.1.0) in
+    let n = decimal_injective s.customers r.customers (omega (arith, limits.most_customers)) (omega (arith, others.most_customers)) (sym h.1.1.1.1.0 ∙ g.1.1.1.1.0) in
+    same_scale s r w i n
+scale_told s r texts h g = let long = AllZip-long IsSpelt (header_fields s) texts h in absurd (omega arith)
 
 -- ---- all tables
 
--- the first bytes of the nine letters, and of END
-marks : List ℕ
-marks = 73 ∷ 87 ∷ 68 ∷ 83 ∷ 67 ∷ 72 ∷ 79 ∷ 78 ∷ 76 ∷ 69 ∷ []
+-- all but the last
+unfoldable pub init : {X : Type 0} → List X → List X
+init [] = []
+init (x ∷ []) = []
+init (x ∷ y ∷ xs) = x ∷ init (y ∷ xs)
 
-parts : Database → List (List (List Field))
-parts t = records_by_table t ++ ((end_fields (records_by_table t) ∷ []) ∷ [])
+pub init-last : {X : Type 0} (xs : List X) (x : X) → init (xs ++ (x ∷ [])) ≡ xs
+unfolding init
+init-last [] x = refl
+init-last (w ∷ []) x = refl
+init-last (w ∷ v ∷ xs) x = ap (λ l. w ∷ l) (init-last (v ∷ xs) x)
 
-marks_differ : IsTrue (are_apart marks)
-unfolding marks
-marks_differ = refl
+spelt_init : {A B : Type 0} (R : A → B → Type 0) (xs : List A) (x : A) (ys : List B) → AllZip R (xs ++ (x ∷ [])) ys → AllZip R xs (init ys)
+unfolding init
+spelt_init R [] x [] h = absurd h
+spelt_init R [] x (y ∷ []) h = tt
+spelt_init R [] x (y ∷ z ∷ ys) h = absurd h.1
+spelt_init R (w ∷ xs) x [] h = absurd h
+spelt_init R (w ∷ []) x (y ∷ []) h = absurd h.1
+spelt_init R (w ∷ v ∷ xs) x (y ∷ []) h = absurd h.1
+spelt_init R (w ∷ xs) x (y ∷ z ∷ ys) h = (h.0, spelt_init R xs x (z ∷ ys) h.1)
 
-parts_marked : (t : Database) → PartsMarked marks (parts t)
-unfolding marks parts records_by_table
-parts_marked t = (
-  marked-rows 73 item_fields (λ k x. refl) (entries t.items),
-  (
-    marked-rows 87 warehouse_fields (λ k x. refl) (entries t.warehouses),
-    (
-      marked-rows 68 district_fields (λ k x. refl) (entries t.districts),
-      (
-        marked-rows 83 stock_fields (λ k x. refl) (entries t.stocks),
-        (
-          marked-rows 67 customer_fields (λ k x. refl) (entries t.customers),
-          (
-            marked-payments (entries t.histories),
-            (
-              marked-rows 79 order_fields (λ k x. refl) (entries t.orders),
-              (
-                marked-rows 78 new_order_fields (λ k x. refl) (entries t.new_orders),
-                (
-                  marked-rows 76 line_fields (λ k x. refl) (entries t.lines),
-                  ((refl, tt), tt),
-                ),
-              ),
-            ),
-          ),
-        ),
-      ),
-    ),
-  ),
-)
-
-body : (t : Database) (row : List (List ℕ)) (rows : List (List (List ℕ))) → AreRecords t (row ∷ rows) → AreSpelt (header_fields t.scale) row × AllZip AreSpelt (flat_map (λ part. part) (parts t)) rows
-unfolding AreRecords records parts
-body t row rows h =
-    (h.0, subst (λ l. AllZip AreSpelt l rows) (flat-last (records_by_table t) (end_fields (records_by_table t) ∷ [])) h.1)
+-- the rows that the records behind the header tell, but for the last record
+pub rows_told : (t : Database) → IsWithinScale t → InRange t → (header : List (List ℕ)) (body : List (List (List ℕ))) → AreRecords t (header ∷ body)
+    → AreSpelt (header_fields t.scale) header × (rows_read (sizes t.scale) (init body) ≡ all_rows t)
+unfolding AreRecords records
+rows_told t within range header body h =
+    let spelt : AllZip AreSpelt (all_records t) (init body) = spelt_init AreSpelt (all_records t) (end_fields (records_by_table t)) body h.1 in
+    (h.0, read_all t.scale (all_rows t) (init body) (rows_fit t within range) (subst (λ fields. AllZip AreSpelt fields (init body)) (sym (records_of_rows t)) spelt))
 
 pub records_tell_tables : RecordsTellTables
-unfolding AreRecords records records_by_table parts
+unfolding AreRecords records
 records_tell_tables t u w v h g [] s r = absurd s
-records_tell_tables t u w v h g (row ∷ rows) s r =
-    let one = body t row rows s in
-    let other = body u row rows r in
-    let shared = parts_shared marks (parts t) (parts u) marks_differ (parts_marked t) (parts_marked u) rows one.1 other.1 in
-    let scale = scale_told t.scale u.scale row one.0 other.0 in
-    let items = same_entries_map t.items u.items (same_rows item_fields (λ k x. (k < 2 ^ 64) × ItemInRange x) (λ texts k j x y a b. item_told texts k j x y a.0 b.0 a.1 b.1)
-    (entries t.items) (entries u.items) (fit_items t w h) (fit_items u v g) shared.0.rows shared.0.one shared.0.other) in
-    let warehouses = same_entries_map t.warehouses u.warehouses (same_rows warehouse_fields (λ k x. (k < 2 ^ 64) × WarehouseInRange x) (λ texts k j x y a b. warehouse_told texts k j x y a.0 b.0 a.1 b.1)
-    (entries t.warehouses) (entries u.warehouses) (fit_warehouses t w h) (fit_warehouses u v g) shared.1.0.rows shared.1.0.one shared.1.0.other) in
-    let districts = same_entries_map t.districts u.districts (same_rows district_fields (λ k x. ExactDistrict k × DistrictInRange x) (λ texts k j x y a b. district_told texts k j x y a.0 b.0 a.1 b.1)
-    (entries t.districts) (entries u.districts) (fit_districts t w h) (fit_districts u v g) shared.1.1.0.rows shared.1.1.0.one shared.1.1.0.other) in
-    let stocks = same_entries_map t.stocks u.stocks (same_rows stock_fields (λ k x. ExactStock k × StockInRange x) (λ texts k j x y a b. stock_told texts k j x y a.0 b.0 a.1 b.1)
-    (entries t.stocks) (entries u.stocks) (fit_stocks t w h) (fit_stocks u v g) shared.1.1.1.0.rows shared.1.1.1.0.one shared.1.1.1.0.other) in
-    let customers = same_entries_map t.customers u.customers (same_rows customer_fields (λ k x. ExactCustomer k × CustomerInRange x) (λ texts k j x y a b. customer_told texts k j x y a.0 b.0 a.1 b.1)
-    (entries t.customers) (entries u.customers) (fit_customers t w h) (fit_customers u v g) shared.1.1.1.1.0.rows shared.1.1.1.1.0.one shared.1.1.1.1.0.other) in
+records_tell_tables t u w v h g (header ∷ body) s r =
+    let one = rows_told t w h header body s in
+    let other = rows_told u v g header body r in
+    let scale = scale_told t.scale u.scale header one.0 other.0 in
+    let same : all_rows t ≡ all_rows u = sym one.1 ∙ ap (λ (c : Scale). rows_read (sizes c) (init body)) scale ∙ other.1 in
+    let items = same_entries_map t.items u.items (sym (all_items t) ∙ ap (entries_in get_item) same ∙ all_items u) in
+    let warehouses = same_entries_map t.warehouses u.warehouses (sym (all_warehouses t) ∙ ap (entries_in get_warehouse) same ∙ all_warehouses u) in
+    let districts = same_entries_map t.districts u.districts (sym (all_districts t) ∙ ap (entries_in get_district) same ∙ all_districts u) in
+    let stocks = same_entries_map t.stocks u.stocks (sym (all_stocks t) ∙ ap (entries_in get_stock) same ∙ all_stocks u) in
+    let customers = same_entries_map t.customers u.customers (sym (all_customers t) ∙ ap (entries_in get_customer) same ∙ all_customers u) in
     let homes = same_keys districts_total districts_exact t.histories u.histories (λ q. w.histories q ∙ ap (λ (l : Scale). has_district l q) scale ∙ sym (v.histories q)) in
-    let histories = same_entries_map t.histories u.histories (payments_told (entries t.histories) (entries u.histories) homes (exact_homes t w h) (entries_ascend t.histories)
-    (fit_payments t w h) (fit_payments u v g) shared.1.1.1.1.1.0.rows shared.1.1.1.1.1.0.one shared.1.1.1.1.1.0.other) in
-    let orders = same_entries_map t.orders u.orders (same_rows order_fields FitsOrder (λ texts k j x y a b. order_told texts k j x y a.order b.order a.c_id b.c_id a.in_range b.in_range)
-    (entries t.orders) (entries u.orders) (fit_orders t w h) (fit_orders u v g) shared.1.1.1.1.1.1.0.rows shared.1.1.1.1.1.1.0.one shared.1.1.1.1.1.1.0.other) in
-    let new_orders = same_entries_map t.new_orders u.new_orders (same_rows new_order_fields (λ k x. ExactOrder k) (λ texts k j x y a b. new_order_told texts k j x y a b)
-    (entries t.new_orders) (entries u.new_orders) (fit_new_orders t w h) (fit_new_orders u v g) shared.1.1.1.1.1.1.1.0.rows shared.1.1.1.1.1.1.1.0.one shared.1.1.1.1.1.1.1.0.other) in
-    let lines = same_entries_map t.lines u.lines (same_rows line_fields FitsLine (λ texts k j x y a b. line_told texts k j x y a.line b.line a.i_id b.i_id a.supply_w_id b.supply_w_id a.in_range b.in_range)
-    (entries t.lines) (entries u.lines) (fit_lines t w h) (fit_lines u v g) shared.1.1.1.1.1.1.1.1.0.rows shared.1.1.1.1.1.1.1.1.0.one shared.1.1.1.1.1.1.1.1.0.other) in
+    let histories = same_entries_map t.histories u.histories (same_lists (entries t.histories) (entries u.histories) homes (entries_ascend t.histories) (sym (all_histories t) ∙ ap (entries_in get_history) same ∙ all_histories u)) in
+    let orders = same_entries_map t.orders u.orders (sym (all_orders t) ∙ ap (entries_in get_order) same ∙ all_orders u) in
+    let new_orders = same_entries_map t.new_orders u.new_orders (sym (all_new_orders t) ∙ ap (entries_in get_new_order) same ∙ all_new_orders u) in
+    let lines = same_entries_map t.lines u.lines (sym (all_lines t) ∙ ap (entries_in get_line) same ∙ all_lines u) in
     λ i. record {
       scale = scale i;
       items = items i;

@@ -109,6 +109,10 @@ other_columns scale NewOrders = []
 other_columns scale Lines =
     Whole 1 scale.items ∷ Whole 1 scale.warehouses ∷ MaybeMoment ∷ Whole 1 10 ∷ Whole 0 999999 ∷ Words 24 ∷ []
 
+-- all columns behind the letter
+abbrev pub record_columns : Sizes → Table → List Column
+record_columns scale table = key_columns scale table ++ other_columns scale table
+
 -- ---- the fault of a record
 
 -- what a record's first field says that it is: a table's, or the end
@@ -150,7 +154,7 @@ abbrev pub kind_fault : Sizes → List ℕ → List ℕ → Option Kind → List
 kind_fault scale last counts None fields = Some WrongShape
 kind_fault scale last counts (Some Ending) fields = columns_fault (map (λ count. Count count) counts) fields
 kind_fault scale last counts (Some (Of table)) fields =
-    or_order (columns_fault (key_columns scale table ++ other_columns scale table) fields) (comes_after table (place_in scale table fields) last)
+    or_order (columns_fault (record_columns scale table) fields) (comes_after table (place_in scale table fields) last)
 
 -- the fault of a record, whatever its length
 abbrev pub fields_fault : Sizes → List ℕ → List ℕ → List (List ℕ) → Option FaultKind

@@ -86,6 +86,11 @@ told_header fields = if is_header fields then columns_fault header_columns (drop
 abbrev pub header_fault : List (List ℕ) → Option FaultKind
 header_fault fields = unless_long fields (told_header fields)
 
+-- the fault of a text that ends after its first record, which is the header
+abbrev pub header_first : List (List (List ℕ)) → Option FileFault
+header_first [] = Some (fault_at NoHeader 1)
+header_first (header ∷ rows) = fault_or (header_fault header) 1 None
+
 -- the first fault of a text with these records, but for a rule of the scale that its rows break
 unfoldable pub first_fault : List (List (List ℕ)) → Option FileFault
 first_fault [] = Some (fault_at NoHeader 1)
@@ -100,6 +105,12 @@ HasNoTables rows = (t : Database) → IsWithinScale t → InRange t → AreRecor
 abbrev pub IsFaultOf : List (List (List ℕ)) → FileFault → Type 0
 IsFaultOf rows fault =
     MatchOption (first_fault rows) ((fault ≡ fault_at ScaleBroken (length rows)) × HasNoTables rows) (λ first. fault ≡ first)
+
+-- an error that says that what was read is no dataset: it is not want of memory, and the reader did not fail
+abbrev pub IsFault : FileError → Type 0
+IsFault NoMemory = ⊥
+IsFault (Failed number) = ⊥
+IsFault (File fault) = Unit {0}
 
 -- an error that is told of such a text: its fault, beside want of memory and a reader that failed
 abbrev pub Tells : List (List (List ℕ)) → FileError → Type 0

@@ -1,13 +1,11 @@
 pub mod Records
 pub mod Writing
-pub mod Taking
 pub mod Payments
 pub mod Order
 pub mod Loading
 pub mod Ranges
 pub mod RecordLaws
 pub mod TableRow
-pub mod Expecting
 pub mod FirstRecord
 pub mod Columns
 pub mod FirstFault

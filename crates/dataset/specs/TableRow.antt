@@ -1,5 +1,15 @@
 -- The rows of all tables, with their keys.
-use Rattle.std.specs.Prelude.{ℕ, List, IsTrue, codes}
+use Rattle.std.specs.Prelude.{◌≡◌, ℕ, List, [], ◌∷◌, ◌++◌, ◌==◌, Option, None, Some, IsTrue, codes}
+use Rattle.std.specs.List.{flat_map}
+use Rattle.std.specs.BTreeMap.{insert_entry}
+use Rattle.rows.specs.Keys.{order_cmp, line_cmp}
+use Rattle.rows.specs.declared.records.Address.{Address}
+use Rattle.schema.specs.declared.table_rows.TableRows.{TableRows}
+use Rattle.schema.specs.Scale.{district_slot}
+use Rattle.dataset.specs.declared.loader.Loader.{Loader}
+use Rattle.dataset.specs.Columns.{Sizes, Table, Items, Warehouses, Districts, Stocks, Customers, Histories, Orders, NewOrders, Lines, Kind, Of, Ending, address_columns, customer_key, district_columns, info_columns, kind_of, order_key, record_columns}
+use Rattle.dataset.specs.Payments.{Pays}
+use Rattle.files.specs.Columns.{Values, read_columns}
 use Rattle.rows.specs.declared.keys.DistrictKey.{DistrictKey}
 use Rattle.rows.specs.declared.keys.StockKey.{StockKey}
 use Rattle.rows.specs.declared.keys.CustomerKey.{CustomerKey}
@@ -80,3 +90,129 @@ RowFits scale (OfHistory key row) = IsTrue (has_district scale key) × IsPayment
 RowFits scale (OfOrder key row) = IsOrderKey scale key × IsOrder scale row
 RowFits scale (OfNewOrder key row) = IsOrderKey scale key × Unit {0}
 RowFits scale (OfLine key row) = IsLineKey scale key × IsLine scale row
+
+-- ---- a row that is read
+
+-- W_ID and D_ID
+abbrev pub district_key_of : (scale : Sizes) → Values (district_columns scale) → DistrictKey
+district_key_of scale v = record { w_id = v.0; d_id = v.1.0 }
+
+-- W_ID, D_ID and C_ID
+abbrev pub customer_key_of : (scale : Sizes) → Values (customer_key scale) → CustomerKey
+customer_key_of scale v = record { w_id = v.0; d_id = v.1.0; c_id = v.1.1.0 }
+
+-- W_ID, D_ID and O_ID
+abbrev pub order_key_of : (scale : Sizes) → Values (order_key scale) → OrderKey
+order_key_of scale v = record { w_id = v.0; d_id = v.1.0; o_id = v.1.1.0 }
+
+-- street_1, street_2, city, state and zip
+abbrev pub address_of : Values address_columns → Address
+address_of v = record { street_1 = v.0; street_2 = v.1.0; city = v.1.1.0; state = v.1.1.1.0; zip = v.1.1.1.1.0 }
+
+-- S_DIST_01 to S_DIST_10
+abbrev pub infos_of : Values info_columns → List (List ℕ)
+infos_of v =
+    v.0 ∷ v.1.0 ∷ v.1.1.0 ∷ v.1.1.1.0 ∷ v.1.1.1.1.0 ∷ v.1.1.1.1.1.0 ∷ v.1.1.1.1.1.1.0 ∷ v.1.1.1.1.1.1.1.0
+    ∷ v.1.1.1.1.1.1.1.1.0 ∷ v.1.1.1.1.1.1.1.1.1.0 ∷ []
+
+-- the row, with its key, that the fields behind the letter tell
+abbrev pub row_of : (scale : Sizes) (table : Table) → Values (record_columns scale table) → TableRow
+row_of scale Items (i_id, (im_id, (name, (price, (words, _))))) = OfItem i_id (record { im_id = im_id; name = name; price = price; «data» = words })
+row_of scale Warehouses (w_id, (name, (street_1, (street_2, (city, (state, (zip, (tax, (ytd, _))))))))) =
+    OfWarehouse w_id (record {
+      name = name;
+      address = record { street_1 = street_1; street_2 = street_2; city = city; state = state; zip = zip };
+      tax = tax;
+      ytd = ytd;
+    })
+row_of scale Districts (w_id, (d_id, (name, (street_1, (street_2, (city, (state, (zip, (tax, (ytd, (next_o_id, _))))))))))) =
+    OfDistrict (record { w_id = w_id; d_id = d_id }) (record {
+      name = name;
+      address = record { street_1 = street_1; street_2 = street_2; city = city; state = state; zip = zip };
+      tax = tax;
+      ytd = ytd;
+      next_o_id = next_o_id;
+    })
+row_of scale Stocks (w_id, (i_id, (quantity, (a, (b, (c, (d, (e, (f, (g, (h, (i, (j, (ytd, (order_cnt, (remote_cnt, (words, _))))))))))))))))) =
+    OfStock (record { w_id = w_id; i_id = i_id }) (record {
+      quantity = quantity;
+      dist = a ∷ b ∷ c ∷ d ∷ e ∷ f ∷ g ∷ h ∷ i ∷ j ∷ [];
+      ytd = ytd;
+      order_cnt = order_cnt;
+      remote_cnt = remote_cnt;
+      «data» = words;
+    })
+row_of scale Customers (w_id, (d_id, (c_id, (first, (middle, (last, (street_1, (street_2, (city, (state, (zip, (phone, (since, (credit, (credit_lim, (discount, (balance, (ytd_payment, (payment_cnt, (delivery_cnt, (words, _))))))))))))))))))))) =
+    OfCustomer (record { w_id = w_id; d_id = d_id; c_id = c_id }) (record {
+      first = first;
+      middle = middle;
+      last = last;
+      address = record { street_1 = street_1; street_2 = street_2; city = city; state = state; zip = zip };
+      phone = phone;
+      since = since;
+      credit = credit;
+      credit_lim = credit_lim;
+      discount = discount;
+      balance = balance;
+      ytd_payment = ytd_payment;
+      payment_cnt = payment_cnt;
+      delivery_cnt = delivery_cnt;
+      «data» = words;
+    })
+row_of scale Histories (w_id, (d_id, (c_w_id, (c_d_id, (c_id, (date, (amount, (words, _)))))))) =
+    OfHistory (record { w_id = w_id; d_id = d_id }) (record {
+      customer = record { w_id = c_w_id; d_id = c_d_id; c_id = c_id };
+      date = date;
+      amount = amount;
+      «data» = words;
+    })
+row_of scale Orders (w_id, (d_id, (o_id, (c_id, (entry_d, (carrier_id, (ol_cnt, (all_local, _)))))))) =
+    OfOrder (record { w_id = w_id; d_id = d_id; o_id = o_id }) (record { c_id = c_id; entry_d = entry_d; carrier_id = carrier_id; ol_cnt = ol_cnt; all_local = all_local == 1 })
+row_of scale NewOrders (w_id, (d_id, (o_id, _))) = OfNewOrder (record { w_id = w_id; d_id = d_id; o_id = o_id }) (record {})
+row_of scale Lines (w_id, (d_id, (o_id, (number, (i_id, (supply_w_id, (delivery_d, (quantity, (amount, (dist_info, _)))))))))) =
+    OfLine (record { w_id = w_id; d_id = d_id; o_id = o_id; number = number }) (record {
+      i_id = i_id;
+      supply_w_id = supply_w_id;
+      delivery_d = delivery_d;
+      quantity = quantity;
+      amount = amount;
+      dist_info = dist_info;
+    })
+
+-- the same, of the fields themselves: what a field with a fault tells is of no account
+abbrev pub row_read : (scale : Sizes) (table : Table) → List (List ℕ) → TableRow
+row_read scale table fields = row_of scale table (read_columns (record_columns scale table) (record { left = fields; fault = None })).0
+
+-- the row that a record of that kind tells, if it tells one
+abbrev pub kind_rows : Sizes → Option Kind → List (List ℕ) → List TableRow
+kind_rows scale None fields = []
+kind_rows scale (Some Ending) fields = []
+kind_rows scale (Some (Of table)) fields = row_read scale table fields ∷ []
+
+abbrev pub record_rows : Sizes → List (List ℕ) → List TableRow
+record_rows scale [] = []
+record_rows scale (word ∷ fields) = kind_rows scale (kind_of word) fields
+
+-- the rows that these records tell, one after another
+abbrev pub rows_read : Sizes → List (List (List ℕ)) → List TableRow
+rows_read scale records = flat_map (record_rows scale) records
+
+-- ---- a row that is added
+
+-- these rows are those, and the row: at the end of its table, under its key, or at the end of its district's list
+abbrev pub AddsRow : Scale → TableRow → TableRows → TableRows → Type 0
+AddsRow scale (OfItem key row) old new = (new ≡ record old { items = new.items }) × (new.items.items ≡ old.items.items ++ row ∷ [])
+AddsRow scale (OfWarehouse key row) old new = (new ≡ record old { warehouses = new.warehouses }) × (new.warehouses.items ≡ old.warehouses.items ++ row ∷ [])
+AddsRow scale (OfDistrict key row) old new = (new ≡ record old { districts = new.districts }) × (new.districts.items ≡ old.districts.items ++ row ∷ [])
+AddsRow scale (OfStock key row) old new = (new ≡ record old { stocks = new.stocks }) × (new.stocks.items ≡ old.stocks.items ++ row ∷ [])
+AddsRow scale (OfCustomer key row) old new = (new ≡ record old { customers = new.customers }) × (new.customers.items ≡ old.customers.items ++ row ∷ [])
+AddsRow scale (OfHistory key row) old new = (new ≡ record old { histories = new.histories }) × Pays (district_slot scale key) row old.histories.items new.histories.items
+AddsRow scale (OfOrder key row) old new = (new ≡ record old { orders = new.orders }) × (new.orders.entries ≡ insert_entry order_cmp old.orders.entries key row)
+AddsRow scale (OfNewOrder key row) old new = (new ≡ record old { new_orders = new.new_orders }) × (new.new_orders.entries ≡ insert_entry order_cmp old.new_orders.entries key row)
+AddsRow scale (OfLine key row) old new = (new ≡ record old { lines = new.lines }) × (new.lines.entries ≡ insert_entry line_cmp old.lines.entries key row)
+
+-- the loader has the row more, and stands where its record does
+pub record IsAdded (row : TableRow) (l m : Loader) : Type 0 where
+  pub scale : m.scale ≡ l.scale
+  pub last : m.last ≡ row_place row
+  pub rows : AddsRow l.scale row l.rows m.rows

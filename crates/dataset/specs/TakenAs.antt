@@ -1,6 +1,7 @@
 -- Records that were taken, by their faults.
-use Rattle.std.specs.Prelude.{◌≡◌, ◌<◌, ◌^◌, ◌+◌, ◌⊎◌, ℕ, List, [], ◌∷◌, map, length, sum, Option, Some, None, Result, Ok, Err, if◌then◌else◌}
+use Rattle.std.specs.Prelude.{◌≡◌, ◌<◌, ◌^◌, ◌+◌, ◌⊎◌, ℕ, List, [], ◌∷◌, ◌++◌, map, length, sum, Option, Some, None, Result, Ok, Err, true}
 use Rattle.schema.specs.declared.scale.Scale.{Scale}
+use Rattle.schema.specs.Database.{Database, IsWithinScale}
 use Rattle.files.specs.declared.fault.FaultKind.{FaultKind}
 use Rattle.files.specs.declared.fault.FaultKind.TheVariants.{ScaleBroken}
 use Rattle.files.specs.declared.fault.FileError.{FileError}
@@ -12,57 +13,61 @@ use Rattle.files.specs.Taken.{fault_of, fields_left}
 use Rattle.dataset.specs.declared.loader.Loader.{Loader}
 use Rattle.dataset.specs.declared.loader.Taken.{Taken}
 use Rattle.dataset.specs.declared.loader.Taken.TheVariants.{Row, End}
-use Rattle.dataset.specs.Columns.{Sizes, Table, Of, fields_fault, kind_fault, place_in, sizes}
+use Rattle.dataset.specs.Columns.{Sizes, Table, Of, fields_fault, kind_fault, letter, sizes}
 use Rattle.files.specs.FirstFault.{TellsKind, behind_end, fault_at}
-use Rattle.dataset.specs.FirstFault.{first_fault, is_end, last_place, record_place, rows_fault, told_header}
+use Rattle.dataset.specs.FirstFault.{first_fault, is_end, rows_fault, told_header}
 use Rattle.dataset.specs.Loading.{HasLoaded}
 use Rattle.dataset.specs.Order.{place_numbers}
-use Rattle.dataset.specs.Records.{AreSpelt, header_fields}
-use Rattle.dataset.specs.Writing.{table_counts}
+use Rattle.dataset.specs.Ranges.{InRange}
+use Rattle.dataset.specs.Records.{AreRecords, AreSpelt, header_fields}
+use Rattle.dataset.specs.TableRow.{IsAdded, row_read}
+use Rattle.dataset.specs.Writing.{count_fields, table_counts}
 
--- the fields behind the letter were taken as a row's of that table
+-- the fields behind the letter were taken as a row's of that table: with their fault, or the loader has the row that they tell
 pub record IsRowOf (table : Table) (l m : Loader) (old new : Fields) : Type 0 where
   pub fault : fault_of new ≡ kind_fault (sizes l.scale) (place_numbers l.last) [] (Some (Of table)) (fields_left old)
-  pub last : fault_of new ≡ None → place_numbers m.last ≡ place_in (sizes l.scale) table (fields_left old)
-  pub scale : m.scale ≡ l.scale
+  pub added : fault_of new ≡ None → IsAdded (row_read (sizes l.scale) table (fields_left old)) l m
+
+-- a row's record has no fault, and the loader has the row that it tells
+pub record HasRow (l m : Loader) (word : List ℕ) (fields : List (List ℕ)) : Type 0 where
+  pub table : Table
+  pub is_letter : word ≡ letter table
+  pub none : kind_fault (sizes l.scale) (place_numbers l.last) [] (Some (Of table)) fields ≡ None
+  pub added : IsAdded (row_read (sizes l.scale) table fields) l m
+
+-- a record without a fault was taken: a row's, or the end record of the loader's rows
+abbrev pub IsDone : Taken → Loader → Loader → List (List ℕ) → Type 0
+IsDone Row l m [] = ⊥
+IsDone Row l m (word ∷ fields) = HasRow l m word fields
+IsDone End l m fields = (is_end fields ≡ true) × (m ≡ l) × AreSpelt (count_fields l.rows) fields
 
 -- the fields of a record were taken
 pub record IsTakenAs (taken : Taken) (l m : Loader) (old new : Fields) : Type 0 where
   pub fault : sum (map length l.rows.histories.items) < 2 ^ 64
       → fault_of new ≡ fields_fault (sizes l.scale) (place_numbers l.last) (table_counts l.rows) (fields_left old)
-  pub kind : fault_of new ≡ None → taken ≡ (if is_end (fields_left old) then End else Row)
-  pub last : fault_of new ≡ None → taken ≡ Row → place_numbers m.last ≡ record_place (sizes l.scale) (fields_left old)
-  pub scale : m.scale ≡ l.scale
+  pub done : fault_of new ≡ None → IsDone taken l m (fields_left old)
 
 -- a header was read: as that of a scale, or with its fault
 abbrev pub IsHeaderAs : Result Scale FaultKind → List (List ℕ) → Type 0
 IsHeaderAs (Ok scale) fields = told_header fields ≡ None
 IsHeaderAs (Err kind) fields = told_header fields ≡ Some kind
 
--- a record without a fault was taken
-pub record IsReadWell (taken : Taken) (l m : Loader) (fields : List (List ℕ)) : Type 0 where
-  pub none : fields_fault (sizes l.scale) (place_numbers l.last) (table_counts l.rows) fields ≡ None
-  pub kind : taken ≡ (if is_end fields then End else Row)
-  pub last : taken ≡ Row → place_numbers m.last ≡ record_place (sizes l.scale) fields
-  pub scale : m.scale ≡ l.scale
-
--- the record of that number was read
-abbrev pub IsReadAs : Result Taken FileError → Loader → Loader → List (List ℕ) → ℕ → Type 0
-IsReadAs (Ok taken) l m fields number = IsReadWell taken l m fields
-IsReadAs (Err error) l m fields number =
+-- the record of that number was read: it has no fault, or it has the one that is told
+abbrev pub IsReadAs : Result Taken FileError → Loader → List (List ℕ) → ℕ → Type 0
+IsReadAs (Ok taken) l fields number = fields_fault (sizes l.scale) (place_numbers l.last) (table_counts l.rows) fields ≡ None
+IsReadAs (Err error) l fields number =
     TellsKind error (fields_fault (sizes l.scale) (place_numbers l.last) (table_counts l.rows) fields) number
 
--- the loader has the rows of these records, the first of which is the header, and stands at the last
-pub record IsAt (l : Loader) (read : List (List (List ℕ))) : Type 0 where
-  pub loaded : HasLoaded l read
-  pub last : place_numbers l.last ≡ last_place (sizes l.scale) read
-
 -- of all these records the end record was read, and more may be left
-pub record ReachesEnd {R : Type 0} (remaining : R → Option (List ℕ)) (scale : Sizes) (read rows : List (List (List ℕ))) (r : Records R) : Type 0 where
+pub record ReachesEnd {R : Type 0} (remaining : R → Option (List ℕ)) (scale : Sizes) (read rows : List (List (List ℕ))) (l : Loader) (r : Records R) : Type 0 where
+  pub before : List (List (List ℕ))
+  pub end : List (List ℕ)
   pub more : List (List (List ℕ))
+  pub loaded : HasLoaded l before
+  pub are : read ++ rows ≡ before ++ end ∷ more
   pub fault : rows_fault scale read rows ≡ behind_end (record_number r) more
   pub left : HasLeft remaining more r
-  pub number : record_number r + length more ≡ length read + length rows
+  pub number : record_number r ≡ length before + 1
 
 -- of all these records the header of that scale was read, and it has no fault
 pub record BeginsDataset {R : Type 0} (remaining : R → Option (List ℕ)) (scale : Scale) (rows : List (List (List ℕ))) (r : Records R) : Type 0 where
@@ -74,9 +79,15 @@ pub record BeginsDataset {R : Type 0} (remaining : R → Option (List ℕ)) (sca
   pub left : HasLeft remaining more r
   pub number : record_number r ≡ 1
 
+-- no tables within their scale have the records that were read, and an end record
+abbrev pub HasReadNoTables : Loader → Type 0
+HasReadNoTables l =
+    (t : Database) (read : List (List (List ℕ))) (end : List (List ℕ))
+    → IsWithinScale t → InRange t → HasLoaded l read → AreRecords t (read ++ end ∷ []) → ⊥
+
 -- an error after the end record, which has that number: more records are left, or a rule of the scale is broken
-abbrev pub TellsEnd : FileError → List (List (List ℕ)) → ℕ → Type 0
-TellsEnd NoMemory more number = Unit {0}
-TellsEnd (Failed at) more number = Unit {0}
-TellsEnd (File fault) more number =
-    (behind_end number more ≡ Some fault) ⊎ ((more ≡ []) × (fault ≡ fault_at ScaleBroken number))
+abbrev pub TellsEnd : FileError → Loader → List (List (List ℕ)) → ℕ → Type 0
+TellsEnd NoMemory l more number = Unit {0}
+TellsEnd (Failed at) l more number = Unit {0}
+TellsEnd (File fault) l more number =
+    (behind_end number more ≡ Some fault) ⊎ ((more ≡ []) × (fault ≡ fault_at ScaleBroken number) × HasReadNoTables l)

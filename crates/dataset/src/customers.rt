@@ -1,52 +1,28 @@
-ghost use Rattle.std.specs.Prelude.{◌≡◌, [], ◌∷◌, ◌++◌, None, IsTrue, OnOk};
-ghost use Rattle.schema.specs.Scale.{has_customer, customer_keys};
-ghost use Rattle.files.specs.Taken.{fault_of, Takes};
-ghost use Rattle.dataset.specs.Records.{AreSpelt, customer_key_fields, customer_columns, customer_fields, account_fields};
-ghost use Rattle.dataset.specs.Taking.{Added, Reads, ReadsRow};
+ghost use Rattle.std.specs.Prelude.{◌≡◌, None, OnOk};
+ghost use Rattle.schema.specs.Scale.{customer_keys};
+ghost use Rattle.files.specs.Taken.{fault_of};
+ghost use Rattle.dataset.specs.Records.{customer_key_fields, customer_fields, account_fields};
+ghost use Rattle.dataset.specs.Columns.{Customers, customer_key, sizes};
+ghost use Rattle.dataset.specs.TableRow.{customer_key_of};
+ghost use Rattle.dataset.specs.TakenAs.{IsRowOf};
+ghost use Rattle.files.specs.Columns.{Reads};
 ghost use Rattle.dataset.specs.Writing.{Adds};
-ghost use Rattle.dataset.specs.Ranges.{CustomerInRange};
-ghost use Rattle.dataset.specs.Columns.{Sizes, sizes, key_columns, other_columns, Customers};
-ghost use Rattle.files.specs.Columns.{take_columns, columns_end};
-ghost use Rattle.files.specs.FieldRead.{taking};
 
-use crate::added;
+use crate::loader::Loader;
 use crate::moments::put_moment;
+use crate::place::Place;
 use crate::recorded::{Dense, Recorded};
 use crate::warehouses::{address, put_address};
 use files::{Fields, NewRecord, credit_word};
 use rows::{Customer, CustomerKey, District};
 use schema::{NoMemory, Scale};
 
-/// Takes the key of a customer, three fields.
-pub fn key(fields: &mut Fields, scale: Scale) -> CustomerKey
-    ensures known { IsTrue (has_customer scale result) }
-    ensures columns { taking fields.new ≡ take_columns (key_columns (sizes scale) Customers) (taking fields.old) }
-    ensures taken { Takes fields.old fields.new (AreSpelt (customer_key_fields result)) }
-    ensures reads { Reads customer_key_fields (λ key. IsTrue (has_customer scale key)) result fields.old fields.new }
+/// Takes a record of CUSTOMER behind its letter, and adds its row if it has no fault.
+pub fn take(loader: &mut Loader, fields: &mut Fields) -> Result<(), NoMemory>
+    ensures { OnOk result (fault_of fields.old ≡ None → IsRowOf Customers loader.old loader.new fields.old fields.new) }
 {
-    CustomerKey {
-        w_id: fields.whole(1, scale.warehouses),
-        d_id: fields.whole(1, 10),
-        c_id: fields.whole(1, scale.customers),
-    }
-}
-
-/// Takes the other fields of a record of CUSTOMER, and adds the row if the record has no fault.
-pub fn add(fields: &mut Fields, customers: &mut Vec<Customer>) -> Result<(), NoMemory>
-    ensures columns { OnOk result ((s : Sizes) → fault_of fields.new ≡ columns_end (other_columns s Customers) (taking fields.old)) }
-    ensures added { OnOk result (fault_of fields.new ≡ None → Added customer_columns (λ row. customers.new.items ≡ customers.old.items ++ row ∷ []) fields.old) }
-    ensures reads { OnOk result (ReadsRow customer_columns CustomerInRange (λ row. customers.new.items ≡ customers.old.items ++ row ∷ []) fields.old fields.new) }
-{
-    let row = parse(fields);
-    added::push(fields, row, customers)
-}
-
-fn parse(fields: &mut Fields) -> Customer
-    ensures columns { (s : Sizes) → taking fields.new ≡ take_columns (other_columns s Customers) (taking fields.old) }
-    ensures taken { Takes fields.old fields.new (AreSpelt (customer_columns result)) }
-    ensures reads { Reads customer_columns CustomerInRange result fields.old fields.new }
-{
-    Customer {
+    let key = key(fields, loader.scale);
+    let row = Customer {
         first: fields.text(),
         middle: fields.text(),
         last: fields.text(),
@@ -61,6 +37,21 @@ fn parse(fields: &mut Fields) -> Customer
         payment_cnt: fields.ranged(),
         delivery_cnt: fields.ranged(),
         data: fields.text(),
+    };
+    if loader.stand_at(Place::Customer(key), fields) {
+        loader.rows.customers.push(row)?;
+    }
+    Ok(())
+}
+
+/// Takes the key of a customer, three fields.
+pub fn key(fields: &mut Fields, scale: Scale) -> CustomerKey
+    ensures { Reads (customer_key (sizes scale)) (customer_key_of (sizes scale)) result fields.old fields.new }
+{
+    CustomerKey {
+        w_id: fields.whole(1, scale.warehouses),
+        d_id: fields.whole(1, 10),
+        c_id: fields.whole(1, scale.customers),
     }
 }
 

@@ -1,55 +1,47 @@
-ghost use Rattle.std.specs.Prelude.{◌≡◌, [], ◌∷◌, ◌++◌, None, IsTrue, OnOk};
+ghost use Rattle.std.specs.Prelude.{◌≡◌, None, IsTrue, OnOk};
 ghost use Rattle.schema.specs.Scale.{has_district, district_keys};
-ghost use Rattle.files.specs.Taken.{fault_of, Takes};
-ghost use Rattle.dataset.specs.Records.{AreSpelt, district_key_fields, district_columns, district_fields};
-ghost use Rattle.dataset.specs.Taking.{Added, Reads, ReadsRow};
+ghost use Rattle.files.specs.Taken.{fault_of};
+ghost use Rattle.dataset.specs.Records.{district_key_fields, district_fields};
+ghost use Rattle.dataset.specs.Columns.{Districts, district_columns, sizes};
+ghost use Rattle.dataset.specs.TableRow.{district_key_of};
+ghost use Rattle.dataset.specs.TakenAs.{IsRowOf};
+ghost use Rattle.files.specs.Columns.{Reads};
 ghost use Rattle.dataset.specs.Writing.{Adds};
-ghost use Rattle.dataset.specs.Ranges.{DistrictInRange};
-ghost use Rattle.dataset.specs.Columns.{Sizes, sizes, key_columns, other_columns, Districts};
-ghost use Rattle.files.specs.Columns.{take_columns, columns_end};
-ghost use Rattle.files.specs.FieldRead.{taking};
 
-use crate::added;
+use crate::loader::Loader;
+use crate::place::Place;
 use crate::recorded::{Dense, Recorded};
 use crate::warehouses::{address, put_address};
 use files::{Fields, NewRecord};
 use rows::{District, DistrictKey};
 use schema::{NoMemory, Scale};
 
-/// Takes the key of a district, two fields.
-pub fn key(fields: &mut Fields, scale: Scale) -> DistrictKey
-    ensures known { IsTrue (has_district scale result) }
-    ensures columns { taking fields.new ≡ take_columns (key_columns (sizes scale) Districts) (taking fields.old) }
-    ensures taken { Takes fields.old fields.new (AreSpelt (district_key_fields result)) }
-    ensures reads { Reads district_key_fields (λ key. IsTrue (has_district scale key)) result fields.old fields.new }
+/// Takes a record of DISTRICT behind its letter, and adds its row if it has no fault.
+pub fn take(loader: &mut Loader, fields: &mut Fields) -> Result<(), NoMemory>
+    ensures { OnOk result (fault_of fields.old ≡ None → IsRowOf Districts loader.old loader.new fields.old fields.new) }
 {
-    DistrictKey {
-        w_id: fields.whole(1, scale.warehouses),
-        d_id: fields.whole(1, 10),
-    }
-}
-
-/// Takes the other fields of a record of DISTRICT, and adds the row if the record has no fault.
-pub fn add(fields: &mut Fields, districts: &mut Vec<District>) -> Result<(), NoMemory>
-    ensures columns { OnOk result ((s : Sizes) → fault_of fields.new ≡ columns_end (other_columns s Districts) (taking fields.old)) }
-    ensures added { OnOk result (fault_of fields.new ≡ None → Added district_columns (λ row. districts.new.items ≡ districts.old.items ++ row ∷ []) fields.old) }
-    ensures reads { OnOk result (ReadsRow district_columns DistrictInRange (λ row. districts.new.items ≡ districts.old.items ++ row ∷ []) fields.old fields.new) }
-{
-    let row = parse(fields);
-    added::push(fields, row, districts)
-}
-
-fn parse(fields: &mut Fields) -> District
-    ensures columns { (s : Sizes) → taking fields.new ≡ take_columns (other_columns s Districts) (taking fields.old) }
-    ensures taken { Takes fields.old fields.new (AreSpelt (district_columns result)) }
-    ensures reads { Reads district_columns DistrictInRange result fields.old fields.new }
-{
-    District {
+    let key = key(fields, loader.scale);
+    let row = District {
         name: fields.text(),
         address: address(fields),
         tax: fields.rate(),
         ytd: fields.cents(),
         next_o_id: fields.ranged(),
+    };
+    if loader.stand_at(Place::District(key), fields) {
+        loader.rows.districts.push(row)?;
+    }
+    Ok(())
+}
+
+/// Takes the key of a district, two fields.
+pub fn key(fields: &mut Fields, scale: Scale) -> DistrictKey
+    ensures known { IsTrue (has_district scale result) }
+    ensures reads { Reads (district_columns (sizes scale)) (district_key_of (sizes scale)) result fields.old fields.new }
+{
+    DistrictKey {
+        w_id: fields.whole(1, scale.warehouses),
+        d_id: fields.whole(1, 10),
     }
 }
 

@@ -1,7 +1,6 @@
-ghost use Rattle.std.specs.Prelude.{◌≡◌, [], ◌∷◌, ◌<◌, ◌^◌, List, length, map, sum, OnOk};
+ghost use Rattle.std.specs.Prelude.{◌≡◌, [], ◌∷◌, ◌<◌, ◌^◌, length, map, sum, OnOk};
 ghost use Rattle.files.specs.Taken.{Takes};
-ghost use Rattle.dataset.specs.Records.{AreSpelt, Field, Number};
-ghost use Rattle.dataset.specs.Taking.{Awaits};
+ghost use Rattle.dataset.specs.Records.{AreSpelt, Number};
 ghost use Rattle.dataset.specs.Writing.{Adds, count_fields, row_counts, table_counts};
 ghost use Rattle.files.specs.Columns.{take_columns, Count};
 ghost use Rattle.files.specs.FieldRead.{taking};
@@ -15,7 +14,6 @@ use schema::{HistoryList, NoMemory, TableRows};
 pub fn check(fields: &mut Fields, rows: &TableRows)
     ensures columns { sum (map length rows.now.histories.items) < 2 ^ 64 → taking fields.new ≡ take_columns (map (λ count. Count count) (table_counts rows.now)) (taking fields.old) }
     ensures taken { Takes fields.old fields.new (AreSpelt (row_counts rows.now)) }
-    ensures reads { sum (map length rows.now.histories.items) < 2 ^ 64 → Awaits (row_counts rows.now) fields.old → Awaits [] fields.new }
 {
     fields.expect_count(rows.items.len() as u64);
     fields.expect_count(rows.warehouses.len() as u64);
@@ -32,7 +30,6 @@ pub fn check(fields: &mut Fields, rows: &TableRows)
 fn check_payments(fields: &mut Fields, lists: &[HistoryList])
     ensures columns { sum (map length lists.now) < 2 ^ 64 → taking fields.new ≡ take_columns (Count (sum (map length lists.now)) ∷ []) (taking fields.old) }
     ensures taken { Takes fields.old fields.new (AreSpelt (Number (sum (map length lists.now)) ∷ [])) }
-    ensures reads { (rest : List Field) → sum (map length lists.now) < 2 ^ 64 → Awaits (Number (sum (map length lists.now)) ∷ rest) fields.old → Awaits rest fields.new }
 {
     match u64::try_from(histories::count(lists)) {
         Ok(count) => fields.expect_count(count),

@@ -2,9 +2,7 @@ ghost use Rattle.std.specs.Prelude.{◌≡◌, None, IfOk, OnOk};
 ghost use Rattle.files.specs.Taken.{fault_of, fields_left};
 ghost use Rattle.dataset.specs.TakenAs.{IsHeaderAs};
 ghost use Rattle.dataset.specs.Records.{AreSpelt, header_fields};
-ghost use Rattle.dataset.specs.Taking.{Awaits};
 ghost use Rattle.dataset.specs.Writing.{Adds};
-ghost use Rattle.schema.specs.declared.scale.Scale.{Scale};
 
 use files::{FaultKind, Fields, NewRecord};
 use schema::{NoMemory, Scale};
@@ -13,7 +11,6 @@ use schema::{NoMemory, Scale};
 pub fn parse(fields: &mut Fields) -> Result<Scale, FaultKind>
     ensures exact { fault_of fields.old ≡ None → IsHeaderAs result (fields_left fields.old) }
     ensures spelt { IfOk result (λ scale. AreSpelt (header_fields scale) (fields_left fields.old)) }
-    ensures reads { (scale : Scale) → Awaits (header_fields scale) fields.old → result ≡ Ok scale }
 {
     if fields.left() != 5 || fields.word() != "TPCC" || fields.word() != "1" {
         return Err(FaultKind::NoHeader);

@@ -1,18 +1,17 @@
-ghost use Rattle.std.specs.Prelude.{◌≡◌, ◌≤◌, ◌<◌, ◌+◌, ◌^◌, [], ◌∷◌, ◌++◌, length, map, sum, Some, None, IsTrue, IfErr, OnErr, OnOk};
+ghost use Rattle.std.specs.Prelude.{◌≡◌, ◌+◌, ◌<◌, ◌≤◌, ◌^◌, length, map, sum, Some, None, IfErr, OnErr, OnOk};
 ghost use Rattle.std.specs.List.{zip};
-ghost use Rattle.schema.specs.Scale.{has_district, district_keys, district_slot};
-ghost use Rattle.files.specs.Taken.{fields_left, fault_of, Takes};
+ghost use Rattle.schema.specs.Scale.{district_keys};
+ghost use Rattle.files.specs.Taken.{fault_of};
 ghost use Rattle.files.specs.Failure.{IsOfWriting};
 ghost use Rattle.dataset.specs.Payments.{Opens, Pays};
-ghost use Rattle.dataset.specs.Records.{AreSpelt, history_columns, history_fields, payment_records};
-ghost use Rattle.dataset.specs.Taking.{Added, Reads, ReadsRow};
+ghost use Rattle.dataset.specs.Records.{history_fields, payment_records};
+ghost use Rattle.dataset.specs.TakenAs.{IsRowOf};
 ghost use Rattle.dataset.specs.Writing.{Puts, StopsIn};
-ghost use Rattle.dataset.specs.Ranges.{IsPayment};
-ghost use Rattle.files.specs.Columns.{take_columns, columns_end};
-ghost use Rattle.dataset.specs.Columns.{sizes, other_columns, Histories};
-ghost use Rattle.files.specs.FieldRead.{taking};
+ghost use Rattle.dataset.specs.Columns.{Histories};
 
+use crate::loader::Loader;
 use crate::moments::put_moment;
+use crate::place::Place;
 use crate::recorded::{Dense, Recorded};
 use crate::{customers, districts};
 use files::{Fields, FileError, NewRecord, RecordWriter};
@@ -21,40 +20,23 @@ use schema::{HistoryList, NoMemory, Scale};
 use std::alloc::Global;
 use std::io::Write;
 
-/// Takes the fields of a record of HISTORY that come after its district, and adds the row at the end of
-/// the district's list if the record has no fault.
-pub fn add(
-    fields: &mut Fields,
-    scale: Scale,
-    home: DistrictKey,
-    alloc: Global,
-    lists: &mut Vec<HistoryList>,
-) -> Result<(), NoMemory>
-    requires { IsTrue (has_district scale home) }
-    ensures columns { OnOk result (fault_of fields.new ≡ columns_end (other_columns (sizes scale) Histories) (taking fields.old)) }
-    ensures added { OnOk result (fault_of fields.new ≡ None → Added history_columns (λ row. Pays (district_slot scale home) row lists.old.items lists.new.items) fields.old) }
-    ensures reads { OnOk result (ReadsRow history_columns (IsPayment scale) (λ row. Pays (district_slot scale home) row lists.old.items lists.new.items) fields.old fields.new) }
+/// Takes a record of HISTORY behind its letter, and adds its row at the end of its district's list if it has no fault.
+pub fn take(loader: &mut Loader, fields: &mut Fields) -> Result<(), NoMemory>
+    ensures { OnOk result (fault_of fields.old ≡ None → IsRowOf Histories loader.old loader.new fields.old fields.new) }
 {
-    let row = parse(fields, scale);
-    if fields.finish().is_some() {
-        return Ok(());
-    }
-    match scale.district_slot(home) {
-        Some(place) => push(alloc, lists, place, row),
-        None => Ok(()),
-    }
-}
-
-fn parse(fields: &mut Fields, scale: Scale) -> History
-    ensures columns { taking fields.new ≡ take_columns (other_columns (sizes scale) Histories) (taking fields.old) }
-    ensures taken { Takes fields.old fields.new (AreSpelt (history_columns result)) }
-    ensures reads { Reads history_columns (IsPayment scale) result fields.old fields.new }
-{
-    History {
-        customer: customers::key(fields, scale),
+    let home = districts::key(fields, loader.scale);
+    let row = History {
+        customer: customers::key(fields, loader.scale),
         date: fields.moment(),
         amount: fields.cents(),
         data: fields.text(),
+    };
+    if !loader.stand_at(Place::History(home), fields) {
+        return Ok(());
+    }
+    match loader.scale.district_slot(home) {
+        Some(place) => push(loader.alloc, &mut loader.rows.histories, place, row),
+        None => Ok(()),
     }
 }
 

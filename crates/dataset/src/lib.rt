@@ -11,7 +11,6 @@
 //! record of HISTORY has the district in whose list it stands, and then the customer who paid.
 #![tactic(auto)]
 
-mod added;
 mod customers;
 mod districts;
 mod end;

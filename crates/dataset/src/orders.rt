@@ -1,79 +1,48 @@
-ghost use Rattle.std.specs.Prelude.{◌≡◌, [], ◌∷◌, None, IsTrue, OnOk, if◌then◌else◌, IfSome};
-ghost use Rattle.std.specs.BTreeMap.{insert_entry};
-ghost use Rattle.rows.specs.Keys.{order_cmp};
-ghost use Rattle.schema.specs.Scale.{has_district};
-ghost use Rattle.schema.specs.Database.{is_order_id};
-ghost use Rattle.files.specs.Taken.{fault_of, Takes};
-ghost use Rattle.dataset.specs.Records.{AreSpelt, Number, carrier_field, order_key_fields, order_columns, order_fields};
-ghost use Rattle.dataset.specs.Taking.{Added, Reads, ReadsRow};
+ghost use Rattle.std.specs.Prelude.{◌≡◌, [], ◌∷◌, None, OnOk};
+ghost use Rattle.files.specs.Taken.{fault_of};
+ghost use Rattle.dataset.specs.Records.{carrier_field, order_key_fields, order_fields};
+ghost use Rattle.dataset.specs.Columns.{Orders, order_key, sizes};
+ghost use Rattle.dataset.specs.TableRow.{order_key_of};
+ghost use Rattle.dataset.specs.TakenAs.{IsRowOf};
+ghost use Rattle.files.specs.Columns.{Reads};
 ghost use Rattle.dataset.specs.Writing.{Adds};
-ghost use Rattle.dataset.specs.Ranges.{IsFrom, IsOrder, IsOrderKey};
-ghost use Rattle.files.specs.Columns.{take_columns, columns_end, Whole, MaybeWhole};
-ghost use Rattle.dataset.specs.Columns.{sizes, key_columns, other_columns, Orders};
-ghost use Rattle.files.specs.FieldRead.{taking};
 
+use crate::loader::Loader;
 use crate::moments::put_moment;
+use crate::place::Place;
 use crate::recorded::Recorded;
 use files::{Fields, NewRecord};
 use rows::{CarrierId, Order, OrderKey};
 use schema::{NoMemory, Scale};
-use std::collections::BTreeMap;
+
+/// Takes a record of ORDER behind its letter, and adds its row if it has no fault. O_CARRIER_ID is null where the field is
+/// empty, and O_ALL_LOCAL is 1 or 0.
+pub fn take(loader: &mut Loader, fields: &mut Fields) -> Result<(), NoMemory>
+    ensures { OnOk result (fault_of fields.old ≡ None → IsRowOf Orders loader.old loader.new fields.old fields.new) }
+{
+    let key = key(fields, loader.scale);
+    let row = Order {
+        c_id: fields.whole(1, loader.scale.customers),
+        entry_d: fields.moment(),
+        carrier_id: fields.optional_ranged(),
+        ol_cnt: fields.ranged(),
+        all_local: fields.whole(0, 1) == 1,
+    };
+    if loader.stand_at(Place::Order(key), fields) {
+        loader.rows.orders.insert(key, row)?;
+    }
+    Ok(())
+}
 
 /// Takes the key of an order, three fields; O_ID is 1 to 9,999,999.
 pub fn key(fields: &mut Fields, scale: Scale) -> OrderKey
-    ensures district { IsTrue (has_district scale (record { w_id = result.w_id; d_id = result.d_id })) }
-    ensures number { IsTrue (is_order_id result.o_id) }
-    ensures columns { taking fields.new ≡ take_columns (key_columns (sizes scale) Orders) (taking fields.old) }
-    ensures taken { Takes fields.old fields.new (AreSpelt (order_key_fields result)) }
-    ensures reads { Reads order_key_fields (IsOrderKey scale) result fields.old fields.new }
+    ensures { Reads (order_key (sizes scale)) (order_key_of (sizes scale)) result fields.old fields.new }
 {
     OrderKey {
         w_id: fields.whole(1, scale.warehouses),
         d_id: fields.whole(1, 10),
         o_id: fields.whole(1, 9_999_999),
     }
-}
-
-/// Takes the other fields of a record of ORDER, and adds the row if the record has no fault.
-pub fn add(
-    fields: &mut Fields,
-    scale: Scale,
-    key: OrderKey,
-    orders: &mut BTreeMap<OrderKey, Order>,
-) -> Result<(), NoMemory>
-    ensures columns { OnOk result (fault_of fields.new ≡ columns_end (other_columns (sizes scale) Orders) (taking fields.old)) }
-    ensures added { OnOk result (fault_of fields.new ≡ None → Added order_columns (λ row. orders.new.entries ≡ insert_entry order_cmp orders.old.entries key row) fields.old) }
-    ensures reads { OnOk result (ReadsRow order_columns (IsOrder scale) (λ row. orders.new.entries ≡ insert_entry order_cmp orders.old.entries key row) fields.old fields.new) }
-{
-    let row = Order {
-        c_id: fields.whole(1, scale.customers),
-        entry_d: fields.moment(),
-        carrier_id: carrier(fields),
-        ol_cnt: fields.ranged(),
-        all_local: is_all_local(fields),
-    };
-    if fields.finish().is_none() {
-        orders.insert(key, row)?;
-    }
-    Ok(())
-}
-
-// Takes O_CARRIER_ID, which is null where the field is empty.
-fn carrier(fields: &mut Fields) -> Option<CarrierId>
-    ensures columns { taking fields.new ≡ take_columns (MaybeWhole 1 10 ∷ []) (taking fields.old) }
-    ensures taken { Takes fields.old fields.new (AreSpelt (carrier_field result ∷ [])) }
-    ensures reads { Reads (λ carrier. carrier_field carrier ∷ []) (λ carrier. IfSome carrier (IsFrom 1 10)) result fields.old fields.new }
-{
-    fields.optional_ranged()
-}
-
-// Takes O_ALL_LOCAL.
-fn is_all_local(fields: &mut Fields) -> bool
-    ensures columns { taking fields.new ≡ take_columns (Whole 0 1 ∷ []) (taking fields.old) }
-    ensures taken { Takes fields.old fields.new (AreSpelt (Number (if result then 1 else 0) ∷ [])) }
-    ensures reads { Reads (λ flag. Number (if flag then 1 else 0) ∷ []) (λ _. Unit {0}) result fields.old fields.new }
-{
-    fields.whole(0, 1) == 1
 }
 
 /// Adds the key of an order, three fields.

@@ -3,13 +3,12 @@ ghost use Rattle.schema.specs.Database.{Database, IsWithinScale};
 ghost use Rattle.schema.specs.declared.scale.Scale.{Scale};
 ghost use Rattle.files.specs.Failure.{IsOfText};
 ghost use Rattle.files.specs.Place.{input, HasRead, HasLeft, IsCsv, record_fields, record_number};
-ghost use Rattle.dataset.specs.Expecting.{Expects, Completes, GoesOn, IsFault};
 ghost use Rattle.dataset.specs.Ranges.{InRange};
 ghost use Rattle.dataset.specs.Columns.{sizes};
-ghost use Rattle.dataset.specs.FirstFault.{first_fault, rows_fault, Tells};
-ghost use Rattle.dataset.specs.TakenAs.{BeginsDataset, IsAt, IsReadAs, ReachesEnd, TellsEnd};
+ghost use Rattle.dataset.specs.FirstFault.{IsFault, Tells, first_fault, header_first, rows_fault};
+ghost use Rattle.dataset.specs.TakenAs.{BeginsDataset, IsDone, IsReadAs, ReachesEnd, TellsEnd};
 ghost use Rattle.files.specs.FirstFault.{TellsFault};
-ghost use Rattle.dataset.specs.Loading.{HasLoaded, HasEnded, IsLoaded};
+ghost use Rattle.dataset.specs.Loading.{HasLoaded, HasEnded};
 ghost use Rattle.dataset.specs.Records.{AreRecords, AreSpelt, header_fields};
 ghost use Rattle.dataset.specs.FirstRecord.{BeginsWith};
 
@@ -59,12 +58,9 @@ pub fn read_scale<R: Input + Drop>(alloc: Global, source: R) -> Result<Scale, Fi
 // The scale of the first record, which is the header.
 fn read_header<R: Input + Drop>(records: &mut Records<R>) -> Result<Scale, FileError>
     ensures first { (rows : List (List (List ℕ))) → record_number records.old ≡ 0 → HasLeft R.remaining rows records.old
-        → MatchResult result (λ scale. BeginsDataset R.remaining scale rows records.new) (λ error. TellsFault error (first_fault rows)) }
+        → MatchResult result (λ scale. BeginsDataset R.remaining scale rows records.new) (λ error. TellsFault error (header_first rows)) }
     ensures read { IfOk result (λ scale. (text : List ℕ) → HasRead R.remaining text [] records.old
-        → (texts : List (List ℕ)) × AreSpelt (header_fields scale) texts × HasRead R.remaining text (texts ∷ []) records.new) }
-    ensures scale { IfOk result (λ scale. (s : Scale) (header : List (List ℕ)) (rows : List (List (List ℕ))) → AreSpelt (header_fields s) header → HasLeft R.remaining (header ∷ rows) records.old
-        → (scale ≡ s) × HasLeft R.remaining rows records.new) }
-    ensures fault { IfErr result (λ error. IsFault error → (s : Scale) (header : List (List ℕ)) (rows : List (List (List ℕ))) → AreSpelt (header_fields s) header → HasLeft R.remaining (header ∷ rows) records.old → ⊥) }
+        → (header : List (List ℕ)) × AreSpelt (header_fields scale) header × HasRead R.remaining text (header ∷ []) records.new) }
     ensures lasts { R.lasts (input records.old) → MatchResult result (λ _. R.lasts (input records.new)) IsOfText }
 {
     if !records.advance()? {
@@ -81,13 +77,10 @@ fn read_rows<R: Input + Drop>(
     records: &mut Records<R>,
     loader: &mut Loader,
 ) -> Result<(), FileError>
-    ensures first { (read rows : List (List (List ℕ))) → length read + length rows < 2 ^ 64 - 1 → IsAt loader.old read → record_number records.old ≡ length read → HasLeft R.remaining rows records.old
-        → MatchResult result (λ _. ReachesEnd R.remaining (sizes loader.old.scale) read rows records.new) (λ error. TellsFault error (rows_fault (sizes loader.old.scale) read rows)) }
+    ensures first { (read rows : List (List (List ℕ))) → length read + length rows < 2 ^ 64 - 1 → HasLoaded loader.old read → record_number records.old ≡ length read → HasLeft R.remaining rows records.old
+        → MatchResult result (λ _. ReachesEnd R.remaining (sizes loader.old.scale) read rows loader.new records.new) (λ error. TellsFault error (rows_fault (sizes loader.old.scale) read rows)) }
     ensures read { OnOk result ((text : List ℕ) (read : List (List (List ℕ))) → HasRead R.remaining text read records.old → HasLoaded loader.old read
         → HasEnded R.remaining text loader.new records.new) }
-    ensures all { OnOk result ((t : Database) (rows : List (List (List ℕ))) → Expects t loader.old rows → HasLeft R.remaining rows records.old
-        → Completes t loader.new × HasLeft R.remaining [] records.new) }
-    ensures fault { IfErr result (λ error. IsFault error → (t : Database) (rows : List (List (List ℕ))) → length rows < 2 ^ 64 - 1 → Expects t loader.old rows → HasLeft R.remaining rows records.old → ⊥) }
     ensures lasts { R.lasts (input records.old) → MatchResult result (λ _. R.lasts (input records.new)) IsOfText }
 {
     for _ in 0..u64::MAX {
@@ -107,10 +100,8 @@ fn read_record<R: Input + Drop>(
     records: &Records<R>,
     loader: &mut Loader,
 ) -> Result<Taken, FileError>
-    ensures exact { sum (map length loader.old.rows.histories.items) < 2 ^ 64 → IsReadAs result loader.old loader.new (record_fields records.now) (record_number records.now) }
-    ensures loaded { IfOk result (λ taken. IsLoaded taken loader.old loader.new (record_fields records.now)) }
-    ensures goes_on { IfOk result (λ taken. (t : Database) (rest : List (List (List ℕ))) → Expects t loader.old (record_fields records.now ∷ rest) → GoesOn taken t loader.new rest) }
-    ensures fault { IfErr result (λ error. IsFault error → (t : Database) (rest : List (List (List ℕ))) → Expects t loader.old (record_fields records.now ∷ rest) → ⊥) }
+    ensures exact { sum (map length loader.old.rows.histories.items) < 2 ^ 64 → IsReadAs result loader.old (record_fields records.now) (record_number records.now) }
+    ensures done { IfOk result (λ taken. IsDone taken loader.old loader.new (record_fields records.now)) }
     ensures of_text { IfErr result IsOfText }
 {
     let mut fields = records.fields();
@@ -125,9 +116,8 @@ fn read_record<R: Input + Drop>(
 fn finish<R: Input + Drop>(mut records: Records<R>, loader: Loader) -> Result<Tables, FileError>
     ensures none_left { OnOk result ((more : List (List (List ℕ))) → HasLeft R.remaining more records → more ≡ []) }
     ensures first { IfErr result (λ error. (more : List (List (List ℕ))) → HasLeft R.remaining more records → record_number records < 2 ^ 64 - 1
-        → TellsEnd error more (record_number records)) }
+        → TellsEnd error loader more (record_number records)) }
     ensures tables { IfOk result (λ tables. (text : List ℕ) → HasEnded R.remaining text loader records → (rows : List (List (List ℕ))) × IsCsv text rows × AreRecords tables rows) }
-    ensures fault { IfErr result (λ error. IsFault error → (t : Database) → IsWithinScale t → Completes t loader → HasLeft R.remaining [] records → ⊥) }
     ensures lasts { R.lasts (input records) → IfErr result IsOfText }
 {
     let end = records.number();

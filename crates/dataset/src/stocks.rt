@@ -1,63 +1,45 @@
-ghost use Rattle.std.specs.Prelude.{◌≡◌, [], ◌∷◌, ◌++◌, map, None, IsTrue, OnOk};
-ghost use Rattle.schema.specs.Scale.{has_stock, stock_keys};
-ghost use Rattle.files.specs.Taken.{fault_of, Takes};
-ghost use Rattle.dataset.specs.Records.{AreSpelt, Words, Number, stock_columns, stock_fields};
-ghost use Rattle.dataset.specs.Taking.{Added, Reads, ReadsRow};
+ghost use Rattle.std.specs.Prelude.{◌≡◌, map, None, OnOk};
+ghost use Rattle.schema.specs.Scale.{stock_keys};
+ghost use Rattle.files.specs.Taken.{fault_of};
+ghost use Rattle.dataset.specs.Records.{Words, stock_fields};
+ghost use Rattle.dataset.specs.Columns.{Stocks, info_columns};
+ghost use Rattle.dataset.specs.TableRow.{infos_of};
+ghost use Rattle.dataset.specs.TakenAs.{IsRowOf};
+ghost use Rattle.files.specs.Columns.{Reads};
 ghost use Rattle.dataset.specs.Writing.{Adds};
-ghost use Rattle.dataset.specs.Ranges.{StockInRange, AreDistrictInfos};
-ghost use Rattle.dataset.specs.Columns.{Sizes, sizes, key_columns, other_columns, Stocks, info_columns};
-ghost use Rattle.files.specs.Columns.{take_columns, columns_end};
-ghost use Rattle.files.specs.FieldRead.{taking};
 
-use crate::added;
+use crate::loader::Loader;
+use crate::place::Place;
 use crate::recorded::{Dense, Recorded};
 use files::{Fields, NewRecord};
 use rows::{Stock, StockKey, Text};
 use schema::{NoMemory, Scale};
 
-/// Takes the key of a record of STOCK, its second and third field.
-pub fn key(fields: &mut Fields, scale: Scale) -> StockKey
-    ensures known { IsTrue (has_stock scale result) }
-    ensures columns { taking fields.new ≡ take_columns (key_columns (sizes scale) Stocks) (taking fields.old) }
-    ensures taken { Takes fields.old fields.new (AreSpelt (Number result.w_id ∷ Number result.i_id ∷ [])) }
-    ensures reads { Reads (λ key. Number key.w_id ∷ Number key.i_id ∷ []) (λ key. IsTrue (has_stock scale key)) result fields.old fields.new }
+/// Takes a record of STOCK behind its letter, and adds its row if it has no fault.
+pub fn take(loader: &mut Loader, fields: &mut Fields) -> Result<(), NoMemory>
+    ensures { OnOk result (fault_of fields.old ≡ None → IsRowOf Stocks loader.old loader.new fields.old fields.new) }
 {
-    StockKey {
-        w_id: fields.whole(1, scale.warehouses),
-        i_id: fields.whole(1, scale.items),
-    }
-}
-
-/// Takes the other fields, and adds the row if the record has no fault.
-pub fn add(fields: &mut Fields, stocks: &mut Vec<Stock>) -> Result<(), NoMemory>
-    ensures columns { OnOk result ((s : Sizes) → fault_of fields.new ≡ columns_end (other_columns s Stocks) (taking fields.old)) }
-    ensures added { OnOk result (fault_of fields.new ≡ None → Added stock_columns (λ row. stocks.new.items ≡ stocks.old.items ++ row ∷ []) fields.old) }
-    ensures reads { OnOk result (ReadsRow stock_columns StockInRange (λ row. stocks.new.items ≡ stocks.old.items ++ row ∷ []) fields.old fields.new) }
-{
-    let row = parse(fields);
-    added::push(fields, row, stocks)
-}
-
-fn parse(fields: &mut Fields) -> Stock
-    ensures columns { (s : Sizes) → taking fields.new ≡ take_columns (other_columns s Stocks) (taking fields.old) }
-    ensures taken { Takes fields.old fields.new (AreSpelt (stock_columns result)) }
-    ensures reads { Reads stock_columns StockInRange result fields.old fields.new }
-{
-    Stock {
+    let key = StockKey {
+        w_id: fields.whole(1, loader.scale.warehouses),
+        i_id: fields.whole(1, loader.scale.items),
+    };
+    let row = Stock {
         quantity: fields.ranged(),
         dist: district_infos(fields),
         ytd: fields.ranged(),
         order_cnt: fields.ranged(),
         remote_cnt: fields.ranged(),
         data: fields.text(),
+    };
+    if loader.stand_at(Place::Stock(key), fields) {
+        loader.rows.stocks.push(row)?;
     }
+    Ok(())
 }
 
 // Takes S_DIST_01 to S_DIST_10.
 fn district_infos(fields: &mut Fields) -> [Text<24>; 10]
-    ensures columns { taking fields.new ≡ take_columns info_columns (taking fields.old) }
-    ensures taken { Takes fields.old fields.new (AreSpelt (map (λ text. Words text) result)) }
-    ensures reads { Reads (λ infos. map (λ text. Words text) infos) AreDistrictInfos result fields.old fields.new }
+    ensures { Reads info_columns infos_of result fields.old fields.new }
 {
     [
         fields.text(),

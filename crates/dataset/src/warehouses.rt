@@ -1,58 +1,40 @@
-ghost use Rattle.std.specs.Prelude.{◌≡◌, [], ◌∷◌, ◌++◌, None, IsTrue, OnOk};
-ghost use Rattle.schema.specs.Scale.{has_warehouse, warehouse_ids};
-ghost use Rattle.files.specs.Taken.{fault_of, Takes};
-ghost use Rattle.dataset.specs.Records.{AreSpelt, Number, address_fields, warehouse_columns, warehouse_fields};
-ghost use Rattle.dataset.specs.Taking.{Added, Reads, ReadsRow};
+ghost use Rattle.std.specs.Prelude.{◌≡◌, None, OnOk};
+ghost use Rattle.schema.specs.Scale.{warehouse_ids};
+ghost use Rattle.files.specs.Taken.{fault_of};
+ghost use Rattle.dataset.specs.Records.{address_fields, warehouse_fields};
+ghost use Rattle.dataset.specs.Columns.{Warehouses, address_columns};
+ghost use Rattle.dataset.specs.TableRow.{address_of};
+ghost use Rattle.dataset.specs.TakenAs.{IsRowOf};
+ghost use Rattle.files.specs.Columns.{Reads};
 ghost use Rattle.dataset.specs.Writing.{Adds};
-ghost use Rattle.dataset.specs.Ranges.{WarehouseInRange, AddressInRange};
-ghost use Rattle.dataset.specs.Columns.{Sizes, sizes, key_columns, other_columns, Warehouses, address_columns};
-ghost use Rattle.files.specs.Columns.{take_columns, columns_end};
-ghost use Rattle.files.specs.FieldRead.{taking};
 
-use crate::added;
+use crate::loader::Loader;
+use crate::place::Place;
 use crate::recorded::{Dense, Recorded};
 use files::{Fields, NewRecord};
 use rows::{Address, Warehouse};
 use schema::{NoMemory, Scale};
 
-/// Takes W_ID, the second field of a record of WAREHOUSE.
-pub fn key(fields: &mut Fields, scale: Scale) -> u32
-    ensures known { IsTrue (has_warehouse scale result) }
-    ensures columns { taking fields.new ≡ take_columns (key_columns (sizes scale) Warehouses) (taking fields.old) }
-    ensures taken { Takes fields.old fields.new (AreSpelt (Number result ∷ [])) }
-    ensures reads { Reads (λ key. Number key ∷ []) (λ key. IsTrue (has_warehouse scale key)) result fields.old fields.new }
+/// Takes a record of WAREHOUSE behind its letter, and adds its row if it has no fault.
+pub fn take(loader: &mut Loader, fields: &mut Fields) -> Result<(), NoMemory>
+    ensures { OnOk result (fault_of fields.old ≡ None → IsRowOf Warehouses loader.old loader.new fields.old fields.new) }
 {
-    fields.whole(1, scale.warehouses)
-}
-
-/// Takes the other fields, and adds the row if the record has no fault.
-pub fn add(fields: &mut Fields, warehouses: &mut Vec<Warehouse>) -> Result<(), NoMemory>
-    ensures columns { OnOk result ((s : Sizes) → fault_of fields.new ≡ columns_end (other_columns s Warehouses) (taking fields.old)) }
-    ensures added { OnOk result (fault_of fields.new ≡ None → Added warehouse_columns (λ row. warehouses.new.items ≡ warehouses.old.items ++ row ∷ []) fields.old) }
-    ensures reads { OnOk result (ReadsRow warehouse_columns WarehouseInRange (λ row. warehouses.new.items ≡ warehouses.old.items ++ row ∷ []) fields.old fields.new) }
-{
-    let row = parse(fields);
-    added::push(fields, row, warehouses)
-}
-
-fn parse(fields: &mut Fields) -> Warehouse
-    ensures columns { (s : Sizes) → taking fields.new ≡ take_columns (other_columns s Warehouses) (taking fields.old) }
-    ensures taken { Takes fields.old fields.new (AreSpelt (warehouse_columns result)) }
-    ensures reads { Reads warehouse_columns WarehouseInRange result fields.old fields.new }
-{
-    Warehouse {
+    let w_id = fields.whole(1, loader.scale.warehouses);
+    let row = Warehouse {
         name: fields.text(),
         address: address(fields),
         tax: fields.rate(),
         ytd: fields.cents(),
+    };
+    if loader.stand_at(Place::Warehouse(w_id), fields) {
+        loader.rows.warehouses.push(row)?;
     }
+    Ok(())
 }
 
 /// Takes the five fields of an address.
 pub fn address(fields: &mut Fields) -> Address
-    ensures columns { taking fields.new ≡ take_columns address_columns (taking fields.old) }
-    ensures taken { Takes fields.old fields.new (AreSpelt (address_fields result)) }
-    ensures reads { Reads address_fields AddressInRange result fields.old fields.new }
+    ensures { Reads address_columns address_of result fields.old fields.new }
 {
     Address {
         street_1: fields.text(),

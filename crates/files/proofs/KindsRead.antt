@@ -263,7 +263,7 @@ pub record TookField {X : Type 0} (read : List ℕ → Result X FaultKind) (valu
   pub is_read : read text ≡ Ok value
   pub left : old ≡ text ∷ new
 
-took_next : {X : Type 0} (read : List ℕ → Result X FaultKind) (other value : X) (old new : List (List ℕ)) (known after : Option FaultKind)
+pub took_next : {X : Type 0} (read : List ℕ → Result X FaultKind) (other value : X) (old new : List (List ℕ)) (known after : Option FaultKind)
     → ◌≡◌ {A = X × Taking} (value, record { left = new; fault = after }) (next_read read other old known) → after ≡ None → TookField read value old new known
 took_next {X} read other value [] new known after is none =
     let clash : after ≡ noted known fault.WrongShape = ap (λ (p : X × Taking). p.1.fault) is in

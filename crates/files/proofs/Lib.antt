@@ -18,3 +18,5 @@ pub mod FieldsRead
 pub mod KindsRead
 pub mod ColumnsRead
 pub mod RecordsLeft
+pub mod MomentSound
+pub mod ColumnValues

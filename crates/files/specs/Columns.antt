@@ -1,9 +1,11 @@
--- The columns of a record: what its fields are to spell, and the least fault of these.
-use Rattle.std.specs.Prelude.{ℕ, pos, List, [], ◌∷◌, Option, Some, None}
+-- The columns of a record: what its fields are to spell, what they tell, and the least fault of these.
+use Rattle.std.specs.Prelude.{◌≡◌, ℕ, ℤ, pos, List, [], ◌∷◌, Option, Some, None, Result}
+use Rattle.rows.specs.declared.records.Credit.{Credit as CreditKind}
 use Rattle.rows.specs.declared.records.Credit.TheVariants.{Good}
 use Rattle.files.specs.declared.fault.FaultKind.{FaultKind}
 use Rattle.files.specs.declared.fault.FaultKind.TheVariants.{WrongShape}
-use Rattle.files.specs.FieldRead.{Taking, field_read, noted, whole_read}
+use Rattle.files.specs.declared.fields.Fields.{Fields}
+use Rattle.files.specs.FieldRead.{Taking, taking, field_read, noted, whole_read}
 use Rattle.files.specs.KindsRead.{count_read, credit_read, moment_read, money_read, optional_read, word_read}
 use Rattle.files.specs.Word.{text_read}
 
@@ -29,17 +31,72 @@ found (Some kind) t = record { left = t.left; fault = noted t.fault kind }
 abbrev pub take_word : Taking → List ℕ × Taking
 take_word t = field_read word_read [] t
 
--- the next field is read as one of the column: the least fault so far, and the fields that are left
+-- ---- what the fields tell
+
+-- what a field of the column tells
+abbrev pub Value : Column → Type 0
+Value (Whole low high) = ℕ
+Value (Words width) = List ℕ
+Value Cents = ℤ
+Value Moment = ℕ
+Value Credit = CreditKind
+Value (MaybeWhole low high) = Option ℕ
+Value MaybeMoment = Option ℕ
+Value (Count count) = ℕ
+Value (Spelt fault) = List ℕ
+
+-- what the fields of the columns tell, in their order
+abbrev pub Values : List Column → Type 0
+Values [] = Unit {0}
+Values (column ∷ columns) = Value column × Values columns
+
+-- a field's bytes, read as those of the column; of a word, but for the fault that its function tells
+abbrev pub column_read : (column : Column) → List ℕ → Result (Value column) FaultKind
+column_read (Whole low high) = whole_read low high
+column_read (Words width) = text_read width
+column_read Cents = money_read
+column_read Moment = moment_read
+column_read Credit = credit_read
+column_read (MaybeWhole low high) = optional_read (whole_read low high)
+column_read MaybeMoment = optional_read moment_read
+column_read (Count count) = count_read count
+column_read (Spelt fault) = word_read
+
+-- what stands for a field of the column that has a fault
+abbrev pub stand_in : (column : Column) → Value column
+stand_in (Whole low high) = low
+stand_in (Words width) = []
+stand_in Cents = pos 0
+stand_in Moment = 0
+stand_in Credit = Good
+stand_in (MaybeWhole low high) = None
+stand_in MaybeMoment = None
+stand_in (Count count) = count
+stand_in (Spelt fault) = []
+
+-- the next field, read as one of the column: what it tells, and what is known of the record behind it
+abbrev pub read_column : (column : Column) → Taking → Value column × Taking
+read_column (Spelt fault) t = let word = take_word t in (word.0, found (fault word.0) word.1)
+read_column column t = field_read (column_read column) (stand_in column) t
+
+-- the same of several, from left to right
+abbrev pub read_columns : (columns : List Column) → Taking → Values columns × Taking
+read_columns [] t = (tt, t)
+read_columns (column ∷ columns) t =
+    let first = read_column column t in
+    let rest = read_columns columns first.1 in
+    ((first.0, rest.0), rest.1)
+
+-- these columns were read, and this was made of what their fields tell
+pub record Reads {X : Type 0} (columns : List Column) (form : Values columns → X) (result : X) (old new : Fields) : Type 0 where
+  pub value : result ≡ form (read_columns columns (taking old)).0
+  pub after : taking new ≡ (read_columns columns (taking old)).1
+
+-- ---- the faults alone
+
+-- what is known of a record behind a field of the column
 abbrev pub take_column : Column → Taking → Taking
-take_column (Whole low high) t = (field_read (whole_read low high) low t).1
-take_column (Words width) t = (field_read (text_read width) [] t).1
-take_column Cents t = (field_read money_read (pos 0) t).1
-take_column Moment t = (field_read moment_read 0 t).1
-take_column Credit t = (field_read credit_read Good t).1
-take_column (MaybeWhole low high) t = (field_read (optional_read (whole_read low high)) None t).1
-take_column MaybeMoment t = (field_read (optional_read moment_read) None t).1
-take_column (Count count) t = (field_read (count_read count) count t).1
-take_column (Spelt fault) t = found (fault (take_word t).0) (take_word t).1
+take_column column t = (read_column column t).1
 
 -- the same of several, from left to right
 abbrev pub take_columns : List Column → Taking → Taking

@@ -7,8 +7,6 @@ use Rattle.rows.specs.declared.records.History.{History}
 use Rattle.files.specs.Taken.{Takes}
 use Rattle.dataset.specs.Records.{Number, AreSpelt}
 use Rattle.dataset.proofs.Taking.{takes-fields, takes-then, takes-counted}
-use Rattle.dataset.proofs.Reading.{reads-count}
-use Rattle.dataset.specs.Taking.{Awaits}
 use Rattle.std.proofs.Common.{◌<◌, ◌^◌, sym}
 use Rattle.dataset.proofs.end.check.Goals as goal
 
@@ -25,22 +23,6 @@ returns-clause-taken c =
     (takes-then (takes-counted (length rows.orders.entries) _ c.expect_count-6.new.self (search rules) c.expect_count-6.ensures.taken)
     (takes-then (takes-counted (length rows.new_orders.entries) _ c.expect_count-7.new.self (search rules) c.expect_count-7.ensures.taken)
     (takes-counted (length rows.lines.entries) _ c.expect_count-8.new.self (search rules) c.expect_count-8.ensures.taken))))))))).well
-
-pub returns-clause-reads : goal.returns-clause-reads
-returns-clause-reads c = λ small awaits.
-    let rows = c.args.rows.now in
-    let s0 = reads-count c.expect_count.new.self _ (length rows.items.items) (search rules) c.expect_count.ensures.reads c.expect_count.ensures.left awaits in
-    let s1 = reads-count c.expect_count-2.new.self _ (length rows.warehouses.items) (search rules) c.expect_count-2.ensures.reads c.expect_count-2.ensures.left s0 in
-    let s2 = reads-count c.expect_count-3.new.self _ (length rows.districts.items) (search rules) c.expect_count-3.ensures.reads c.expect_count-3.ensures.left s1 in
-    let s3 = reads-count c.expect_count-4.new.self _ (length rows.stocks.items) (search rules) c.expect_count-4.ensures.reads c.expect_count-4.ensures.left s2 in
-    let s4 = reads-count c.expect_count-5.new.self _ (length rows.customers.items) (search rules) c.expect_count-5.ensures.reads c.expect_count-5.ensures.left s3 in
-    let lists = c.deref.result.now in
-    let few : sum (map length lists) < 2 ^ 64 = subst (λ l. sum (map length l) < 2 ^ 64) (sym c.deref.ensures.value) small in
-    let s5 = c.check_payments.ensures.reads _ few (subst (λ l. Awaits (Number (sum (map length l)) ∷ Number (length rows.orders.entries) ∷ Number (length rows.new_orders.entries) ∷ Number (length rows.lines.entries) ∷ []) c.expect_count-5.new.self) (sym c.deref.ensures.value) s4) in
-    let s6 = reads-count c.expect_count-6.new.self _ (length rows.orders.entries) (search rules) c.expect_count-6.ensures.reads c.expect_count-6.ensures.left s5 in
-    let s7 = reads-count c.expect_count-7.new.self _ (length rows.new_orders.entries) (search rules) c.expect_count-7.ensures.reads c.expect_count-7.ensures.left s6 in
-    let s8 = reads-count c.expect_count-8.new.self _ (length rows.lines.entries) (search rules) c.expect_count-8.ensures.reads c.expect_count-8.ensures.left s7 in
-    s8
 
 pub returns-clause-columns : goal.returns-clause-columns
 returns-clause-columns c = λ small.

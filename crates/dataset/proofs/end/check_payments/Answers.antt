@@ -1,21 +1,11 @@
 use Rattle.files.proofs.ColumnsRead.{count}
 use Rattle.std.proofs.Common.{arith, length, map, sum, ◌∙◌}
 use Rattle.dataset.proofs.Taking.{takes-counted}
-use Rattle.dataset.proofs.Reading.{reads-count}
 use Rattle.dataset.proofs.end.check_payments.Goals as goal
 
 pub returns-in-Ok-clause-taken : goal.returns-in-Ok-clause-taken
 returns-in-Ok-clause-taken c =
     (takes-counted (sum (map length c.args.lists.now)) c.in-Ok.count c.expect_count.new.self (c.in-Ok.ensures.1 ∙ c.count.ensures) c.expect_count.ensures.taken).well
-
-pub returns-in-Ok-clause-reads : goal.returns-in-Ok-clause-reads
-returns-in-Ok-clause-reads c = λ rest small awaits.
-    reads-count c.expect_count.new.self c.in-Ok.count (sum (map length c.args.lists.now)) (c.in-Ok.ensures.1 ∙ c.count.ensures) c.expect_count.ensures.reads c.expect_count.ensures.left awaits
-
-pub returns-in-Err-clause-reads : goal.returns-in-Err-clause-reads
-returns-in-Err-clause-reads c = λ rest small awaits.
-    let count = c.count.ensures in
-    absurd (c.in-Err.ensures (omega arith))
 
 pub returns-in-Ok-clause-columns : goal.returns-in-Ok-clause-columns
 returns-in-Ok-clause-columns c = λ small.

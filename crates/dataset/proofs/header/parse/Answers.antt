@@ -1,5 +1,5 @@
 use Rattle.files.proofs.ColumnsRead.{and_then, ended, whole}
-use Rattle.dataset.proofs.HeaderFault.{header_made, header_told, no_header, not_five, other_name, other_version}
+use Rattle.dataset.proofs.HeaderFault.{header_made, header_told, no_difference, no_header, not_five, other_name, other_version}
 use Rattle.schema.specs.Limits.{IsScale}
 use Rattle.files.specs.Taken.{fault_of}
 use Rattle.std.proofs.Common.{codes, sym, ◌∙◌, lit<}
@@ -7,12 +7,8 @@ use Rattle.std.proofs.lemmas.Fmt.{decimal_digit}
 use Rattle.files.specs.declared.fault.FaultKind.TheVariants.{OutOfRange}
 use Rattle.dataset.specs.Records.{Words, Number}
 use Rattle.dataset.proofs.Taking.{takes-then, takes-one, takes-number, all_spelt, same_word, header_spelt}
-use Rattle.std.proofs.Common.{◌≡◌, length, None, arith}
-use Rattle.std.proofs.lemmas.Slice.Zip.{AllZip-long}
+use Rattle.std.proofs.Common.{◌≡◌, length, arith}
 use Rattle.files.specs.Taken.{fields_left}
-use Rattle.dataset.specs.Records.{IsSpelt, header_fields}
-use Rattle.dataset.proofs.Reading.{reads-number, awaits-none}
-use Rattle.dataset.proofs.HeaderRead.{read_name, read_version, no_difference, scale_read}
 use Rattle.dataset.proofs.header.parse.Goals.{then-left-ne5-via-then-left-ne5, then-left-ne5-via-else-left-ne5+then-ne, then-left-ne5-via-else-left-ne5+else-ne+then-ne-2}
 use Rattle.dataset.proofs.header.parse.Goals as goal
 
@@ -30,46 +26,6 @@ returns-in-None-clause-spelt c =
     (takes-then (takes-number c.whole-items.result c.whole-items.new.self c.whole-items.ensures.taken)
     (takes-number c.whole-customers.result c.whole-customers.new.self c.whole-customers.ensures.taken)))))
     whole.1 whole.0)
-
-pub returns-then-left-ne5-clause-reads : goal.returns-then-left-ne5-clause-reads
-returns-then-left-ne5-clause-reads c = λ scale awaits.
-    let five = AllZip-long IsSpelt (header_fields scale) (fields_left c.args.fields.now) awaits.are_spelt in
-    let many : length (fields_left c.args.fields.now) ≡ 5 = five in
-    elim c.then-left-ne5.branch [
-      | then-left-ne5-via-then-left-ne5 w ↦ absurd (omega arith)
-      | then-left-ne5-via-else-left-ne5+then-ne w ↦
-          let name = read_name w.word.new.self w.word.result.now scale w.word.ensures.text w.word.ensures.left awaits in
-          let no = no_difference w.word.result.now (codes "TPCC") w.ne.result w.ne.ensures name.0 w.if-ne.true in
-          absurd no
-      | then-left-ne5-via-else-left-ne5+else-ne+then-ne-2 w ↦
-          let name = read_name w.word.new.self w.word.result.now scale w.word.ensures.text w.word.ensures.left awaits in
-          let version = read_version w.word-else-ne.new.self w.word-else-ne.result.now scale w.word-else-ne.ensures.text w.word-else-ne.ensures.left name.1 in
-          let no = no_difference w.word-else-ne.result.now (codes "1") w.ne-else-ne.result w.ne-else-ne.ensures version.0 w.if-ne-2.true in
-          absurd no
-    ]
-
-pub returns-in-Some-clause-reads : goal.returns-in-Some-clause-reads
-returns-in-Some-clause-reads c = λ scale awaits.
-    let name = read_name c.word.new.self c.word.result.now scale c.word.ensures.text c.word.ensures.left awaits in
-    let version = read_version c.word-else-ne.new.self c.word-else-ne.result.now scale c.word-else-ne.ensures.text c.word-else-ne.ensures.left name.1 in
-    let limits = scale.limits in
-    let w = reads-number c.whole-warehouses.new.self c.whole-warehouses.result scale.warehouses scale.warehouses (λ more next. c.whole-warehouses.ensures.reads scale.warehouses more next limits.some_warehouse limits.most_warehouses) c.whole-warehouses.ensures.left version.1 in
-    let i = reads-number c.whole-items.new.self c.whole-items.result scale.items scale.items (λ more next. c.whole-items.ensures.reads scale.items more next limits.some_item limits.most_items) c.whole-items.ensures.left w.1 in
-    let n = reads-number c.whole-customers.new.self c.whole-customers.result scale.customers scale.customers (λ more next. c.whole-customers.ensures.reads scale.customers more next limits.some_customer limits.most_customers) c.whole-customers.ensures.left i.1 in
-    let none : c.finish.result ≡ None = c.finish.ensures.fault ∙ c.finish.ensures.none_left (awaits-none c.whole-customers.new.self n.1) ∙ n.1.faultless in
-    let some = c.in-Some.is in
-    absurd cc
-
-pub returns-in-None-clause-reads : goal.returns-in-None-clause-reads
-returns-in-None-clause-reads c = λ scale awaits.
-    let name = read_name c.word.new.self c.word.result.now scale c.word.ensures.text c.word.ensures.left awaits in
-    let version = read_version c.word-else-ne.new.self c.word-else-ne.result.now scale c.word-else-ne.ensures.text c.word-else-ne.ensures.left name.1 in
-    let limits = scale.limits in
-    let w = reads-number c.whole-warehouses.new.self c.whole-warehouses.result scale.warehouses scale.warehouses (λ more next. c.whole-warehouses.ensures.reads scale.warehouses more next limits.some_warehouse limits.most_warehouses) c.whole-warehouses.ensures.left version.1 in
-    let i = reads-number c.whole-items.new.self c.whole-items.result scale.items scale.items (λ more next. c.whole-items.ensures.reads scale.items more next limits.some_item limits.most_items) c.whole-items.ensures.left w.1 in
-    let n = reads-number c.whole-customers.new.self c.whole-customers.result scale.customers scale.customers (λ more next. c.whole-customers.ensures.reads scale.customers more next limits.some_customer limits.most_customers) c.whole-customers.ensures.left i.1 in
-    scale_read c.ok_or.result c.checked_new.result OutOfRange scale c.whole-warehouses.result c.whole-items.result c.whole-customers.result c.ok_or.ensures.value w.0 i.0 n.0
-    c.checked_new.ensures.fits.1 c.checked_new.ensures.warehouses c.checked_new.ensures.items c.checked_new.ensures.customers
 
 pub returns-then-left-ne5-clause-exact : goal.returns-then-left-ne5-clause-exact
 returns-then-left-ne5-clause-exact c = λ free.

@@ -1,0 +1,267 @@
+-- The records of tables have no fault.
+use Rattle.std.proofs.Common.{◌≡◌, ◌≤◌, ◌<◌, ◌^◌, ◌-◌, ◌*◌, ◌==◌, ℕ, List, [], ◌∷◌, ◌++◌, map, length, Bool, true, false, Option, Some, None, Ok, codes, IsTrue, lit<, refl, sym, ap, subst, ◌∙◌, append_assoc, arith}
+use Rattle.std.specs.Prelude.{IfErr, IsOk, MatchOption, MatchResult, Result, Err}
+use Rattle.std.specs.Result.{is_ok}
+use Rattle.std.specs.List.{AllByRecursion, AllZip}
+use Rattle.std.specs.FinMap.{entries}
+use Rattle.std.specs.Str.{bytes_eq}
+use Rattle.std.proofs.lemmas.Bool.Decides.{nat_tests}
+use Rattle.std.proofs.lemmas.Fmt.{decimal_digit}
+use Rattle.std.proofs.lemmas.List.{append-nil, length-append, length-map}
+use Rattle.std.proofs.lemmas.Slice.Zip.{AllZip-long}
+use Rattle.schema.specs.declared.scale.Scale.{Scale}
+use Rattle.schema.specs.Database.{Database, IsWithinScale}
+use Rattle.files.specs.declared.fault.FaultKind.{FaultKind}
+use Rattle.files.specs.declared.fault.FileError.{FileError}
+use Rattle.files.specs.declared.fault.FileError.TheVariants.{NoMemory, Failed, File}
+use Rattle.files.specs.declared.fault.FaultKind.TheVariants as fault
+use Rattle.files.specs.Columns.{Count, at_end, columns_fault, take_columns}
+use Rattle.files.specs.FieldRead.{Taking, value_or}
+use Rattle.files.specs.FirstFault.{TellsFault, fault_at, fault_or}
+use Rattle.files.specs.KindsRead.{count_read}
+use Rattle.files.specs.Span.{record_size}
+use Rattle.files.proofs.KindsRead.{count_complete}
+use Rattle.files.proofs.RecordsLeft.{short_record}
+use Rattle.dataset.specs.declared.place.Place.{Place}
+use Rattle.dataset.specs.declared.place.Place.TheVariants as at
+use Rattle.dataset.specs.Columns.{Sizes, Table, Items, Warehouses, Districts, Stocks, Customers, Histories, Orders, NewOrders, Lines, Of, comes_after, fields_fault, kind_fault, kind_of, letter, or_order, place_in, record_columns, record_fault, sizes, table_number}
+use Rattle.dataset.specs.FirstFault.{HasNoTables, IsFault, Tells, counts, first_fault, header_columns, header_fault, header_first, header_sizes, is_end, kind_place, last_place, number_of, record_place, rows_fault, told_header}
+use Rattle.dataset.specs.Loading.{AreInOrder}
+use Rattle.dataset.specs.Order.{follows, place_numbers}
+use Rattle.dataset.specs.Ranges.{InRange}
+use Rattle.dataset.specs.Records.{Field, Words, Number, IsSpelt, AreSpelt, AreRecords, end_fields, header_fields, item_fields, warehouse_fields, district_fields, stock_fields, customer_fields, history_fields, order_fields, new_order_fields, line_fields, records, records_by_table, row_records}
+use Rattle.dataset.specs.TableRow.{TableRow, OfItem, OfWarehouse, OfDistrict, OfStock, OfCustomer, OfHistory, OfOrder, OfNewOrder, OfLine, RowFits, row_fields, row_place}
+use Rattle.dataset.proofs.AllRows.{after_header, all_records, all_rows, records_of_rows, rows_fit, rows_in_order}
+use Rattle.dataset.proofs.ColumnFields.{spelt_are_read}
+use Rattle.dataset.proofs.Contents.{IsTable, entries_in, get_item, get_warehouse, get_district, get_stock, get_customer, get_history, get_order, get_new_order, get_line, is_item, is_warehouse, is_district, is_stock, is_customer, is_history, is_order, is_new_order, is_line}
+use Rattle.dataset.proofs.HeaderFault.{sizes_spelt}
+use Rattle.dataset.proofs.LetterFault.{kind_of_letter, letter_is_not_end}
+use Rattle.dataset.proofs.Loading.{header_place, last-push}
+use Rattle.dataset.proofs.Payments.{payments_of, payments_recorded}
+use Rattle.dataset.proofs.RowFields.{row_reads}
+use Rattle.dataset.proofs.RowTaken.{follows_told, is_read}
+use Rattle.dataset.proofs.RowsFault.{entries_counted, header_uncounted, number_le, rows_counted}
+use Rattle.dataset.proofs.Short.{longer, short_number}
+use Rattle.dataset.proofs.Told.{all_customers, all_districts, all_histories, all_items, all_lines, all_new_orders, all_orders, all_stocks, all_warehouses}
+use Rattle.files.proofs.ColumnValues.{read-take}
+use Rattle.files.specs.Columns.{Values, read_columns}
+
+-- ---- numbers
+
+numbers_kept : (ns : List ℕ) (texts : List (List ℕ)) → AllByRecursion (λ n. n < 2 ^ 64) ns → AreSpelt (map (λ n. Number n) ns) texts → record_size texts ≤ 501 * length ns
+numbers_kept [] [] small spelt = omega arith
+numbers_kept [] (text ∷ texts) small spelt = absurd spelt
+numbers_kept (n ∷ ns) [] small spelt = absurd spelt
+numbers_kept (n ∷ ns) (text ∷ texts) small spelt =
+    let size = longer text texts (length ns) (short_number n text small.0 spelt.0) (numbers_kept ns texts small.1 spelt.1) in
+    omega (arith, size)
+
+numbers_counted : (ns : List ℕ) (texts : List (List ℕ)) → AllByRecursion (λ n. n < 2 ^ 64) ns → AreSpelt (map (λ n. Number n) ns) texts
+    → take_columns (map (λ count. Count count) ns) (record { left = texts; fault = None }) ≡ record { left = []; fault = None }
+numbers_counted [] [] small spelt = refl
+numbers_counted [] (text ∷ texts) small spelt = absurd spelt
+numbers_counted (n ∷ ns) [] small spelt = absurd spelt
+numbers_counted (n ∷ ns) (text ∷ texts) small spelt =
+    ap (λ r. take_columns (map (λ count. Count count) ns) (value_or r n texts None).1) (ap (count_read n) spelt.0 ∙ count_complete n small.0) ∙ numbers_counted ns texts small.1 spelt.1
+
+-- ---- the header
+
+-- the texts of a header
+record Five (scale : Scale) (header : List (List ℕ)) : Type 0 where
+  name : List ℕ
+  version : List ℕ
+  others : List (List ℕ)
+  are : header ≡ name ∷ version ∷ others
+  is_name : name ≡ codes "TPCC"
+  is_version : version ≡ codes "1"
+  spelt : AreSpelt (Number scale.warehouses ∷ Number scale.items ∷ Number scale.customers ∷ []) others
+
+five : (scale : Scale) (header : List (List ℕ)) → AreSpelt (header_fields scale) header → Five scale header
+five scale [] spelt = absurd spelt
+five scale (a ∷ []) spelt = absurd spelt.1
+five scale (a ∷ b ∷ others) spelt = record { name = a; version = b; others = others; are = refl; is_name = spelt.0; is_version = spelt.1.0 ∙ decimal_digit 1 (lit< tt); spelt = spelt.1.1 }
+
+pub header_kept : (scale : Scale) (header : List (List ℕ)) → AreSpelt (header_fields scale) header → record_size header ≤ 65536
+header_kept scale header spelt =
+    let f = five scale header spelt in
+    let limits = scale.limits in
+    let most_w = limits.most_warehouses in
+    let most_i = limits.most_items in
+    let most_c = limits.most_customers in
+    let numbers = numbers_kept (scale.warehouses ∷ scale.items ∷ scale.customers ∷ []) f.others (omega (arith, most_w), (omega (arith, most_i), (omega (arith, most_c), tt))) f.spelt in
+    let version : length f.version ≤ 500 = rw f.is_version (omega arith) in
+    let name : length f.name ≤ 500 = rw f.is_name (omega arith) in
+    let size = longer f.name (f.version ∷ f.others) 4 name (longer f.version f.others 3 version numbers) in
+    subst (λ h. record_size h ≤ 65536) (sym f.are) (omega (arith, size))
+
+pub header_free : (scale : Scale) (header : List (List ℕ)) → AreSpelt (header_fields scale) header → header_fault header ≡ None
+header_free scale header spelt =
+    let f = five scale header spelt in
+    let limits = scale.limits in
+    let read = spelt_are_read header_columns (scale.warehouses, (scale.items, (scale.customers, tt))) f.others (omega arith, (omega arith, (omega arith, tt)))
+    ((limits.some_warehouse, limits.most_warehouses), ((limits.some_item, limits.most_items), ((limits.some_customer, limits.most_customers), tt))) f.spelt in
+    let start : Taking = record { left = f.others; fault = None } in
+    let none : columns_fault header_columns f.others ≡ None = ap (λ (t : Taking). at_end t.left t.fault) (sym (read-take header_columns start) ∙ ap (λ (p : Values header_columns × Taking). p.1) read) in
+    let long : length f.others ≡ 3 = AllZip-long IsSpelt (Number scale.warehouses ∷ Number scale.items ∷ Number scale.customers ∷ []) f.others f.spelt in
+    let name : bytes_eq (codes "TPCC") (codes "TPCC") ≡ true = refl in
+    let many : (length (codes "TPCC" ∷ codes "1" ∷ f.others) == 5) ≡ true = grind (arith, nat_tests, long) in
+    let told : told_header (codes "TPCC" ∷ codes "1" ∷ f.others) ≡ None = rw many none in
+    let all : header ≡ codes "TPCC" ∷ codes "1" ∷ f.others = f.are ∙ (λ i. f.is_name i ∷ f.is_version i ∷ f.others) in
+    short_record header (told_header header) (header_kept scale header spelt) ∙ ap told_header all ∙ told
+
+-- ---- a row's record
+
+order_of : (fault : Option FaultKind) (in_order : Bool) → fault ≡ None → in_order ≡ true → or_order fault in_order ≡ None
+order_of fault in_order none after = rw (none, after) refl
+
+-- behind records the last of which stands at a place that the row follows, it has no fault, and stands at the row's place
+record RowPasses (scale : Scale) (before : List (List (List ℕ))) (row : TableRow) (texts : List (List ℕ)) : Type 0 where
+  free : record_fault (sizes scale) (last_place (sizes scale) before) (counts before) texts ≡ None
+  no_end : is_end texts ≡ false
+  place : record_place (sizes scale) texts ≡ place_numbers (row_place row)
+
+row_passes : (scale : Scale) (before : List (List (List ℕ))) (last : Place) (row : TableRow) (texts : List (List ℕ)) → last_place (sizes scale) before ≡ place_numbers last → RowFits scale row
+    → IsTrue (follows (row_place row) last) → AreSpelt (row_fields row) texts → RowPasses scale before row texts
+row_passes scale before last row texts at_last fits follow spelt =
+    let s = sizes scale in
+    let r = row_reads scale row texts fits spelt in
+    let read = is_read s r.table r.fields r.none in
+    let values = (read_columns (record_columns s r.table) (record { left = r.fields; fault = None })).0 in
+    let kind : kind_of (letter r.table) ≡ Some (Of r.table) = kind_of_letter r.table in
+    let place : place_in s r.table r.fields ≡ place_numbers (row_place row) = sym read.place ∙ ap (λ x. place_numbers (row_place x)) r.is_row in
+    let after : comes_after r.table (place_in s r.table r.fields) (last_place s before) ≡ true =
+    ap (comes_after r.table (place_in s r.table r.fields)) at_last ∙ ap (λ p. comes_after r.table p (place_numbers last)) (sym read.place)
+    ∙ sym (follows_told s r.table values last) ∙ ap (λ x. follows (row_place x) last) r.is_row ∙ follow in
+    let free : kind_fault s (last_place s before) (counts before) (Some (Of r.table)) r.fields ≡ None = order_of _ _ r.none after in
+    record {
+      free = short_record texts (fields_fault s (last_place s before) (counts before) texts) r.kept ∙ ap (fields_fault s (last_place s before) (counts before)) r.are
+          ∙ ap (λ k. kind_fault s (last_place s before) (counts before) k r.fields) kind ∙ free;
+      no_end = ap is_end r.are ∙ letter_is_not_end r.table;
+      place = ap (record_place s) r.are ∙ ap (λ k. kind_place s k r.fields) kind ∙ place;
+    }
+
+-- ---- all rows, and the end record
+
+module _ (scale : Scale) (end : List (List ℕ)) where
+  -- what has no fault behind all of them has none behind some
+  rows_pass : (rows : List TableRow) (before texts : List (List (List ℕ))) (last : Place) → last_place (sizes scale) before ≡ place_numbers last → AllByRecursion (RowFits scale) rows → AreInOrder rows
+      → AllByRecursion (λ row. IsTrue (follows (row_place row) last)) rows → AllZip AreSpelt (map row_fields rows) texts
+      → rows_fault (sizes scale) before (texts ++ (end ∷ [])) ≡ rows_fault (sizes scale) (before ++ texts) (end ∷ [])
+  unfolding rows_fault
+  rows_pass [] before [] last at_last fits order follow spelt = ap (λ b. rows_fault (sizes scale) b (end ∷ [])) (sym (append-nil before))
+  rows_pass [] before (text ∷ texts) last at_last fits order follow spelt = absurd spelt
+  rows_pass (row ∷ rows) before [] last at_last fits order follow spelt = absurd spelt
+  rows_pass (row ∷ rows) before (text ∷ texts) last at_last fits order follow spelt =
+      let passes = row_passes scale before last row text at_last fits.0 follow.0 spelt.0 in
+      let next = rows_pass rows (before ++ (text ∷ [])) texts (row_place row) (last-push (sizes scale) before text ∙ passes.place) fits.1 order.1 order.0 spelt.1 in
+      rw (passes.free, passes.no_end) (next ∙ ap (λ b. rows_fault (sizes scale) b (end ∷ [])) (append_assoc before (text ∷ []) texts))
+
+-- the counts of an end record
+end_free : (s : Sizes) (before : List (List (List ℕ))) (ns : List ℕ) (end : List (List ℕ)) → counts before ≡ ns → AllByRecursion (λ n. n < 2 ^ 64) ns → length ns ≤ 100 → AreSpelt (Words (codes "END") ∷ map (λ n. Number n) ns) end
+    → rows_fault s before (end ∷ []) ≡ None
+unfolding rows_fault
+end_free s before ns [] are small few spelt = absurd spelt
+end_free s before ns (word ∷ texts) are small few spelt =
+    let size = longer word texts (length ns) (let e : length word ≤ 500 = rw spelt.0 (omega arith) in e) (numbers_kept ns texts small spelt.1) in
+    let kept : record_size (word ∷ texts) ≤ 65536 = omega (arith, size, few) in
+    let none : columns_fault (map (λ count. Count count) ns) texts ≡ None = ap (λ (t : Taking). at_end t.left t.fault) (numbers_counted ns texts small spelt.1) in
+    let free : record_fault s (last_place s before) (counts before) (word ∷ texts) ≡ None =
+    short_record (word ∷ texts) (fields_fault s (last_place s before) (counts before) (word ∷ texts)) kept
+    ∙ ap (λ w. fields_fault s (last_place s before) (counts before) (w ∷ texts)) spelt.0 ∙ ap (λ c. columns_fault (map (λ count. Count count) c) texts) are ∙ none in
+    let is : is_end (word ∷ texts) ≡ true = ap (λ w. bytes_eq w (codes "END")) spelt.0 in
+    rw (free, is) refl
+
+-- ---- all records
+
+-- all texts but the last, and the last
+record Ends {A B : Type 0} (R : A → B → Type 0) (xs : List A) (x : A) (ys : List B) : Type 0 where
+  front : List B
+  last : B
+  are : ys ≡ front ++ (last ∷ [])
+  firsts : AllZip R xs front
+  is_last : R x last
+
+ends : {A B : Type 0} (R : A → B → Type 0) (xs : List A) (x : A) (ys : List B) → AllZip R (xs ++ (x ∷ [])) ys → Ends R xs x ys
+ends R [] x [] h = absurd h
+ends R [] x (y ∷ []) h = record { front = []; last = y; are = refl; firsts = tt; is_last = h.0 }
+ends R [] x (y ∷ z ∷ ys) h = absurd h.1
+ends R (w ∷ xs) x [] h = absurd h
+ends R (w ∷ xs) x (y ∷ ys) h =
+    let rest = ends R xs x ys h.1 in
+    record { front = y ∷ rest.front; last = rest.last; are = ap (λ l. y ∷ l) rest.are; firsts = (h.0, rest.firsts); is_last = rest.is_last }
+
+module _ (t : Database) (header : List (List ℕ)) (texts : List (List (List ℕ))) (is_header : AreSpelt (header_fields t.scale) header) (spelt : AllZip AreSpelt (map row_fields (all_rows t)) texts) where
+  table_counted : {K X : Type 0} (make : K → X → TableRow) (get : TableRow → Option (K × X)) (table : Table) → IsTable make get (table_number table) → (fields : K → X → List Field) (es : List (K × X)) → entries_in get (all_rows t) ≡ es
+      → number_of table (header ∷ texts) ≡ length (row_records fields es)
+  table_counted make get table is fields es are =
+      header_uncounted table t.scale header texts is_header ∙ rows_counted table (all_rows t) texts spelt ∙ entries_counted make get (table_number table) is (all_rows t)
+      ∙ ap length are ∙ sym (length-map es (λ e. fields e.0 e.1))
+
+  -- as many of each table as the tables have
+  counts_are : counts (header ∷ texts) ≡ map length (records_by_table t)
+  unfolding records_by_table
+  counts_are =
+      λ i. table_counted OfItem get_item Items is_item item_fields (entries t.items) (all_items t) i
+      ∷ table_counted OfWarehouse get_warehouse Warehouses is_warehouse warehouse_fields (entries t.warehouses) (all_warehouses t) i
+      ∷ table_counted OfDistrict get_district Districts is_district district_fields (entries t.districts) (all_districts t) i
+      ∷ table_counted OfStock get_stock Stocks is_stock stock_fields (entries t.stocks) (all_stocks t) i
+      ∷ table_counted OfCustomer get_customer Customers is_customer customer_fields (entries t.customers) (all_customers t) i
+      ∷ (table_counted OfHistory get_history Histories is_history history_fields (payments_of (entries t.histories)) (all_histories t) ∙ ap length (payments_recorded (entries t.histories))) i
+      ∷ table_counted OfOrder get_order Orders is_order order_fields (entries t.orders) (all_orders t) i
+      ∷ table_counted OfNewOrder get_new_order NewOrders is_new_order new_order_fields (entries t.new_orders) (all_new_orders t) i
+      ∷ table_counted OfLine get_line Lines is_line line_fields (entries t.lines) (all_lines t) i ∷ []
+
+small_counts : (rows : List (List (List ℕ))) → length rows < 2 ^ 64 → AllByRecursion (λ n. n < 2 ^ 64) (counts rows)
+small_counts rows few = (small Items, (small Warehouses, (small Districts, (small Stocks, (small Customers, (small Histories, (small Orders, (small NewOrders, (small Lines, tt)))))))))
+  where
+    small : (table : Table) → number_of table rows < 2 ^ 64
+    small table = let most = number_le table rows in omega (arith, most, few)
+
+numbers_of_parts : (parts : List (List (List Field))) → map (λ records. Number (length records)) parts ≡ map (λ n. Number n) (map length parts)
+numbers_of_parts [] = refl
+numbers_of_parts (part ∷ parts) = ap (λ l. Number (length part) ∷ l) (numbers_of_parts parts)
+
+few_parts : (t : Database) → length (map length (records_by_table t)) ≤ 100
+unfolding records_by_table
+few_parts t = omega arith
+
+pub records_free : (t : Database) → IsWithinScale t → InRange t → (rows : List (List (List ℕ))) → length rows < 2 ^ 64 - 1 → AreRecords t rows → first_fault rows ≡ None
+unfolding AreRecords records first_fault
+records_free t within range [] few are = absurd are
+records_free t within range (header ∷ body) few are =
+    let s = sizes t.scale in
+    let e = ends AreSpelt (all_records t) (end_fields (records_by_table t)) body are.1 in
+    let spelt : AllZip AreSpelt (map row_fields (all_rows t)) e.front = subst (λ fields. AllZip AreSpelt fields e.front) (sym (records_of_rows t)) e.firsts in
+    let long = ap length e.are in
+    let pushed = length-append e.front (e.last ∷ []) in
+    let counted = counts_are t header e.front are.0 spelt in
+    let small = subst (AllByRecursion (λ n. n < 2 ^ 64)) counted (small_counts (header ∷ e.front) (omega (arith, long, pushed, few))) in
+    let rows = rows_pass t.scale e.last (all_rows t) (header ∷ []) e.front at.Header (header_place s t.scale header are.0) (rows_fit t within range) (rows_in_order t) (after_header (all_rows t)) spelt in
+    let last = end_free s (header ∷ e.front) (map length (records_by_table t)) e.last counted small (few_parts t)
+    (subst (λ fields. AreSpelt (Words (codes "END") ∷ fields) e.last) (numbers_of_parts (records_by_table t)) e.is_last) in
+    ap (λ k. fault_or k 1 (rows_fault (header_sizes header) (header ∷ []) body)) (header_free t.scale header are.0)
+    ∙ ap (λ z. rows_fault z (header ∷ []) body) (sym (sizes_spelt t.scale header are.0)) ∙ ap (rows_fault s (header ∷ [])) e.are ∙ rows ∙ last
+
+-- ---- what is told of a text
+
+-- no fault of a header is told that has none
+pub no_header_fault : (error : FileError) (scale : Scale) (header : List (List ℕ)) (rows : List (List (List ℕ))) → AreSpelt (header_fields scale) header → IsFault error → TellsFault error (header_first (header ∷ rows)) → ⊥
+no_header_fault NoMemory scale header rows spelt is tells = is
+no_header_fault (Failed number) scale header rows spelt is tells = is
+no_header_fault (File f) scale header rows spelt is tells =
+    let clash : None ≡ Some f = sym (ap (λ k. fault_or k 1 None) (header_free scale header spelt)) ∙ tells in cc
+
+-- no fault is told of the records of tables
+pub no_fault_told : (error : FileError) (rows : List (List (List ℕ))) → length rows < 2 ^ 64 - 1 → Tells rows error → IsFault error → HasNoTables rows
+no_fault_told NoMemory rows few tells is = absurd is
+no_fault_told (Failed number) rows few tells is = absurd is
+no_fault_told (File f) rows few tells is = λ t within range are.
+    (subst (λ o. MatchOption o ((f ≡ fault_at fault.ScaleBroken (length rows)) × HasNoTables rows) (λ first. f ≡ first)) (records_free t within range rows few are) tells).1 t within range are
+
+-- what is told of all that is left is told of an error
+pub error_told : {X E L : Type 0} (r : Result X E) (P : L → X → Type 0) (Q : L → E → Type 0) (Left : L → Type 0) → ((rows : L) → Left rows → MatchResult r (P rows) (Q rows)) → IfErr r (λ error. (rows : L) → Left rows → Q rows error)
+error_told (Ok x) P Q Left h = tt
+error_told (Err e) P Q Left h = h
+
+pub is_no_err : {X E : Type 0} (r : Result X E) (k : E) → IsOk r → r ≡ Err k → ⊥
+is_no_err r k h e = let clash : true ≡ false = sym h ∙ ap is_ok e in cc

@@ -1,0 +1,171 @@
+-- A row's record, taken as its table's columns.
+use Rattle.std.proofs.Common.{◌≡◌, ℕ, List, [], ◌∷◌, ◌++◌, map, take, length, Bool, true, false, Option, Some, None, Ok, is_none, refl, sym, ap, subst, ◌∙◌}
+use Rattle.std.specs.Str.Parse.{digits_value}
+use Rattle.std.proofs.lemmas.List.{append-nil}
+use Rattle.files.specs.declared.fault.FaultKind.{FaultKind}
+use Rattle.files.specs.declared.fields.Fields.{Fields}
+use Rattle.files.specs.Columns.{Column, Whole, Words, Cents, Moment, Credit, MaybeWhole, MaybeMoment, Count, Spelt, at_end, columns_fault, take_columns}
+use Rattle.files.specs.FieldRead.{Taking, taking, is_within, whole_read}
+use Rattle.files.specs.Number.{is_number}
+use Rattle.files.specs.Taken.{fault_of, fields_left}
+use Rattle.schema.specs.declared.table_rows.TableRows.{TableRows}
+use Rattle.dataset.specs.declared.loader.Loader.{Loader}
+use Rattle.dataset.specs.declared.place.Place.{Place}
+use Rattle.dataset.specs.Columns.{Sizes, Table, Items, Warehouses, Districts, Stocks, Customers, Histories, Orders, NewOrders, Lines, comes_after, key_columns, or_order, other_columns, place_in, record_columns, sizes, table_number}
+use Rattle.dataset.specs.Order.{follows, place_numbers}
+use Rattle.dataset.specs.TableRow.{AddsRow, IsAdded, TableRow, row_of, row_place, row_read}
+use Rattle.dataset.specs.TakenAs.{IsRowOf}
+use Rattle.files.specs.Columns.{Value, Values, read_columns}
+use Rattle.files.proofs.ColumnValues.{AreRead, ReadsColumns, clean, read-take}
+
+-- ---- the numbers of a key
+
+number_in : (column : Column) → Value column → ℕ
+number_in (Whole low high) n = n
+number_in (Words width) v = 0
+number_in Cents v = 0
+number_in Moment v = 0
+number_in Credit v = 0
+number_in (MaybeWhole low high) v = 0
+number_in MaybeMoment v = 0
+number_in (Count count) v = 0
+number_in (Spelt fault) v = 0
+
+-- those that the first columns tell
+numbers_in : (keys others : List Column) → Values (keys ++ others) → List ℕ
+numbers_in [] others values = []
+numbers_in (column ∷ keys) others values = number_in column values.0 ∷ numbers_in keys others values.1
+
+-- columns of whole numbers
+AreWhole : List Column → Type 0
+AreWhole [] = Unit {0}
+AreWhole (Whole low high ∷ columns) = AreWhole columns
+AreWhole (column ∷ columns) = ⊥
+
+-- a number that was read has the value of its digits
+whole_is : (low high n : ℕ) (text : List ℕ) → whole_read low high text ≡ Ok n → digits_value 10 text ≡ n
+whole_is low high n text e = by (is_number text) refl (is_within low high text) refl
+  where
+    by : (b : Bool) → is_number text ≡ b → (w : Bool) → is_within low high text ≡ w → digits_value 10 text ≡ n
+    by false number w is = let no = rw number at e in absurd cc
+    by true number false is = let no = rw (number, is) at e in absurd cc
+    by true number true is = let v = rw (number, is) at e in cc
+
+numbers_read : (keys others : List Column) (values : Values (keys ++ others)) (texts rest : List (List ℕ)) → AreWhole keys → AreRead (keys ++ others) values texts
+    → numbers_in keys others values ≡ map (digits_value 10) (take (length keys) (texts ++ rest))
+unfolding AreRead AreWhole numbers_in number_in
+numbers_read [] others values texts rest whole read = refl
+numbers_read (Whole low high ∷ keys) others values [] rest whole read = absurd read
+numbers_read (Whole low high ∷ keys) others values (text ∷ texts) rest whole read =
+    let first : values.0 ≡ digits_value 10 text = sym (whole_is low high values.0 text read.0) in
+    let more = numbers_read keys others values.1 texts rest whole read.1 in
+    λ i. first i ∷ more i
+numbers_read (column ∷ keys) others values texts rest whole read = absurd whole
+
+whole_keys : (s : Sizes) (table : Table) → AreWhole (key_columns s table)
+unfolding AreWhole
+whole_keys s Items = tt
+whole_keys s Warehouses = tt
+whole_keys s Districts = tt
+whole_keys s Stocks = tt
+whole_keys s Customers = tt
+whole_keys s Histories = tt
+whole_keys s Orders = tt
+whole_keys s NewOrders = tt
+whole_keys s Lines = tt
+
+-- a row's place has its table's number and its key's
+place_told : (s : Sizes) (table : Table) (values : Values (record_columns s table)) → place_numbers (row_place (row_of s table values)) ≡ table_number table ∷ numbers_in (key_columns s table) (other_columns s table) values
+unfolding numbers_in number_in
+place_told s Items values = refl
+place_told s Warehouses values = refl
+place_told s Districts values = refl
+place_told s Stocks values = refl
+place_told s Customers values = refl
+place_told s Histories values = refl
+place_told s Orders values = refl
+place_told s NewOrders values = refl
+place_told s Lines values = refl
+
+-- whether it follows is told by the numbers alone
+pub follows_told : (s : Sizes) (table : Table) (values : Values (record_columns s table)) (last : Place)
+    → follows (row_place (row_of s table values)) last ≡ comes_after table (place_numbers (row_place (row_of s table values))) (place_numbers last)
+follows_told s Items values last = refl
+follows_told s Warehouses values last = refl
+follows_told s Districts values last = refl
+follows_told s Stocks values last = refl
+follows_told s Customers values last = refl
+follows_told s Histories values last = refl
+follows_told s Orders values last = refl
+follows_told s NewOrders values last = refl
+follows_told s Lines values last = refl
+
+-- ---- a record whose fields have no fault
+
+pub record IsRead (s : Sizes) (table : Table) (fields : List (List ℕ)) : Type 0 where
+  pub are_read : AreRead (record_columns s table) (read_columns (record_columns s table) (record { left = fields; fault = None })).0 fields
+  pub place : place_numbers (row_place (row_read s table fields)) ≡ place_in s table fields
+
+end_none : (left : List (List ℕ)) (known : Option FaultKind) → at_end left known ≡ None → (left ≡ []) × (known ≡ None)
+end_none [] known e = (refl, e)
+end_none (field ∷ fields) known e = absurd cc
+
+pub is_read : (s : Sizes) (table : Table) (fields : List (List ℕ)) → columns_fault (record_columns s table) fields ≡ None → IsRead s table fields
+is_read s table fields none =
+    let columns = record_columns s table in
+    let start : Taking = record { left = fields; fault = None } in
+    let ended = end_none (take_columns columns start).left (take_columns columns start).fault none in
+    let same = read-take columns start in
+    let read = clean columns start (ap (λ (t : Taking). t.fault) same ∙ ended.1) in
+    let all : fields ≡ read.texts ++ [] = read.are ∙ ap (λ l. read.texts ++ l) (ap (λ (t : Taking). t.left) same ∙ ended.0) in
+    let values = (read_columns columns start).0 in
+    let numbers = numbers_read (key_columns s table) (other_columns s table) values read.texts [] (whole_keys s table) read.are_read in
+    record {
+      are_read = subst (AreRead columns values) (sym (all ∙ append-nil read.texts)) read.are_read;
+      place = place_told s table values ∙ ap (λ ns. table_number table ∷ ns) (numbers ∙ ap (λ l. map (digits_value 10) (take (length (key_columns s table)) l)) (sym all));
+    }
+
+-- ---- the record of a row, taken
+
+order_alike : (fault : Option FaultKind) (a b : Bool) → (fault ≡ None → a ≡ b) → or_order fault a ≡ or_order fault b
+order_alike None a b same = ap (or_order None) (same refl)
+order_alike (Some kind) a b same = refl
+
+-- where these fields were read as that row, they are a row's of the table, whatever the loader does with it
+abbrev pub TakesRow : Table → Loader → TableRow → Fields → Fields → Type 0
+TakesRow table l row old read =
+    (m : Loader) (new : Fields)
+    → fault_of new ≡ or_order (at_end (fields_left read) (fault_of read)) (follows (row_place row) l.last) → (fault_of new ≡ None → IsAdded row l m)
+    → fault_of old ≡ None → IsRowOf table l m old new
+
+pub row_taken : (table : Table) (l : Loader) (row : TableRow) (old read : Fields) {values : Values (record_columns (sizes l.scale) table)}
+    → ReadsColumns (record_columns (sizes l.scale) table) values (taking old) (taking read) → row ≡ row_of (sizes l.scale) table values → TakesRow table l row old read
+row_taken table l row old read {values} reads is = λ m new stood added none.
+    let s = sizes l.scale in
+    let columns = record_columns s table in
+    let fields = fields_left old in
+    let start : taking old ≡ record { left = fields; fault = None } = ap (λ (f : Option FaultKind). record { left = fields; fault = f }) none in
+    let from_start = reads.is ∙ ap (read_columns columns) start in
+    let row_is : row ≡ row_read s table fields = is ∙ ap (λ (p : Values columns × Taking). row_of s table p.0) from_start in
+    let after : taking read ≡ take_columns columns (record { left = fields; fault = None }) = ap (λ (p : Values columns × Taking). p.1) from_start ∙ read-take columns (record { left = fields; fault = None }) in
+    let ended : at_end (fields_left read) (fault_of read) ≡ columns_fault columns fields = ap (λ (t : Taking). at_end t.left t.fault) after in
+    let in_order : columns_fault columns fields ≡ None → follows (row_place row) l.last ≡ comes_after table (place_in s table fields) (place_numbers l.last) = λ free.
+    ap (λ r. follows (row_place r) l.last) row_is ∙ follows_told s table (read_columns columns (record { left = fields; fault = None })).0 l.last
+    ∙ ap (λ p. comes_after table p (place_numbers l.last)) (is_read s table fields free).place in
+    record {
+      fault = stood ∙ ap (λ f. or_order f (follows (row_place row) l.last)) ended
+          ∙ order_alike (columns_fault columns fields) (follows (row_place row) l.last) (comes_after table (place_in s table fields) (place_numbers l.last)) in_order;
+      added = λ free. subst (λ r. IsAdded r l m) row_is (added free);
+    }
+
+-- the row was added where the loader stands
+pub added_at : {row : TableRow} {l stood : Loader} {new : TableRows} → stood ≡ record l { last = row_place row } → AddsRow stood.scale row stood.rows new → IsAdded row l (record stood { rows = new })
+added_at {row} {l} {stood} {new} same adds = record {
+  scale = ap (λ (s : Loader). s.scale) same;
+  last = ap (λ (s : Loader). s.last) same;
+  rows = subst (λ (s : Loader). AddsRow s.scale row s.rows new) same adds;
+}
+
+-- a record with a fault adds none
+pub none_added : {row : TableRow} {l m : Loader} {known : Option FaultKind} {free : Bool} → free ≡ is_none known → free ≡ false → known ≡ None → IsAdded row l m
+none_added {row} {l} {m} {known} {free} is not e = let clash : true ≡ false = sym (is ∙ ap is_none e) ∙ not in absurd cc
