@@ -35,11 +35,15 @@ pub(crate) fn read_text<const WIDTH: usize>(field: &[u8]) -> Result<Text<WIDTH>,
     Ok(text)
 }
 
-// Whether each byte is printable ASCII.
+// Whether each byte is printable ASCII. All are looked at, also behind one that isn't, so that many are at once.
 fn is_printable(bytes: &[u8]) -> bool
     ensures { result ≡ list_all is_printable_byte bytes.now }
 {
-    bytes.iter().all(|byte| *byte >= 32 && *byte <= 126)
+    let mut printable = true;
+    for byte in bytes {
+        printable = printable & (*byte >= 32) & (*byte <= 126);
+    }
+    printable
 }
 
 // Printable ASCII as text.
