@@ -3,6 +3,7 @@ pub mod Numerals
 pub mod Amounts
 pub mod Moments
 pub mod FieldsLeft
+pub mod NextMark
 pub mod Progress
 pub mod Sent
 pub mod Texts

@@ -12,6 +12,7 @@ use Rattle.csv.proofs.ReadFacts.{feeds-push}
 use Rattle.files.specs.declared.span.Span.{Span}
 use Rattle.files.specs.Span.{part, parts, record_size}
 use Rattle.files.specs.declared.line.Mark.TheVariants as mark
+use Rattle.files.specs.Marks.{IsNextMark}
 use Rattle.files.specs.Line.{BeginsRecord, IsMark, IsBetween, IsOpen, IsWhole, is_in_record}
 
 -- where a line stands at a place, whose field begins there
@@ -97,6 +98,25 @@ so_far_plain bytes spans from to h inside stepped =
       fed = rw (in_field_next from to h.ordered, field_next bytes from to h.ordered inside, take_more bytes to 0 inside) fed;
       size = h.size;
     }
+
+-- bytes above a comma join the field
+so_far_run : (bytes : List ℕ) (spans : List Span) (from at n to : ℕ) → at + n ≡ to → to ≤ length bytes → ((k : ℕ) → at ≤ k → k < to → 44 < get_or bytes k 0)
+    → IsCutSoFar bytes spans from at → IsCutSoFar bytes spans from to
+so_far_run bytes spans from at zero to e inside plain h =
+    let same : at ≡ to = omega arith in
+    rw same at h
+so_far_run bytes spans from at (suc n) to e inside plain h =
+    let last : at + n + 1 ≡ to = omega arith in
+    let above = plain (at + n) (omega arith) (omega arith) in
+    let before = so_far_run bytes spans from at n (at + n) refl (omega arith) (λ k low high. plain k low (omega arith)) h in
+    rw last at (so_far_plain bytes spans from (at + n) before (omega arith)
+    (plain_step from (at + n) (get_or bytes (at + n) 0) (λ e. absurd (omega arith)) (λ e. absurd (omega arith)) (λ e. absurd (omega arith)) (λ e. absurd (omega arith))))
+
+-- up to the next mark nothing ends
+pub so_far_marks : (bytes : List ℕ) (spans : List Span) (from at to : ℕ) → IsCutSoFar bytes spans from at → IsNextMark bytes at (length bytes) to → IsCutSoFar bytes spans from to
+so_far_marks bytes spans from at to h next =
+    let low = next.low in
+    so_far_run bytes spans from at (to - at) to (omega arith) next.high next.plain h
 
 pub so_far_comma : (bytes : List ℕ) (spans : List Span) (from to : ℕ) → IsCutSoFar bytes spans from to → to < length bytes
     → get_or bytes to 0 ≡ 44 → IsCutSoFar bytes (spans ++ (record { from = from; to = to } ∷ [])) (to + 1) (to + 1)

@@ -11,6 +11,7 @@ pub mod Window
 pub mod Source
 pub mod Span
 pub mod Line
+pub mod Marks
 pub mod ByteOrder
 pub mod Unquoted
 pub mod FieldRead

@@ -6,6 +6,7 @@ mod fault;
 mod fields;
 mod input;
 mod line;
+mod marks;
 mod moment;
 mod new_record;
 mod numbers;

@@ -1,6 +1,7 @@
 ghost use Rattle.std.specs.Prelude.{◌≡◌, ◌∷◌, [], ◌++◌, IfOk, OnOk};
 ghost use Rattle.files.specs.Line.{BeginsRecord, IsCut, IsMark};
 
+use crate::marks::next_mark;
 use crate::span::Span;
 use std::alloc::AllocError;
 
@@ -23,8 +24,9 @@ pub fn cut_line(bytes: &[u8], spans: &mut Vec<Span>) -> Result<Line, AllocError>
 {
     spans.clear();
     let mut from = 0;
-    for (to, &byte) in bytes.iter().enumerate() {
-        match mark_of(byte) {
+    let mut to = next_mark(bytes, 0);
+    while to < bytes.len() {
+        match mark_of(bytes[to]) {
             Mark::Plain => {}
             Mark::Comma => {
                 add(spans, from, to)?;
@@ -36,6 +38,7 @@ pub fn cut_line(bytes: &[u8], spans: &mut Vec<Span>) -> Result<Line, AllocError>
             }
             Mark::Quote => return Ok(Line::Quoted),
         }
+        to = next_mark(bytes, to + 1);
     }
     Ok(Line::Open(from))
 }
@@ -51,9 +54,6 @@ enum Mark {
 fn mark_of(byte: u8) -> Mark
     ensures { IsMark byte result }
 {
-    if byte > b',' {
-        return Mark::Plain;
-    }
     match byte {
         b',' => Mark::Comma,
         b'\n' | b'\r' => Mark::LineEnd,
