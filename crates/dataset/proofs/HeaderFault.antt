@@ -20,7 +20,7 @@ use Rattle.files.specs.KindsRead.{word_read}
 use Rattle.files.specs.Place.{FirstIsTooLong, file_fault}
 use Rattle.files.specs.Span.{record_size}
 use Rattle.files.specs.Taken.{fault_of, fields_left}
-use Rattle.files.proofs.Ascii.{utf8_words}
+use Rattle.rows.proofs.Ascii.{utf8_words}
 use Rattle.std.specs.Prelude.{MatchOption}
 use Rattle.dataset.specs.declared.loader.Loader.{Loader}
 use Rattle.dataset.specs.Loading.{HasLoaded}

@@ -9,7 +9,7 @@ use Rattle.files.specs.declared.fields.Fields.{Fields}
 use Rattle.files.specs.FieldRead.{Taking, taking, field_read, next_read}
 use Rattle.files.specs.KindsRead.{word_read}
 use Rattle.files.specs.Taken.{Takes, fault_of, fields_left, with_fault}
-use Rattle.files.proofs.Ascii.{utf8_words}
+use Rattle.rows.proofs.Ascii.{utf8_words}
 use Rattle.files.proofs.Unlike.{other}
 use Rattle.files.proofs.KindsRead.{word_is, no_word}
 use Rattle.dataset.specs.declared.loader.Loader.{Loader}

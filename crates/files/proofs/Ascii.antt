@@ -1,5 +1,5 @@
 -- What is spelt in a file is ASCII, and so it is text.
-use Rattle.std.proofs.Common.{Ok, length, suc, neg_ℤ, ◌≤ℤ◌, ◌≡◌, ◌<◌, ◌/◌, ◌%◌, ◌+◌, ◌&&◌, ◌^◌, ℕ, ℤ, pos, negsuc, Bool, true, false, nat_le, None, List, [], ◌∷◌, ◌++◌, IsTrue, IsUtf8, codes, refl, sym, subst, arith}
+use Rattle.std.proofs.Common.{Ok, length, suc, neg_ℤ, ◌≤ℤ◌, ◌≡◌, ◌<◌, ◌/◌, ◌%◌, ◌+◌, ◌^◌, ℕ, ℤ, pos, negsuc, true, nat_le, None, List, [], ◌∷◌, ◌++◌, IsUtf8, codes, refl, sym, subst, arith}
 use Rattle.std.specs.Str.{IsAscii}
 use Rattle.std.specs.List.{list_all}
 use Rattle.std.specs.Fmt.{decimal, signed_decimal}
@@ -15,6 +15,7 @@ use Rattle.jiff_core.proofs.CalendarLemmas.{days_in_month_bounds}
 use Rattle.jiff_fmt.specs.Text.{pad2, pad4, year_text, date_text, time_text, fraction_part}
 use Rattle.amounts.specs.Money.{IsMoney}
 use Rattle.rows.specs.Text.{IsText, is_printable_byte}
+use Rattle.rows.proofs.Ascii.{ascii_words}
 use Rattle.rows.specs.declared.records.Credit.{Credit}
 use Rattle.rows.specs.declared.records.Credit.TheVariants.{Good, Bad}
 use Rattle.files.specs.MomentText.{IsMomentText}
@@ -31,27 +32,12 @@ small_money (negsuc n) m = let low = m.low in omega (arith, ints)
 pub utf8_money : (z : ℤ) → IsMoney z → IsUtf8 (signed_decimal z)
 utf8_money z m = IsUtf8-from_ascii (signed_decimal z) (IsAscii-signed z (small_money z m))
 
-first : (b c : Bool) → IsTrue (b && c) → IsTrue b
-first true c h = refl
-first false c h = h
-
-second : (b c : Bool) → IsTrue (b && c) → IsTrue c
-second true c h = h
-second false c h = absurd cc
-
-small_byte : (byte : ℕ) → IsTrue (is_printable_byte byte) → byte < 128
-small_byte byte h = grind (arith, nat_tests)
-
-ascii_text : (bytes : List ℕ) → IsTrue (list_all is_printable_byte bytes) → IsAscii bytes
-ascii_text [] h = IsAscii-nil
-ascii_text (byte ∷ bytes) h = IsAscii-cons byte bytes (small_byte byte (first _ _ h)) (ascii_text bytes (second _ _ h))
-
 pub utf8_text : (width : ℕ) (bytes : List ℕ) → IsText width bytes → IsUtf8 bytes
-utf8_text width bytes h = IsUtf8-from_ascii bytes (ascii_text bytes h.printable)
+utf8_text width bytes h = IsUtf8-from_ascii bytes (ascii_words bytes h.printable)
 
 pub utf8_credit : (credit : Credit) → IsUtf8 (credit_text credit)
-utf8_credit Good = IsUtf8-from_ascii (codes "GC") (ascii_text (codes "GC") refl)
-utf8_credit Bad = IsUtf8-from_ascii (codes "BC") (ascii_text (codes "BC") refl)
+utf8_credit Good = IsUtf8-from_ascii (codes "GC") (ascii_words (codes "GC") refl)
+utf8_credit Bad = IsUtf8-from_ascii (codes "BC") (ascii_words (codes "BC") refl)
 
 -- ---- moments
 
@@ -67,7 +53,7 @@ ascii_dash = IsAscii-cons 45 [] (omega arith) IsAscii-nil
 -- the first year that can be is 9999 before 0, and the last one 9999
 ascii_year : (y : ℤ) → neg_ℤ (pos 9999) ≤ℤ y → y ≤ℤ pos 9999 → IsAscii (year_text y)
 ascii_year (pos n) low high = ascii_pad4 n (omega (arith, ints))
-ascii_year (negsuc n) low high = IsAscii-append (codes "-00") (pad4 (suc n)) (ascii_text (codes "-00") refl) (ascii_pad4 (suc n) (omega (arith, ints)))
+ascii_year (negsuc n) low high = IsAscii-append (codes "-00") (pad4 (suc n)) (ascii_words (codes "-00") refl) (ascii_pad4 (suc n) (omega (arith, ints)))
 
 ascii_date : (d : Date) → IsAscii (date_text d)
 ascii_date d =
@@ -103,6 +89,3 @@ text_is_read width text h =
     let printable : list_all is_printable_byte text ≡ true = h.printable in
     let fits : nat_le (length text) width ≡ true = let f = h.fits in grind (arith, nat_tests) in
     rw (printable, fits) refl
-
-pub utf8_words : (bytes : List ℕ) → IsTrue (list_all is_printable_byte bytes) → IsUtf8 bytes
-utf8_words bytes h = IsUtf8-from_ascii bytes (ascii_text bytes h)

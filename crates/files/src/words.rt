@@ -1,58 +1,28 @@
-ghost use Rattle.std.specs.Prelude.{◌≡◌, ◌↔◌, ◌⊎◌, codes, IfErr, IsTrue};
-ghost use Rattle.std.specs.List.{list_all};
-ghost use Rattle.rows.specs.Text.{is_printable_byte};
+ghost use Rattle.std.specs.Prelude.{◌≡◌, ◌↔◌, ◌⊎◌, codes, IfErr};
 ghost use Rattle.files.specs.Word.{credit_text, text_read};
 ghost use Rattle.files.specs.KindsRead.{credit_read};
 
 use crate::FaultKind;
-use rows::{Credit, Text, TextFault};
-use std::str::{from_utf8, from_utf8_unchecked};
+use rows::{Credit, Text, TextFault, is_printable};
+use std::str::from_utf8;
 
 /// The text of at most `WIDTH` bytes: `NotOfKind` where a byte is not printable ASCII (32 to 126), else
 /// `OutOfRange` where the field is too long.
 pub fn parse_text<const WIDTH: usize>(field: &str) -> Result<Text<WIDTH>, FaultKind>
     ensures { result ≡ text_read WIDTH field.now }
 {
-    match Text::parse(field) {
+    read_text(field.as_bytes())
+}
+
+/// The same of the bytes of a field.
+pub(crate) fn read_text<const WIDTH: usize>(field: &[u8]) -> Result<Text<WIDTH>, FaultKind>
+    ensures { result ≡ text_read WIDTH field.now }
+{
+    match Text::from_bytes(field) {
         Ok(text) => Ok(text),
         Err(TextFault::Byte) => Err(FaultKind::NotOfKind),
         Err(TextFault::Width) => Err(FaultKind::OutOfRange),
     }
-}
-
-/// The same of the bytes of a field, which are looked at once.
-pub(crate) fn read_text<const WIDTH: usize>(field: &[u8]) -> Result<Text<WIDTH>, FaultKind>
-    ensures { result ≡ text_read WIDTH field.now }
-{
-    if !is_printable(field) {
-        return Err(FaultKind::NotOfKind);
-    }
-    if field.len() > WIDTH {
-        return Err(FaultKind::OutOfRange);
-    }
-    let mut text = Text::new();
-    text.push_fitting(ascii(field));
-    Ok(text)
-}
-
-// Whether each byte is printable ASCII. All are looked at, also behind one that isn't, so that many are at once.
-fn is_printable(bytes: &[u8]) -> bool
-    ensures { result ≡ list_all is_printable_byte bytes.now }
-{
-    let mut printable = true;
-    for byte in bytes {
-        printable = printable & (*byte >= 32) & (*byte <= 126);
-    }
-    printable
-}
-
-// Printable ASCII as text.
-fn ascii(bytes: &[u8]) -> &str
-    requires { IsTrue (list_all is_printable_byte bytes.now) }
-    ensures { result.now ≡ bytes.now }
-{
-    // SAFETY: ASCII is UTF-8.
-    unsafe { from_utf8_unchecked(bytes) }
 }
 
 /// Good for `GC` and bad for `BC`: `NotOfKind` where a byte is not printable ASCII, and `OutOfRange`

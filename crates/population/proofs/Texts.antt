@@ -1,6 +1,8 @@
 -- Parts of printable texts.
-use Rattle.std.proofs.Common.{◌≡◌, ℕ, zero, suc, ◌-◌, ◌&&◌, Bool, true, false, List, [], ◌∷◌, drop, refl}
+use Rattle.std.proofs.Common.{◌≡◌, ◌≤◌, ℕ, zero, suc, ◌-◌, ◌&&◌, Bool, true, false, Ok, List, [], ◌∷◌, drop, length, nat_le, refl, arith}
+use Rattle.std.proofs.lemmas.Bool.Decides.{nat_tests}
 use Rattle.std.specs.List.{list_all, slice_range}
+use Rattle.rows.specs.Text.{is_printable_byte, text_of}
 use Rattle.rows.proofs.Fitting.{list_all-take}
 
 list_all-drop : {X : Type 0} (p : X → Bool) (n : ℕ) (xs : List X) → list_all p xs ≡ true → list_all p (drop n xs) ≡ true
@@ -18,3 +20,9 @@ list_all-part p low high xs h = list_all-take p (high - low) (drop low xs) (list
 
 pub list_all-rest : {X : Type 0} (p : X → Bool) (low : ℕ) (xs : List X) → list_all p xs ≡ true → list_all p (drop low xs) ≡ true
 list_all-rest p low xs h = list_all-drop p low xs h
+
+-- what is printable and fits is a text
+pub fitting_is_text : (width : ℕ) (bytes : List ℕ) → list_all is_printable_byte bytes ≡ true → length bytes ≤ width → text_of width bytes ≡ Ok bytes
+fitting_is_text width bytes printable short =
+    let fits : nat_le (length bytes) width ≡ true = grind (arith, nat_tests) in
+    rw (printable, fits) refl

@@ -8,11 +8,11 @@ ghost use Rattle.number_draws.specs.Draws.{random_of};
 use number_draws::NumberDraws;
 use schema::{Address, Text};
 
-const DIGITS: &str = "0123456789";
+const DIGITS: &[u8] = b"0123456789";
 
-const LETTERS: &str = "ABCDEFGHIJKLMNOPQRSTUVWXYZ";
+const LETTERS: &[u8] = b"ABCDEFGHIJKLMNOPQRSTUVWXYZ";
 
-const DIGITS_AND_LETTERS: &str = "0123456789ABCDEFGHIJKLMNOPQRSTUVWXYZabcdefghijklmnopqrstuvwxyz";
+const DIGITS_AND_LETTERS: &[u8] = b"0123456789ABCDEFGHIJKLMNOPQRSTUVWXYZabcdefghijklmnopqrstuvwxyz";
 
 const ORIGINAL: &str = "ORIGINAL";
 
@@ -127,29 +127,31 @@ impl Draws {
         original
     }
 
-    // That many characters of the alphabet; what doesn't fit falls off.
-    fn characters<const WIDTH: usize>(&mut self, count: u32, alphabet: &str) -> Text<WIDTH>
+    // That many characters of the alphabet, or as many as fit.
+    fn characters<const WIDTH: usize>(&mut self, count: u32, alphabet: &[u8]) -> Text<WIDTH>
         requires some { 0 < length alphabet.now }
         requires short { length alphabet.now < 2 ^ 32 }
         requires printable { IsTrue (list_all is_printable_byte alphabet.now) }
         ensures { count ≤ WIDTH → length result ≡ count }
     {
-        let mut text = Text::new();
-        for _ in 0..count {
-            text.push_fitting(self.character(alphabet));
+        let count = WIDTH.min(count as usize);
+        let mut bytes = [b' '; WIDTH];
+        for place in 0..count {
+            bytes[place] = self.character(alphabet);
         }
-        text
+        match Text::from_bytes(&bytes[..count]) {
+            Ok(text) => text,
+            Err(_) => Text::new(),
+        }
     }
 
-    // One character of the alphabet, by itself.
-    fn character<'a>(&mut self, alphabet: &'a str) -> &'a str
+    // One character of the alphabet.
+    fn character(&mut self, alphabet: &[u8]) -> u8
         requires some { 0 < length alphabet.now }
         requires short { length alphabet.now < 2 ^ 32 }
         requires printable { IsTrue (list_all is_printable_byte alphabet.now) }
-        ensures one { length result.now ≡ 1 }
-        ensures printable { IsTrue (list_all is_printable_byte result.now) }
+        ensures { IsTrue (is_printable_byte result) }
     {
-        let place = self.random(0, alphabet.len() as u32 - 1) as usize;
-        &alphabet[place..place + 1]
+        alphabet[self.random(0, alphabet.len() as u32 - 1) as usize]
     }
 }

@@ -1,3 +1,4 @@
+pub mod Ascii
 pub mod Arrays
 pub mod Fitting
 pub mod Decimals

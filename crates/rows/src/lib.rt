@@ -26,4 +26,4 @@ pub use records::{
 };
 pub use std::alloc::AllocError as NoMemory;
 pub use stock_rules::{BrandGeneric, brand, has_original_is_exact, restock, restocked_is_the_one};
-pub use text::{Text, TextFault};
+pub use text::{Text, TextFault, is_printable};

@@ -6,6 +6,7 @@ ghost use Rattle.rows.specs.Text.{IsText, is_printable_byte, text_of};
 
 use arrayvec::ArrayString;
 use std::marker::Model;
+use std::str::from_utf8_unchecked;
 
 /// Why words are no text of a column.
 #[derive(Clone, Copy, Debug, PartialEq, Eq)]
@@ -49,14 +50,21 @@ impl<const WIDTH: usize> Text<WIDTH> {
     pub fn parse(words: &str) -> Result<Self, TextFault>
         ensures { result ≡ text_of WIDTH words.now }
     {
-        if !is_printable(words) {
+        Text::from_bytes(words.as_bytes())
+    }
+
+    /// The same of bytes.
+    pub fn from_bytes(bytes: &[u8]) -> Result<Self, TextFault>
+        ensures { result ≡ text_of WIDTH bytes.now }
+    {
+        if !is_printable(bytes) {
             return Err(TextFault::Byte);
         }
-        if words.len() > WIDTH {
+        if bytes.len() > WIDTH {
             return Err(TextFault::Width);
         }
         let mut string = ArrayString::new();
-        string.push_str(words);
+        string.push_str(ascii(bytes));
         Ok(Text { string })
     }
 
@@ -112,9 +120,23 @@ impl<const WIDTH: usize> Eq for Text<WIDTH> {
     ghost laws = { nat_list_eq_equiv };
 }
 
-// Whether each byte is printable ASCII.
-fn is_printable(words: &str) -> bool
-    ensures { result ≡ list_all is_printable_byte words.now }
+/// Whether each byte is printable ASCII. All are looked at, also behind one that isn't, so that many are
+/// at once.
+pub fn is_printable(bytes: &[u8]) -> bool
+    ensures { result ≡ list_all is_printable_byte bytes.now }
 {
-    words.bytes().all(|byte| byte >= 32 && byte <= 126)
+    let mut printable = true;
+    for byte in bytes {
+        printable = printable & (*byte >= 32) & (*byte <= 126);
+    }
+    printable
+}
+
+// Printable ASCII as text.
+fn ascii(bytes: &[u8]) -> &str
+    requires { IsTrue (list_all is_printable_byte bytes.now) }
+    ensures { result.now ≡ bytes.now }
+{
+    // SAFETY: ASCII is UTF-8.
+    unsafe { from_utf8_unchecked(bytes) }
 }

@@ -10,7 +10,8 @@ use Rattle.files.specs.Columns.{Count, at_end, found, take_column, take_columns,
 use Rattle.files.specs.FieldRead.{Taking, value_or, whole_read}
 use Rattle.files.specs.Number.{is_number}
 use Rattle.files.specs.Place.{IsKept}
-use Rattle.files.proofs.Ascii.{utf8_number, utf8_words}
+use Rattle.files.proofs.Ascii.{utf8_number}
+use Rattle.rows.proofs.Ascii.{utf8_words}
 use Rattle.files.proofs.KindsRead.{count_complete, whole_complete}
 use Rattle.files.proofs.Numerals.{is_number-decimal}
 use Rattle.commit_log.specs.declared.entry.Entry.{Entry}

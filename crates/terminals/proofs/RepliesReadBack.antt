@@ -8,7 +8,7 @@ use Rattle.rows.specs.declared.stock_rules.BrandGeneric.TheVariants.{Brand, Gene
 use Rattle.files.specs.Columns.{Cents, Column, Credit, MaybeWhole, Moment, Spelt, Whole, Words, take_columns}
 use Rattle.files.specs.FieldRead.{Taking}
 use Rattle.files.specs.Word.{credit_text}
-use Rattle.files.proofs.Ascii.{utf8_words}
+use Rattle.rows.proofs.Ascii.{utf8_words}
 use Rattle.files.proofs.Numerals.{some_digits}
 use Rattle.requests.specs.declared.new_order.NewOrderLine.{NewOrderLine}
 use Rattle.requests.specs.declared.order_status.StatusLine.{StatusLine}

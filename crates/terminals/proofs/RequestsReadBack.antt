@@ -4,7 +4,7 @@ use Rattle.std.specs.Fmt.{decimal}
 use Rattle.std.specs.Str.{bytes_eq}
 use Rattle.std.proofs.lemmas.List.{append-nil, length-append}
 use Rattle.files.specs.Columns.{Column, Moment, take_columns}
-use Rattle.files.proofs.Ascii.{utf8_words}
+use Rattle.rows.proofs.Ascii.{utf8_words}
 use Rattle.requests.specs.declared.request.Request.{Request}
 use Rattle.requests.specs.declared.request.Request.TheVariants.{NewOrder, Payment, OrderStatus, Delivery, StockLevel}
 use Rattle.requests.specs.declared.new_order.OrderedLine.{OrderedLine}

@@ -3,7 +3,7 @@ use Rattle.std.specs.List.{list_all}
 use Rattle.std.specs.Str.{bytes_eq}
 use Rattle.std.specs.Cmp.Lexicographic.{bytes_decides}
 use Rattle.rows.specs.Text.{is_printable_byte}
-use Rattle.files.proofs.Ascii.{utf8_words}
+use Rattle.rows.proofs.Ascii.{utf8_words}
 use Rattle.files.proofs.Unlike.{false_unless}
 use Rattle.files.proofs.words.read_credit.Goals as goal
 

@@ -3,7 +3,7 @@ use Rattle.std.proofs.Common.{MatchResult}
 use Rattle.files.specs.FieldRead.{noted}
 use Rattle.files.specs.KindsRead.{word_read}
 use Rattle.files.specs.Taken.{fields_left, fault_of}
-use Rattle.files.proofs.Ascii.{utf8_words}
+use Rattle.rows.proofs.Ascii.{utf8_words}
 use Rattle.files.proofs.FieldsRead.{Stands, field_is}
 use Rattle.files.proofs.KindsRead.{word_is, no_word}
 use Rattle.files.proofs.fields.Fields.word.Goals as goal

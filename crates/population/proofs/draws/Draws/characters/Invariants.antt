@@ -1,5 +1,7 @@
-use Rattle.std.proofs.Common.{◌≡◌, ◌≤◌, length}
+use Rattle.std.proofs.Common.{◌≡◌, true}
+use Rattle.std.specs.List.{All}
+use Rattle.rows.specs.Text.{is_printable_byte}
 use Rattle.population.proofs.draws.Draws.characters.Given as goal
 
-abbrev pub invariant-loop : goal.invariant-loop
-invariant-loop g l = l.count ≤ g.row.WIDTH → length l.text ≡ l.counter
+abbrev pub invariant-loop-place : goal.invariant-loop-place
+invariant-loop-place g l = All (λ byte. is_printable_byte byte ≡ true) l.bytes

@@ -2,7 +2,7 @@ use Rattle.std.proofs.Common.{arith}
 use Rattle.std.proofs.lemmas.Grind.{common_steps}
 use Rattle.std.proofs.lemmas.List.Folds.{list_all_more}
 use Rattle.rows.specs.Text.{is_printable_byte}
-use Rattle.files.proofs.words.is_printable.Goals as goal
+use Rattle.rows.proofs.text.is_printable.Goals as goal
 
 pub loop-byte-preserved : goal.loop-byte-preserved
 loop-byte-preserved c =
