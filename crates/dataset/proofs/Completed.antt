@@ -120,7 +120,7 @@ module _ (scale : Scale) (has opened : TableRows) (last : Place) (records : List
       let histories = same_entries_map (from_entries (zip (district_keys scale) opened.histories.items)) t.histories (dense districts_total (district_keys scale) opened.histories.items (sorted-district_keys scale) lists_even ∙ same_histories) in
       let orders = ordered_is orders_total t.orders has.orders.entries (orders_are h ∙ ap (entries_in get_order) all ∙ all_orders t) in
       let new_orders = ordered_is orders_total t.new_orders has.new_orders.entries (new_orders_are h ∙ ap (entries_in get_new_order) all ∙ all_new_orders t) in
-      let lines = ordered_is lines_total t.lines has.lines.entries (lines_are h ∙ ap (entries_in get_line) all ∙ all_lines t) in
+      let lines = ordered_is lines_total t.lines has.lines (lines_are h ∙ ap (entries_in get_line) all ∙ all_lines t) in
       λ i. record {
         scale = same_scale i;
         items = items i;

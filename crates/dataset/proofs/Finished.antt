@@ -153,9 +153,9 @@ new_order_step : (scale : Scale) (row : TableRow) (old mid : TableRows) → Adds
 new_order_step scale (OfNewOrder key x) old mid add = add.1
 new_order_step scale row old mid add = ap (λ (r : TableRows). r.new_orders.entries) add.0
 
-line_step : (scale : Scale) (row : TableRow) (old mid : TableRows) → AddsRow scale row old mid → Inserted line_cmp (get_line row) old.lines.entries mid.lines.entries
+line_step : (scale : Scale) (row : TableRow) (old mid : TableRows) → AddsRow scale row old mid → Inserted line_cmp (get_line row) old.lines mid.lines
 line_step scale (OfLine key x) old mid add = add.1
-line_step scale row old mid add = ap (λ (r : TableRows). r.lines.entries) add.0
+line_step scale row old mid add = ap (λ (r : TableRows). r.lines) add.0
 
 units : {X : Type 0} (xs : List X) → AllByRecursion (λ _. Unit {0}) xs
 units [] = tt
@@ -225,8 +225,8 @@ module _ {scale : Scale} {has : TableRows} {last : Place} {records : List (List 
   pub new_orders_are : has.new_orders.entries ≡ entries_in get_new_order rows
   new_orders_are = ordered_has OfNewOrder get_new_order 8 order_cmp is_new_order new_orders_rise orders_total (λ r. r.new_orders.entries) (new_order_step scale) h.are_none.new_orders
 
-  pub lines_are : has.lines.entries ≡ entries_in get_line rows
-  lines_are = ordered_has OfLine get_line 9 line_cmp is_line lines_rise lines_total (λ r. r.lines.entries) (line_step scale) h.are_none.lines
+  pub lines_are : has.lines ≡ entries_in get_line rows
+  lines_are = ordered_has OfLine get_line 9 line_cmp is_line lines_rise lines_total (λ r. r.lines) (line_step scale) h.are_none.lines
 
   pub paid : PaysAll scale rows [] has.histories.items
   paid =
@@ -276,7 +276,7 @@ module _ (scale : Scale) (has opened : TableRows) (last : Place) (records : List
       ∷ payments i
       ∷ part_is OfOrder get_order 7 order_fields is_order (λ k x. refl) rows has.orders.entries (sym (orders_are h)) i
       ∷ part_is OfNewOrder get_new_order 8 new_order_fields is_new_order (λ k x. refl) rows has.new_orders.entries (sym (new_orders_are h)) i
-      ∷ part_is OfLine get_line 9 line_fields is_line (λ k x. refl) rows has.lines.entries (sym (lines_are h)) i ∷ [])
+      ∷ part_is OfLine get_line 9 line_fields is_line (λ k x. refl) rows has.lines (sym (lines_are h)) i ∷ [])
 
   counts_opened : count_fields has ≡ count_fields (record has { histories = opened.histories })
   counts_opened =
@@ -284,7 +284,7 @@ module _ (scale : Scale) (has opened : TableRows) (last : Place) (records : List
       sym (counts-opened has.histories.items opens.opened opens.are_empty) ∙ ap (λ lists. sum (map length lists)) (sym opens.more) in
       λ i. Words (codes "END") ∷ Number (length has.items.items) ∷ Number (length has.warehouses.items) ∷ Number (length has.districts.items)
       ∷ Number (length has.stocks.items) ∷ Number (length has.customers.items) ∷ Number (paid i) ∷ Number (length has.orders.entries)
-      ∷ Number (length has.new_orders.entries) ∷ Number (length has.lines.entries) ∷ []
+      ∷ Number (length has.new_orders.entries) ∷ Number (length has.lines) ∷ []
 
   pub all_recorded : (header end : List (List ℕ)) → AreSpelt (header_fields scale) header → AreSpelt (count_fields has) end
       → AreRecords (database scale (record has { histories = opened.histories })) ((header ∷ records) ++ (end ∷ []))

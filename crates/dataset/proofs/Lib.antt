@@ -2,6 +2,7 @@ pub mod Keys
 pub mod Texts
 pub mod Lists
 pub mod Written
+pub mod EntriesGiven
 pub mod Tables
 pub mod TablesPut
 pub mod Order

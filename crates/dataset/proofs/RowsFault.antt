@@ -158,7 +158,7 @@ module _ (l : Loader) (header : List (List ℕ)) (records : List (List (List ℕ
       ∷ paid_count i
       ∷ ordered_counted OfOrder get_order Orders is_order l.rows.orders.entries (orders_are h) i
       ∷ ordered_counted OfNewOrder get_new_order NewOrders is_new_order l.rows.new_orders.entries (new_orders_are h) i
-      ∷ ordered_counted OfLine get_line Lines is_line l.rows.lines.entries (lines_are h) i ∷ []
+      ∷ ordered_counted OfLine get_line Lines is_line l.rows.lines (lines_are h) i ∷ []
 
 pub counts_loaded : (l : Loader) (read : List (List (List ℕ))) → HasLoaded l read → table_counts l.rows ≡ counts read
 counts_loaded l read h = all_counted l h.header h.records (rows_read (sizes l.scale) h.records) h.is_spelt h.rows ∙ ap counts (sym h.are)

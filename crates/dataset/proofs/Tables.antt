@@ -2,6 +2,7 @@
 use Rattle.std.proofs.Common.{◌≡◌, ℕ, ◌+◌, ◌≤◌, List, [], ◌∷◌, ◌++◌, map, length, sum, codes, refl, sym, ap, subst, ◌∙◌, arith}
 use Rattle.std.specs.List.{zip, flat_map, AllZip}
 use Rattle.std.specs.List.Sorted.{IsStrictlySortedBy}
+use Rattle.std.specs.Map.{keys_of}
 use Rattle.std.specs.BTreeMap.{IsOrdered}
 use Rattle.std.specs.declared.cmp.Ordering.{Ordering}
 use Rattle.std.specs.Cmp.{IsTotalOrder, nat_cmp_total}
@@ -75,7 +76,7 @@ module _ (scale : Scale) (rows : TableRows) where
   -- the records of these rows, table by table
   abbrev pub rows_by_table : List (List (List Field))
   rows_by_table =
-      dense_then (row_records order_fields rows.orders.entries ∷ row_records new_order_fields rows.new_orders.entries ∷ row_records line_fields rows.lines.entries ∷ [])
+      dense_then (row_records order_fields rows.orders.entries ∷ row_records new_order_fields rows.new_orders.entries ∷ row_records line_fields rows.lines ∷ [])
 
   -- the records of the three other tables, by ascending keys
   abbrev pub ordered_by_table : List (List (List Field))
@@ -138,7 +139,7 @@ module _ (scale : Scale) (rows : TableRows) where
         ∷ Number (length-payments (district_keys scale) rows.histories.items history_count i)
         ∷ Number (length-map rows.orders.entries (λ e. order_fields e.0 e.1) i)
         ∷ Number (length-map rows.new_orders.entries (λ e. new_order_fields e.0 e.1) i)
-        ∷ Number (length-map rows.lines.entries (λ e. line_fields e.0 e.1) i) ∷ []
+        ∷ Number (length-map rows.lines (λ e. line_fields e.0 e.1) i) ∷ []
 
     sorted : records_by_table (database scale rows) ≡ sorted_by_table
     unfolding records_by_table
@@ -156,14 +157,14 @@ module _ (scale : Scale) (rows : TableRows) where
     unfolding records
     records-sorted = ap (λ parts. (header_fields scale ∷ []) ++ (flat_map (λ part. part) parts ++ (end_fields (records_by_table (database scale rows)) ∷ []))) sorted
 
-    module _ (orders : IsOrdered order_cmp rows.orders) (new_orders : IsOrdered order_cmp rows.new_orders) (lines : IsOrdered line_cmp rows.lines) where
+    module _ (orders : IsOrdered order_cmp rows.orders) (new_orders : IsOrdered order_cmp rows.new_orders) (lines : IsStrictlySortedBy line_cmp (keys_of rows.lines)) where
       by_table : records_by_table (database scale rows) ≡ rows_by_table
       by_table =
           sorted
           ∙ ap dense_then (λ i.
           row_records order_fields (entries-ordered orders_total rows.orders.entries orders i)
           ∷ row_records new_order_fields (entries-ordered orders_total rows.new_orders.entries new_orders i)
-          ∷ row_records line_fields (entries-ordered lines_total rows.lines.entries lines i) ∷ [])
+          ∷ row_records line_fields (entries-ordered lines_total rows.lines lines i) ∷ [])
 
       -- the end is that of the rows
       pub end-counts : end_fields (records_by_table (database scale rows)) ≡ count_fields rows

@@ -1,5 +1,6 @@
 pub mod Records
 pub mod Writing
+pub mod Entries
 pub mod Payments
 pub mod Order
 pub mod Loading

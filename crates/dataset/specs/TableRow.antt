@@ -209,7 +209,7 @@ AddsRow scale (OfCustomer key row) old new = (new ≡ record old { customers = n
 AddsRow scale (OfHistory key row) old new = (new ≡ record old { histories = new.histories }) × Pays (district_slot scale key) row old.histories.items new.histories.items
 AddsRow scale (OfOrder key row) old new = (new ≡ record old { orders = new.orders }) × (new.orders.entries ≡ insert_entry order_cmp old.orders.entries key row)
 AddsRow scale (OfNewOrder key row) old new = (new ≡ record old { new_orders = new.new_orders }) × (new.new_orders.entries ≡ insert_entry order_cmp old.new_orders.entries key row)
-AddsRow scale (OfLine key row) old new = (new ≡ record old { lines = new.lines }) × (new.lines.entries ≡ insert_entry line_cmp old.lines.entries key row)
+AddsRow scale (OfLine key row) old new = (new ≡ record old { lines = new.lines }) × (new.lines ≡ insert_entry line_cmp old.lines key row)
 
 -- the loader has the row more, and stands where its record does
 pub record IsAdded (row : TableRow) (l m : Loader) : Type 0 where

@@ -17,7 +17,7 @@ abbrev pub table_counts : TableRows → List ℕ
 table_counts rows =
     length rows.items.items ∷ length rows.warehouses.items ∷ length rows.districts.items ∷ length rows.stocks.items
     ∷ length rows.customers.items ∷ sum (map length rows.histories.items) ∷ length rows.orders.entries
-    ∷ length rows.new_orders.entries ∷ length rows.lines.entries ∷ []
+    ∷ length rows.new_orders.entries ∷ length rows.lines ∷ []
 
 -- as fields
 abbrev pub row_counts : TableRows → List Field

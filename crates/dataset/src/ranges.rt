@@ -1,17 +1,19 @@
 //! The ranges of the columns, which the types of rows keep: functions that read each column, and
 //! change nothing.
 ghost use Rattle.std.specs.Prelude.{◌≡◌, ℕ, List, IfSome, map};
+ghost use Rattle.std.specs.Iterator.{IsFinite};
 ghost use Rattle.std.specs.List.{AllByRecursion};
 ghost use Rattle.std.specs.Map.{values_of};
 ghost use Rattle.rows.specs.Text.{IsText};
 ghost use Rattle.files.specs.MomentText.{IsMoment};
+ghost use Rattle.dataset.specs.Entries.{GivesEntries};
 ghost use Rattle.dataset.specs.Ranges.{AddressInRange, CustomerInRange, DistrictInRange, HistoryInRange, InRange, IsFrom, ItemInRange, LineInRange, OrderInRange, StockInRange, WarehouseInRange};
 
 use rows::{
     Address, CarrierId, Customer, District, History, Item, Moment, Order, OrderLine, Stock, Text,
     Warehouse,
 };
-use schema::{Entries, HistoryList, Tables};
+use schema::{HistoryList, Tables};
 
 /// A row, or a list of them, whose columns have ranges.
 trait Columns {
@@ -45,8 +47,10 @@ fn read_each<T: Columns>(rows: &[T])
     }
 }
 
-fn read_values<K: Copy + Drop, T: Columns>(rows: Entries<'_, K, T>)
-    ensures { AllByRecursion T.in_range (values_of rows.entry) }
+fn read_values<'a, K: Drop, T: Columns + 'a, I: Iterator<Item = (K, &'a T)> + Drop>(rows: I)
+    requires can { I.can_next rows }
+    requires ends { IsFinite (I.remaining rows) }
+    ensures { (left : I → List (K × T)) → GivesEntries I.next_gives left → AllByRecursion T.in_range (values_of (left rows)) }
 {
     for (_, row) in rows {
         row.read();

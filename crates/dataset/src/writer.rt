@@ -1,17 +1,17 @@
 ghost use Rattle.std.specs.Prelude.{◌≤◌, ℕ, List, length, IfErr, OnErr, OnOk};
+ghost use Rattle.std.specs.Iterator.{IsFinite};
 ghost use Rattle.std.specs.List.{zip};
-ghost use Rattle.std.specs.BTreeMap.{IsOrdered};
 ghost use Rattle.files.specs.Failure.{IsOfWriting};
 ghost use Rattle.files.specs.Sending.{BeginsToWrite, Writes};
+ghost use Rattle.dataset.specs.Entries.{GivesEntries};
 ghost use Rattle.dataset.specs.Records.{AreFirstRecords, AreRecords, records, row_records};
 ghost use Rattle.dataset.specs.Writing.{Puts, StopsIn};
 
 use crate::recorded::{Dense, Recorded};
 use crate::{end, header, histories};
 use files::{FileError, NewRecord, RecordWriter};
-use schema::{Scale, Tables};
+use schema::{Entries, Scale, Tables};
 use std::alloc::Global;
-use std::collections::BTreeMap;
 use std::io::Write;
 
 /// Writes the dataset of the tables to the sink.
@@ -51,9 +51,11 @@ fn put_tables<W: Write>(
     write_dense(writer, sink, &mut out, scale, &rows.stocks)?;
     write_dense(writer, sink, &mut out, scale, &rows.customers)?;
     histories::write(writer, sink, &mut out, scale, &rows.histories)?;
-    write_ordered(writer, sink, &mut out, &rows.orders)?;
-    write_ordered(writer, sink, &mut out, &rows.new_orders)?;
-    write_ordered(writer, sink, &mut out, &rows.lines)?;
+    let orders = Entries::of_map(rows.orders.range(..));
+    write_ordered(writer, sink, &mut out, orders)?;
+    let new_orders = Entries::of_map(rows.new_orders.range(..));
+    write_ordered(writer, sink, &mut out, new_orders)?;
+    write_ordered(writer, sink, &mut out, rows.lines.entries())?;
     out.clear();
     end::put(&mut out, rows)?;
     writer.write(sink, &out)
@@ -80,21 +82,25 @@ fn write_dense<W: Write, K, T: Dense<K>>(
     Ok(())
 }
 
-// Writes the rows of a table that stand by their keys.
-fn write_ordered<W: Write, K: Ord + Copy, T: Recorded<K>>(
-    writer: &mut RecordWriter,
-    sink: &mut W,
-    out: &mut NewRecord,
-    rows: &BTreeMap<K, T>,
-) -> Result<(), FileError>
-    ensures written { OnOk result (Puts (W.contents sink.old) (W.contents sink.new) writer.old.text writer.new.text (row_records T.fields rows.now.entries)) }
-    ensures begun { OnErr result (StopsIn (W.contents sink.old) (W.contents sink.new) writer.old.text (row_records T.fields rows.now.entries)) }
-    ensures ordered { IsOrdered K.cmp rows.now }
+// Writes the rows of a table as they come with their keys.
+fn write_ordered<
+    'a,
+    W: Write,
+    K: Copy + Drop,
+    T: Recorded<K> + 'a,
+    I: Iterator<Item = (K, &'a T)> + Drop,
+>(writer: &mut RecordWriter, sink: &mut W, out: &mut NewRecord, rows: I) -> Result<(), FileError>
+    requires can { I.can_next rows }
+    requires ends { IsFinite (I.remaining rows) }
+    ensures written { (left : I → List (K × T)) → GivesEntries I.next_gives left
+        → OnOk result (Puts (W.contents sink.old) (W.contents sink.new) writer.old.text writer.new.text (row_records T.fields (left rows))) }
+    ensures begun { (left : I → List (K × T)) → GivesEntries I.next_gives left
+        → OnErr result (StopsIn (W.contents sink.old) (W.contents sink.new) writer.old.text (row_records T.fields (left rows))) }
     ensures failed { IfErr result IsOfWriting }
 {
-    for (key, row) in rows.iter() {
+    for (key, row) in rows {
         out.clear();
-        row.put(*key, out)?;
+        row.put(key, out)?;
         writer.write(sink, out)?;
     }
     Ok(())

@@ -7,6 +7,7 @@ pub mod NextMark
 pub mod Progress
 pub mod Sent
 pub mod Texts
+pub mod PlainRecords
 pub mod Ascii
 pub mod WindowBytes
 pub mod Lines

@@ -34,10 +34,7 @@ pub(crate) fn read_whole(field: &[u8], low: u64, high: u64) -> Result<u64, Fault
 {
     match short_number(field) {
         Some(number) => within(number, low, high),
-        None => match from_utf8(field) {
-            Ok(word) => parse_any(word, low, high),
-            Err(_) => Err(FaultKind::NotOfKind),
-        },
+        None => read_any(field, low, high),
     }
 }
 
@@ -82,18 +79,24 @@ fn digit_of(byte: u8) -> Option<u64>
     }
 }
 
-// The number that a field of any length spells.
-fn parse_any(field: &str, low: u64, high: u64) -> Result<u64, FaultKind>
+// The number that a field of any length spells. It stands apart so that short numbers, which nearly all are,
+// are read without what only this needs.
+#[cold]
+#[inline(never)]
+fn read_any(field: &[u8], low: u64, high: u64) -> Result<u64, FaultKind>
     ensures value { IfOk result (λ number. decimal number ≡ field.now) }
     ensures range { IfOk result (λ number. (low ≤ number) × (number ≤ high)) }
     ensures reads { (number : ℕ) → decimal number ≡ field.now → low ≤ number → number ≤ high → result ≡ Ok number }
     ensures not_of_kind { (result ≡ Err FaultKind.NotOfKind) ↔ (is_number field.now ≡ false) }
     ensures faults { IfErr result (λ kind. (kind ≡ FaultKind.NotOfKind) ⊎ (kind ≡ FaultKind.OutOfRange)) }
 {
-    if !is_number(field.as_bytes()) {
+    if !is_number(field) {
         return Err(FaultKind::NotOfKind);
     }
-    match field.parse::<u64>() {
+    let Ok(word) = from_utf8(field) else {
+        return Err(FaultKind::NotOfKind);
+    };
+    match word.parse::<u64>() {
         Ok(number) => within(number, low, high),
         Err(_) => Err(FaultKind::OutOfRange),
     }

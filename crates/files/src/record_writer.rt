@@ -1,11 +1,13 @@
-ghost use Rattle.std.specs.Prelude.{◌≡◌, ◌⊎◌, ◌+◌, ◌-◌, ◌^◌, ◌<◌, ◌++◌, [], Some, IfOk, IfErr, OnOk, OnErr};
-ghost use Rattle.csv.specs.Writing.{text_written, writer_pending, writer_under};
+ghost use Rattle.std.specs.Prelude.{◌≡◌, ◌⊎◌, ◌+◌, ◌-◌, ◌^◌, ◌<◌, ◌++◌, [], false, length, IfOk, IfErr, OnOk, OnErr};
+ghost use Rattle.csv.specs.Records.{fields_of, text_of};
+ghost use Rattle.csv.specs.Writing.{needs_quotes};
 ghost use Rattle.files.specs.Failure.{IsOfWriting};
 ghost use Rattle.files.specs.Sending.{Sends, Begins};
-ghost use Rattle.files.specs.Written.{IsBetweenRecords, gathered, record_text};
+ghost use Rattle.files.specs.Written.{format, record_text};
 
+use crate::marks::next_mark;
 use crate::{FileError, NewRecord, send};
-use csv::{Writer, WriterBuilder};
+use csv::{ByteRecord, WriterBuilder};
 use std::alloc::{AllocError, Global};
 use std::io::Write;
 use std::marker::Model;
@@ -19,19 +21,18 @@ const CHUNK: usize = 65_536;
 #[derive(Drop)]
 pub struct RecordWriter {
     alloc: Global,
-    writer: Writer<Vec<u8>>,
+    // The text that was not sent yet.
+    text: Vec<u8>,
     // How many records there are, with the one under way.
     number: u64,
 }
 
 impl Model for RecordWriter {
-    ghost use Rattle.files.specs.Written.{Gathered, IsBetweenRecords, gathered};
+    ghost use Rattle.files.specs.Written.{Gathered};
 
     ghost Value = { Gathered };
 
-    ghost view = { λ w. record { text = gathered w.writer; number = w.number } };
-
-    ghost invariant = { λ w. IsBetweenRecords w.writer };
+    ghost view = { λ w. record { text = w.text.items; number = w.number } };
 }
 
 impl RecordWriter {
@@ -41,7 +42,7 @@ impl RecordWriter {
     {
         RecordWriter {
             alloc,
-            writer: writer_into(Vec::new(alloc)),
+            text: Vec::new(alloc),
             number: 0,
         }
     }
@@ -58,11 +59,8 @@ impl RecordWriter {
         ensures writing { IfErr result IsOfWriting }
     {
         self.number = self.number.saturating_add(1);
-        if self.writer.write_byte_record(row.as_byte_record()).is_err() {
-            begin_anew(&mut self.writer, self.alloc);
-            return Err(FileError::NoMemory);
-        }
-        if self.writer.get_ref().len() < CHUNK {
+        self.add(row.as_byte_record())?;
+        if self.text.len() < CHUNK {
             return Ok(());
         }
         self.send_all(sink)
@@ -89,45 +87,78 @@ impl RecordWriter {
         ensures none { self.new.text ≡ [] }
         ensures begun { OnErr result (Begins (W.contents sink.old) (W.contents sink.new) self.old.text) }
         ensures number { self.new.number ≡ self.old.number }
-        ensures faults { IfErr result (λ fault. (fault ≡ FileError.NoMemory) ⊎ (fault ≡ FileError.Failed self.old.number)) }
+        ensures faults { IfErr result (λ fault. fault ≡ FileError.Failed self.old.number) }
         ensures writing { IfErr result IsOfWriting }
     {
-        let mut text = self.take()?;
-        if send(sink, text.as_slice()).is_err() {
-            return Err(FileError::Failed(self.number));
+        let sent = send(sink, self.text.as_slice());
+        self.text.clear();
+        match sent {
+            Ok(()) => Ok(()),
+            Err(_) => Err(FileError::Failed(self.number)),
         }
-        text.clear();
-        self.writer = writer_into(text);
-        Ok(())
     }
 
-    // Takes what was gathered.
-    fn take(&mut self) -> Result<Vec<u8>, AllocError>
-        ensures text { IfOk result (λ text. text.items ≡ self.old.text) }
-        ensures none { self.new.text ≡ [] }
+    // Gathers the record. After want of memory nothing is gathered any more.
+    fn add(&mut self, row: &ByteRecord) -> Result<(), AllocError>
+        ensures added { OnOk result (self.new.text ≡ self.old.text ++ record_text (fields_of row.now)) }
+        ensures none { OnErr result (self.new.text ≡ []) }
         ensures number { self.new.number ≡ self.old.number }
     {
-        let fresh = writer_into(Vec::new(self.alloc));
-        match mem::replace(&mut self.writer, fresh).into_inner() {
-            Ok(text) => Ok(text),
-            Err(_) => Err(AllocError),
-        }
+        let text = mem::replace(&mut self.text, Vec::new(self.alloc));
+        self.text = if row.len() > 1 && !needs_quotes(row.as_slice()) {
+            with_plain(text, row)?
+        } else {
+            with_any(text, row)?
+        };
+        Ok(())
     }
 }
 
-// Forgets what was gathered, with a record that has begun. A writer has 8 KiB in place, and a function in which
-// one is made clears them whenever it is called: so this is no part of `write`.
-fn begin_anew(writer: &mut Writer<Vec<u8>>, alloc: Global)
-    ensures none { gathered writer.new ≡ [] }
-    ensures between { IsBetweenRecords writer.new }
+// Whether a comma, a quotation mark or an end of a line is among the bytes: a field with one needs quotation
+// marks.
+fn needs_quotes(bytes: &[u8]) -> bool
+    ensures { result ≡ needs_quotes format bytes.now }
 {
-    *writer = writer_into(Vec::new(alloc));
+    let mut place = next_mark(bytes, 0);
+    while place < bytes.len() {
+        if matches!(bytes[place], b',' | b'"' | b'\r' | b'\n') {
+            return true;
+        }
+        place = next_mark(bytes, place + 1);
+    }
+    false
 }
 
-// A writer of records behind that text.
-fn writer_into(text: Vec<u8>) -> Writer<Vec<u8>>
-    ensures text { gathered result ≡ text.items }
-    ensures between { IsBetweenRecords result }
+// The text with a record behind it that has several fields, none of which needs quotation marks.
+fn with_plain(mut text: Vec<u8>, row: &ByteRecord) -> Result<Vec<u8>, AllocError>
+    requires several { 1 < length (fields_of row.now) }
+    requires plain { needs_quotes format (text_of row.now) ≡ false }
+    ensures { IfOk result (λ longer. longer.items ≡ text.items ++ record_text (fields_of row.now)) }
 {
-    WriterBuilder::new().flexible(true).from_writer(text)
+    let mut place = 0;
+    while let Some(field) = row.get(place) {
+        if place > 0 {
+            text.push(b',')?;
+        }
+        text.extend_from_slice(field)?;
+        place += 1;
+    }
+    text.push(b'\n')?;
+    Ok(text)
+}
+
+// The text with any record behind it. A writer of `csv` has 8 KiB in place, and a function in which one is made
+// clears them whenever it is called: so this is no part of `write`.
+#[inline(never)]
+fn with_any(text: Vec<u8>, row: &ByteRecord) -> Result<Vec<u8>, AllocError>
+    ensures { IfOk result (λ longer. longer.items ≡ text.items ++ record_text (fields_of row.now)) }
+{
+    let mut writer = WriterBuilder::new().flexible(true).from_writer(text);
+    if writer.write_byte_record(row).is_err() {
+        return Err(AllocError);
+    }
+    match writer.into_inner() {
+        Ok(text) => Ok(text),
+        Err(_) => Err(AllocError),
+    }
 }

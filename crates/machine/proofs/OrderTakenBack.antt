@@ -8,7 +8,7 @@ use Rattle.schema.specs.declared.order_rows.Replaced.{Replaced}
 use Rattle.schema.specs.Database.{Database, IsWithinScale}
 use Rattle.schema.specs.OrderRows.{LineTable, StoodThere, line_key, put_lines, with_order, without_order}
 use Rattle.schema.proofs.KeyOrders.{orders_total, orders_exact}
-use Rattle.schema.proofs.OrderLines.{get-other_line, get-same_line, length-lines_at, taken_back}
+use Rattle.schema.proofs.LinesPut.{get-other_line, get-same_line, length-lines_at, taken_back}
 use Rattle.schema.proofs.TableWrites.{now_there}
 
 line_there : (order : OrderKey) (low : ℕ) (rows : List OrderLine) (lines : LineTable) (n : ℕ) → n < length rows → IsTrue (table.contains_key (put_lines order low (map Some rows) lines) (line_key order (low + n)))

@@ -1,9 +1,6 @@
 -- Entries of all warehouses, of which those of the last are split off.
-use Rattle.std.proofs.Common.{◌≡◌, ℕ, zero, suc, ◌+◌, ◌-◌, ◌≤◌, Bool, true, false, cond, not, ◌&&◌, nat_le, nat_lt, List, [], ◌∷◌, refl, ap, ◌∙◌, arith}
+use Rattle.std.proofs.Common.{◌≡◌, ℕ, zero, suc, ◌+◌, ◌-◌, ◌≤◌, Bool, true, false, cond, ◌&&◌, nat_le, nat_lt, List, [], ◌∷◌, refl, ap, ◌∙◌, arith}
 use Rattle.std.specs.List.{filter}
-use Rattle.std.specs.declared.cmp.Ordering.{Ordering}
-use Rattle.std.specs.declared.cmp.Ordering.TheVariants.{Less, Equal, Greater}
-use Rattle.std.specs.Ordering.{is_gt, is_le}
 use Rattle.std.proofs.lemmas.Bool.Decides.{nat_tests}
 use Rattle.partitions.specs.Parts.{is_of}
 use Rattle.partitions.specs.Splits.{entries_at, AreOfWarehouses}
@@ -16,11 +13,6 @@ filter_twice p q r (x ∷ xs) h =
       | true ↦ λ e. rw (← e) (elim (p x) as (λ b. cond b (x ∷ filter p (filter q xs)) (filter p (filter q xs)) ≡ cond b (x ∷ filter r xs) (filter r xs)) [ true ↦ ap (λ l. x ∷ l) rest | false ↦ rest ])
       | false ↦ λ e. rw (← e) rest
     ] (h x)
-
-is_le-not : (r : Ordering) → is_le r ≡ not (is_gt r)
-is_le-not Less = refl
-is_le-not Equal = refl
-is_le-not Greater = refl
 
 module _ {K X : Type 0} (own : K → ℕ) where
   -- all are of the warehouses up to the last
@@ -43,19 +35,14 @@ module _ {K X : Type 0} (own : K → ℕ) where
       ap (λ b. cond b (e ∷ filter (λ e. nat_le (own e.0) 1) es) (filter (λ e. nat_le (own e.0) 1) es)) passes
       ∙ ap (λ l. cond (is_of (0 + 1) (own e.0)) (e ∷ l) l) rest
 
-  -- from a warehouse's first key on, of those up to it: its own
-  pub last_split : (w : ℕ) (rows : List (K × X)) (compare : K → Ordering) → ((key : K) → is_gt (compare key) ≡ nat_lt (own key) w) → 1 ≤ w
-      → filter (λ e. is_le (compare e.0)) (filter (λ e. nat_le (own e.0) w) rows) ≡ entries_at own (w - 1) rows
-  last_split w rows compare behind low =
-      filter_twice (λ e. is_le (compare e.0)) (λ e. nat_le (own e.0) w) (λ e. is_of (w - 1 + 1) (own e.0)) rows (λ e.
-      let split : is_le (compare e.0) ≡ not (nat_lt (own e.0) w) = is_le-not (compare e.0) ∙ ap not (behind e.0) in
-      let tells : (nat_le (own e.0) w && not (nat_lt (own e.0) w)) ≡ is_of (w - 1 + 1) (own e.0) = grind (arith, nat_tests) in
-      ap (λ b. nat_le (own e.0) w && b) split ∙ tells)
+  -- from a warehouse on, of those up to it: its own
+  pub last_split : (w : ℕ) (rows : List (K × X)) → 1 ≤ w → filter (λ e. nat_le w (own e.0)) (filter (λ e. nat_le (own e.0) w) rows) ≡ entries_at own (w - 1) rows
+  last_split w rows low =
+      filter_twice (λ e. nat_le w (own e.0)) (λ e. nat_le (own e.0) w) (λ e. is_of (w - 1 + 1) (own e.0)) rows (λ e.
+      let tells : (nat_le (own e.0) w && nat_le w (own e.0)) ≡ is_of (w - 1 + 1) (own e.0) = grind (arith, nat_tests) in tells)
 
   -- and before it: those of the others
-  pub others_left : (w : ℕ) (rows : List (K × X)) (compare : K → Ordering) → ((key : K) → is_gt (compare key) ≡ nat_lt (own key) w) → 1 ≤ w
-      → filter (λ e. is_gt (compare e.0)) (filter (λ e. nat_le (own e.0) w) rows) ≡ filter (λ e. nat_le (own e.0) (w - 1)) rows
-  others_left w rows compare behind low =
-      filter_twice (λ e. is_gt (compare e.0)) (λ e. nat_le (own e.0) w) (λ e. nat_le (own e.0) (w - 1)) rows (λ e.
-      let tells : (nat_le (own e.0) w && nat_lt (own e.0) w) ≡ nat_le (own e.0) (w - 1) = grind (arith, nat_tests) in
-      ap (λ b. nat_le (own e.0) w && b) (behind e.0) ∙ tells)
+  pub others_left : (w : ℕ) (rows : List (K × X)) → 1 ≤ w → filter (λ e. nat_lt (own e.0) w) (filter (λ e. nat_le (own e.0) w) rows) ≡ filter (λ e. nat_le (own e.0) (w - 1)) rows
+  others_left w rows low =
+      filter_twice (λ e. nat_lt (own e.0) w) (λ e. nat_le (own e.0) w) (λ e. nat_le (own e.0) (w - 1)) rows (λ e.
+      let tells : (nat_le (own e.0) w && nat_lt (own e.0) w) ≡ nat_le (own e.0) (w - 1) = grind (arith, nat_tests) in tells)

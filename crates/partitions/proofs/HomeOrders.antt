@@ -10,13 +10,13 @@ use Rattle.rows.specs.declared.keys.OrderLineKey.{OrderLineKey}
 use Rattle.rows.specs.declared.records.Order.{Order}
 use Rattle.rows.specs.declared.records.NewOrder.{NewOrder}
 use Rattle.rows.specs.declared.records.OrderLine.{OrderLine}
-use Rattle.rows.specs.Keys.{order_cmp, line_cmp, order_of_line}
+use Rattle.rows.specs.Keys.{order_cmp, order_of_line}
 use Rattle.schema.specs.declared.scale.Scale.{Scale}
 use Rattle.schema.specs.EachRow.{EachRow}
 use Rattle.schema.specs.MapRows.{table_of}
 use Rattle.schema.specs.Scale.{has_item, has_warehouse, has_customer}
 use Rattle.schema.specs.Database.{customer_of_order, is_order_id, is_line_number}
-use Rattle.schema.specs.OrderRows.{LineTable, line_key, put_lines, with_order, is_line_within}
+use Rattle.schema.specs.OrderRows.{LineTable, line_table, line_key, put_lines, with_order, is_line_within}
 use Rattle.schema.proofs.KeyOrders.{orders_total, orders_exact, lines_total, lines_exact}
 use Rattle.schema.proofs.ScaleKept.{EachRow-insert}
 use Rattle.schema.proofs.TableWrites.{now_there, still_there}
@@ -85,9 +85,9 @@ part_with_order p key order lines h home number customer few known =
 
 -- ---- other orders
 
-module _ (shared : Shared) (home : ℕ) (rows : HomeRows) (orders : BTreeMap OrderKey Order) (new_orders : List (OrderKey × NewOrder)) (lines : BTreeMap OrderLineKey OrderLine) where
+module _ (shared : Shared) (home : ℕ) (rows : HomeRows) (orders : BTreeMap OrderKey Order) (new_orders : List (OrderKey × NewOrder)) (lines : List (OrderLineKey × OrderLine)) where
   -- the part of rows whose orders are others
-  pub other_orders : (x : FinMap order_cmp Order) (y : FinMap order_cmp NewOrder) (z : LineTable) → table_of order_cmp orders ≡ x → table.from_entries new_orders ≡ y → table_of line_cmp lines ≡ z
+  pub other_orders : (x : FinMap order_cmp Order) (y : FinMap order_cmp NewOrder) (z : LineTable) → table_of order_cmp orders ≡ x → table.from_entries new_orders ≡ y → line_table lines ≡ z
       → part shared home (record rows { orders = orders; new_orders = new_orders; lines = lines })
       ≡ record (part shared home rows) { tables = record (part shared home rows).tables { orders = x; new_orders = y; lines = z } }
   other_orders x y z a b d = λ i. record (part shared home rows) { tables = record (part shared home rows).tables { orders = a i; new_orders = b i; lines = d i } }

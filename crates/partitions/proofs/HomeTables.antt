@@ -53,7 +53,7 @@ module _ (scale : Scale) (rows : TableRows) (fits : FitsScale scale rows) where
       record {
         orders = are_of_scale orders_total (λ key. key.w_id) scale rows.orders.entries (λ key row e. first _ _ (first _ _ (within.orders_have_customers key row e)));
         new_orders = are_of_scale orders_total (λ key. key.w_id) scale rows.new_orders.entries (λ key row e. order_home t within key (within.new_orders_have_orders key row e));
-        lines = are_of_scale lines_total (λ key. key.w_id) scale rows.lines.entries (λ key row e. order_home t within (order_of_line key) (within.lines_have_orders key row e));
+        lines = are_of_scale lines_total (λ key. key.w_id) scale rows.lines (λ key row e. order_home t within (order_of_line key) (within.lines_have_orders key row e));
       }
 
 -- ---- a warehouse's rows
@@ -98,7 +98,7 @@ module _ (scale : Scale) (rows : TableRows) (fits : FitsScale scale rows) (place
       ∙ chunk_part districts_total districts_exact (λ key. key.w_id) district_keys_of 10 length-district_keys_of district_keys_owned (district_keys scale) scale.warehouses (district_keys_in_turn scale) rows.histories.items place below in
       let orders = ap (λ es. from_entries es) at.orders ∙ entries_part orders_total orders_exact (λ key. key.w_id) place rows.orders.entries in
       let new_orders = ap (λ es. from_entries es) at.new_orders ∙ entries_part orders_total orders_exact (λ key. key.w_id) place rows.new_orders.entries in
-      let lines = ap (λ es. from_entries es) at.lines ∙ entries_part lines_total lines_exact (λ key. key.w_id) place rows.lines.entries in
+      let lines = ap (λ es. from_entries es) at.lines ∙ entries_part lines_total lines_exact (λ key. key.w_id) place rows.lines in
       λ i. record {
         home = place + 1;
         tables = record {

@@ -42,7 +42,7 @@ pub record IsWholeTo (scale : Scale) (before : List Part) (rows : TableRows) : T
   pub histories : IsTableTo (λ key. key.w_id) district_keys_of 10 (λ t. t.histories) before rows.histories.items
   pub orders : from_entries rows.orders.entries ≡ rows_of_all (λ key. key.w_id) (λ t. t.orders) before
   pub new_orders : from_entries rows.new_orders.entries ≡ rows_of_all (λ key. key.w_id) (λ t. t.new_orders) before
-  pub lines : from_entries rows.lines.entries ≡ rows_of_all (λ key. key.w_id) (λ t. t.lines) before
+  pub lines : from_entries rows.lines ≡ rows_of_all (λ key. key.w_id) (λ t. t.lines) before
 
 -- ---- no part yet
 
@@ -144,7 +144,7 @@ whole_more scale before rows new s home hr same next fits h adds =
           rows.histories.items hr.histories.items new.histories.items h.histories counts.histories (ap (λ n. from_entries (zip (district_keys_of n) hr.histories.items)) next) adds.histories;
       orders = entries_more orders_total orders_exact (λ key. key.w_id) (λ t. t.orders) before p next h.homes rows.orders.entries hr.orders.entries new.orders.entries h.orders refl it.orders_here adds.orders;
       new_orders = entries_more orders_total orders_exact (λ key. key.w_id) (λ t. t.new_orders) before p next h.homes rows.new_orders.entries hr.new_orders new.new_orders.entries h.new_orders refl it.new_orders_here adds.new_orders;
-      lines = entries_more lines_total lines_exact (λ key. key.w_id) (λ t. t.lines) before p next h.homes rows.lines.entries hr.lines.entries new.lines.entries h.lines refl it.lines_here adds.lines;
+      lines = entries_more lines_total lines_exact (λ key. key.w_id) (λ t. t.lines) before p next h.homes rows.lines hr.lines new.lines h.lines refl it.lines_here adds.lines;
     }
 
 -- ---- all parts

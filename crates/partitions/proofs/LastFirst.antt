@@ -6,10 +6,7 @@ use Rattle.std.proofs.Math.Seq.{get_or-append_seam}
 use Rattle.partitions.specs.Splits.{AreLastFirst}
 
 module _ {P : Type 0} (StandsAt : ℕ → P → Type 0) where
-  pub none_yet : (many : ℕ) → AreLastFirst StandsAt many many []
-  none_yet many = record { count = omega arith; each = λ place d low high. absurd (omega arith) }
-
-  pub one_more : (first many : ℕ) (parts : List P) (part : P) → AreLastFirst StandsAt (first + 1) many parts → StandsAt first part → AreLastFirst StandsAt first many (parts ++ part ∷ [])
+  one_more : (first many : ℕ) (parts : List P) (part : P) → AreLastFirst StandsAt (first + 1) many parts → StandsAt first part → AreLastFirst StandsAt first many (parts ++ part ∷ [])
   one_more first many parts part h stands = record {
     count = omega (arith, h.count, length-append parts (part ∷ []));
     each = λ place d low high.
@@ -39,6 +36,16 @@ module _ {P : Type 0} (StandsAt : ℕ → P → Type 0) where
         let inside : many - 1 - place < length parts - 1 = omega (arith, h.count) in
         subst (StandsAt place) (sym (get_or-take (length parts - 1) parts (many - 1 - place) d inside)) (h.each place d (omega arith) high);
   }
+
+-- there are none before one is pushed
+pub none_yet : {P : Type 0} {StandsAt : ℕ → P → Type 0} (many : ℕ) (parts : List P) → parts ≡ [] → AreLastFirst StandsAt many many parts
+none_yet {StandsAt = StandsAt} many parts none = subst (AreLastFirst StandsAt many many) (sym none) (record { count = omega arith; each = λ place d low high. absurd (omega arith) })
+
+-- what `push` puts at their end stands at the place before the first
+pub pushed : {P : Type 0} {StandsAt : ℕ → P → Type 0} (first next many : ℕ) (old new : List P) (part : P) → next ≡ first + 1 → new ≡ old ++ part ∷ []
+    → AreLastFirst StandsAt next many old → StandsAt first part → AreLastFirst StandsAt first many new
+pushed {StandsAt = StandsAt} first next many old new part before more h stands =
+    subst (AreLastFirst StandsAt first many) (sym more) (one_more StandsAt first many old part (subst (λ n. AreLastFirst StandsAt n many old) before h) stands)
 
 -- what `pop` takes off stands at the first place, and the others are left
 pub popped : {P : Type 0} {StandsAt : ℕ → P → Type 0} (first many : ℕ) (old new : List P) (n : ℕ) (r : Option P) (x : P) → n ≡ length old → 0 < length old → AreLastFirst StandsAt first many old

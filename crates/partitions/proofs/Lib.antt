@@ -9,7 +9,6 @@ pub mod KeyBlocks
 pub mod HomeKeys
 pub mod HomeTables
 pub mod Cuts
-pub mod EntriesAdded
 pub mod Joined
 pub mod HomePlaces
 pub mod HomeSlots

@@ -4,7 +4,7 @@ use denote.Param.SendFields.{declared_send}
 use Rattle.std.proofs.Crossing.{Vec-send, Vec-sync, Arc-send, Box-send}
 use Rattle.std.proofs.MapsCrossing.{BTreeMap-send}
 use Rattle.rows.proofs.Sendable as rows
-use Rattle.schema.proofs.Sendable.{HistoryList-send}
+use Rattle.schema.proofs.Sendable.{HistoryList-send, OrderLines-send}
 use Rattle.partitions.proofs.new_order_rows.Returned.TheLaws.TheKnot.{send-Returned}
 use Rattle.partitions.specs.contracts.catalog.Catalog as Catalog
 use Rattle.partitions.specs.contracts.new_order_rows.NewOrderRows as NewOrderRows
@@ -38,7 +38,7 @@ HomeRows-send = declared_send HomeRows.the_type (
             (
               NewOrderRows-send,
               (
-                search (rows.OrderLineKey-send, rows.OrderLine-send, BTreeMap-send, sendable) depth 20,
+                OrderLines-send,
                 tt,
               ),
             ),

@@ -21,4 +21,4 @@ pub record AppendsHome (old : TableRows) (home : HomeRows) (new : TableRows) : T
   pub histories : new.histories.items ≡ old.histories.items ++ home.histories.items
   pub orders : AddsRows order_cmp old.orders.entries home.orders.entries new.orders.entries
   pub new_orders : AddsRows order_cmp old.new_orders.entries home.new_orders new.new_orders.entries
-  pub lines : AddsRows line_cmp old.lines.entries home.lines.entries new.lines.entries
+  pub lines : AddsRows line_cmp old.lines home.lines new.lines

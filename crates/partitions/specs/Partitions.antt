@@ -41,7 +41,7 @@ part shared home rows = record {
     histories = map.from_entries (zip (district_keys_of home) rows.histories.items);
     orders = map.from_entries rows.orders.entries;
     new_orders = map.from_entries rows.new_orders;
-    lines = map.from_entries rows.lines.entries;
+    lines = map.from_entries rows.lines;
   };
 }
 
@@ -66,4 +66,4 @@ pub record AreSameHomeRows (old new : HomeRows) : Type 0 where
   pub histories : new.histories.items ≡ old.histories.items
   pub orders : new.orders.entries ≡ old.orders.entries
   pub new_orders : new.new_orders ≡ old.new_orders
-  pub lines : new.lines.entries ≡ old.lines.entries
+  pub lines : new.lines ≡ old.lines

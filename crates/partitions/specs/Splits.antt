@@ -33,7 +33,7 @@ pub record AreLastFirst {P : Type 0} (StandsAt : ℕ → P → Type 0) (first ma
 pub record AreRowsOfWarehouses (scale : Scale) (rows : TableRows) : Type 0 where
   pub orders : AreOfWarehouses (λ (key : OrderKey). key.w_id) scale.warehouses rows.orders.entries
   pub new_orders : AreOfWarehouses (λ (key : OrderKey). key.w_id) scale.warehouses rows.new_orders.entries
-  pub lines : AreOfWarehouses (λ (key : OrderLineKey). key.w_id) scale.warehouses rows.lines.entries
+  pub lines : AreOfWarehouses (λ (key : OrderLineKey). key.w_id) scale.warehouses rows.lines
 
 -- the rows of each table, those of the warehouses from a place on, the last warehouse's first
 pub record AreHomesFrom (scale : Scale) (rows : TableRows) (first : ℕ) (homes : Homes) : Type 0 where
@@ -44,7 +44,7 @@ pub record AreHomesFrom (scale : Scale) (rows : TableRows) (first : ℕ) (homes 
   pub histories : AreLastFirst (λ place part. part.items ≡ chunk 10 place rows.histories.items) first scale.warehouses homes.histories.items
   pub orders : AreLastFirst (λ place part. part.entries ≡ entries_at (λ (key : OrderKey). key.w_id) place rows.orders.entries) first scale.warehouses homes.orders.items
   pub new_orders : AreLastFirst (λ place part. part.entries ≡ entries_at (λ (key : OrderKey). key.w_id) place rows.new_orders.entries) first scale.warehouses homes.new_orders.items
-  pub lines : AreLastFirst (λ place part. part.entries ≡ entries_at (λ (key : OrderLineKey). key.w_id) place rows.lines.entries) first scale.warehouses homes.lines.items
+  pub lines : AreLastFirst (λ place part. part ≡ entries_at (λ (key : OrderLineKey). key.w_id) place rows.lines) first scale.warehouses homes.lines.items
 
 -- the rows of the warehouse at a place
 pub record IsHomeAt (scale : Scale) (rows : TableRows) (place : ℕ) (home : HomeRows) : Type 0 where
@@ -55,7 +55,7 @@ pub record IsHomeAt (scale : Scale) (rows : TableRows) (place : ℕ) (home : Hom
   pub histories : home.histories.items ≡ chunk 10 place rows.histories.items
   pub orders : home.orders.entries ≡ entries_at (λ (key : OrderKey). key.w_id) place rows.orders.entries
   pub new_orders : home.new_orders ≡ entries_at (λ (key : OrderKey). key.w_id) place rows.new_orders.entries
-  pub lines : home.lines.entries ≡ entries_at (λ (key : OrderLineKey). key.w_id) place rows.lines.entries
+  pub lines : home.lines ≡ entries_at (λ (key : OrderLineKey). key.w_id) place rows.lines
 
 -- there is a warehouse left
 pub record HasHome (homes : Homes) : Type 0 where

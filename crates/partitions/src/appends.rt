@@ -41,6 +41,6 @@ pub(crate) fn append_home(
     append(&mut rows.histories, home.histories, parts)?;
     rows.orders.append(&mut home.orders)?;
     home.new_orders.append_to(&mut rows.new_orders)?;
-    rows.lines.append(&mut home.lines)?;
+    rows.lines.append(home.lines)?;
     Ok(())
 }

@@ -1,17 +1,14 @@
-//! What takes a delivery back, over the ordered maps of one warehouse.
-ghost use Rattle.std.specs.Prelude.{◌≡◌, ◌+◌, ◌<◌, ℕ, None, length, slice_index_or, if◌then◌else◌};
-ghost use Rattle.std.specs.Option.{option_map};
-ghost use Rattle.std.specs.Ordering.{eq_by_cmp};
-ghost use Rattle.std.specs.FinMap as table;
-ghost use Rattle.rows.specs.Keys.{order_cmp, line_cmp};
+//! What takes a delivery back, over the rows of one warehouse.
+ghost use Rattle.std.specs.Prelude.{◌≡◌, ◌+◌, ◌<◌, ℕ, None, length, slice_index_or};
+ghost use Rattle.rows.specs.Keys.{order_cmp};
 ghost use Rattle.schema.specs.EachRow.{EachRow};
 ghost use Rattle.schema.specs.MapRows.{table_of, map_rows};
 ghost use Rattle.schema.specs.Database.{is_line_number};
-ghost use Rattle.schema.specs.OrderRows.{line_key};
+ghost use Rattle.schema.specs.OrderRows.{line_key, line_table};
 ghost use Rattle.partitions.specs.Deliveries.{carrier_at, moment_at, with_carrier_back, with_moments_back};
 
 use crate::new_order_rows::RowRoom;
-use schema::{CarrierId, Moment, NewOrder, Order, OrderKey, OrderLine, OrderLineKey};
+use schema::{CarrierId, Moment, NewOrder, Order, OrderKey, OrderLineKey, OrderLines};
 use std::collections::BTreeMap;
 
 /// What an order's rows were before it was delivered, and room for the one that went.
@@ -33,12 +30,9 @@ pub(crate) fn carrier_of(orders: &BTreeMap<OrderKey, Order>, key: OrderKey) -> O
 }
 
 /// The moments at which the order's lines were delivered, at their numbers from 1.
-pub(crate) fn moments_of(
-    lines: &BTreeMap<OrderLineKey, OrderLine>,
-    order: OrderKey,
-) -> [Option<Moment>; 15]
+pub(crate) fn moments_of(lines: &OrderLines, order: OrderKey) -> [Option<Moment>; 15]
     ensures fifteen { length result ≡ 15 }
-    ensures each { (n : ℕ) → n < 15 → slice_index_or result n None ≡ moment_at (table_of line_cmp lines.now) (line_key order (n + 1)) }
+    ensures each { (n : ℕ) → n < 15 → slice_index_or result n None ≡ moment_at (line_table lines.now) (line_key order (n + 1)) }
 {
     let mut moments = [None; 15];
     for place in 0..15 {
@@ -62,38 +56,24 @@ pub(crate) fn put_carrier_back(
 
 /// Puts the moments of the order's lines back. It takes no memory.
 pub(crate) fn put_moments_back(
-    lines: &mut BTreeMap<OrderLineKey, OrderLine>,
+    lines: &mut OrderLines,
     order: OrderKey,
     moments: [Option<Moment>; 15],
 )
     requires fifteen { length moments ≡ 15 }
-    requires numbered { EachRow (λ key _. is_line_number key.number) (table_of line_cmp lines.old) }
-    ensures { table_of line_cmp lines.new ≡ map_rows (with_moments_back order moments) (table_of line_cmp lines.old) }
+    requires numbered { EachRow (λ key _. is_line_number key.number) (line_table lines.old) }
+    ensures { line_table lines.new ≡ map_rows (with_moments_back order moments) (line_table lines.old) }
 {
     for place in 0..15 {
-        put_moment_back(lines, line_key(order, place as u32 + 1), moments[place]);
+        lines.set_delivery(line_key(order, place as u32 + 1), moments[place]);
     }
 }
 
 // The moment at which the line was delivered, where it was.
-fn moment_of(lines: &BTreeMap<OrderLineKey, OrderLine>, key: OrderLineKey) -> Option<Moment>
-    ensures { result ≡ moment_at (table_of line_cmp lines.now) key }
+fn moment_of(lines: &OrderLines, key: OrderLineKey) -> Option<Moment>
+    ensures { result ≡ moment_at (line_table lines.now) key }
 {
-    lines.get(&key)?.delivery_d
-}
-
-// The line's row, if it is there, gets this moment, or none.
-fn put_moment_back(
-    lines: &mut BTreeMap<OrderLineKey, OrderLine>,
-    key: OrderLineKey,
-    moment: Option<Moment>,
-)
-    ensures { (q : OrderLineKey) → table.get (table_of line_cmp lines.new) q
-        ≡ option_map (λ row. if eq_by_cmp line_cmp q key then record row { delivery_d = moment } else row) (table.get (table_of line_cmp lines.old) q) }
-{
-    if let Some(row) = lines.get_mut(&key) {
-        row.delivery_d = moment;
-    }
+    lines.get(key)?.delivery_d
 }
 
 fn line_key(order: OrderKey, number: u32) -> OrderLineKey

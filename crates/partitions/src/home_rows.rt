@@ -3,8 +3,7 @@ ghost use Rattle.partitions.specs.Partitions.{AreSameHomeRows};
 
 use crate::new_order_rows::NewOrderRows;
 use schema::{
-    Customer, District, HistoryList, NoMemory, Order, OrderKey, OrderLine, OrderLineKey, Stock,
-    Warehouse,
+    Customer, District, HistoryList, NoMemory, Order, OrderKey, OrderLines, Stock, Warehouse,
 };
 use std::collections::BTreeMap;
 
@@ -23,7 +22,7 @@ pub struct HomeRows {
     pub histories: Vec<HistoryList>,
     pub orders: BTreeMap<OrderKey, Order>,
     pub new_orders: NewOrderRows,
-    pub lines: BTreeMap<OrderLineKey, OrderLine>,
+    pub lines: OrderLines,
 }
 
 impl HomeRows {
@@ -39,7 +38,7 @@ impl HomeRows {
             histories: self.histories.clone()?,
             orders: self.orders.clone()?,
             new_orders: self.new_orders.try_clone()?,
-            lines: self.lines.clone()?,
+            lines: self.lines.try_clone()?,
         })
     }
 }

@@ -6,10 +6,10 @@ ghost use Rattle.partitions.specs.Splits.{AreRowsOfWarehouses, AreHomesFrom, IsH
 
 use crate::home_rows::HomeRows;
 use crate::new_order_rows::NewOrderRows;
-use crate::splits::{split, split_map};
+use crate::splits::{split, split_by_warehouse};
 use schema::{
-    Customer, District, HistoryList, Item, NewOrder, NoMemory, Order, OrderKey, OrderLine,
-    OrderLineKey, Scale, Stock, TableRows, Warehouse,
+    Customer, District, HistoryList, Item, NewOrder, NoMemory, Order, OrderKey, OrderLines, Scale,
+    Stock, TableRows, Warehouse,
 };
 use std::alloc::Global;
 use std::collections::BTreeMap;
@@ -24,7 +24,7 @@ pub(crate) struct Homes {
     pub(crate) histories: Vec<Vec<HistoryList>>,
     pub(crate) orders: Vec<BTreeMap<OrderKey, Order>>,
     pub(crate) new_orders: Vec<BTreeMap<OrderKey, NewOrder>>,
-    pub(crate) lines: Vec<BTreeMap<OrderLineKey, OrderLine>>,
+    pub(crate) lines: Vec<OrderLines>,
 }
 
 impl Homes {
@@ -48,9 +48,9 @@ impl Homes {
             stocks: split(alloc, rows.stocks, scale.items as usize, count)?,
             customers: split(alloc, rows.customers, 10 * scale.customers as usize, count)?,
             histories: split(alloc, rows.histories, 10, count)?,
-            orders: split_map(alloc, rows.orders, scale.warehouses)?,
-            new_orders: split_map(alloc, rows.new_orders, scale.warehouses)?,
-            lines: split_map(alloc, rows.lines, scale.warehouses)?,
+            orders: split_by_warehouse(alloc, rows.orders, scale.warehouses)?,
+            new_orders: split_by_warehouse(alloc, rows.new_orders, scale.warehouses)?,
+            lines: split_by_warehouse(alloc, rows.lines, scale.warehouses)?,
         };
         Ok((rows.items, homes))
     }

@@ -3,18 +3,18 @@
 ghost use Rattle.std.specs.Prelude.{◌≡◌, ◌+◌, ◌<◌, ◌≤◌, ℕ, length, map, Some, IfOk, OnOk, OnErr, IsTrue};
 ghost use Rattle.std.specs.FinMap as table;
 ghost use Rattle.rows.specs.declared.records.NewOrder as new_order;
-ghost use Rattle.rows.specs.Keys.{order_cmp, line_cmp};
+ghost use Rattle.rows.specs.Keys.{order_cmp};
 ghost use Rattle.schema.specs.EachRow.{EachRow};
 ghost use Rattle.schema.specs.MapRows.{table_of, put_row, map_rows};
 ghost use Rattle.schema.specs.Database.{rows_where, is_of_district, is_order_id, is_line_number};
 ghost use Rattle.schema.specs.Consistency.{numbers};
-ghost use Rattle.schema.specs.OrderRows.{put_lines, lines_at, line_key, smallest, with_carrier, with_moment};
+ghost use Rattle.schema.specs.OrderRows.{put_lines, lines_at, line_key, line_table, smallest, with_carrier, with_moment};
 ghost use Rattle.partitions.specs.Appends.{AddsRows};
 ghost use Rattle.partitions.specs.NewOrders.{with_returned, lesser_of};
 
 use schema::row_writes::{put, remove};
 use schema::{
-    CarrierId, DistrictKey, Moment, NewOrder, NoMemory, Order, OrderKey, OrderLine, OrderLineKey,
+    CarrierId, DistrictKey, Moment, NewOrder, NoMemory, Order, OrderKey, OrderLine, OrderLines,
     Replaced, add_order_rows, deliver_order_rows, oldest_number, take_back_order_and_lines,
 };
 use std::alloc::Global;
@@ -108,7 +108,7 @@ impl NewOrderRows {
     pub(crate) fn add_order(
         &mut self,
         orders: &mut BTreeMap<OrderKey, Order>,
-        lines: &mut BTreeMap<OrderLineKey, OrderLine>,
+        lines: &mut OrderLines,
         key: OrderKey,
         order: Order,
         rows: Vec<OrderLine>,
@@ -116,13 +116,13 @@ impl NewOrderRows {
         requires { length rows.items ≤ 15 }
         ensures order { OnOk result (table_of order_cmp orders.new ≡ table.insert (table_of order_cmp orders.old) key order) }
         ensures new_order { OnOk result (table.from_entries {R = order_cmp} self.new ≡ table.insert (table.from_entries self.old) key (record {})) }
-        ensures lines { OnOk result (table_of line_cmp lines.new ≡ put_lines key 1 (map Some rows.items) (table_of line_cmp lines.old)) }
+        ensures lines { OnOk result (line_table lines.new ≡ put_lines key 1 (map Some rows.items) (line_table lines.old)) }
         ensures was_order { IfOk result (λ replaced. replaced.order ≡ table.get (table_of order_cmp orders.old) key) }
         ensures was_new { IfOk result (λ replaced. replaced.new_order ≡ table.get (table.from_entries {R = order_cmp} self.old) key) }
-        ensures were_lines { IfOk result (λ replaced. replaced.lines.items ≡ lines_at (table_of line_cmp lines.old) key 1 (length rows.items)) }
+        ensures were_lines { IfOk result (λ replaced. replaced.lines.items ≡ lines_at (line_table lines.old) key 1 (length rows.items)) }
         ensures err_order { OnErr result (table_of order_cmp orders.new ≡ table_of order_cmp orders.old) }
         ensures err_new { OnErr result (table.from_entries {R = order_cmp} self.new ≡ table.from_entries self.old) }
-        ensures err_lines { OnErr result (table_of line_cmp lines.new ≡ table_of line_cmp lines.old) }
+        ensures err_lines { OnErr result (line_table lines.new ≡ line_table lines.old) }
     {
         settle(&mut self.rows, &mut self.returned)?;
         add_order_rows(orders, &mut self.rows, lines, key, order, rows)
@@ -132,17 +132,17 @@ impl NewOrderRows {
     pub(crate) fn take_back_order(
         &mut self,
         orders: &mut BTreeMap<OrderKey, Order>,
-        lines: &mut BTreeMap<OrderLineKey, OrderLine>,
+        lines: &mut OrderLines,
         key: OrderKey,
         replaced: Replaced,
     )
         requires few { length replaced.lines.items ≤ 15 }
         requires order { IsTrue (table.contains_key (table_of order_cmp orders.old) key) }
         requires new_order { IsTrue (table.contains_key (table.from_entries {R = order_cmp} self.old) key) }
-        requires lines { (n : ℕ) → n < length replaced.lines.items → IsTrue (table.contains_key (table_of line_cmp lines.old) (line_key key (1 + n))) }
+        requires lines { (n : ℕ) → n < length replaced.lines.items → IsTrue (table.contains_key (line_table lines.old) (line_key key (1 + n))) }
         ensures order { table_of order_cmp orders.new ≡ put_row (table_of order_cmp orders.old) key replaced.order }
         ensures new_order { table.from_entries {R = order_cmp} self.new ≡ put_row (table.from_entries self.old) key replaced.new_order }
-        ensures lines { table_of line_cmp lines.new ≡ put_lines key 1 replaced.lines.items (table_of line_cmp lines.old) }
+        ensures lines { line_table lines.new ≡ put_lines key 1 replaced.lines.items (line_table lines.old) }
     {
         // Rows of NEW-ORDER are alike: where one stood, it stands.
         if replaced.new_order.is_none() {
@@ -157,15 +157,15 @@ impl NewOrderRows {
         &mut self,
         alloc: Global,
         orders: &mut BTreeMap<OrderKey, Order>,
-        lines: &mut BTreeMap<OrderLineKey, OrderLine>,
+        lines: &mut OrderLines,
         key: OrderKey,
         carrier: CarrierId,
         moment: Moment,
     ) -> Result<(Option<NewOrder>, RowRoom), NoMemory>
-        requires { EachRow (λ key _. is_line_number key.number) (table_of line_cmp lines.old) }
+        requires { EachRow (λ key _. is_line_number key.number) (line_table lines.old) }
         ensures order { OnOk result (table_of order_cmp orders.new ≡ map_rows (with_carrier key carrier) (table_of order_cmp orders.old)) }
         ensures new_order { OnOk result (table.from_entries {R = order_cmp} self.new ≡ table.remove (table.from_entries self.old) key) }
-        ensures lines { OnOk result (table_of line_cmp lines.new ≡ map_rows (with_moment key moment) (table_of line_cmp lines.old)) }
+        ensures lines { OnOk result (line_table lines.new ≡ map_rows (with_moment key moment) (line_table lines.old)) }
         ensures was { IfOk result (λ was. was.0 ≡ table.get (table.from_entries {R = order_cmp} self.old) key) }
         ensures err { OnErr result ((self.new ≡ self.old) × (orders.new ≡ orders.old) × (lines.new ≡ lines.old)) }
     {

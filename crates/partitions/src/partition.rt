@@ -16,8 +16,7 @@ use crate::delivery_rows::{
 use crate::home_rows::HomeRows;
 use schema::{
     CarrierId, Customer, CustomerKey, District, DistrictKey, Entries, History, Item, Lines, Moment,
-    NoMemory, Order, OrderKey, OrderLine, OrderLineKey, Orders, Replaced, Scale, Stock, StockKey,
-    Warehouse, lines_in_span,
+    NoMemory, Order, OrderKey, OrderLine, Orders, Replaced, Scale, Stock, StockKey, Warehouse,
 };
 use std::marker::Model;
 use std::mem;
@@ -137,17 +136,7 @@ impl Partition {
         ensures rows { result ≡ rows_where (is_of_order order) self.now.tables.lines }
         ensures fits { length result < 2 ^ 63 }
     {
-        let first = OrderLineKey {
-            w_id: order.w_id,
-            d_id: order.d_id,
-            o_id: order.o_id,
-            number: 0,
-        };
-        let last = OrderLineKey {
-            number: u32::MAX,
-            ..first
-        };
-        Entries::of_map(self.rows.lines.range(first..=last))
+        self.rows.lines.of_order(order)
     }
 
     /// The lines of the district's orders numbered from `from` up to, but without, `to`, by O_ID and then by
@@ -156,7 +145,7 @@ impl Partition {
         ensures rows { result ≡ rows_where (is_in_span home from to) self.now.tables.lines }
         ensures fits { length result < 2 ^ 63 }
     {
-        lines_in_span(&self.rows.lines, home, from, to)
+        self.rows.lines.in_span(home, from, to)
     }
 
     /// The customers of the district, by C_ID from 1; `None` where it is none of the warehouse's.

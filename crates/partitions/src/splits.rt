@@ -2,7 +2,7 @@
 ghost use Rattle.std.specs.Prelude.{◌≡◌, ℕ, ◌*◌, ◌≤◌, length, IfOk};
 ghost use Rattle.partitions.specs.Splits.{chunk, entries_at, AreOfWarehouses, AreLastFirst};
 
-use schema::{NoMemory, OrderKey, OrderLineKey};
+use schema::{NoMemory, OrderKey, OrderLine, OrderLineKey, OrderLines};
 use std::alloc::Global;
 use std::collections::BTreeMap;
 
@@ -32,60 +32,74 @@ pub(crate) fn split<T: Drop>(
     Ok(split)
 }
 
-/// A key whose order goes first by its warehouse.
-pub(crate) trait WarehouseKey: Ord + Drop {
-    ghost use Rattle.std.specs.Prelude.{◌≡◌, ℕ, nat_lt};
-    ghost use Rattle.std.specs.Ordering.{is_gt};
+/// Rows with their keys, of which those of the warehouses from one on can be split off.
+pub(crate) trait ByWarehouse: Drop + Sized {
+    ghost use Rattle.std.specs.Prelude.{◌≡◌, ℕ, List, nat_le, nat_lt, IfOk, OnOk};
+    ghost use Rattle.std.specs.List.{filter};
 
+    type Key;
+
+    type Row;
+
+    /// The rows with their keys.
+    ghost entries: { Self → List (Self.Key × Self.Row) };
     /// The warehouse of a key.
-    ghost warehouse_of: { Self → ℕ };
+    ghost warehouse_of: { Self.Key → ℕ };
 
-    /// A key that stands behind those of the warehouses before this one, and behind no other.
-    fn first_of(warehouse: u32) -> Self
-        ensures { (key : Self) → is_gt (Self.cmp result key) ≡ nat_lt (warehouse_of key) warehouse };
+    /// Takes the rows of the warehouses from this one on away, and gives them. After an error some may be lost.
+    fn split_off_from(&mut self, warehouse: u32) -> Result<Self, NoMemory>
+        ensures from { IfOk result (λ later. entries later ≡ filter (λ e. nat_le warehouse (warehouse_of e.0)) (entries self.old)) }
+        ensures below { OnOk result (entries self.new ≡ filter (λ e. nat_lt (warehouse_of e.0) warehouse) (entries self.old)) };
 }
 
-impl WarehouseKey for OrderKey {
+impl<V: Drop> ByWarehouse for BTreeMap<OrderKey, V> {
+    type Key = OrderKey;
+
+    type Row = V;
+
+    ghost entries = { λ rows. rows.entries };
+
     ghost warehouse_of = { λ key. key.w_id };
 
-    fn first_of(warehouse: u32) -> Self {
-        OrderKey {
+    fn split_off_from(&mut self, warehouse: u32) -> Result<BTreeMap<OrderKey, V>, NoMemory> {
+        self.split_off(&OrderKey {
             w_id: warehouse,
             d_id: 0,
             o_id: 0,
-        }
+        })
     }
 }
 
-impl WarehouseKey for OrderLineKey {
+impl ByWarehouse for OrderLines {
+    type Key = OrderLineKey;
+
+    type Row = OrderLine;
+
+    ghost entries = { λ lines. lines };
+
     ghost warehouse_of = { λ key. key.w_id };
 
-    fn first_of(warehouse: u32) -> Self {
-        OrderLineKey {
-            w_id: warehouse,
-            d_id: 0,
-            o_id: 0,
-            number: 0,
-        }
+    fn split_off_from(&mut self, warehouse: u32) -> Result<OrderLines, NoMemory> {
+        self.split_off(warehouse)
     }
 }
 
 /// Rows of so many warehouses, split into those of each, the last first. The first warehouse keeps what is left.
 /// An error drops the rows.
-pub(crate) fn split_map<K: WarehouseKey, V: Drop>(
+pub(crate) fn split_by_warehouse<R: ByWarehouse>(
     alloc: Global,
-    rows: BTreeMap<K, V>,
+    rows: R,
     warehouses: u32,
-) -> Result<Vec<BTreeMap<K, V>>, NoMemory>
+) -> Result<Vec<R>, NoMemory>
     requires some { 1 ≤ warehouses }
-    requires within { AreOfWarehouses K.warehouse_of warehouses rows.entries }
-    ensures { IfOk result (λ made. AreLastFirst (λ place part. part.entries ≡ entries_at K.warehouse_of place rows.entries) 0 warehouses made.items) }
+    requires within { AreOfWarehouses R.warehouse_of warehouses (R.entries rows) }
+    ensures { IfOk result (λ made. AreLastFirst (λ place part. R.entries part ≡ entries_at R.warehouse_of place (R.entries rows)) 0 warehouses made.items) }
 {
     let mut split = Vec::with_capacity(alloc, warehouses as usize)?;
     let mut rest = rows;
     let mut warehouse = warehouses;
     while 1 < warehouse {
-        split.push(rest.split_off(&K::first_of(warehouse))?)?;
+        split.push(rest.split_off_from(warehouse)?)?;
         warehouse -= 1;
     }
     split.push(rest)?;

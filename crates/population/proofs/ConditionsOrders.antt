@@ -149,30 +149,30 @@ module _ {seed now : ℕ} (scale : Scale) (rows : TableRows) (h : IsPopulated sc
 
   -- ---- 4 and 6
 
-  counted : (test : OrderKey → Bool) → length (filter (λ e. test (order_of_line e.0)) rows.lines.entries) ≡ sum (map (λ e. e.1.ol_cnt) (filter (λ e. test e.0) rows.orders.entries))
+  counted : (test : OrderKey → Bool) → length (filter (λ e. test (order_of_line e.0)) rows.lines) ≡ sum (map (λ e. e.1.ol_cnt) (filter (λ e. test e.0) rows.orders.entries))
   counted test =
-      kept_lines (λ key. test (order_of_line key)) rows.lines.entries
+      kept_lines (λ key. test (order_of_line key)) rows.lines
       ∙ ap (λ l. length (filter (λ key. test (order_of_line key)) l)) h.filled.book.line_keys
       ∙ lines_counted test rows.orders.entries
 
   pub district_lines_counted : DistrictsCountLines (database scale rows)
   district_lines_counted home row found =
       let orders = entries-ordered orders_total rows.orders.entries h.filled.book.orders_ordered in
-      let lines = entries-ordered lines_total rows.lines.entries h.filled.book.lines_ordered in
+      let lines = entries-ordered lines_total rows.lines h.filled.book.lines_ordered in
       ap (λ (l : List (OrderKey × Order)). sum (map (λ order. order.1.ol_cnt) (filter (λ e. is_of_district home e.0) l))) orders
       ∙ sym (counted (is_of_district home))
       ∙ ap (λ (l : List (OrderLineKey × OrderLine)). length (filter (λ e. is_of_district home (order_of_line e.0)) l)) (sym lines)
 
   pub order_lines_counted : OrdersCountLines (database scale rows)
   order_lines_counted key row found =
-      let lines = entries-ordered lines_total rows.lines.entries h.filled.book.lines_ordered in
+      let lines = entries-ordered lines_total rows.lines h.filled.book.lines_ordered in
       let test = eq_by_cmp order_cmp key in
       let one : filter (λ (e : OrderKey × Order). eq_by_cmp order_cmp key e.0) rows.orders.entries ≡ (key, row) ∷ [] =
       one_kept orders_total orders_exact key row rows.orders.entries h.filled.book.orders_ordered (sym (get-from_entries orders_total rows.orders.entries key) ∙ found) in
       (let alone : row.ol_cnt ≡ sum (row.ol_cnt ∷ []) = omega arith in alone)
       ∙ ap (λ (l : List (OrderKey × Order)). sum (map (λ e. e.1.ol_cnt) l)) (sym one)
       ∙ sym (counted test)
-      ∙ ap length (filter_agree (λ (e : OrderLineKey × OrderLine). eq_by_cmp order_cmp key (order_of_line e.0)) (λ e. is_of_order key e.0) (λ e. sym (same_order key e.0)) rows.lines.entries)
+      ∙ ap length (filter_agree (λ (e : OrderLineKey × OrderLine). eq_by_cmp order_cmp key (order_of_line e.0)) (λ e. is_of_order key e.0) (λ e. sym (same_order key e.0)) rows.lines)
       ∙ ap (λ (l : List (OrderLineKey × OrderLine)). length (filter (λ e. is_of_order key e.0) l)) (sym lines)
 
   -- ---- 5 and 7

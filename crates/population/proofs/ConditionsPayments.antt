@@ -133,11 +133,11 @@ module _ {seed now : ℕ} (scale : Scale) (rows : TableRows) (h : IsPopulated sc
   nothing_delivered : (key : CustomerKey) → delivered (database scale rows) key ≡ pos 0
   nothing_delivered key =
       let weight = λ (k : OrderLineKey) (line : OrderLine). cond (is_some line.delivery_d && has_ordered (database scale rows) key (order_of_line k)) (pos line.amount) (pos 0) in
-      let each : All (λ (e : OrderLineKey × OrderLine). weight e.0 e.1 ≡ pos 0) rows.lines.entries =
+      let each : All (λ (e : OrderLineKey × OrderLine). weight e.0 e.1 ≡ pos 0) rows.lines =
       All-weaker (λ (e : OrderLineKey × OrderLine). IsOpeningLine scale now e.0 e.1) (λ (e : OrderLineKey × OrderLine). weight e.0 e.1 ≡ pos 0)
-      (λ e is. line_nothing e.1.delivery_d e.1.amount (has_ordered (database scale rows) key (order_of_line e.0)) is.amount) rows.lines.entries h.filled.book.line_rows in
-      ap (sum_entries weight) (entries-ordered lines_total rows.lines.entries h.filled.book.lines_ordered)
-      ∙ sum_of_nothing weight rows.lines.entries (recursion_from_All (λ (e : OrderLineKey × OrderLine). weight e.0 e.1 ≡ pos 0) rows.lines.entries each)
+      (λ e is. line_nothing e.1.delivery_d e.1.amount (has_ordered (database scale rows) key (order_of_line e.0)) is.amount) rows.lines h.filled.book.line_rows in
+      ap (sum_entries weight) (entries-ordered lines_total rows.lines h.filled.book.lines_ordered)
+      ∙ sum_of_nothing weight rows.lines (recursion_from_All (λ (e : OrderLineKey × OrderLine). weight e.0 e.1 ≡ pos 0) rows.lines each)
 
   paid_in_all : (key : CustomerKey) → IsTrue (has_customer scale key) → paid (database scale rows) key ≡ pos 1000
   paid_in_all key known =

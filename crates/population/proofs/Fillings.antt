@@ -34,9 +34,9 @@ pushed_at P (z ∷ xs) x n is here had (suc place) y found =
     pushed_at (λ m. P (suc m)) xs x (length xs) refl (subst (λ m. P m x) is here) (λ m. had (suc m)) place y found
 
 module _ (scale : Scale) (now count : ℕ) (home : DistrictKey) (at : district_at count ≡ home)
-    (districts : List District) (customers : List Customer) (histories : List (List History)) (orders : BTreeMap OrderKey Order) (new_orders : BTreeMap OrderKey NewOrder) (lines : BTreeMap OrderLineKey OrderLine)
+    (districts : List District) (customers : List Customer) (histories : List (List History)) (orders : BTreeMap OrderKey Order) (new_orders : BTreeMap OrderKey NewOrder) (lines : List (OrderLineKey × OrderLine))
     (had : IsFilled scale now count districts customers histories orders new_orders lines)
-    (districts' : List District) (customers' : List Customer) (histories' : List (List History)) (orders' : BTreeMap OrderKey Order) (new_orders' : BTreeMap OrderKey NewOrder) (lines' : BTreeMap OrderLineKey OrderLine) where
+    (districts' : List District) (customers' : List Customer) (histories' : List (List History)) (orders' : BTreeMap OrderKey Order) (new_orders' : BTreeMap OrderKey NewOrder) (lines' : List (OrderLineKey × OrderLine)) where
   pub filled_more : (row : District) → districts' ≡ districts ++ row ∷ [] → IsOpeningDistrict scale row
       → All (IsOpeningCustomer now) customers' → length customers' ≡ length customers + scale.customers
       → (payments : List History) → histories' ≡ histories ++ payments ∷ [] → AreOpeningPayments now home scale.customers payments

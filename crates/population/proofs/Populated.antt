@@ -88,7 +88,7 @@ module _ {seed now : ℕ} (scale : Scale) (rows : TableRows) (h : IsPopulated sc
   order_row = all_found orders_total orders_exact (λ key row. IsOpeningOrder scale now key row) rows.orders.entries h.filled.book.order_rows
 
   pub line_row : (key : OrderLineKey) (row : OrderLine) → table.get (database scale rows).lines key ≡ Some row → IsOpeningLine scale now key row
-  line_row = all_found lines_total lines_exact (λ key row. IsOpeningLine scale now key row) rows.lines.entries h.filled.book.line_rows
+  line_row = all_found lines_total lines_exact (λ key row. IsOpeningLine scale now key row) rows.lines h.filled.book.line_rows
 
   -- the new orders are those orders that are new
   pub new_contained : (key : OrderKey) → table.contains_key (database scale rows).new_orders key ≡ (is_new_order scale key && table.contains_key (database scale rows).orders key)
@@ -104,10 +104,10 @@ module _ {seed now : ℕ} (scale : Scale) (rows : TableRows) (h : IsPopulated sc
   lines_known : LinesHaveOrders (database scale rows)
   lines_known =
       let P = λ (key : OrderKey). IsTrue (table.contains_key (database scale rows).orders key) in
-      let keys : AllByRecursion (λ (key : OrderLineKey). P (order_of_line key)) (keys_of rows.lines.entries) =
+      let keys : AllByRecursion (λ (key : OrderLineKey). P (order_of_line key)) (keys_of rows.lines) =
       each_same (λ (key : OrderLineKey). P (order_of_line key)) _ _ h.filled.book.line_keys (of_each P rows.orders.entries (each_contained orders_total orders_exact rows.orders.entries)) in
-      each_found lines_total lines_exact (λ key _. P (order_of_line key)) rows.lines.entries
-      (each_from_mapped (λ (key : OrderLineKey). P (order_of_line key)) (λ e. e.0) rows.lines.entries keys)
+      each_found lines_total lines_exact (λ key _. P (order_of_line key)) rows.lines
+      (each_from_mapped (λ (key : OrderLineKey). P (order_of_line key)) (λ e. e.0) rows.lines keys)
 
   pub fits : FitsScale scale rows
   fits = record {

@@ -1,6 +1,7 @@
 -- The three tables of orders, one order after another.
 use Rattle.std.specs.Prelude.{◌≡◌, ℕ, ◌+◌, Bool, nat_lt, List, [], ◌∷◌, ◌++◌, map}
 use Rattle.std.specs.List.{All, AllByRecursion, filter, flat_map, range_with_len}
+use Rattle.std.specs.List.Sorted.{IsStrictlySortedBy}
 use Rattle.std.specs.Map.{keys_of}
 use Rattle.std.specs.BTreeMap.{BTreeMap, IsOrdered}
 use Rattle.rows.specs.declared.keys.DistrictKey.{DistrictKey}
@@ -44,14 +45,14 @@ abbrev pub line_keys : OrderKey × Order → List OrderLineKey
 line_keys entry = map (line_key entry.0) (range_with_len 1 entry.1.ol_cnt)
 
 -- these orders have their lines, and are in NEW-ORDER where they are new
-pub record IsBook (scale : Scale) (now : ℕ) (orders : BTreeMap OrderKey Order) (new_orders : BTreeMap OrderKey NewOrder) (lines : BTreeMap OrderLineKey OrderLine) : Type 0 where
+pub record IsBook (scale : Scale) (now : ℕ) (orders : BTreeMap OrderKey Order) (new_orders : BTreeMap OrderKey NewOrder) (lines : List (OrderLineKey × OrderLine)) : Type 0 where
   pub new_keys : keys_of new_orders.entries ≡ filter (is_new_order scale) (keys_of orders.entries)
-  pub line_keys : keys_of lines.entries ≡ flat_map line_keys orders.entries
+  pub line_keys : keys_of lines ≡ flat_map line_keys orders.entries
   pub order_rows : All (λ entry. IsOpeningOrder scale now entry.0 entry.1) orders.entries
-  pub line_rows : All (λ entry. IsOpeningLine scale now entry.0 entry.1) lines.entries
+  pub line_rows : All (λ entry. IsOpeningLine scale now entry.0 entry.1) lines
   pub orders_ordered : IsOrdered order_cmp orders
   pub new_orders_ordered : IsOrdered order_cmp new_orders
-  pub lines_ordered : IsOrdered line_cmp lines
+  pub lines_ordered : IsStrictlySortedBy line_cmp (keys_of lines)
 
 -- of the three tables of an order book
 abbrev pub IsBookOf : Scale → ℕ → OrderBook → Type 0

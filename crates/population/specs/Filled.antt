@@ -21,7 +21,7 @@ use Rattle.population.specs.Drawn.{IsFirstDrawn}
 
 -- so many districts, the first in the order of their keys, have all their rows
 pub record IsFilled (scale : Scale) (now count : ℕ) (districts : List District) (customers : List Customer) (histories : List (List History))
-    (orders : BTreeMap OrderKey Order) (new_orders : BTreeMap OrderKey NewOrder) (lines : BTreeMap OrderLineKey OrderLine) : Type 0 where
+    (orders : BTreeMap OrderKey Order) (new_orders : BTreeMap OrderKey NewOrder) (lines : List (OrderLineKey × OrderLine)) : Type 0 where
   pub districts_count : length districts ≡ count
   pub district_rows : All (IsOpeningDistrict scale) districts
   pub customers_count : length customers ≡ count * scale.customers

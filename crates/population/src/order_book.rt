@@ -15,8 +15,7 @@ use crate::draws::Draws;
 use crate::order_rows::{add_lines, carrier};
 use crate::profile::is_new;
 use schema::{
-    DistrictKey, LineCount, Moment, NewOrder, NoMemory, Order, OrderKey, OrderLine, OrderLineKey,
-    Scale,
+    DistrictKey, LineCount, Moment, NewOrder, NoMemory, Order, OrderKey, OrderLines, Scale,
 };
 use std::alloc::Global;
 use std::collections::BTreeMap;
@@ -26,7 +25,7 @@ use std::collections::BTreeMap;
 pub(crate) struct OrderBook {
     pub(crate) orders: BTreeMap<OrderKey, Order>,
     pub(crate) new_orders: BTreeMap<OrderKey, NewOrder>,
-    pub(crate) lines: BTreeMap<OrderLineKey, OrderLine>,
+    pub(crate) lines: OrderLines,
 }
 
 impl OrderBook {
@@ -38,7 +37,7 @@ impl OrderBook {
         OrderBook {
             orders: BTreeMap::new(alloc),
             new_orders: BTreeMap::new(alloc),
-            lines: BTreeMap::new(alloc),
+            lines: OrderLines::new(alloc),
         }
     }
 

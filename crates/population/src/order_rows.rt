@@ -1,6 +1,6 @@
 ghost use Rattle.std.specs.Prelude.{◌≡◌, ◌↔◌, ◌<◌, false, None, IsTrue, IfOk, OnOk, ◌++◌, map};
 ghost use Rattle.std.specs.List.{All, range_with_len};
-ghost use Rattle.std.specs.BTreeMap.{IsOrdered};
+ghost use Rattle.std.specs.List.Sorted.{IsStrictlySortedBy};
 ghost use Rattle.std.specs.Map.{keys_of};
 ghost use Rattle.rows.specs.Keys.{line_cmp};
 ghost use Rattle.schema.specs.Scale.{has_warehouse};
@@ -9,14 +9,12 @@ ghost use Rattle.population.specs.Keys.{line_key};
 ghost use Rattle.population.specs.Profile.{delivered_orders};
 ghost use Rattle.population.specs.Rows.{IsOpeningLine, AreOfEarlierOrders};
 
-use crate::append::append;
 use crate::draws::Draws;
 use crate::profile::is_new;
 use schema::{
     CarrierId, LineAmount, LineCount, LineQuantity, Moment, NoMemory, OrderKey, OrderLine,
-    OrderLineKey, Scale,
+    OrderLineKey, OrderLines, Scale,
 };
-use std::collections::BTreeMap;
 
 /// Who delivered the order; nobody, where it is new.
 pub(crate) fn carrier(draws: &mut Draws, scale: Scale, order: u32) -> Option<CarrierId>
@@ -32,19 +30,19 @@ pub(crate) fn carrier(draws: &mut Draws, scale: Scale, order: u32) -> Option<Car
 /// Adds the lines of the order, `count` of them.
 pub(crate) fn add_lines(
     draws: &mut Draws,
-    lines: &mut BTreeMap<OrderLineKey, OrderLine>,
+    lines: &mut OrderLines,
     scale: Scale,
     now: Moment,
     order: OrderKey,
     count: LineCount,
 ) -> Result<(), NoMemory>
     requires warehouse { IsTrue (has_warehouse scale order.w_id) }
-    requires before { AreOfEarlierOrders order lines.old.entries }
-    requires rows { All (λ e. IsOpeningLine scale now e.0 e.1) lines.old.entries }
-    requires ordered { IsOrdered line_cmp lines.old }
-    ensures keys { OnOk result (keys_of lines.new.entries ≡ keys_of lines.old.entries ++ map (line_key order) (range_with_len 1 count)) }
-    ensures rows { OnOk result (All (λ e. IsOpeningLine scale now e.0 e.1) lines.new.entries) }
-    ensures ordered { IsOrdered line_cmp lines.new }
+    requires before { AreOfEarlierOrders order lines.old }
+    requires rows { All (λ e. IsOpeningLine scale now e.0 e.1) lines.old }
+    requires ordered { IsStrictlySortedBy line_cmp (keys_of lines.old) }
+    ensures keys { OnOk result (keys_of lines.new ≡ keys_of lines.old ++ map (line_key order) (range_with_len 1 count)) }
+    ensures rows { OnOk result (All (λ e. IsOpeningLine scale now e.0 e.1) lines.new) }
+    ensures ordered { OnOk result (IsStrictlySortedBy line_cmp (keys_of lines.new)) }
 {
     for place in 0..count.get() {
         let key = OrderLineKey {
@@ -53,7 +51,7 @@ pub(crate) fn add_lines(
             o_id: order.o_id,
             number: place + 1,
         };
-        append(lines, key, line(draws, scale, now, key))?;
+        lines.insert(key, line(draws, scale, now, key))?;
     }
     Ok(())
 }

@@ -1,4 +1,5 @@
 pub mod Ascii
+pub mod Padded
 pub mod Arrays
 pub mod Fitting
 pub mod Decimals

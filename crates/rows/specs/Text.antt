@@ -1,5 +1,5 @@
 -- Texts of a column's width (clause 1.3.1: fixed and variable text).
-use Rattle.std.specs.Prelude.{ℕ, ◌≤◌, List, Bool, ◌&&◌, nat_le, length, IsTrue, Result, Ok, Err, if◌then◌else◌}
+use Rattle.std.specs.Prelude.{◌≡◌, ℕ, ◌-◌, ◌≤◌, ◌==◌, List, [], ◌∷◌, ◌++◌, Bool, ◌&&◌, nat_le, length, replicate, IsTrue, Result, Ok, Err, if◌then◌else◌}
 use Rattle.std.specs.List.{list_all}
 use Rattle.rows.specs.declared.text.TextFault.{TextFault}
 use Rattle.rows.specs.declared.text.TextFault.TheVariants.{Byte, Width}
@@ -17,3 +17,13 @@ pub record IsText (width : ℕ) (bytes : List ℕ) : Type 0 where
 abbrev pub text_of : ℕ → List ℕ → Result (List ℕ) TextFault
 text_of width bytes =
     if list_all is_printable_byte bytes then (if nat_le (length bytes) width then Ok bytes else Err Width) else Err Byte
+
+-- the bytes before the first zero
+abbrev pub before_zero : List ℕ → List ℕ
+before_zero [] = []
+before_zero (byte ∷ bytes) = if byte == 0 then [] else byte ∷ before_zero bytes
+
+-- as many bytes as the width: a text, and zeros behind it
+pub record IsPadded (width : ℕ) (bytes : List ℕ) : Type 0 where
+  pub text : IsText width (before_zero bytes)
+  pub padded : bytes ≡ before_zero bytes ++ replicate (width - length (before_zero bytes)) 0

@@ -1,10 +1,11 @@
-ghost use Rattle.std.specs.Prelude.{◌≡◌, [], ◌++◌, nat_eq, take, IsTrue};
+ghost use Rattle.std.specs.Prelude.{◌≡◌, ◌+◌, ◌≤◌, [], ◌++◌, length, nat_eq, take, IsTrue};
 ghost use Rattle.std.specs.Cmp.{partial_equiv_from_equiv};
 ghost use Rattle.std.specs.Cmp.Lexicographic.{pointwise, nat_list_eq_equiv};
 ghost use Rattle.std.specs.List.{list_all};
 ghost use Rattle.rows.specs.Text.{IsText, is_printable_byte, text_of};
 
-use arrayvec::ArrayString;
+use memchr::memchr;
+use std::fmt;
 use std::marker::Model;
 use std::str::from_utf8_unchecked;
 
@@ -17,22 +18,23 @@ pub enum TextFault {
     Width,
 }
 
-/// A text of printable ASCII (bytes 32 to 126), of at most `WIDTH` bytes. It takes no memory beyond
-/// itself.
-#[derive(Clone, Debug, Drop)]
+/// A text of printable ASCII (bytes 32 to 126), of at most `WIDTH` bytes. It takes as many bytes as its
+/// column is wide, and no memory beyond itself.
+#[derive(Clone, Drop)]
 pub struct Text<const WIDTH: usize> {
-    string: ArrayString<WIDTH>,
+    // The text, and behind it zeros: no text has one.
+    bytes: [u8; WIDTH],
 }
 
 impl<const WIDTH: usize> Model for Text<WIDTH> {
     ghost use Rattle.std.specs.Prelude.{ℕ, List};
-    ghost use Rattle.rows.specs.Text.{IsText};
+    ghost use Rattle.rows.specs.Text.{IsPadded, before_zero};
 
     ghost Value = { List ℕ };
 
-    ghost view = { λ t. t.string.bytes };
+    ghost view = { λ t. before_zero t.bytes };
 
-    ghost invariant = { λ t. IsText WIDTH t.string.bytes };
+    ghost invariant = { λ t. IsPadded WIDTH t.bytes };
 }
 
 impl<const WIDTH: usize> Text<WIDTH> {
@@ -40,9 +42,7 @@ impl<const WIDTH: usize> Text<WIDTH> {
     pub fn new() -> Self
         ensures { result ≡ [] }
     {
-        Text {
-            string: ArrayString::new(),
-        }
+        Text { bytes: [0; WIDTH] }
     }
 
     /// A copy of `words`; `Byte` where one is not printable ASCII, else `Width` where they are too
@@ -63,9 +63,9 @@ impl<const WIDTH: usize> Text<WIDTH> {
         if bytes.len() > WIDTH {
             return Err(TextFault::Width);
         }
-        let mut string = ArrayString::new();
-        string.push_str(ascii(bytes));
-        Ok(Text { string })
+        let mut text = Text::new();
+        text.write(0, bytes);
+        Ok(text)
     }
 
     /// The bytes of the text, which are ASCII.
@@ -73,7 +73,26 @@ impl<const WIDTH: usize> Text<WIDTH> {
         ensures bytes { result.now ≡ self.now }
         ensures is_text { IsText WIDTH self.now }
     {
-        self.string.as_str()
+        ascii(&self.bytes[..self.len()])
+    }
+
+    // How many bytes the text has.
+    fn len(&self) -> usize
+        ensures value { result ≡ length self.now }
+        ensures fits { result ≤ WIDTH }
+    {
+        memchr(0, &self.bytes).unwrap_or(WIDTH)
+    }
+
+    // Adds printable bytes at the end of the text, where it ends here and there is room for them.
+    fn write(&mut self, end: usize, more: &[u8])
+        requires end { end ≡ length self.old }
+        requires room { end + length more.now ≤ WIDTH }
+        requires printable { IsTrue (list_all is_printable_byte more.now) }
+        ensures { self.new ≡ self.old ++ more.now }
+    {
+        let bytes = &mut self.bytes[..];
+        bytes[end..end + more.len()].copy_from_slice(more);
     }
 }
 
@@ -83,17 +102,16 @@ impl<const WIDTH: usize> Text<WIDTH> {
         requires { IsTrue (list_all is_printable_byte words.now) }
         ensures { self.new ≡ take WIDTH (self.old ++ words.now) }
     {
-        let room = self.string.remaining_capacity().min(words.len());
-        self.string.push_str(&words[..room]);
+        let len = self.len();
+        let room = (WIDTH - len).min(words.len());
+        self.write(len, &words.as_bytes()[..room]);
     }
 
     /// An equal text. It takes no memory.
     pub fn copy(&self) -> Text<WIDTH>
         ensures { result ≡ self.now }
     {
-        Text {
-            string: self.string,
-        }
+        Text { bytes: self.bytes }
     }
 
     /// The first `LENGTH` bytes, or all where there are fewer.
@@ -118,6 +136,12 @@ impl<const WIDTH: usize> PartialEq for Text<WIDTH> {
 
 impl<const WIDTH: usize> Eq for Text<WIDTH> {
     ghost laws = { nat_list_eq_equiv };
+}
+
+impl<const WIDTH: usize> fmt::Debug for Text<WIDTH> {
+    fn fmt<W: fmt::Write>(&self, f: &mut fmt::Formatter<W>) -> fmt::Result {
+        fmt::Debug::fmt(&self.as_str(), f)
+    }
 }
 
 /// Whether each byte is printable ASCII. All are looked at, also behind one that isn't, so that many are

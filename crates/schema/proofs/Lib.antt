@@ -1,3 +1,5 @@
+pub mod NumberedRows
+pub mod PackedLines
 pub mod Places
 pub mod EachRows
 pub mod KeyOrders
@@ -10,7 +12,8 @@ pub mod DistrictRows
 pub mod TableSums
 pub mod ScaleKept
 pub mod TableWrites
-pub mod OrderLines
+pub mod EntriesAdded
+pub mod LinesPut
 pub mod Deliveries
 pub mod OrderSpans
 pub mod OrdersKept

@@ -1,9 +1,9 @@
 -- The oldest new order of a district, and the lines of some of its orders.
-use Rattle.std.proofs.Common.{◌≡◌, ℕ, ◌+◌, ◌≤◌, max, min, Bool, true, false, cond, not, ◌&&◌, ◌==◌, nat_le, nat_lt, List, [], ◌∷◌, Option, Some, None, IsTrue, refl, sym, ap, ◌∙◌, arith}
+use Rattle.std.proofs.Common.{◌≡◌, ℕ, ◌+◌, ◌≤◌, max, min, Bool, true, false, cond, not, ◌&&◌, ◌==◌, nat_le, nat_lt, List, [], ◌∷◌, Option, Some, None, IsTrue, refl, sym, ap, ◌∙◌, arith, rules}
 use Rattle.std.specs.List.{filter, AllByRecursion}
 use Rattle.std.specs.List.Sorted.{IsStrictlySortedBy}
 use Rattle.std.specs.Map.{keys_of}
-use Rattle.std.specs.BTreeMap.Range.{range_contains, entries_between}
+use Rattle.std.specs.BTreeMap.Range.{range_contains}
 use Rattle.std.specs.declared.ops.Bound.TheVariants.{Included, Excluded}
 use Rattle.std.specs.declared.cmp.Ordering.{Ordering}
 use Rattle.std.specs.declared.cmp.Ordering.TheVariants.{Less, Equal, Greater}
@@ -14,11 +14,11 @@ use Rattle.std.proofs.lemmas.Map.Keys.{sorted_head, sorted_tail}
 use Rattle.rows.specs.declared.keys.DistrictKey.{DistrictKey}
 use Rattle.rows.specs.declared.keys.OrderKey.{OrderKey}
 use Rattle.rows.specs.declared.keys.OrderLineKey.{OrderLineKey}
-use Rattle.rows.specs.Keys.{order_cmp, line_cmp}
-use Rattle.schema.specs.Database.{rows_where, is_of_district}
+use Rattle.rows.specs.Keys.{order_cmp, order_of_line}
+use Rattle.schema.specs.Database.{rows_where, is_of_district, is_of_order}
 use Rattle.schema.specs.Consistency.{least, numbers}
 use Rattle.schema.specs.OrderRows.{smallest, is_in_span}
-use Rattle.schema.proofs.KeyOrders.{orders_total, lines_total}
+use Rattle.schema.proofs.KeyOrders.{orders_total}
 use Rattle.schema.proofs.OrderedParts.{entries-ordered, from_later}
 
 -- ---- the oldest of a district
@@ -63,7 +63,10 @@ oldest_first home es sorted =
     ap (λ l. first_number (filter (λ e. is_of_district home e.0) l)) same ∙ first_smallest home es sorted
     ∙ ap (λ l. smallest (numbers (filter (λ e. is_of_district home e.0) l))) (sym same)
 
--- ---- the lines of a span of orders
+-- ---- the orders of a span, and those of the warehouses from one on
+
+from_number : (from x : ℕ) → is_le (nat_cmp from x) ≡ nat_le from x
+from_number from x = grind (arith, nat_tests)
 
 level : (a x : ℕ) (low high : Ordering)
     → (is_le (ordering_then (nat_cmp a x) low) && not (is_le (ordering_then (nat_cmp a x) high))) ≡ ((x == a) && (is_le low && not (is_le high)))
@@ -74,30 +77,22 @@ level a x low high =
       | Greater ↦ λ e. let other : (x == a) ≡ false = grind (arith, nat_tests) in rw other refl
     ] refl
 
-from_number : (from x n : ℕ) → is_le (ordering_then (nat_cmp from x) (nat_cmp 0 n)) ≡ nat_le from x
-from_number from x n =
-    let low : is_le (nat_cmp 0 n) ≡ true = grind (arith, nat_tests) in
-    elim (nat_cmp from x) as (λ r. nat_cmp from x ≡ r → is_le (ordering_then r (nat_cmp 0 n)) ≡ nat_le from x) [
-      | Less ↦ λ e. let below : nat_le from x ≡ true = grind (arith, nat_tests) in sym below
-      | Equal ↦ λ e. let same : nat_le from x ≡ true = grind (arith, nat_tests) in low ∙ sym same
-      | Greater ↦ λ e. let above : nat_le from x ≡ false = grind (arith, nat_tests) in sym above
-    ] refl
-
 up_to : (from to x : ℕ) → (nat_le from x && not (nat_le (max to from) x)) ≡ (nat_le from x && nat_lt x to)
 up_to from to x = grind (arith, nat_tests)
 
-span_between : (home : DistrictKey) (from to past : ℕ) (key : OrderLineKey) → past ≡ max to from
-    → range_contains line_cmp (Included (record { w_id = home.w_id; d_id = home.d_id; o_id = from; number = 0 })) (Excluded (record { w_id = home.w_id; d_id = home.d_id; o_id = past; number = 0 })) key
-    ≡ is_in_span home from to key
+-- the order of that number
+abbrev pub order_of_number : DistrictKey → ℕ → OrderKey
+order_of_number home number = record { w_id = home.w_id; d_id = home.d_id; o_id = number }
+
+pub span_between : (home : DistrictKey) (from to past : ℕ) (key : OrderLineKey) → past ≡ max to from
+    → range_contains order_cmp (Included (order_of_number home from)) (Excluded (order_of_number home past)) (order_of_line key) ≡ is_in_span home from to key
 span_between home from to past key e =
-    let low = ordering_then (nat_cmp from key.o_id) (nat_cmp 0 key.number) in
-    let high = ordering_then (nat_cmp past key.o_id) (nat_cmp 0 key.number) in
-    level home.w_id key.w_id (ordering_then (nat_cmp home.d_id key.d_id) low) (ordering_then (nat_cmp home.d_id key.d_id) high)
+    level home.w_id key.w_id (ordering_then (nat_cmp home.d_id key.d_id) (nat_cmp from key.o_id)) (ordering_then (nat_cmp home.d_id key.d_id) (nat_cmp past key.o_id))
     ∙ ap (λ b. (key.w_id == home.w_id) && b)
-    (level home.d_id key.d_id low high
+    (level home.d_id key.d_id (nat_cmp from key.o_id) (nat_cmp past key.o_id)
     ∙ ap (λ b. (key.d_id == home.d_id) && b)
-    (ap (λ b. b && not (is_le high)) (from_number from key.o_id key.number)
-    ∙ ap (λ b. nat_le from key.o_id && not b) (from_number past key.o_id key.number)
+    (ap (λ b. b && not (is_le (nat_cmp past key.o_id))) (from_number from key.o_id)
+    ∙ ap (λ b. nat_le from key.o_id && not b) (from_number past key.o_id)
     ∙ ap (λ n. nat_le from key.o_id && not (nat_le n key.o_id)) e
     ∙ up_to from to key.o_id))
     ∙ and_assoc (key.w_id == home.w_id) (key.d_id == home.d_id) (nat_le from key.o_id && nat_lt key.o_id to)
@@ -106,27 +101,22 @@ span_between home from to past key e =
     and_assoc true b c = refl
     and_assoc false b c = refl
 
-same_filter : {X : Type 0} (p q : X → Bool) → ((x : X) → p x ≡ q x) → (xs : List X) → filter p xs ≡ filter q xs
-same_filter p q h [] = refl
-same_filter p q h (x ∷ xs) = ap (λ b. cond b (x ∷ filter p xs) (filter p xs)) (h x) ∙ ap (λ l. cond (q x) (x ∷ l) l) (same_filter p q h xs)
-
--- the lines between the first line of the one order and the first of the other
-pub span_part : {X : Type 0} (home : DistrictKey) (from to past : ℕ) (low high : OrderLineKey) → past ≡ max to from
-    → low ≡ record { w_id = home.w_id; d_id = home.d_id; o_id = from; number = 0 } → high ≡ record { w_id = home.w_id; d_id = home.d_id; o_id = past; number = 0 }
-    → (es : List (OrderLineKey × X)) → IsStrictlySortedBy line_cmp (keys_of es)
-    → entries_between line_cmp (Included low) (Excluded high) es ≡ rows_where {R = line_cmp} (is_in_span home from to) (from_entries es)
-span_part home from to past low high e is_low is_high es sorted =
-    ap (λ lo. entries_between line_cmp (Included lo) (Excluded high) es) is_low
-    ∙ ap (λ hi. entries_between line_cmp (Included (record { w_id = home.w_id; d_id = home.d_id; o_id = from; number = 0 })) (Excluded hi) es) is_high
-    ∙ same_filter _ _ (λ x. span_between home from to past x.0 e) es
-    ∙ ap (filter (λ x. is_in_span home from to x.0)) (sym (entries-ordered lines_total es sorted))
-
 -- such a part runs forward
-pub span_forward : (home : DistrictKey) (from past : ℕ) (low high : OrderLineKey) → from ≤ past
-    → low ≡ record { w_id = home.w_id; d_id = home.d_id; o_id = from; number = 0 } → high ≡ record { w_id = home.w_id; d_id = home.d_id; o_id = past; number = 0 }
-    → is_gt (line_cmp low high) ≡ false
-span_forward home from past low high h is_low is_high =
-    let w : nat_cmp home.w_id home.w_id ≡ Equal = grind (arith, nat_tests) in
-    let d : nat_cmp home.d_id home.d_id ≡ Equal = grind (arith, nat_tests) in
-    let o : is_gt (ordering_then (nat_cmp from past) Equal) ≡ false = grind (arith, nat_tests) in
-    ap (λ k. is_gt (line_cmp k high)) is_low ∙ ap (λ k. is_gt (line_cmp (record { w_id = home.w_id; d_id = home.d_id; o_id = from; number = 0 }) k)) is_high ∙ rw (w, d) o
+pub span_forward : (home : DistrictKey) (from past : ℕ) → from ≤ past → is_gt (order_cmp (order_of_number home from) (order_of_number home past)) ≡ false
+span_forward home from past h = search rules
+
+-- just the order
+pub one_order : (order : OrderKey) (key : OrderLineKey) → range_contains order_cmp (Included order) (Included order) (order_of_line key) ≡ is_of_order order key
+one_order order key = search rules
+
+-- the first key that an order of the warehouse can have
+abbrev pub first_of_warehouse : ℕ → OrderKey
+first_of_warehouse warehouse = record { w_id = warehouse; d_id = 0; o_id = 0 }
+
+-- before it stand the orders of the warehouses before
+pub before_warehouse : (warehouse : ℕ) (key : OrderKey) → is_gt (order_cmp (first_of_warehouse warehouse) key) ≡ nat_lt key.w_id warehouse
+before_warehouse warehouse key = search rules
+
+-- and from it on those of the others
+pub from_warehouse : (warehouse : ℕ) (key : OrderKey) → is_le (order_cmp (first_of_warehouse warehouse) key) ≡ nat_le warehouse key.w_id
+from_warehouse warehouse key = search rules

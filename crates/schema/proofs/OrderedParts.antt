@@ -7,21 +7,21 @@ use Rattle.std.specs.BTreeMap.Range.{range_contains, entries_between}
 use Rattle.std.specs.declared.ops.Bound.TheVariants.{Included, Unbounded}
 use Rattle.std.specs.declared.cmp.Ordering.{Ordering}
 use Rattle.std.specs.declared.cmp.Ordering.TheVariants.{Less, Equal, Greater}
-use Rattle.std.specs.Ordering.{nat_cmp, ordering_then, is_le, is_lt}
+use Rattle.std.specs.Ordering.{nat_cmp, ordering_then, is_le, is_lt, match_ordering}
 use Rattle.std.specs.Cmp.{IsTotalOrder}
 use Rattle.std.specs.FinMap as map
+use Rattle.std.specs.BTreeMap.{insert_entry}
 use Rattle.std.specs.FinMap.{entries, from_entries, entries-insert}
-use Rattle.std.specs.FinMap.Entries.{put}
+use Rattle.std.specs.FinMap.Entries.{put, by_order}
 use Rattle.std.proofs.lemmas.Bool.Decides.{nat_tests}
 use Rattle.std.proofs.lemmas.Map.Keys.{sorted_head, sorted_tail}
 use Rattle.rows.specs.declared.keys.DistrictKey.{DistrictKey}
 use Rattle.rows.specs.declared.keys.OrderKey.{OrderKey}
-use Rattle.rows.specs.declared.keys.OrderLineKey.{OrderLineKey}
-use Rattle.rows.specs.Keys.{order_cmp, line_cmp, order_of_line}
-use Rattle.schema.specs.Database.{Database, IsWithinScale, is_order_id, is_line_number, rows_where, is_of_district, is_of_order}
+use Rattle.rows.specs.Keys.{order_cmp, order_of_line}
+use Rattle.schema.specs.Database.{Database, IsWithinScale, is_order_id, rows_where, is_of_district}
 use Rattle.schema.specs.EachRow.{EachRow}
 use Rattle.schema.proofs.EachRows.{EachRow-entries}
-use Rattle.schema.proofs.KeyOrders.{orders_total, orders_exact, lines_total, lines_exact}
+use Rattle.schema.proofs.KeyOrders.{orders_total, orders_exact}
 
 -- a key before all others is put first
 put_first : {K X : Type 0} (R : K → K → Ordering) (k : K) (v : X) (es : List (K × X)) → AllByRecursion (λ q. R k q ≡ Less) (keys_of es) → put R k v es ≡ (k, v) ∷ es
@@ -43,7 +43,17 @@ entries-ordered {R = R} o (e ∷ es) sorted =
     ∙ ap (put R e.0 e.1) (entries-ordered o es (sorted_tail R e.0 (keys_of es) sorted))
     ∙ put_first R e.0 e.1 es (sorted_head R e.0 (keys_of es) sorted)
 
-every_entry : {K X : Type 0} (R : K → K → Ordering) (es : List (K × X)) → entries_between R Unbounded Unbounded es ≡ es
+-- a row that is put into entries in order
+pub put_is_insert : {K X : Type 0} (R : K → K → Ordering) (k : K) (v : X) (es : List (K × X)) → put R k v es ≡ insert_entry R es k v
+put_is_insert R k v [] = refl
+put_is_insert R k v (e ∷ es) =
+    elim (R k e.0) as (λ r. by_order r ((k, v) ∷ e ∷ es) ((e.0, v) ∷ es) (e ∷ put R k v es) ≡ match_ordering r ((k, v) ∷ e ∷ es) ((e.0, v) ∷ es) (e ∷ insert_entry R es k v)) [
+      | Less ↦ refl
+      | Equal ↦ refl
+      | Greater ↦ ap (λ l. e ∷ l) (put_is_insert R k v es)
+    ]
+
+pub every_entry : {K X : Type 0} (R : K → K → Ordering) (es : List (K × X)) → entries_between R Unbounded Unbounded es ≡ es
 every_entry R [] = refl
 every_entry R (e ∷ es) = ap (λ l. e ∷ l) (every_entry R es)
 
@@ -61,7 +71,7 @@ second true c h = h
 second false c h = absurd cc
 
 -- tests that agree on what passes a third keep the same elements
-filter_agrees : {X : Type 0} (known p q : X → Bool) → ((x : X) → IsTrue (known x) → p x ≡ q x) → (xs : List X) → IsTrue (list_all known xs) → filter p xs ≡ filter q xs
+pub filter_agrees : {X : Type 0} (known p q : X → Bool) → ((x : X) → IsTrue (known x) → p x ≡ q x) → (xs : List X) → IsTrue (list_all known xs) → filter p xs ≡ filter q xs
 filter_agrees known p q h [] all = refl
 filter_agrees known p q h (x ∷ xs) all =
     let here : p x ≡ q x = h x (first _ _ all) in
@@ -85,7 +95,7 @@ and_true : (b : Bool) → (b && true) ≡ b
 and_true true = refl
 and_true false = refl
 
-order_between : (home : DistrictKey) (key : OrderKey) → key.o_id ≤ 4294967295
+pub order_between : (home : DistrictKey) (key : OrderKey) → key.o_id ≤ 4294967295
     → range_contains order_cmp (Included (record { w_id = home.w_id; d_id = home.d_id; o_id = 0 })) (Included (record { w_id = home.w_id; d_id = home.d_id; o_id = 4294967295 })) key
     ≡ is_of_district home key
 order_between home key h =
@@ -93,48 +103,13 @@ order_between home key h =
     ∙ ap (λ b. (key.w_id == home.w_id) && b)
     (level home.d_id key.d_id (nat_cmp 0 key.o_id) (nat_cmp 4294967295 key.o_id) ∙ ap (λ b. (key.d_id == home.d_id) && b) (last_level key.o_id h) ∙ and_true _)
 
-line_between : (order : OrderKey) (key : OrderLineKey) → key.number ≤ 4294967295
-    → range_contains line_cmp (Included (record { w_id = order.w_id; d_id = order.d_id; o_id = order.o_id; number = 0 })) (Included (record { w_id = order.w_id; d_id = order.d_id; o_id = order.o_id; number = 4294967295 })) key
-    ≡ is_of_order order key
-line_between order key h =
-    let low = nat_cmp 0 key.number in
-    let high = nat_cmp 4294967295 key.number in
-    level order.w_id key.w_id (ordering_then (nat_cmp order.d_id key.d_id) (ordering_then (nat_cmp order.o_id key.o_id) low)) (ordering_then (nat_cmp order.d_id key.d_id) (ordering_then (nat_cmp order.o_id key.o_id) high))
-    ∙ ap (λ b. (key.w_id == order.w_id) && b)
-    (level order.d_id key.d_id (ordering_then (nat_cmp order.o_id key.o_id) low) (ordering_then (nat_cmp order.o_id key.o_id) high)
-    ∙ ap (λ b. (key.d_id == order.d_id) && b)
-    (level order.o_id key.o_id low high ∙ ap (λ b. (key.o_id == order.o_id) && b) (last_level key.number h) ∙ and_true _))
-
-two_levels : (x y : ℕ) → x ≤ 4294967295 → y ≤ 4294967295
-    → (is_le (ordering_then (nat_cmp 0 x) (nat_cmp 0 y)) && not (is_lt (ordering_then (nat_cmp 4294967295 x) (nat_cmp 4294967295 y)))) ≡ true
-two_levels x y h k =
-    let low : is_le (ordering_then (nat_cmp 0 x) (nat_cmp 0 y)) ≡ true = grind (arith, nat_tests) in
-    let high : is_lt (ordering_then (nat_cmp 4294967295 x) (nat_cmp 4294967295 y)) ≡ false = grind (arith, nat_tests) in
-    rw (low, high) refl
-
-district_between : (home : DistrictKey) (key : OrderLineKey) → key.o_id ≤ 4294967295 → key.number ≤ 4294967295
-    → range_contains line_cmp (Included (record { w_id = home.w_id; d_id = home.d_id; o_id = 0; number = 0 })) (Included (record { w_id = home.w_id; d_id = home.d_id; o_id = 4294967295; number = 4294967295 })) key
-    ≡ is_of_district home (order_of_line key)
-district_between home key h k =
-    let low = ordering_then (nat_cmp 0 key.o_id) (nat_cmp 0 key.number) in
-    let high = ordering_then (nat_cmp 4294967295 key.o_id) (nat_cmp 4294967295 key.number) in
-    level home.w_id key.w_id (ordering_then (nat_cmp home.d_id key.d_id) low) (ordering_then (nat_cmp home.d_id key.d_id) high)
-    ∙ ap (λ b. (key.w_id == home.w_id) && b)
-    (level home.d_id key.d_id low high ∙ ap (λ b. (key.d_id == home.d_id) && b) (two_levels key.o_id key.number h k) ∙ and_true _)
-
-abbrev first_order : DistrictKey → OrderKey
+abbrev pub first_order : DistrictKey → OrderKey
 first_order home = record { w_id = home.w_id; d_id = home.d_id; o_id = 0 }
 
-abbrev last_order : DistrictKey → OrderKey
+abbrev pub last_order : DistrictKey → OrderKey
 last_order home = record { w_id = home.w_id; d_id = home.d_id; o_id = 4294967295 }
 
-abbrev first_line : OrderKey → OrderLineKey
-first_line order = record { w_id = order.w_id; d_id = order.d_id; o_id = order.o_id; number = 0 }
-
-abbrev last_line : OrderKey → OrderLineKey
-last_line order = record { w_id = order.w_id; d_id = order.d_id; o_id = order.o_id; number = 4294967295 }
-
-small_order : (number : ℕ) → IsTrue (is_order_id number) → number ≤ 4294967295
+pub small_order : (number : ℕ) → IsTrue (is_order_id number) → number ≤ 4294967295
 small_order number h = grind (arith, nat_tests)
 
 small_number : (number : ℕ) → IsTrue (is_order_id number) → number ≤ 9999999
@@ -142,9 +117,6 @@ small_number number h = grind (arith, nat_tests)
 
 some_number : (number : ℕ) → IsTrue (is_order_id number) → 1 ≤ number
 some_number number h = grind (arith, nat_tests)
-
-small_line : (number : ℕ) → IsTrue (is_line_number number) → number ≤ 4294967295
-small_line number h = grind (arith, nat_tests)
 
 -- the orders between the first and the last that a district can have are the district's
 pub orders_part : {X : Type 0} (home : DistrictKey) (low high : OrderKey) → low ≡ first_order home → high ≡ last_order home → (es : List (OrderKey × X)) → IsStrictlySortedBy order_cmp (keys_of es)
@@ -199,38 +171,12 @@ few_orders {X} home es sorted numbered =
     let same = ap (λ (l : List (OrderKey × X)). length (filter (λ e. is_of_district home e.0) l)) (entries-ordered orders_total es sorted) in
     omega arith
 
--- the lines between the first and the last that an order can have are the order's
-pub lines_part : {X : Type 0} (order : OrderKey) (low high : OrderLineKey) → low ≡ first_line order → high ≡ last_line order → (es : List (OrderLineKey × X)) → IsStrictlySortedBy line_cmp (keys_of es)
-    → EachRow {R = line_cmp} (λ key _. is_line_number key.number) (from_entries es)
-    → entries_between line_cmp (Included low) (Included high) es ≡ rows_where {R = line_cmp} (is_of_order order) (from_entries es)
-lines_part order low high is_low is_high es sorted numbered =
-    ap (λ lo. entries_between line_cmp (Included lo) (Included high) es) is_low
-    ∙ ap (λ hi. entries_between line_cmp (Included (first_line order)) (Included hi) es) is_high
-    ∙ filter_agrees (λ e. is_line_number e.0.number) _ _ (λ e h. line_between order e.0 (small_line e.0.number h)) es
-    ((EachRow-entries lines_total lines_exact (λ key _. is_line_number key.number) es sorted).1 numbered)
-    ∙ ap (filter (λ e. is_of_order order e.0)) (sym (entries-ordered lines_total es sorted))
-
--- the lines between the first and the last that a district can have are the district's
-pub district_lines_part : {X : Type 0} (home : DistrictKey) (low high : OrderLineKey) → low ≡ first_line (first_order home) → high ≡ last_line (last_order home) → (es : List (OrderLineKey × X)) → IsStrictlySortedBy line_cmp (keys_of es)
-    → EachRow {R = line_cmp} (λ key _. is_order_id key.o_id && is_line_number key.number) (from_entries es)
-    → entries_between line_cmp (Included low) (Included high) es ≡ rows_where {R = line_cmp} (λ key. is_of_district home (order_of_line key)) (from_entries es)
-district_lines_part home low high is_low is_high es sorted numbered =
-    ap (λ lo. entries_between line_cmp (Included lo) (Included high) es) is_low
-    ∙ ap (λ hi. entries_between line_cmp (Included (first_line (first_order home))) (Included hi) es) is_high
-    ∙ filter_agrees (λ e. is_order_id e.0.o_id && is_line_number e.0.number) _ _
-    (λ e h. district_between home e.0 (small_order e.0.o_id (first _ _ h)) (small_line e.0.number (second _ _ h))) es
-    ((EachRow-entries lines_total lines_exact (λ key _. is_order_id key.o_id && is_line_number key.number) es sorted).1 numbered)
-    ∙ ap (filter (λ e. is_of_district home (order_of_line e.0))) (sym (entries-ordered lines_total es sorted))
-
-both : (b c : Bool) → IsTrue b → IsTrue c → IsTrue (b && c)
-both b c h k = rw h k
-
--- both numbers of a line are in their ranges
-pub lines_numbered_twice : (t : Database) → IsWithinScale t → EachRow (λ key _. is_order_id key.o_id && is_line_number key.number) t.lines
-lines_numbered_twice t h key row found =
-    elim (map.get t.orders (order_of_line key)) as (λ r. map.get t.orders (order_of_line key) ≡ r → IsTrue (is_some r) → IsTrue (is_order_id key.o_id && is_line_number key.number)) [
+-- the number of a line's order is that of an order
+pub lines_of_numbered : (t : Database) → IsWithinScale t → EachRow (λ key _. is_order_id key.o_id) t.lines
+lines_of_numbered t h key row found =
+    elim (map.get t.orders (order_of_line key)) as (λ r. map.get t.orders (order_of_line key) ≡ r → IsTrue (is_some r) → IsTrue (is_order_id key.o_id)) [
       | None ↦ λ e there. absurd cc
-      | Some order ↦ λ e there. both _ _ (h.orders_numbered (order_of_line key) order e) (h.lines_numbered key row found)
+      | Some order ↦ λ e there. h.orders_numbered (order_of_line key) order e
     ] refl (h.lines_have_orders key row found)
 
 -- the number of a new order is that of an order

@@ -14,21 +14,21 @@ use Rattle.rows.specs.declared.keys.OrderLineKey.{OrderLineKey}
 use Rattle.rows.specs.declared.records.Order.{Order}
 use Rattle.rows.specs.declared.records.NewOrder.{NewOrder}
 use Rattle.rows.specs.declared.records.OrderLine.{OrderLine}
-use Rattle.rows.specs.Keys.{order_cmp, line_cmp, order_of_line}
+use Rattle.rows.specs.Keys.{order_cmp, order_of_line}
 use Rattle.schema.specs.declared.scale.Scale.{Scale}
 use Rattle.schema.specs.declared.table_rows.TableRows.{TableRows}
 use Rattle.schema.specs.EachRow.{EachRow}
 use Rattle.schema.specs.Scale.{has_item, has_warehouse, has_customer}
 use Rattle.schema.specs.MapRows.{table_of, map_rows}
 use Rattle.schema.specs.Database.{Database, IsWithinScale, customer_of_order, is_order_id, is_line_number, is_of_order}
-use Rattle.schema.specs.OrderRows.{LineTable, line_key, put_lines, with_order, with_delivery, carried_by, delivered_at, with_carrier, with_moment, is_order, is_line_within}
+use Rattle.schema.specs.OrderRows.{LineTable, line_key, line_table, put_lines, with_order, with_delivery, carried_by, delivered_at, with_carrier, with_moment, is_order, is_line_within}
 use Rattle.schema.specs.Rows.{FitsScale, database}
 use Rattle.schema.proofs.KeyOrders.{orders_total, orders_exact, lines_total, lines_exact}
 use Rattle.schema.proofs.ScaleKept.{EachRow-insert}
 use Rattle.schema.proofs.TableWrites.{get-map_rows, now_there, still_there}
 
 -- the rows of the other six tables stay
-pub orders_fit : (scale : Scale) (rows : TableRows) (orders : BTreeMap OrderKey Order) (new_orders : BTreeMap OrderKey NewOrder) (lines : BTreeMap OrderLineKey OrderLine)
+pub orders_fit : (scale : Scale) (rows : TableRows) (orders : BTreeMap OrderKey Order) (new_orders : BTreeMap OrderKey NewOrder) (lines : List (OrderLineKey × OrderLine))
     → FitsScale scale rows → IsWithinScale (database scale (record rows { orders = orders; new_orders = new_orders; lines = lines }))
     → FitsScale scale (record rows { orders = orders; new_orders = new_orders; lines = lines })
 orders_fit scale rows orders new_orders lines h within = record {
@@ -196,7 +196,7 @@ by_three (Ok x) p q s p' q' s' f g = f p q s
 by_three (Err e) p q s p' q' s' f g = g p' q' s'
 
 -- the tables of rows whose orders are others
-pub other_orders : (scale : Scale) (rows : TableRows) (orders : BTreeMap OrderKey Order) (new_orders : BTreeMap OrderKey NewOrder) (lines : BTreeMap OrderLineKey OrderLine)
-    (x : FinMap order_cmp Order) (y : FinMap order_cmp NewOrder) (z : LineTable) → table_of order_cmp orders ≡ x → table_of order_cmp new_orders ≡ y → table_of line_cmp lines ≡ z
+pub other_orders : (scale : Scale) (rows : TableRows) (orders : BTreeMap OrderKey Order) (new_orders : BTreeMap OrderKey NewOrder) (lines : List (OrderLineKey × OrderLine))
+    (x : FinMap order_cmp Order) (y : FinMap order_cmp NewOrder) (z : LineTable) → table_of order_cmp orders ≡ x → table_of order_cmp new_orders ≡ y → line_table lines ≡ z
     → database scale (record rows { orders = orders; new_orders = new_orders; lines = lines }) ≡ record (database scale rows) { orders = x; new_orders = y; lines = z }
 other_orders scale rows orders new_orders lines x y z a b d = λ i. record (database scale rows) { orders = a i; new_orders = b i; lines = d i }

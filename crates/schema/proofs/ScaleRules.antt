@@ -2,6 +2,8 @@
 use Rattle.std.proofs.Common.{◌≡◌, ◌↔◌, ℕ, Bool, true, false, cond, ◌&&◌, List, [], ◌∷◌, Some, None, IsTrue, is_some, refl, sym, ap, subst, ◌∙◌}
 use Rattle.std.specs.List.{list_all}
 use Rattle.std.specs.BTreeMap.{IsOrdered}
+use Rattle.std.specs.List.Sorted.{IsStrictlySortedBy}
+use Rattle.std.specs.Map.{keys_of}
 use Rattle.std.specs.BTreeMap as tree
 use Rattle.std.specs.Cmp.{nat_cmp_total}
 use Rattle.std.specs.FinMap as map
@@ -46,9 +48,9 @@ module _ (scale : Scale) (rows : TableRows) where
       → IsTrue r ↔ EachRow test (database scale rows).orders
   order_rule test r ordered is = as_test r _ is (EachRow-entries orders_total orders_exact test rows.orders.entries ordered)
 
-  pub line_rule : (test : OrderLineKey → OrderLine → Bool) (r : Bool) → IsOrdered line_cmp rows.lines → r ≡ list_all (λ e. test e.0 e.1) rows.lines.entries
+  pub line_rule : (test : OrderLineKey → OrderLine → Bool) (r : Bool) → IsStrictlySortedBy line_cmp (keys_of rows.lines) → r ≡ list_all (λ e. test e.0 e.1) rows.lines
       → IsTrue r ↔ EachRow test (database scale rows).lines
-  line_rule test r ordered is = as_test r _ is (EachRow-entries lines_total lines_exact test rows.lines.entries ordered)
+  line_rule test r ordered is = as_test r _ is (EachRow-entries lines_total lines_exact test rows.lines ordered)
 
   found_order : (key : OrderKey) → is_some (tree.get order_cmp rows.orders key) ≡ map.contains_key (database scale rows).orders key
   found_order key = ap is_some (sym (read_entry orders_total rows.orders.entries key))
@@ -58,10 +60,10 @@ module _ (scale : Scale) (rows : TableRows) where
   new_order_rule r ordered is = as_test r _ (is ∙ same_tests _ _ rows.new_orders.entries (λ e. found_order e.0))
       (EachRow-entries orders_total orders_exact (λ key _. map.contains_key (database scale rows).orders key) rows.new_orders.entries ordered)
 
-  pub line_order_rule : (r : Bool) → IsOrdered line_cmp rows.lines → r ≡ list_all (λ e. is_some (tree.get order_cmp rows.orders (order_of_line e.0))) rows.lines.entries
+  pub line_order_rule : (r : Bool) → IsStrictlySortedBy line_cmp (keys_of rows.lines) → r ≡ list_all (λ e. is_some (tree.get order_cmp rows.orders (order_of_line e.0))) rows.lines
       → IsTrue r ↔ LinesHaveOrders (database scale rows)
-  line_order_rule r ordered is = as_test r _ (is ∙ same_tests _ _ rows.lines.entries (λ e. found_order (order_of_line e.0)))
-      (EachRow-entries lines_total lines_exact (λ key _. map.contains_key (database scale rows).orders (order_of_line key)) rows.lines.entries ordered)
+  line_order_rule r ordered is = as_test r _ (is ∙ same_tests _ _ rows.lines (λ e. found_order (order_of_line e.0)))
+      (EachRow-entries lines_total lines_exact (λ key _. map.contains_key (database scale rows).orders (order_of_line key)) rows.lines ordered)
 
 -- ---- the keys of the six tables
 

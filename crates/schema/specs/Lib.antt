@@ -9,3 +9,5 @@ pub mod Rows
 pub mod Sums
 pub mod Consistency
 pub mod OrderRows
+pub mod PackedLines
+pub mod NumberedRows

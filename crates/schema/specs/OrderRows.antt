@@ -21,6 +21,10 @@ use Rattle.schema.specs.Consistency.{least, numbers, new_orders_of}
 abbrev pub LineTable : Type 0
 LineTable = table.FinMap line_cmp OrderLine
 
+-- the table that lines make
+abbrev pub line_table : List (OrderLineKey × OrderLine) → LineTable
+line_table lines = table.from_entries lines
+
 -- the key of the order's line of that number
 abbrev pub line_key : OrderKey → ℕ → OrderLineKey
 line_key order number = record { w_id = order.w_id; d_id = order.d_id; o_id = order.o_id; number = number }

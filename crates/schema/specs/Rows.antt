@@ -21,7 +21,7 @@ database scale rows = record {
   histories = map.from_entries (zip (district_keys scale) rows.histories.items);
   orders = map.from_entries rows.orders.entries;
   new_orders = map.from_entries rows.new_orders.entries;
-  lines = map.from_entries rows.lines.entries;
+  lines = map.from_entries rows.lines;
 }
 
 -- none of these rows is missing, and there is none too many
@@ -48,7 +48,7 @@ pub record AreNoRows (rows : TableRows) : Type 0 where
   pub histories : rows.histories.items ≡ []
   pub orders : rows.orders.entries ≡ []
   pub new_orders : rows.new_orders.entries ≡ []
-  pub lines : rows.lines.entries ≡ []
+  pub lines : rows.lines ≡ []
 
 -- the same rows in each table
 pub record AreSameRows (old new : TableRows) : Type 0 where
@@ -60,7 +60,7 @@ pub record AreSameRows (old new : TableRows) : Type 0 where
   pub histories : new.histories.items ≡ old.histories.items
   pub orders : new.orders.entries ≡ old.orders.entries
   pub new_orders : new.new_orders.entries ≡ old.new_orders.entries
-  pub lines : new.lines.entries ≡ old.lines.entries
+  pub lines : new.lines ≡ old.lines
 
 -- the rule of the fault is broken
 abbrev pub Breaks : ScaleFault → Scale → TableRows → Type 0

@@ -1,6 +1,6 @@
 ghost use Rattle.std.specs.Prelude.{◌≡◌};
 
-use rows::{NewOrder, Order, OrderKey, OrderLine, OrderLineKey};
+use rows::{NewOrder, Order, OrderKey};
 use std::collections::btree_map::Range;
 use std::marker::Model;
 
@@ -9,9 +9,6 @@ pub type Orders<'a> = Entries<'a, OrderKey, Order>;
 
 /// Rows of NEW-ORDER with their keys.
 pub type NewOrders<'a> = Entries<'a, OrderKey, NewOrder>;
-
-/// Rows of ORDER-LINE with their keys.
-pub type Lines<'a> = Entries<'a, OrderLineKey, OrderLine>;
 
 /// Rows with their keys, in the order of the keys: seen as the list of those that are still to come. The rows
 /// are lent and the keys given, so that no reader knows how a table keeps them.

@@ -3,6 +3,8 @@
 
 mod entries;
 mod history_list;
+mod numbered;
+mod order_lines;
 mod order_rows;
 mod row_rules;
 pub mod row_writes;
@@ -11,11 +13,12 @@ mod scale_fault;
 mod table_rows;
 mod tables;
 
-pub use entries::{Entries, Lines, NewOrders, Orders};
+pub use entries::{Entries, NewOrders, Orders};
 pub use history_list::HistoryList;
+pub use order_lines::{Lines, OrderLines};
 pub use order_rows::{
-    Replaced, add_order_rows, deliver_order_rows, lines_in_span, oldest_number,
-    take_back_order_and_lines, take_back_order_rows, taken_back_order_is_as_before,
+    Replaced, add_order_rows, deliver_order_rows, oldest_number, take_back_order_and_lines,
+    take_back_order_rows, taken_back_order_is_as_before,
 };
 pub use rows::{
     Address, BrandGeneric, CarrierId, Counter, Credit, Customer, CustomerKey, District,

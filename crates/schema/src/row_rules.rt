@@ -1,12 +1,14 @@
 ghost use Rattle.std.specs.Prelude.{◌≡◌, ◌↔◌, IsTrue, is_some};
 ghost use Rattle.std.specs.List.{list_all};
 ghost use Rattle.std.specs.BTreeMap.{IsOrdered, get};
+ghost use Rattle.std.specs.List.Sorted.{IsStrictlySortedBy};
+ghost use Rattle.std.specs.Map.{keys_of};
 ghost use Rattle.rows.specs.Keys.{order_cmp, line_cmp, order_of_line};
 ghost use Rattle.schema.specs.Scale.{has_item, has_warehouse, has_customer};
 ghost use Rattle.schema.specs.Database.{customer_of_order, is_order_id, is_line_number, are_payers_known};
 
-use crate::{HistoryList, Scale};
-use rows::{CustomerKey, NewOrder, Order, OrderKey, OrderLine, OrderLineKey};
+use crate::{HistoryList, OrderLines, Scale};
+use rows::{CustomerKey, NewOrder, Order, OrderKey};
 use std::collections::BTreeMap;
 
 /// Whether every payment names a customer of the scale.
@@ -52,40 +54,39 @@ pub fn have_new_orders_orders(
 }
 
 /// Whether every line belongs to an order.
-pub fn have_lines_orders(
-    lines: &BTreeMap<OrderLineKey, OrderLine>,
-    orders: &BTreeMap<OrderKey, Order>,
-) -> bool
-    ensures each { result ≡ list_all (λ e. is_some (get order_cmp orders.now (order_of_line e.0))) lines.now.entries }
-    ensures ordered { IsOrdered line_cmp lines.now }
+pub fn have_lines_orders(lines: &OrderLines, orders: &BTreeMap<OrderKey, Order>) -> bool
+    ensures each { result ≡ list_all (λ e. is_some (get order_cmp orders.now (order_of_line e.0))) lines.now }
+    ensures ordered { IsStrictlySortedBy line_cmp (keys_of lines.now) }
 {
     lines
-        .iter()
+        .entries()
         .all(|(key, _)| orders.contains_key(&key.order()))
 }
 
 /// Whether every OL_NUMBER is in its range.
-pub fn are_lines_numbered(lines: &BTreeMap<OrderLineKey, OrderLine>) -> bool
-    ensures each { result ≡ list_all (λ e. is_line_number e.0.number) lines.now.entries }
-    ensures ordered { IsOrdered line_cmp lines.now }
+pub fn are_lines_numbered(lines: &OrderLines) -> bool
+    ensures each { result ≡ list_all (λ e. is_line_number e.0.number) lines.now }
+    ensures ordered { IsStrictlySortedBy line_cmp (keys_of lines.now) }
 {
-    lines.iter().all(|(key, _)| (1..=15).contains(&key.number))
+    lines
+        .entries()
+        .all(|(key, _)| (1..=15).contains(&key.number))
 }
 
 /// Whether every line orders an item of the scale.
-pub fn have_lines_items(lines: &BTreeMap<OrderLineKey, OrderLine>, scale: Scale) -> bool
-    ensures each { result ≡ list_all (λ e. has_item scale e.1.i_id) lines.now.entries }
-    ensures ordered { IsOrdered line_cmp lines.now }
+pub fn have_lines_items(lines: &OrderLines, scale: Scale) -> bool
+    ensures each { result ≡ list_all (λ e. has_item scale e.1.i_id) lines.now }
+    ensures ordered { IsStrictlySortedBy line_cmp (keys_of lines.now) }
 {
-    lines.iter().all(|(_, row)| scale.has_item(row.i_id))
+    lines.entries().all(|(_, row)| scale.has_item(row.i_id))
 }
 
 /// Whether a warehouse of the scale supplies every line.
-pub fn have_lines_suppliers(lines: &BTreeMap<OrderLineKey, OrderLine>, scale: Scale) -> bool
-    ensures each { result ≡ list_all (λ e. has_warehouse scale e.1.supply_w_id) lines.now.entries }
-    ensures ordered { IsOrdered line_cmp lines.now }
+pub fn have_lines_suppliers(lines: &OrderLines, scale: Scale) -> bool
+    ensures each { result ≡ list_all (λ e. has_warehouse scale e.1.supply_w_id) lines.now }
+    ensures ordered { IsStrictlySortedBy line_cmp (keys_of lines.now) }
 {
     lines
-        .iter()
+        .entries()
         .all(|(_, row)| scale.has_warehouse(row.supply_w_id))
 }

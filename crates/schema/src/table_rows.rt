@@ -5,10 +5,8 @@ use crate::row_rules::{
     are_lines_numbered, are_orders_numbered, have_lines_items, have_lines_orders,
     have_lines_suppliers, have_new_orders_orders, have_orders_customers, name_payers_customers,
 };
-use crate::{HistoryList, NoMemory, Scale, ScaleFault};
-use rows::{
-    Customer, District, Item, NewOrder, Order, OrderKey, OrderLine, OrderLineKey, Stock, Warehouse,
-};
+use crate::{HistoryList, NoMemory, OrderLines, Scale, ScaleFault};
+use rows::{Customer, District, Item, NewOrder, Order, OrderKey, Stock, Warehouse};
 use std::alloc::Global;
 use std::collections::BTreeMap;
 
@@ -30,7 +28,7 @@ pub struct TableRows {
     pub histories: Vec<HistoryList>,
     pub orders: BTreeMap<OrderKey, Order>,
     pub new_orders: BTreeMap<OrderKey, NewOrder>,
-    pub lines: BTreeMap<OrderLineKey, OrderLine>,
+    pub lines: OrderLines,
 }
 
 impl TableRows {
@@ -47,7 +45,7 @@ impl TableRows {
             histories: Vec::new(alloc),
             orders: BTreeMap::new(alloc),
             new_orders: BTreeMap::new(alloc),
-            lines: BTreeMap::new(alloc),
+            lines: OrderLines::new(alloc),
         }
     }
 
@@ -64,7 +62,7 @@ impl TableRows {
             histories: self.histories.clone()?,
             orders: self.orders.clone()?,
             new_orders: self.new_orders.clone()?,
-            lines: self.lines.clone()?,
+            lines: self.lines.try_clone()?,
         })
     }
 

@@ -9,8 +9,7 @@ ghost use Rattle.schema.specs.Rows.{database, FitsScale, Breaks};
 ghost use Rattle.schema.specs.OrderRows.{StoodThere, is_in_span, is_line_within, line_key, oldest_new_order, with_delivery, with_order, without_order};
 
 use crate::order_rows::{
-    Replaced, add_order_rows, deliver_order_rows, lines_in_span, oldest_number,
-    take_back_order_rows,
+    Replaced, add_order_rows, deliver_order_rows, oldest_number, take_back_order_rows,
 };
 use crate::{Entries, Lines, NewOrders, NoMemory, Orders, Scale, ScaleFault, TableRows};
 use rows::{
@@ -199,7 +198,7 @@ impl Tables {
     pub fn line(&self, key: OrderLineKey) -> Option<&OrderLine>
         ensures { option_copied result ≡ map.get self.now.lines key }
     {
-        self.rows.lines.get(&key)
+        self.rows.lines.get(key)
     }
 
     /// All orders, by their keys.
@@ -215,7 +214,7 @@ impl Tables {
         ensures rows { result ≡ map.entries self.now.lines }
         ensures fits { length result < 2 ^ 63 }
     {
-        Entries::of_map(self.rows.lines.range(..))
+        self.rows.lines.entries()
     }
 
     /// The orders of the district, by O_ID.
@@ -243,7 +242,7 @@ impl Tables {
         ensures rows { result ≡ rows_where (is_of_order order) self.now.lines }
         ensures fits { length result < 2 ^ 63 }
     {
-        Entries::of_map(self.rows.lines.range(first_line(order)..=last_line(order)))
+        self.rows.lines.of_order(order)
     }
 
     /// The lines of the district's orders, by O_ID and then by OL_NUMBER.
@@ -251,9 +250,7 @@ impl Tables {
         ensures rows { result ≡ rows_where (λ key. is_of_district home (order_of_line key)) self.now.lines }
         ensures fits { length result < 2 ^ 63 }
     {
-        let first = first_line(first_order(home));
-        let last = last_line(last_order(home));
-        Entries::of_map(self.rows.lines.range(first..=last))
+        self.rows.lines.of_district(home)
     }
 
     /// The number of the district's oldest new order, `None` where it has none (clause 2.7.4.2). It reads one row.
@@ -269,7 +266,7 @@ impl Tables {
         ensures rows { result ≡ rows_where (is_in_span home from to) self.now.lines }
         ensures fits { length result < 2 ^ 63 }
     {
-        lines_in_span(&self.rows.lines, home, from, to)
+        self.rows.lines.in_span(home, from, to)
     }
 
     /// The customers of the district, by C_ID from 1; `None` where the scale has no such district.
@@ -422,27 +419,5 @@ fn last_order(home: DistrictKey) -> OrderKey
         w_id: home.w_id,
         d_id: home.d_id,
         o_id: u32::MAX,
-    }
-}
-
-fn first_line(order: OrderKey) -> OrderLineKey
-    ensures { result ≡ record { w_id = order.w_id; d_id = order.d_id; o_id = order.o_id; number = 0 } }
-{
-    OrderLineKey {
-        w_id: order.w_id,
-        d_id: order.d_id,
-        o_id: order.o_id,
-        number: 0,
-    }
-}
-
-fn last_line(order: OrderKey) -> OrderLineKey
-    ensures { result ≡ record { w_id = order.w_id; d_id = order.d_id; o_id = order.o_id; number = 4294967295 } }
-{
-    OrderLineKey {
-        w_id: order.w_id,
-        d_id: order.d_id,
-        o_id: order.o_id,
-        number: u32::MAX,
     }
 }

@@ -18,7 +18,7 @@ use Rattle.schema.specs.Scale.{has_item, has_warehouse, has_customer}
 use Rattle.schema.specs.Database.{Database, customer_of_order, is_order_id, is_line_number}
 use Rattle.schema.specs.OrderRows.{LineTable, StoodThere, line_key, put_lines, with_order_rows, with_order, without_order}
 use Rattle.schema.proofs.KeyOrders.{orders_total, orders_exact, lines_total, lines_exact}
-use Rattle.schema.proofs.OrderLines.{length-lines_at, taken_back}
+use Rattle.schema.proofs.LinesPut.{length-lines_at, taken_back}
 use Rattle.schema.proofs.TableWrites.{now_there, still_there}
 use Rattle.partitions.specs.Parts.{Part, IsPart, is_of}
 use Rattle.requests.specs.declared.group.Group.{Group}

@@ -22,7 +22,7 @@ returns-clause-taken c =
     (takes-then (takes-fields (Number (sum (map length rows.histories.items)) ∷ []) (subst paid c.deref.ensures.value c.check_payments.ensures.taken))
     (takes-then (takes-counted (length rows.orders.entries) _ c.expect_count-6.new.self (search rules) c.expect_count-6.ensures.taken)
     (takes-then (takes-counted (length rows.new_orders.entries) _ c.expect_count-7.new.self (search rules) c.expect_count-7.ensures.taken)
-    (takes-counted (length rows.lines.entries) _ c.expect_count-8.new.self (search rules) c.expect_count-8.ensures.taken))))))))).well
+    (takes-counted (length rows.lines) _ c.expect_count-8.new.self (search rules) c.expect_count-8.ensures.taken))))))))).well
 
 pub returns-clause-columns : goal.returns-clause-columns
 returns-clause-columns c = λ small.
@@ -38,4 +38,4 @@ returns-clause-columns c = λ small.
     (and_then (several (Count (sum (map length rows.histories.items)) ∷ []) c.expect_count-5.new.self c.check_payments.new.fields paid)
     (and_then (count (length rows.orders.entries) _ c.check_payments.new.fields c.expect_count-6.new.self (search rules) c.expect_count-6.ensures.field)
     (and_then (count (length rows.new_orders.entries) _ c.expect_count-6.new.self c.expect_count-7.new.self (search rules) c.expect_count-7.ensures.field)
-    (count (length rows.lines.entries) _ c.expect_count-7.new.self c.expect_count-8.new.self (search rules) c.expect_count-8.ensures.field))))))))).is
+    (count (length rows.lines) _ c.expect_count-7.new.self c.expect_count-8.new.self (search rules) c.expect_count-8.ensures.field))))))))).is

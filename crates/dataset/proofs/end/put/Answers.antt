@@ -16,4 +16,4 @@ returns c =
     (adds-then (adds-number (sum (map length rows.histories.items)) _ (c.count.ensures ∙ ap (λ lists. sum (map length lists)) c.deref.ensures.value) c.in_ok-push_display.ensures.added)
     (adds-then (adds-number (length rows.orders.entries) _ (search rules) c.in_ok-push_number-6.ensures.added)
     (adds-then (adds-number (length rows.new_orders.entries) _ (search rules) c.in_ok-push_number-7.ensures.added)
-    (adds-number (length rows.lines.entries) _ (search rules) last)))))))))) c.push_number-8.ensures.added
+    (adds-number (length rows.lines) _ (search rules) last)))))))))) c.push_number-8.ensures.added

@@ -29,7 +29,7 @@ takes c =
 
 pub returns-in_ok-insert : goal.returns-in_ok-insert
 unfolding row
-returns-in_ok-insert c = takes (goal.at.returns-in_ok-insert c).After-text _ _ c.stand_at.ensures.fault (λ _. added_at c.stand_at.ensures.same (refl, c.in_ok-insert.ensures.entries))
+returns-in_ok-insert c = takes (goal.at.returns-in_ok-insert c).After-text _ _ c.stand_at.ensures.fault (λ _. added_at c.stand_at.ensures.same (refl, c.in_ok-insert.ensures.ok))
 
 pub returns-else-stand_at : goal.returns-else-stand_at
 unfolding row

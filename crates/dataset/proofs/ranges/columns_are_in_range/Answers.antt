@@ -19,5 +19,5 @@ returns c =
     (subst (AllByRecursion StockInRange) c.deref-4.ensures.value c.read_each-4.ensures)
     (subst (AllByRecursion CustomerInRange) c.deref-5.ensures.value c.read_each-5.ensures)
     (subst (AllByRecursion (AllByRecursion HistoryInRange)) c.deref-6.ensures.value c.read_each-6.ensures)
-    (subst (λ es. AllByRecursion OrderInRange (values_of es)) (c.orders.ensures.rows ∙ sym (ap (λ (t : Database). entries t.orders) same)) c.read_values.ensures)
-    (subst (λ es. AllByRecursion LineInRange (values_of es)) (c.lines.ensures.rows ∙ sym (ap (λ (t : Database). entries t.lines) same)) c.read_values-2.ensures))
+    (subst (λ es. AllByRecursion OrderInRange (values_of es)) (c.orders.ensures.rows ∙ sym (ap (λ (t : Database). entries t.orders) same)) (c.read_values.ensures (λ s. s) (λ s r t h. h)))
+    (subst (λ es. AllByRecursion LineInRange (values_of es)) (c.lines.ensures.rows ∙ sym (ap (λ (t : Database). entries t.lines) same)) (c.read_values-2.ensures (λ s. s) (λ s r t h. h))))

@@ -1,7 +1,7 @@
-use Rattle.std.proofs.Common.{◌∷◌, [], sym}
+use Rattle.std.proofs.Common.{◌∷◌, [], sym, ◌∙◌}
 use Rattle.std.proofs.lemmas.Result.{on_ok_weaker, on_err_weaker}
 use Rattle.schema.proofs.KeyOrders.{orders_total, lines_total}
-use Rattle.schema.proofs.OrderedParts.{entries-ordered}
+use Rattle.schema.proofs.OrderedParts.{entries-ordered, whole_part}
 use Rattle.files.proofs.Sent.{on_any_err}
 use Rattle.dataset.specs.Records.{header_fields, row_records, order_fields, new_order_fields, line_fields}
 use Rattle.dataset.specs.Writing.{count_fields}
@@ -123,7 +123,7 @@ returns-in_err-write_ordered-clause-begun g c =
     c.deref-4.ensures.value c.in_ok-write_dense-4.ensures.written
     c.deref-5.ensures.value c.in_ok-write_dense-5.ensures.written in
     let histories = midway-then (histories_of scale) c.deref-6.ensures.value dense c.in_ok-write-2.ensures.written in
-    on_any_err c.from_residual-in_err-write_ordered.result (stops-midway (row_records order_fields) (sym (entries-ordered orders_total rows.orders.entries c.write_ordered.ensures.ordered)) histories c.in_err-write_ordered.ensures.begun)
+    on_any_err c.from_residual-in_err-write_ordered.result (stops-midway (row_records order_fields) (c.of_map-orders.ensures ∙ c.range.ensures.between tt ∙ whole_part orders_total rows.orders.entries c.range.ensures.ordered) histories (c.in_err-write_ordered.ensures.begun (λ s. s) (λ s r t h. h)))
 
 pub returns-in_err-write_ordered-2-clause-begun : goal.returns-in_err-write_ordered-2-clause-begun
 returns-in_err-write_ordered-2-clause-begun g c =
@@ -138,8 +138,8 @@ returns-in_err-write_ordered-2-clause-begun g c =
     c.deref-4.ensures.value c.in_ok-write_dense-4.ensures.written
     c.deref-5.ensures.value c.in_ok-write_dense-5.ensures.written in
     let histories = midway-then (histories_of scale) c.deref-6.ensures.value dense c.in_ok-write-2.ensures.written in
-    let orders = midway-then (row_records order_fields) (sym (entries-ordered orders_total rows.orders.entries c.write_ordered.ensures.ordered)) histories c.in_ok-write_ordered.ensures.written in
-    on_any_err c.from_residual-in_err-write_ordered-2.result (stops-midway (row_records new_order_fields) (sym (entries-ordered orders_total rows.new_orders.entries c.write_ordered-2.ensures.ordered)) orders c.in_err-write_ordered-2.ensures.begun)
+    let orders = midway-then (row_records order_fields) (c.of_map-orders.ensures ∙ c.range.ensures.between tt ∙ whole_part orders_total rows.orders.entries c.range.ensures.ordered) histories (c.in_ok-write_ordered.ensures.written (λ s. s) (λ s r t h. h)) in
+    on_any_err c.from_residual-in_err-write_ordered-2.result (stops-midway (row_records new_order_fields) (c.of_map-new_orders.ensures ∙ c.range-2.ensures.between tt ∙ whole_part orders_total rows.new_orders.entries c.range-2.ensures.ordered) orders (c.in_err-write_ordered-2.ensures.begun (λ s. s) (λ s r t h. h)))
 
 pub returns-in_err-write_ordered-3-clause-begun : goal.returns-in_err-write_ordered-3-clause-begun
 returns-in_err-write_ordered-3-clause-begun g c =
@@ -154,9 +154,9 @@ returns-in_err-write_ordered-3-clause-begun g c =
     c.deref-4.ensures.value c.in_ok-write_dense-4.ensures.written
     c.deref-5.ensures.value c.in_ok-write_dense-5.ensures.written in
     let histories = midway-then (histories_of scale) c.deref-6.ensures.value dense c.in_ok-write-2.ensures.written in
-    let orders = midway-then (row_records order_fields) (sym (entries-ordered orders_total rows.orders.entries c.write_ordered.ensures.ordered)) histories c.in_ok-write_ordered.ensures.written in
-    let new_orders = midway-then (row_records new_order_fields) (sym (entries-ordered orders_total rows.new_orders.entries c.write_ordered-2.ensures.ordered)) orders c.in_ok-write_ordered-2.ensures.written in
-    on_any_err c.from_residual-in_err-write_ordered-3.result (stops-midway (row_records line_fields) (sym (entries-ordered lines_total rows.lines.entries c.write_ordered-3.ensures.ordered)) new_orders c.in_err-write_ordered-3.ensures.begun)
+    let orders = midway-then (row_records order_fields) (c.of_map-orders.ensures ∙ c.range.ensures.between tt ∙ whole_part orders_total rows.orders.entries c.range.ensures.ordered) histories (c.in_ok-write_ordered.ensures.written (λ s. s) (λ s r t h. h)) in
+    let new_orders = midway-then (row_records new_order_fields) (c.of_map-new_orders.ensures ∙ c.range-2.ensures.between tt ∙ whole_part orders_total rows.new_orders.entries c.range-2.ensures.ordered) orders (c.in_ok-write_ordered-2.ensures.written (λ s. s) (λ s r t h. h)) in
+    on_any_err c.from_residual-in_err-write_ordered-3.result (stops-midway (row_records line_fields) (c.entries.ensures.rows ∙ sym (entries-ordered lines_total rows.lines c.entries.ensures.ordered)) new_orders (c.in_err-write_ordered-3.ensures.begun (λ s. s) (λ s r t h. h)))
 
 pub returns-in_err-put-2-clause-begun : goal.returns-in_err-put-2-clause-begun
 returns-in_err-put-2-clause-begun g c =
@@ -171,9 +171,9 @@ returns-in_err-put-2-clause-begun g c =
     c.deref-4.ensures.value c.in_ok-write_dense-4.ensures.written
     c.deref-5.ensures.value c.in_ok-write_dense-5.ensures.written in
     let histories = midway-then (histories_of scale) c.deref-6.ensures.value dense c.in_ok-write-2.ensures.written in
-    let orders = midway-then (row_records order_fields) (sym (entries-ordered orders_total rows.orders.entries c.write_ordered.ensures.ordered)) histories c.in_ok-write_ordered.ensures.written in
-    let new_orders = midway-then (row_records new_order_fields) (sym (entries-ordered orders_total rows.new_orders.entries c.write_ordered-2.ensures.ordered)) orders c.in_ok-write_ordered-2.ensures.written in
-    let lines = midway-then (row_records line_fields) (sym (entries-ordered lines_total rows.lines.entries c.write_ordered-3.ensures.ordered)) new_orders c.in_ok-write_ordered-3.ensures.written in
+    let orders = midway-then (row_records order_fields) (c.of_map-orders.ensures ∙ c.range.ensures.between tt ∙ whole_part orders_total rows.orders.entries c.range.ensures.ordered) histories (c.in_ok-write_ordered.ensures.written (λ s. s) (λ s r t h. h)) in
+    let new_orders = midway-then (row_records new_order_fields) (c.of_map-new_orders.ensures ∙ c.range-2.ensures.between tt ∙ whole_part orders_total rows.new_orders.entries c.range-2.ensures.ordered) orders (c.in_ok-write_ordered-2.ensures.written (λ s. s) (λ s r t h. h)) in
+    let lines = midway-then (row_records line_fields) (c.entries.ensures.rows ∙ sym (entries-ordered lines_total rows.lines c.entries.ensures.ordered)) new_orders (c.in_ok-write_ordered-3.ensures.written (λ s. s) (λ s r t h. h)) in
     on_any_err c.from_residual-in_err-put-2.result (stops-between lines)
 
 pub returns-clause-written : goal.returns-clause-written
@@ -189,10 +189,10 @@ returns-clause-written g c =
     c.deref-4.ensures.value c.in_ok-write_dense-4.ensures.written
     c.deref-5.ensures.value c.in_ok-write_dense-5.ensures.written in
     let histories = midway-then (histories_of scale) c.deref-6.ensures.value dense c.in_ok-write-2.ensures.written in
-    let orders = midway-then (row_records order_fields) (sym (entries-ordered orders_total rows.orders.entries c.write_ordered.ensures.ordered)) histories c.in_ok-write_ordered.ensures.written in
-    let new_orders = midway-then (row_records new_order_fields) (sym (entries-ordered orders_total rows.new_orders.entries c.write_ordered-2.ensures.ordered)) orders c.in_ok-write_ordered-2.ensures.written in
-    let lines = midway-then (row_records line_fields) (sym (entries-ordered lines_total rows.lines.entries c.write_ordered-3.ensures.ordered)) new_orders c.in_ok-write_ordered-3.ensures.written in
-    let ends = end-counts scale rows (has_counts c.scale-scale.ensures.value c.rows-rows.ensures.same c.rows-rows.ensures.fits) c.write_ordered.ensures.ordered c.write_ordered-2.ensures.ordered c.write_ordered-3.ensures.ordered in
+    let orders = midway-then (row_records order_fields) (c.of_map-orders.ensures ∙ c.range.ensures.between tt ∙ whole_part orders_total rows.orders.entries c.range.ensures.ordered) histories (c.in_ok-write_ordered.ensures.written (λ s. s) (λ s r t h. h)) in
+    let new_orders = midway-then (row_records new_order_fields) (c.of_map-new_orders.ensures ∙ c.range-2.ensures.between tt ∙ whole_part orders_total rows.new_orders.entries c.range-2.ensures.ordered) orders (c.in_ok-write_ordered-2.ensures.written (λ s. s) (λ s r t h. h)) in
+    let lines = midway-then (row_records line_fields) (c.entries.ensures.rows ∙ sym (entries-ordered lines_total rows.lines c.entries.ensures.ordered)) new_orders (c.in_ok-write_ordered-3.ensures.written (λ s. s) (λ s r t h. h)) in
+    let ends = end-counts scale rows (has_counts c.scale-scale.ensures.value c.rows-rows.ensures.same c.rows-rows.ensures.fits) c.range.ensures.ordered c.range-2.ensures.ordered c.entries.ensures.ordered in
     let mid = contents c.write_ordered-3.new.sink in
     let left = c.write_ordered-3.new.writer.text in
     on_ok_weaker c.write-3.result
@@ -212,10 +212,10 @@ returns-clause-begun g c =
     c.deref-4.ensures.value c.in_ok-write_dense-4.ensures.written
     c.deref-5.ensures.value c.in_ok-write_dense-5.ensures.written in
     let histories = midway-then (histories_of scale) c.deref-6.ensures.value dense c.in_ok-write-2.ensures.written in
-    let orders = midway-then (row_records order_fields) (sym (entries-ordered orders_total rows.orders.entries c.write_ordered.ensures.ordered)) histories c.in_ok-write_ordered.ensures.written in
-    let new_orders = midway-then (row_records new_order_fields) (sym (entries-ordered orders_total rows.new_orders.entries c.write_ordered-2.ensures.ordered)) orders c.in_ok-write_ordered-2.ensures.written in
-    let lines = midway-then (row_records line_fields) (sym (entries-ordered lines_total rows.lines.entries c.write_ordered-3.ensures.ordered)) new_orders c.in_ok-write_ordered-3.ensures.written in
-    let ends = end-counts scale rows (has_counts c.scale-scale.ensures.value c.rows-rows.ensures.same c.rows-rows.ensures.fits) c.write_ordered.ensures.ordered c.write_ordered-2.ensures.ordered c.write_ordered-3.ensures.ordered in
+    let orders = midway-then (row_records order_fields) (c.of_map-orders.ensures ∙ c.range.ensures.between tt ∙ whole_part orders_total rows.orders.entries c.range.ensures.ordered) histories (c.in_ok-write_ordered.ensures.written (λ s. s) (λ s r t h. h)) in
+    let new_orders = midway-then (row_records new_order_fields) (c.of_map-new_orders.ensures ∙ c.range-2.ensures.between tt ∙ whole_part orders_total rows.new_orders.entries c.range-2.ensures.ordered) orders (c.in_ok-write_ordered-2.ensures.written (λ s. s) (λ s r t h. h)) in
+    let lines = midway-then (row_records line_fields) (c.entries.ensures.rows ∙ sym (entries-ordered lines_total rows.lines c.entries.ensures.ordered)) new_orders (c.in_ok-write_ordered-3.ensures.written (λ s. s) (λ s r t h. h)) in
+    let ends = end-counts scale rows (has_counts c.scale-scale.ensures.value c.rows-rows.ensures.same c.rows-rows.ensures.fits) c.range.ensures.ordered c.range-2.ensures.ordered c.entries.ensures.ordered in
     let mid = contents c.write_ordered-3.new.sink in
     let left = c.write_ordered-3.new.writer.text in
     on_err_weaker c.write-3.result

@@ -1,5 +1,5 @@
-use Rattle.schema.proofs.KeyOrders.{orders_total, lines_total}
-use Rattle.partitions.proofs.EntriesAdded.{adds_rows}
+use Rattle.schema.proofs.KeyOrders.{orders_total}
+use Rattle.schema.proofs.EntriesAdded.{adds_rows}
 use Rattle.std.proofs.Common.{refl}
 use Rattle.partitions.proofs.appends.append_home.Goals as goal
 
@@ -16,5 +16,5 @@ returns c =
       histories = c.in_ok-append-4.ensures;
       orders = adds_rows orders_total rows.orders.entries home.orders.entries c.append-5.new.self.entries c.append-5.ensures.other_was_ordered c.in_ok-append-5.ensures.inserts_all.0;
       new_orders = c.in_ok-append_to.ensures;
-      lines = adds_rows lines_total rows.lines.entries home.lines.entries c.append-6.new.self.entries c.append-6.ensures.other_was_ordered c.in_ok-append-6.ensures.inserts_all.0;
+      lines = c.in_ok-append-6.ensures;
     }

@@ -1,9 +1,7 @@
 use Rattle.std.proofs.Common.{◌≡◌, ◌≢◌, ◌+◌, ◌<◌, ◌==◌, true, false, None, length, slice_index_or, slice_set, refl, ap, subst, ◌∙◌, arith}
 use Rattle.std.proofs.lemmas.Bool.Decides.{nat_tests}
 use Rattle.std.proofs.lemmas.List.{length-set, get_or-set_same, get_or-set_other}
-use Rattle.rows.specs.Keys.{line_cmp}
-use Rattle.schema.specs.MapRows.{table_of}
-use Rattle.schema.specs.OrderRows.{line_key}
+use Rattle.schema.specs.OrderRows.{line_key, line_table}
 use Rattle.partitions.specs.Deliveries.{moment_at}
 use Rattle.partitions.proofs.delivery_rows.moments_of.Goals as goal
 
@@ -12,7 +10,7 @@ loop-place-preserved c =
     let old = c.loop-place.moments in
     let place = c.loop-place.place in
     let new = c.moment_of.result in
-    let lines = table_of line_cmp c.args.lines.now in
+    let lines = line_table c.args.lines.now in
     let inside : place < length old = omega (arith, c.loop-place.invariant.long, c.loop-place-test.true) in
     record {
       long = length-set old place new ∙ c.loop-place.invariant.long;

@@ -12,5 +12,5 @@ returns c = record {
   histories = search (rules, same_from_all_zip, c.in_ok-clone-4.ensures.cases);
   orders = entries_from_clone _ _ (λ x y h. search rules) (λ v w h. search rules) _ _ c.in_ok-clone-5.ensures.cases;
   new_orders = c.in_ok-try_clone.ensures;
-  lines = entries_from_clone _ _ (λ x y h. search rules) (λ v w h. search rules) _ _ c.in_ok-clone-6.ensures.cases;
+  lines = c.in_ok-try_clone-2.ensures;
 }

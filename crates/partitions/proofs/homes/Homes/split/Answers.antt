@@ -15,7 +15,7 @@ returns-clause-homes c =
       stocks = c.in_ok-split-2.ensures;
       customers = c.in_ok-split-3.ensures;
       histories = c.in_ok-split-4.ensures;
-      orders = c.in_ok-split_map.ensures;
-      new_orders = c.in_ok-split_map-2.ensures;
-      lines = c.in_ok-split_map-3.ensures;
+      orders = c.in_ok-split_by_warehouse.ensures;
+      new_orders = c.in_ok-split_by_warehouse-2.ensures;
+      lines = c.in_ok-split_by_warehouse-3.ensures;
     }

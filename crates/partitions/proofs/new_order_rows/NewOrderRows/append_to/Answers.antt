@@ -2,7 +2,7 @@ use Rattle.std.proofs.Common.{subst}
 use Rattle.rows.specs.Keys.{order_cmp}
 use Rattle.schema.proofs.KeyOrders.{orders_total}
 use Rattle.partitions.specs.Appends.{AddsRows}
-use Rattle.partitions.proofs.EntriesAdded.{adds_rows}
+use Rattle.schema.proofs.EntriesAdded.{adds_rows}
 use Rattle.partitions.proofs.Returned.{settled_entries}
 use Rattle.partitions.proofs.new_order_rows.NewOrderRows.append_to.Goals as goal
 

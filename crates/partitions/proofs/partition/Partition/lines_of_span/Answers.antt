@@ -6,4 +6,4 @@ use Rattle.partitions.proofs.partition.Partition.lines_of_span.Goals as goal
 
 pub returns-clause-rows : goal.returns-clause-rows
 returns-clause-rows c =
-    c.lines_in_span.ensures.rows ∙ ap (λ (v : Part). rows_where (is_in_span c.args.home c.args.from c.args.to) v.tables.lines) c.self.view_is
+    c.in_span.ensures.rows ∙ ap (λ (v : Part). rows_where (is_in_span c.args.home c.args.from c.args.to) v.tables.lines) c.self.view_is

@@ -5,4 +5,4 @@ use Rattle.schema.proofs.tables.Tables.lines_of_span.Goals as goal
 
 pub returns-clause-rows : goal.returns-clause-rows
 returns-clause-rows c =
-    c.lines_in_span.ensures.rows ∙ ap (λ (m : Database). rows_where (is_in_span c.args.home c.args.from c.args.to) m.lines) c.self.view_is
+    c.in_span.ensures.rows ∙ ap (λ (m : Database). rows_where (is_in_span c.args.home c.args.from c.args.to) m.lines) c.self.view_is

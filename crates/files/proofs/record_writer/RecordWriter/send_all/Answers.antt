@@ -1,5 +1,0 @@
-use Rattle.files.proofs.Sent.{begins_none, on_any_err}
-use Rattle.files.proofs.record_writer.RecordWriter.send_all.Goals as goal
-
-pub returns-in_err-text-clause-begun : goal.returns-in_err-text-clause-begun
-returns-in_err-text-clause-begun g c = on_any_err c.from_residual.result (begins_none _ _)

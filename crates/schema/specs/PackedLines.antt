@@ -1,0 +1,37 @@
+-- Lines that stand under their orders, each with its number.
+use Rattle.std.specs.Prelude.{◌≡◌, ℕ, ◌<◌, ◌^◌, List, [], ◌∷◌, ◌++◌, length}
+use Rattle.std.specs.List.{AllByRecursion}
+use Rattle.std.specs.List.Sorted.{IsStrictlySortedBy}
+use Rattle.std.specs.Map.{keys_of}
+use Rattle.std.specs.Ordering.{nat_cmp}
+use Rattle.std.specs.FinMap as table
+use Rattle.rows.specs.declared.keys.OrderKey.{OrderKey}
+use Rattle.rows.specs.declared.keys.OrderLineKey.{OrderLineKey}
+use Rattle.rows.specs.declared.records.OrderLine.{OrderLine}
+use Rattle.rows.specs.Keys.{order_cmp}
+use Rattle.schema.specs.OrderRows.{line_key}
+
+-- the lines of an order as a table, by their numbers
+abbrev pub numbered : List (ℕ × OrderLine) → table.FinMap nat_cmp OrderLine
+numbered lines = table.from_entries lines
+
+-- the lines of the order with their keys
+abbrev pub with_keys : OrderKey → List (ℕ × OrderLine) → List (OrderLineKey × OrderLine)
+with_keys order [] = []
+with_keys order (line ∷ lines) = (line_key order line.0, line.1) ∷ with_keys order lines
+
+-- the lines of all orders with their keys
+abbrev pub all_lines : List (OrderKey × List (ℕ × OrderLine)) → List (OrderLineKey × OrderLine)
+all_lines [] = []
+all_lines (order ∷ orders) = with_keys order.0 order.1 ++ all_lines orders
+
+-- the lines of each order stand in the order of their numbers
+abbrev pub AreNumbered : List (OrderKey × List (ℕ × OrderLine)) → Type 0
+AreNumbered orders = AllByRecursion (λ order. IsStrictlySortedBy nat_cmp (keys_of order.1)) orders
+
+-- so many lines, under orders that ascend
+pub record AreKept (orders : List (OrderKey × List (ℕ × OrderLine))) (count : ℕ) : Type 0 where
+  pub ordered : IsStrictlySortedBy order_cmp (keys_of orders)
+  pub numbered : AreNumbered orders
+  pub many : count ≡ length (all_lines orders)
+  pub fits : count < 2 ^ 63

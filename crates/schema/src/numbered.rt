@@ -1,0 +1,183 @@
+//! The rows of ORDER-LINE of one order, packed.
+ghost use Rattle.std.specs.Prelude.{◌≡◌, ℕ, ◌+◌, [], length, is_some, nat_eq, if◌then◌else◌, IsTrue, IfOk, IfErr, OnOk, OnErr};
+ghost use Rattle.std.specs.FinMap as table;
+ghost use Rattle.std.specs.List.Sorted.{IsStrictlySortedBy};
+ghost use Rattle.std.specs.Map.{keys_of};
+ghost use Rattle.std.specs.Option.{option_copied, option_map};
+ghost use Rattle.std.specs.Ordering.{nat_cmp};
+ghost use Rattle.schema.specs.MapRows.{put_row};
+ghost use Rattle.schema.specs.NumberedRows.{StandsAt, BelongsAt};
+ghost use Rattle.schema.specs.PackedLines.{numbered};
+
+use crate::NoMemory;
+use rows::{Moment, OrderLine};
+use std::alloc::Global;
+use std::marker::Model;
+use std::mem;
+
+/// The lines of one order with their numbers, which ascend; packed, with no room for more.
+#[derive(Clone, Drop)]
+pub(crate) struct Numbered {
+    rows: Vec<(u32, OrderLine)>,
+}
+
+impl Model for Numbered {
+    ghost use Rattle.std.specs.Prelude.{ℕ, List};
+    ghost use Rattle.std.specs.List.Sorted.{IsStrictlySortedBy};
+    ghost use Rattle.std.specs.Map.{keys_of};
+    ghost use Rattle.std.specs.Ordering.{nat_cmp};
+    ghost use Rattle.rows.specs.declared.records.OrderLine as line;
+
+    ghost Value = { List (ℕ × line.OrderLine) };
+
+    ghost view = { λ n. n.rows.items };
+
+    ghost invariant = { λ n. IsStrictlySortedBy nat_cmp (keys_of n.rows.items) };
+}
+
+impl Numbered {
+    /// No lines. It takes no memory.
+    pub(crate) fn new(alloc: Global) -> Numbered
+        ensures { result ≡ [] }
+    {
+        Numbered {
+            rows: Vec::new(alloc),
+        }
+    }
+
+    /// The lines with their numbers, in ascending order.
+    pub(crate) fn as_slice(&self) -> &[(u32, OrderLine)]
+        ensures rows { result.now ≡ self.now }
+        ensures ordered { IsStrictlySortedBy nat_cmp (keys_of self.now) }
+    {
+        self.rows.as_slice()
+    }
+
+    /// The lines with their numbers, which takes no memory.
+    pub(crate) fn into_rows(self) -> Vec<(u32, OrderLine)>
+        ensures rows { result.items ≡ self }
+        ensures ordered { IsStrictlySortedBy nat_cmp (keys_of self) }
+    {
+        self.rows
+    }
+
+    /// The line of that number, `None` where it is not there.
+    pub(crate) fn get(&self, number: u32) -> Option<&OrderLine>
+        ensures { option_copied result ≡ table.get (numbered self.now) number }
+    {
+        get(self.rows.as_slice(), number)
+    }
+
+    /// Puts a line at the number, and gives the one that it replaces. An error changes nothing.
+    pub(crate) fn put(&mut self, number: u32, row: OrderLine) -> Result<Option<OrderLine>, NoMemory>
+        ensures was { IfOk result (λ was. was ≡ table.get (numbered self.old) number) }
+        ensures ok { OnOk result (numbered self.new ≡ table.insert (numbered self.old) number row) }
+        ensures many { IfOk result (λ was. length self.new + (if is_some was then 1 else 0) ≡ length self.old + 1) }
+        ensures err { OnErr result (self.new ≡ self.old) }
+        ensures ordered { IsStrictlySortedBy nat_cmp (keys_of self.new) }
+    {
+        put(&mut self.rows, number, row)
+    }
+
+    /// Puts back what stood at the number, in place of the line that is there. It takes no memory.
+    pub(crate) fn put_back(&mut self, number: u32, was: Option<OrderLine>)
+        requires { IsTrue (table.contains_key (numbered self.old) number) }
+        ensures rows { numbered self.new ≡ put_row (numbered self.old) number was }
+        ensures many { length self.new + 1 ≡ length self.old + (if is_some was then 1 else 0) }
+        ensures ordered { IsStrictlySortedBy nat_cmp (keys_of self.new) }
+    {
+        put_back(&mut self.rows, number, was);
+    }
+
+    /// The line's row, if it is there, gets this moment of its delivery, or none. It takes no memory.
+    pub(crate) fn set_delivery(&mut self, number: u32, moment: Option<Moment>)
+        ensures rows { (n : ℕ) → table.get (numbered self.new) n ≡ option_map (λ row. if nat_eq n number then record row { delivery_d = moment } else row) (table.get (numbered self.old) n) }
+        ensures many { length self.new ≡ length self.old }
+        ensures ordered { IsStrictlySortedBy nat_cmp (keys_of self.new) }
+    {
+        set_delivery(&mut self.rows, number, moment);
+    }
+}
+
+// Where the line of that number stands, or, as an error, where it would have to be put.
+fn find(rows: &[(u32, OrderLine)], number: u32) -> Result<usize, usize>
+    ensures found { IfOk result (λ place. StandsAt number rows.now place) }
+    ensures missing { IfErr result (λ place. BelongsAt number rows.now place) }
+{
+    for place in 0..rows.len() {
+        let other = rows[place].0;
+        if other == number {
+            return Ok(place);
+        }
+        if number < other {
+            return Err(place);
+        }
+    }
+    Err(rows.len())
+}
+
+// The line of that number, `None` where it is not there.
+fn get(rows: &[(u32, OrderLine)], number: u32) -> Option<&OrderLine>
+    requires { IsStrictlySortedBy nat_cmp (keys_of rows.now) }
+    ensures { option_copied result ≡ table.get (numbered rows.now) number }
+{
+    let Ok(place) = find(rows, number) else {
+        return None;
+    };
+    let row = rows.get(place)?;
+    Some(&row.1)
+}
+
+// Puts a line at the number, and gives the one that it replaces. An error changes nothing.
+fn put(
+    rows: &mut Vec<(u32, OrderLine)>,
+    number: u32,
+    row: OrderLine,
+) -> Result<Option<OrderLine>, NoMemory>
+    requires { IsStrictlySortedBy nat_cmp (keys_of rows.old.items) }
+    ensures was { IfOk result (λ was. was ≡ table.get (numbered rows.old.items) number) }
+    ensures ok { OnOk result (numbered rows.new.items ≡ table.insert (numbered rows.old.items) number row) }
+    ensures many { IfOk result (λ was. length rows.new.items + (if is_some was then 1 else 0) ≡ length rows.old.items + 1) }
+    ensures err { OnErr result (rows.new.items ≡ rows.old.items) }
+    ensures ordered { IsStrictlySortedBy nat_cmp (keys_of rows.new.items) }
+{
+    match find(rows.as_slice(), number) {
+        Ok(place) => Ok(Some(mem::replace(&mut rows[place].1, row))),
+        Err(place) => {
+            rows.reserve_exact(1)?;
+            rows.insert(place, (number, row))?;
+            Ok(None)
+        }
+    }
+}
+
+// Puts back what stood at the number, in place of the line that is there. It takes no memory.
+fn put_back(rows: &mut Vec<(u32, OrderLine)>, number: u32, was: Option<OrderLine>)
+    requires ordered { IsStrictlySortedBy nat_cmp (keys_of rows.old.items) }
+    requires there { IsTrue (table.contains_key (numbered rows.old.items) number) }
+    ensures rows { numbered rows.new.items ≡ put_row (numbered rows.old.items) number was }
+    ensures many { length rows.new.items + 1 ≡ length rows.old.items + (if is_some was then 1 else 0) }
+    ensures ordered { IsStrictlySortedBy nat_cmp (keys_of rows.new.items) }
+{
+    // The line is there.
+    if let Ok(place) = find(rows.as_slice(), number) {
+        match was {
+            Some(row) => rows[place].1 = row,
+            None => {
+                rows.remove(place);
+            }
+        }
+    }
+}
+
+// The line's row, if it is there, gets the moment, or none.
+fn set_delivery(rows: &mut Vec<(u32, OrderLine)>, number: u32, moment: Option<Moment>)
+    requires { IsStrictlySortedBy nat_cmp (keys_of rows.old.items) }
+    ensures rows { (n : ℕ) → table.get (numbered rows.new.items) n ≡ option_map (λ row. if nat_eq n number then record row { delivery_d = moment } else row) (table.get (numbered rows.old.items) n) }
+    ensures many { length rows.new.items ≡ length rows.old.items }
+    ensures ordered { IsStrictlySortedBy nat_cmp (keys_of rows.new.items) }
+{
+    if let Ok(place) = find(rows.as_slice(), number) {
+        rows[place].1.delivery_d = moment;
+    }
+}

@@ -1,0 +1,447 @@
+//! The rows of ORDER-LINE, of all warehouses or of one. Only here is it known how they are kept.
+ghost use Rattle.std.specs.Prelude.{◌≡◌, ◌+◌, ◌<◌, ◌≤◌, ◌^◌, ℕ, Some, [], ◌++◌, ◌&&◌, map, length, nat_le, nat_lt, IsTrue, IfOk, OnOk, OnErr, if◌then◌else◌};
+ghost use Rattle.std.specs.BTreeMap.{IsOrdered, insert_entry};
+ghost use Rattle.std.specs.FinMap as table;
+ghost use Rattle.std.specs.List.{filter};
+ghost use Rattle.std.specs.List.Sorted.{IsStrictlySortedBy};
+ghost use Rattle.std.specs.Map.{keys_of};
+ghost use Rattle.std.specs.Option.{option_copied, option_map, option_or};
+ghost use Rattle.std.specs.Ordering.{nat_cmp, eq_by_cmp};
+ghost use Rattle.std.specs.Vec.{vec_len, vec_capacity};
+ghost use Rattle.rows.specs.Keys.{order_cmp, line_cmp, order_of_line};
+ghost use Rattle.schema.specs.EachRow.{EachRow};
+ghost use Rattle.schema.specs.MapRows.{map_rows, put_row};
+ghost use Rattle.schema.specs.PackedLines.{all_lines, with_keys, AreNumbered};
+ghost use Rattle.schema.specs.Database.{is_order_id, is_line_number, rows_where, is_of_district, is_of_order};
+ghost use Rattle.schema.specs.OrderRows.{line_table, line_key, put_lines, lines_at, with_moment, is_in_span};
+
+use crate::NoMemory;
+use crate::numbered::Numbered;
+use rows::{DistrictKey, Moment, OrderKey, OrderLine, OrderLineKey};
+use std::alloc::Global;
+use std::collections::BTreeMap;
+use std::collections::btree_map::Range;
+use std::marker::Model;
+
+// No more lines are kept.
+const MOST: usize = 9_223_372_036_854_775_807;
+
+/// Rows of ORDER-LINE with their keys, in the order of the keys. The lines of an order stand together.
+#[derive(Drop)]
+pub struct OrderLines {
+    alloc: Global,
+    orders: BTreeMap<OrderKey, Numbered>,
+    // How many lines there are.
+    count: usize,
+}
+
+impl Model for OrderLines {
+    ghost use Rattle.std.specs.Prelude.{List};
+    ghost use Rattle.rows.specs.declared.keys.OrderLineKey as line_key;
+    ghost use Rattle.rows.specs.declared.records.OrderLine as line;
+    ghost use Rattle.schema.specs.PackedLines.{AreKept, all_lines};
+
+    ghost Value = { List (line_key.OrderLineKey × line.OrderLine) };
+
+    ghost view = { λ l. all_lines l.orders.entries };
+
+    ghost invariant = { λ l. AreKept l.orders.entries l.count };
+}
+
+/// Rows of ORDER-LINE with their keys, in the order of the keys: seen as the list of those that are still to come. The
+/// rows are lent and the keys given.
+#[derive(Drop)]
+pub struct Lines<'a> {
+    // The lines to come of the order under way, and the orders behind it.
+    order: OrderKey,
+    lines: &'a [(u32, OrderLine)],
+    orders: Range<'a, OrderKey, Numbered>,
+}
+
+impl<'a> Model for Lines<'a> {
+    ghost use Rattle.std.specs.Prelude.{List, ◌++◌};
+    ghost use Rattle.rows.specs.declared.keys.OrderLineKey as line_key;
+    ghost use Rattle.rows.specs.declared.records.OrderLine as line;
+    ghost use Rattle.schema.specs.PackedLines.{all_lines, with_keys};
+
+    ghost Value = { List (line_key.OrderLineKey × line.OrderLine) };
+
+    ghost view = { λ l. with_keys l.order l.lines.now ++ all_lines l.orders };
+}
+
+impl<'a> Lines<'a> {
+    // The lines of these orders.
+    fn of(orders: Range<'a, OrderKey, Numbered>) -> Lines<'a>
+        ensures { result ≡ all_lines orders.entry }
+    {
+        Lines {
+            order: OrderKey {
+                w_id: 0,
+                d_id: 0,
+                o_id: 0,
+            },
+            lines: &[],
+            orders,
+        }
+    }
+}
+
+impl<'a> Iterator for Lines<'a> {
+    ghost use Rattle.std.specs.Prelude.{length};
+    ghost use Rattle.std.specs.Iterator.{at_most};
+    ghost use Rattle.std.specs.Map.Iter.{TakesFirst};
+    ghost use Rattle.schema.specs.Entries.{entry};
+
+    type Item = (OrderLineKey, &'a OrderLine);
+
+    ghost next_gives = { TakesFirst entry };
+
+    ghost remaining = { λ s. at_most (length s) };
+
+    #[inline]
+    fn next(&mut self) -> Option<(OrderLineKey, &'a OrderLine)> {
+        loop {
+            if let [(number, row), rest @ ..] = self.lines {
+                self.lines = rest;
+                return Some((line_key(self.order, *number), row));
+            }
+            let (order, lines) = self.orders.next()?;
+            self.order = *order;
+            self.lines = lines.as_slice();
+        }
+    }
+}
+
+impl OrderLines {
+    /// No lines. It takes no memory.
+    pub fn new(alloc: Global) -> OrderLines
+        ensures { result ≡ [] }
+    {
+        OrderLines {
+            alloc,
+            orders: BTreeMap::new(alloc),
+            count: 0,
+        }
+    }
+
+    /// How many lines there are.
+    pub fn len(&self) -> usize
+        ensures len { result ≡ length self.now }
+        ensures ordered { IsStrictlySortedBy line_cmp (keys_of self.now) }
+    {
+        self.count
+    }
+
+    /// The same lines. Want of memory leaves nothing behind.
+    pub fn try_clone(&self) -> Result<OrderLines, NoMemory>
+        ensures { IfOk result (λ copy. copy ≡ self.now) }
+    {
+        Ok(OrderLines {
+            alloc: self.alloc,
+            orders: self.orders.clone()?,
+            count: self.count,
+        })
+    }
+
+    /// The line, `None` where it is not there.
+    pub fn get(&self, key: OrderLineKey) -> Option<&OrderLine>
+        ensures { option_copied result ≡ table.get (line_table self.now) key }
+    {
+        self.orders.get(&key.order())?.get(key.number)
+    }
+
+    /// Puts a line at the key. An error changes nothing.
+    pub fn insert(&mut self, key: OrderLineKey, row: OrderLine) -> Result<(), NoMemory>
+        ensures ok { OnOk result (self.new ≡ insert_entry line_cmp self.old key row) }
+        ensures err { OnErr result (self.new ≡ self.old) }
+        ensures ordered { IsStrictlySortedBy line_cmp (keys_of self.old) }
+    {
+        // For its contract: the lines stand in order, before and after.
+        let _ = self.len();
+        self.put(key, row)?;
+        let _ = self.len();
+        Ok(())
+    }
+
+    // Puts a line at the key, and gives the one that it replaces. An error changes nothing.
+    fn put(&mut self, key: OrderLineKey, row: OrderLine) -> Result<Option<OrderLine>, NoMemory>
+        ensures was { IfOk result (λ was. was ≡ table.get (line_table self.old) key) }
+        ensures ok { OnOk result (line_table self.new ≡ table.insert (line_table self.old) key row) }
+        ensures err { OnErr result (self.new ≡ self.old) }
+    {
+        if self.count >= MOST {
+            return Err(NoMemory);
+        }
+        let was = put(self.alloc, &mut self.orders, key, row)?;
+        if was.is_none() {
+            self.count += 1;
+        }
+        Ok(was)
+    }
+
+    // Puts back what stood at the key, in place of the line that is there. It takes no memory.
+    fn put_back(&mut self, key: OrderLineKey, was: Option<OrderLine>)
+        requires { IsTrue (table.contains_key (line_table self.old) key) }
+        ensures { line_table self.new ≡ put_row (line_table self.old) key was }
+    {
+        match was {
+            Some(row) => put_back(&mut self.orders, key, Some(row)),
+            None => {
+                put_back(&mut self.orders, key, None);
+                self.count -= 1;
+            }
+        }
+    }
+
+    /// All lines, by their keys.
+    pub fn entries(&self) -> Lines<'_>
+        ensures rows { result ≡ self.now }
+        ensures fits { length result < 2 ^ 63 }
+        ensures ordered { IsStrictlySortedBy line_cmp (keys_of self.now) }
+    {
+        Lines::of(self.orders.range(..))
+    }
+
+    /// The lines of the order, by OL_NUMBER.
+    pub fn of_order(&self, order: OrderKey) -> Lines<'_>
+        ensures rows { result ≡ rows_where (is_of_order order) (line_table self.now) }
+        ensures fits { length result < 2 ^ 63 }
+    {
+        Lines::of(self.orders.range(order..=order))
+    }
+
+    /// The lines of the district's orders, by O_ID and then by OL_NUMBER.
+    pub fn of_district(&self, home: DistrictKey) -> Lines<'_>
+        requires { EachRow (λ key _. is_order_id key.o_id) (line_table self.now) }
+        ensures rows { result ≡ rows_where (λ key. is_of_district home (order_of_line key)) (line_table self.now) }
+        ensures fits { length result < 2 ^ 63 }
+    {
+        Lines::of(
+            self.orders
+                .range(order_key(home, 0)..=order_key(home, u32::MAX)),
+        )
+    }
+
+    /// The lines of the district's orders numbered from `from` up to, but without, `to`: by O_ID and then
+    /// by OL_NUMBER.
+    pub fn in_span(&self, home: DistrictKey, from: u32, to: u32) -> Lines<'_>
+        ensures rows { result ≡ rows_where (is_in_span home from to) (line_table self.now) }
+        ensures fits { length result < 2 ^ 63 }
+    {
+        Lines::of(
+            self.orders
+                .range(order_key(home, from)..order_key(home, to.max(from))),
+        )
+    }
+
+    /// The line's row, if it is there, gets this moment of its delivery, or none. It takes no memory.
+    pub fn set_delivery(&mut self, key: OrderLineKey, moment: Option<Moment>)
+        ensures { (q : OrderLineKey) → table.get (line_table self.new) q
+            ≡ option_map (λ row. if eq_by_cmp line_cmp q key then record row { delivery_d = moment } else row) (table.get (line_table self.old) q) }
+    {
+        set_delivery(&mut self.orders, key, moment);
+    }
+
+    /// Moves the lines of others here. After an error some are left out.
+    pub fn append(&mut self, others: OrderLines) -> Result<(), NoMemory>
+        ensures { OnOk result ((key : OrderLineKey) → table.get (line_table self.new) key
+            ≡ option_or (table.get (line_table others) key) (table.get (line_table self.old) key)) }
+    {
+        let mut orders = others.orders;
+        while let Some((order, lines)) = orders.pop_first() {
+            self.take(order, lines)?;
+        }
+        Ok(())
+    }
+
+    // Moves the lines of an order here. After an error some are left out.
+    fn take(&mut self, order: OrderKey, lines: Numbered) -> Result<(), NoMemory>
+        ensures { OnOk result ((key : OrderLineKey) → table.get (line_table self.new) key
+            ≡ option_or (table.get (line_table (with_keys order lines)) key) (table.get (line_table self.old) key)) }
+    {
+        if self.orders.contains_key(&order) {
+            return self.put_all(order, lines.into_rows());
+        }
+        let many = lines.as_slice().len();
+        if many > MOST - self.count {
+            return Err(NoMemory);
+        }
+        self.orders.insert(order, lines)?;
+        self.count += many;
+        Ok(())
+    }
+
+    // Puts lines of an order, one by one. After an error some are left out.
+    fn put_all(&mut self, order: OrderKey, rows: Vec<(u32, OrderLine)>) -> Result<(), NoMemory>
+        ensures { OnOk result ((key : OrderLineKey) → table.get (line_table self.new) key
+            ≡ option_or (table.get (line_table (with_keys order rows.items)) key) (table.get (line_table self.old) key)) }
+    {
+        let mut rest = rows;
+        while let Some((number, row)) = rest.pop() {
+            self.put(line_key(order, number), row)?;
+        }
+        Ok(())
+    }
+
+    /// Takes the lines of the warehouses from this one on away, and gives them. After an error some may be lost.
+    pub fn split_off(&mut self, warehouse: u32) -> Result<OrderLines, NoMemory>
+        ensures from { IfOk result (λ later. later ≡ filter (λ e. nat_le warehouse e.0.w_id) self.old) }
+        ensures below { OnOk result (self.new ≡ filter (λ e. nat_lt e.0.w_id warehouse) self.old) }
+    {
+        let first = OrderKey {
+            w_id: warehouse,
+            d_id: 0,
+            o_id: 0,
+        };
+        let orders = self.orders.split_off(&first)?;
+        let count = count_lines(&orders);
+        self.count -= count;
+        Ok(OrderLines {
+            alloc: self.alloc,
+            orders,
+            count,
+        })
+    }
+
+    // Adds the order's lines at the numbers from 1, the last first, and what stood there at the end of `were`. An error
+    // changes no line.
+    pub(crate) fn add(
+        &mut self,
+        order: OrderKey,
+        rows: &mut Vec<OrderLine>,
+        were: &mut Vec<Option<OrderLine>>,
+    ) -> Result<(), NoMemory>
+        requires few { length rows.old.items ≤ 15 }
+        requires room { vec_len were.old + length rows.old.items ≤ vec_capacity were.old }
+        ensures lines { OnOk result (line_table self.new ≡ put_lines order 1 (map Some rows.old.items) (line_table self.old)) }
+        ensures were { OnOk result (were.new.items ≡ were.old.items ++ lines_at (line_table self.old) order 1 (length rows.old.items)) }
+        ensures room { vec_capacity were.old ≤ vec_capacity were.new }
+        ensures err { OnErr result (line_table self.new ≡ line_table self.old) }
+    {
+        let Some(row) = rows.pop() else {
+            return Ok(());
+        };
+        let key = line_key(order, rows.len() as u32 + 1);
+        let was = self.put(key, row)?;
+        match self.add(order, rows, were) {
+            Ok(()) => match were.push(was) {
+                Ok(()) => Ok(()),
+                // There is room for it.
+                Err(_) => Err(NoMemory),
+            },
+            Err(_) => {
+                self.put_back(key, was);
+                Err(NoMemory)
+            }
+        }
+    }
+
+    // Puts back what stood at the order's lines, numbered from 1, the last first. It takes no memory.
+    pub(crate) fn take_back(&mut self, order: OrderKey, were: Vec<Option<OrderLine>>)
+        requires few { length were.items ≤ 15 }
+        requires there { (n : ℕ) → n < length were.items → IsTrue (table.contains_key (line_table self.old) (line_key order (1 + n))) }
+        ensures { line_table self.new ≡ put_lines order 1 were.items (line_table self.old) }
+    {
+        let mut rest = were;
+        while let Some(was) = rest.pop() {
+            let key = line_key(order, rest.len() as u32 + 1);
+            self.put_back(key, was);
+        }
+    }
+
+    // The order's lines get the moment of their delivery. It takes no memory.
+    pub(crate) fn deliver(&mut self, order: OrderKey, moment: Moment)
+        requires { EachRow (λ key _. is_line_number key.number) (line_table self.old) }
+        ensures { line_table self.new ≡ map_rows (with_moment order moment) (line_table self.old) }
+    {
+        for number in 1..16 {
+            self.set_delivery(line_key(order, number), Some(moment));
+        }
+    }
+}
+
+// Puts a line under its order, and gives the one that it replaces. An error changes nothing.
+fn put(
+    alloc: Global,
+    orders: &mut BTreeMap<OrderKey, Numbered>,
+    key: OrderLineKey,
+    row: OrderLine,
+) -> Result<Option<OrderLine>, NoMemory>
+    requires { AreNumbered orders.old.entries }
+    ensures was { IfOk result (λ was. was ≡ table.get (line_table (all_lines orders.old.entries)) key) }
+    ensures ok { OnOk result (line_table (all_lines orders.new.entries) ≡ table.insert (line_table (all_lines orders.old.entries)) key row) }
+    ensures err { OnErr result (orders.new.entries ≡ orders.old.entries) }
+    ensures numbered { AreNumbered orders.new.entries }
+    ensures ordered { IsOrdered order_cmp orders.new }
+{
+    let order = key.order();
+    if let Some(lines) = orders.get_mut(&order) {
+        return lines.put(key.number, row);
+    }
+    let mut lines = Numbered::new(alloc);
+    lines.put(key.number, row)?;
+    match orders.insert(order, lines) {
+        Ok(_) => Ok(None),
+        Err(_) => Err(NoMemory),
+    }
+}
+
+// Puts back what stood at the key, in place of the line that is there. It takes no memory.
+fn put_back(orders: &mut BTreeMap<OrderKey, Numbered>, key: OrderLineKey, was: Option<OrderLine>)
+    requires there { IsTrue (table.contains_key (line_table (all_lines orders.old.entries)) key) }
+    requires numbered { AreNumbered orders.old.entries }
+    ensures rows { line_table (all_lines orders.new.entries) ≡ put_row (line_table (all_lines orders.old.entries)) key was }
+    ensures numbered { AreNumbered orders.new.entries }
+    ensures ordered { IsOrdered order_cmp orders.new }
+{
+    if let Some(lines) = orders.get_mut(&key.order()) {
+        lines.put_back(key.number, was);
+    }
+}
+
+// The line's row, if it is there, gets the moment, or none.
+fn set_delivery(
+    orders: &mut BTreeMap<OrderKey, Numbered>,
+    key: OrderLineKey,
+    moment: Option<Moment>,
+)
+    requires { AreNumbered orders.old.entries }
+    ensures rows { (q : OrderLineKey) → table.get (line_table (all_lines orders.new.entries)) q
+        ≡ option_map (λ row. if eq_by_cmp line_cmp q key then record row { delivery_d = moment } else row) (table.get (line_table (all_lines orders.old.entries)) q) }
+    ensures many { length (all_lines orders.new.entries) ≡ length (all_lines orders.old.entries) }
+    ensures numbered { AreNumbered orders.new.entries }
+    ensures ordered { IsOrdered order_cmp orders.new }
+{
+    if let Some(lines) = orders.get_mut(&key.order()) {
+        lines.set_delivery(key.number, moment);
+    }
+}
+
+// How many lines these orders have.
+fn count_lines(orders: &BTreeMap<OrderKey, Numbered>) -> usize
+    requires { length (all_lines orders.now.entries) < 2 ^ 63 }
+    ensures { result ≡ length (all_lines orders.now.entries) }
+{
+    Lines::of(orders.range(..)).count()
+}
+
+fn order_key(home: DistrictKey, number: u32) -> OrderKey
+    ensures { result ≡ record { w_id = home.w_id; d_id = home.d_id; o_id = number } }
+{
+    OrderKey {
+        w_id: home.w_id,
+        d_id: home.d_id,
+        o_id: number,
+    }
+}
+
+fn line_key(order: OrderKey, number: u32) -> OrderLineKey
+    ensures { result ≡ line_key order number }
+{
+    OrderLineKey {
+        w_id: order.w_id,
+        d_id: order.d_id,
+        o_id: order.o_id,
+        number,
+    }
+}
