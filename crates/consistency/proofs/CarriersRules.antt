@@ -5,10 +5,16 @@ use Rattle.std.specs.List.{list_all}
 use Rattle.std.specs.FinMap as map
 use Rattle.rows.specs.Keys.{order_of_line}
 use Rattle.schema.specs.Database.{Database}
+use Rattle.rows.specs.declared.keys.OrderLineKey.{OrderLineKey}
+use Rattle.rows.specs.declared.records.OrderLine.{OrderLine}
 use Rattle.schema.specs.Consistency.{NewOrdersHaveNoCarrier, LinesComeWithOrders}
 use Rattle.schema.proofs.KeyOrders.{orders_total, orders_exact, lines_total, lines_exact}
 use Rattle.schema.proofs.EachRows.{EachRow-table}
 use Rattle.consistency.specs.Carriers.{comes_with}
+
+-- whether the line comes with its order
+abbrev pub comes : Database → OrderLineKey × OrderLine → Bool
+comes t e = comes_with e.1 (map.get t.orders (order_of_line e.0))
 
 -- a null column beside a test
 null_beside : {X : Type 0} (o : Option X) (b : Bool) → IsTrue (beq (is_none o) b) ↔ ((o ≡ None) ↔ IsTrue b)
@@ -35,7 +41,7 @@ module _ (t : Database) (r : Bool) where
         λ h. subst IsTrue (sym is) (each.1 (λ key row found. (null_beside row.carrier_id (map.contains_key t.new_orders key)).1 (h key row found))),
       )
 
-  pub deliveries_rule : r ≡ list_all (λ e. comes_with e.1 (map.get t.orders (order_of_line e.0))) (map.entries t.lines)
+  pub deliveries_rule : r ≡ list_all (comes t) (map.entries t.lines)
       → IsTrue r ↔ LinesComeWithOrders t
   deliveries_rule is =
       let each = EachRow-table lines_total lines_exact (λ key line. comes_with line (map.get t.orders (order_of_line key))) t.lines in (

@@ -5,6 +5,7 @@ ghost use Rattle.schema.specs.Consistency.{amounts_of, is_payer, delivered, paid
 ghost use Rattle.consistency.specs.Totals.{IsWithin};
 ghost use Rattle.consistency.specs.Balances.{AreTotals, HasRoom, AreWithin, is_customer, receiver};
 
+use crate::orders::OrdersOfLines;
 use schema::{CustomerKey, History, NoMemory, OrderLine, OrderLineKey, Scale, Tables};
 use std::alloc::Global;
 
@@ -71,8 +72,9 @@ fn delivered_totals(tables: &Tables, alloc: Global) -> Result<Vec<i128>, NoMemor
     let scale = tables.scale();
     let rows = tables.rows();
     let mut totals = zeros(rows.customers.len(), alloc)?;
+    let mut orders = OrdersOfLines::new(tables);
     for (key, line) in tables.lines() {
-        if let Some(customer) = receiver(tables, key, line) {
+        if let Some(customer) = receiver(&mut orders, key, line) {
             credit(&mut totals, scale, customer, i64::from(line.amount.get()));
         }
     }
@@ -128,13 +130,14 @@ fn credit(totals: &mut [i128], scale: Scale, customer: CustomerKey, amount: i64)
 }
 
 // To whom the line was delivered, `None` where it was not.
-fn receiver(tables: &Tables, key: OrderLineKey, line: &OrderLine) -> Option<CustomerKey>
-    ensures { result ≡ receiver tables.now key line.now }
+fn receiver(orders: &mut OrdersOfLines, key: OrderLineKey, line: &OrderLine) -> Option<CustomerKey>
+    ensures customer { result ≡ receiver orders.old key line.now }
+    ensures same { orders.new ≡ orders.old }
 {
     if line.delivery_d.is_none() {
         return None;
     }
-    let order = tables.order(key.order())?;
+    let order = orders.of(key)?;
     Some(CustomerKey {
         w_id: key.w_id,
         d_id: key.d_id,

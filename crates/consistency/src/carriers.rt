@@ -5,6 +5,7 @@ ghost use Rattle.std.specs.FinMap as map;
 ghost use Rattle.schema.specs.Consistency.{NewOrdersHaveNoCarrier, LinesComeWithOrders};
 ghost use Rattle.consistency.specs.Carriers.{comes_with};
 
+use crate::orders::OrdersOfLines;
 use rows::{Order, OrderKey, OrderLine};
 use schema::Tables;
 
@@ -21,9 +22,13 @@ pub(crate) fn new_orders_have_no_carrier(tables: &Tables) -> bool
 pub(crate) fn lines_come_with_orders(tables: &Tables) -> bool
     ensures { IsTrue result ↔ LinesComeWithOrders tables.now }
 {
-    tables
-        .lines()
-        .all(|(key, line)| comes_with(line, tables.order(key.order())))
+    let mut orders = OrdersOfLines::new(tables);
+    for (key, line) in tables.lines() {
+        if !comes_with(line, orders.of(key)) {
+            return false;
+        }
+    }
+    true
 }
 
 fn matches_new_order(tables: &Tables, key: OrderKey, order: &Order) -> bool

@@ -7,6 +7,7 @@ mod carriers;
 mod checks;
 mod line_counts;
 mod order_numbers;
+mod orders;
 mod payments;
 mod totals;
 

@@ -2,6 +2,7 @@ pub mod Unlike
 pub mod Numerals
 pub mod Amounts
 pub mod Moments
+pub mod PlainMoments
 pub mod FieldsLeft
 pub mod NextMark
 pub mod Progress

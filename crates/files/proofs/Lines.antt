@@ -12,7 +12,7 @@ use Rattle.csv.proofs.ReadFacts.{feeds-push}
 use Rattle.files.specs.declared.span.Span.{Span}
 use Rattle.files.specs.Span.{part, parts, record_size}
 use Rattle.files.specs.declared.line.Mark.TheVariants as mark
-use Rattle.files.specs.Marks.{IsNextMark}
+use Rattle.files.specs.Marks.{ArePlain, IsNextMark}
 use Rattle.files.specs.Line.{BeginsRecord, IsMark, IsBetween, IsOpen, IsWhole, is_in_record}
 
 -- where a line stands at a place, whose field begins there
@@ -112,11 +112,15 @@ so_far_run bytes spans from at (suc n) to e inside plain h =
     rw last at (so_far_plain bytes spans from (at + n) before (omega arith)
     (plain_step from (at + n) (get_or bytes (at + n) 0) (λ e. absurd (omega arith)) (λ e. absurd (omega arith)) (λ e. absurd (omega arith)) (λ e. absurd (omega arith))))
 
+-- where no byte is a mark nothing ends
+pub so_far_plain_run : (bytes : List ℕ) (spans : List Span) (from at to : ℕ) → IsCutSoFar bytes spans from at → at ≤ to → to ≤ length bytes → ArePlain bytes at to → IsCutSoFar bytes spans from to
+so_far_plain_run bytes spans from at to h ordered within plain = so_far_run bytes spans from at (to - at) to (omega arith) within plain h
+
 -- up to the next mark nothing ends
-pub so_far_marks : (bytes : List ℕ) (spans : List Span) (from at to : ℕ) → IsCutSoFar bytes spans from at → IsNextMark bytes at (length bytes) to → IsCutSoFar bytes spans from to
-so_far_marks bytes spans from at to h next =
-    let low = next.low in
-    so_far_run bytes spans from at (to - at) to (omega arith) next.high next.plain h
+pub so_far_mark : (bytes : List ℕ) (spans : List Span) (from at to : ℕ) → IsCutSoFar bytes spans from at → IsNextMark bytes at to → IsCutSoFar bytes spans from to
+so_far_mark bytes spans from at to h next =
+    let inside = next.inside in
+    so_far_plain_run bytes spans from at to h next.low (omega arith) next.plain
 
 pub so_far_comma : (bytes : List ℕ) (spans : List Span) (from to : ℕ) → IsCutSoFar bytes spans from to → to < length bytes
     → get_or bytes to 0 ≡ 44 → IsCutSoFar bytes (spans ++ (record { from = from; to = to } ∷ [])) (to + 1) (to + 1)

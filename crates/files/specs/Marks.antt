@@ -1,9 +1,26 @@
--- The next byte of a line that may be more than one of its field.
-use Rattle.std.specs.Prelude.{◌≤◌, ◌<◌, ℕ, List, slice_index}
+-- The bytes of a line that may be more than one of its field.
+use Rattle.std.specs.Prelude.{◌≡◌, ◌≤◌, ◌<◌, ◌+◌, ◌-◌, ℕ, Bool, List, length, map, nat_le, slice_index}
+use Rattle.std.specs.Simd.Lanes.{chunk, mask_l}
+use Rattle.files.specs.declared.marks.Marks.{Marks}
 
--- of the places from one up to an end, the first whose byte is at most a comma, or the end
-pub record IsNextMark (bytes : List ℕ) (at end place : ℕ) : Type 0 where
+-- whether a byte is a mark, which is at most a comma
+abbrev pub is_mark : ℕ → Bool
+is_mark byte = nat_le byte 44
+
+-- no byte of these places is a mark
+abbrev pub ArePlain : List ℕ → ℕ → ℕ → Type 0
+ArePlain bytes at end = (k : ℕ) → at ≤ k → k < end → 44 < slice_index bytes k
+
+-- of the places from one on, the first whose byte is a mark
+pub record IsNextMark (bytes : List ℕ) (at place : ℕ) : Type 0 where
   pub low : at ≤ place
-  pub high : place ≤ end
-  pub plain : (k : ℕ) → at ≤ k → k < place → 44 < slice_index bytes k
-  pub mark : place < end → slice_index bytes place ≤ 44
+  pub inside : place < length bytes
+  pub plain : ArePlain bytes at place
+  pub mark : slice_index bytes place ≤ 44
+
+-- the mask has a bit for each byte from a place up to its end: whether it is a mark
+pub record Tells (bytes : List ℕ) (at : ℕ) (marks : Marks) : Type 0 where
+  pub low : at ≤ marks.end
+  pub few : marks.end ≤ at + 32
+  pub high : marks.end ≤ length bytes
+  pub told : marks.mask ≡ mask_l (map is_mark (chunk at (marks.end - at) bytes))

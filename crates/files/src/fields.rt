@@ -151,6 +151,7 @@ impl<'r> Fields<'r> {
     }
 
     /// The next field as a number from `low` to `high`; `low` after a fault.
+    #[inline]
     pub fn whole(&mut self, low: u32, high: u32) -> u32
         ensures range { low ≤ high → (low ≤ result) × (result ≤ high) }
         ensures field { (result, taking self.new) ≡ field_read (whole_read low high) low (taking self.old) }

@@ -1,43 +1,78 @@
-//! Where the next byte of a line is that may be more than one of its field.
-ghost use Rattle.std.specs.Prelude.{◌+◌, ◌≤◌, length};
-ghost use Rattle.files.specs.Marks.{IsNextMark};
+//! Where the bytes of a line are that may be more than one of its field.
+ghost use Rattle.std.specs.Prelude.{◌≡◌, ◌+◌, ◌≤◌, ℕ, List, length, MatchOption, IfSome};
+ghost use Rattle.files.specs.Marks.{ArePlain, IsNextMark, Tells};
 
 use std::simd::prelude::*;
 
 // How many bytes are looked at at once.
-const LANES: usize = 16;
+const LANES: usize = 32;
 
-/// The first place from `at` on whose byte is at most a comma, as commas, quotation marks and ends of
-/// lines are; the end of the bytes where there is none.
-pub fn next_mark(bytes: &[u8], at: usize) -> usize
-    requires { at ≤ length bytes.now }
-    ensures { IsNextMark bytes.now at (length bytes.now) result }
-{
-    let mut place = at;
-    while bytes.len() - place >= LANES {
-        let mark = next_of_lanes(bytes, place);
-        if mark < place + LANES {
-            return mark;
-        }
-        place = mark;
-    }
-    while place < bytes.len() && bytes[place] > b',' {
-        place += 1;
-    }
-    place
+/// The marks among bytes, one after the other: those bytes that are at most a comma, as commas,
+/// quotation marks and ends of lines are.
+#[derive(Drop)]
+pub struct Marks {
+    // A bit for each byte up to `end`, that of the next byte lowest: whether it is a mark.
+    mask: u64,
+    end: usize,
 }
 
-// The same of as many bytes as are looked at at once.
-fn next_of_lanes(bytes: &[u8], at: usize) -> usize
-    requires { at + 16 ≤ length bytes.now }
-    ensures { IsNextMark bytes.now at (at + 16) result }
-{
-    let marks = u8x16::from_slice(&bytes[at..])
-        .simd_le(u8x16::splat(b','))
-        .to_bitmask();
-    if marks == 0 {
-        at + LANES
-    } else {
-        at + marks.trailing_zeros() as usize
+impl Marks {
+    /// Those of any bytes, before the first.
+    pub fn new() -> Marks
+        ensures { (bytes : List ℕ) → Tells bytes 0 result }
+    {
+        Marks { mask: 0, end: 0 }
     }
+
+    /// The place of the next mark from `at` on, which is 0 at first, and then the place behind the
+    /// mark before.
+    pub fn next(&mut self, bytes: &[u8], at: usize) -> Option<usize>
+        requires { Tells bytes.now at self.old }
+        ensures next { MatchOption result (ArePlain bytes.now at (length bytes.now)) (IsNextMark bytes.now at) }
+        ensures tells { IfSome result (λ place. Tells bytes.now (place + 1) self.new) }
+    {
+        let mut place = at;
+        while self.mask == 0 {
+            place = self.end;
+            if bytes.len() - place < LANES {
+                place = next_of_few(bytes, place)?;
+                self.end = place + 1;
+                return Some(place);
+            }
+            *self = Marks::of_lanes(bytes, place);
+        }
+        let skipped = self.mask.trailing_zeros() as usize;
+        self.mask >>= skipped + 1;
+        Some(place + skipped)
+    }
+
+    // Those of the bytes from `at` on, as many as are looked at at once.
+    fn of_lanes(bytes: &[u8], at: usize) -> Marks
+        requires { at + 32 ≤ length bytes.now }
+        ensures tells { Tells bytes.now at result }
+        ensures end { result.end ≡ at + 32 }
+    {
+        let mask = u8x32::from_slice(&bytes[at..])
+            .simd_le(u8x32::splat(b','))
+            .to_bitmask();
+        Marks {
+            mask,
+            end: at + LANES,
+        }
+    }
+}
+
+// The place of the next mark from `at` on, byte by byte. Few bytes are left for it: it stays out of
+// the loops above, which are shorter for that.
+#[cold]
+#[inline(never)]
+fn next_of_few(bytes: &[u8], at: usize) -> Option<usize>
+    ensures { MatchOption result (ArePlain bytes.now at (length bytes.now)) (IsNextMark bytes.now at) }
+{
+    for place in at..bytes.len() {
+        if bytes[place] <= b',' {
+            return Some(place);
+        }
+    }
+    None
 }

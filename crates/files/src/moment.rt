@@ -1,14 +1,17 @@
-ghost use Rattle.std.specs.Prelude.{◌≡◌, ◌↔◌, ℕ, ◌≤◌, IfOk, IfErr, IfSome, IsTrue, Some, pos};
+ghost use Rattle.std.specs.Prelude.{◌≡◌, ◌↔◌, ℕ, ◌<◌, ◌≤◌, [], ◌∷◌, IfOk, IfErr, IfSome, IsTrue, Some, None, pos};
 ghost use Rattle.jiff.specs.Names.{iso_datetime_text};
+ghost use Rattle.jiff_fmt.specs.Text.{pad2, date_text, time_text};
 ghost use Rattle.jiff_core.specs.DateTime.{civil_seconds};
 ghost use Rattle.jiff_core.specs.declared.civil.datetime.DateTime.{DateTime as Civil};
 ghost use Rattle.files.specs.MomentText.{Spells, IsMomentText};
 ghost use Rattle.files.specs.KindsRead.{moment_at, moment_read, optional_read};
 
 use crate::FaultKind;
+use crate::numbers::digit_of;
 use arrayvec::ArrayString;
 use jiff::civil::DateTime;
 use jiff::fmt::temporal::DateTimePrinter;
+use jiff_core::civil::{Date, Time};
 use rows::Moment;
 use std::str::from_utf8;
 
@@ -38,6 +41,9 @@ pub(crate) fn read_moment(field: &[u8]) -> Result<Moment, FaultKind>
     ensures spelt { IfOk result (λ seconds. IsMomentText field.now seconds) }
     ensures reads { (seconds : ℕ) → IsMomentText field.now seconds → seconds ≤ 253402300799 → result ≡ Ok seconds }
 {
+    if let Some(moment) = plain_moment(field) {
+        return Ok(moment);
+    }
     match from_utf8(field) {
         Ok(word) => parse_moment(word),
         Err(_) => Err(FaultKind::NotOfKind),
@@ -57,6 +63,60 @@ pub(crate) fn read_optional_moment(field: &[u8]) -> Result<Option<Moment>, Fault
         Ok(moment) => Ok(Some(moment)),
         Err(kind) => Err(kind),
     }
+}
+
+// The moment of a field of 19 bytes, which nearly all have: each byte is looked at once, and no text
+// is written. `None` says nothing of the field.
+fn plain_moment(field: &[u8]) -> Option<Moment>
+    ensures spelt { IfSome result (λ seconds. IsMomentText field.now seconds) }
+    ensures high { IfSome result (λ seconds. seconds ≤ 253402300799) }
+{
+    if field.len() != 19 || field[10] != b'T' {
+        return None;
+    }
+    let date = plain_date(&field[..10])?;
+    let time = plain_time(&field[11..])?;
+    let moment = jiff_core::civil::DateTime { date, time };
+    seconds_of(DateTime::from_plain(moment)).ok()
+}
+
+// The date that `YYYY-MM-DD` spells.
+fn plain_date(bytes: &[u8]) -> Option<Date>
+    ensures { IfSome result (λ date. date_text date ≡ bytes.now) }
+{
+    let [y0, y1, y2, y3, b'-', m0, m1, b'-', d0, d1] = bytes else {
+        return None;
+    };
+    let century = two_digits(*y0, *y1)?;
+    let of_century = two_digits(*y2, *y3)?;
+    let year = (century * 100 + of_century) as i16;
+    let month = two_digits(*m0, *m1)?;
+    let day = two_digits(*d0, *d1)?;
+    Date::new(year, month as i8, day as i8).ok()
+}
+
+// The time that `HH:MM:SS` spells.
+fn plain_time(bytes: &[u8]) -> Option<Time>
+    ensures spelt { IfSome result (λ time. time_text None time ≡ bytes.now) }
+    ensures whole { IfSome result (λ time. time.subsec_nanosecond ≡ 0) }
+{
+    let [h0, h1, b':', m0, m1, b':', s0, s1] = bytes else {
+        return None;
+    };
+    let hour = two_digits(*h0, *h1)?;
+    let minute = two_digits(*m0, *m1)?;
+    let second = two_digits(*s0, *s1)?;
+    Time::new(hour as i8, minute as i8, second as i8, 0).ok()
+}
+
+// The number that two decimal digits spell.
+fn two_digits(tens: u8, ones: u8) -> Option<u64>
+    ensures value { IfSome result (λ number. pad2 number ≡ tens ∷ ones ∷ []) }
+    ensures high { IfSome result (λ number. number < 100) }
+{
+    let tens = digit_of(tens)?;
+    let ones = digit_of(ones)?;
+    Some(tens * 10 + ones)
 }
 
 // Whether the field is what is written for the moment, which has no fraction of a second.

@@ -69,7 +69,8 @@ fn short_number(field: &[u8]) -> Option<u64>
     Some(number)
 }
 
-fn digit_of(byte: u8) -> Option<u64>
+/// The value of a decimal digit; `None` where the byte is no digit.
+pub(crate) fn digit_of(byte: u8) -> Option<u64>
     ensures { IfSome result (λ digit. (digit < 10) × (byte ≡ 48 + digit)) }
 {
     if byte >= b'0' && byte <= b'9' {

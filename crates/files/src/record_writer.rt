@@ -5,7 +5,7 @@ ghost use Rattle.files.specs.Failure.{IsOfWriting};
 ghost use Rattle.files.specs.Sending.{Sends, Begins};
 ghost use Rattle.files.specs.Written.{format, record_text};
 
-use crate::marks::next_mark;
+use crate::marks::Marks;
 use crate::{FileError, NewRecord, send};
 use csv::{ByteRecord, WriterBuilder};
 use std::alloc::{AllocError, Global};
@@ -119,12 +119,13 @@ impl RecordWriter {
 fn needs_quotes(bytes: &[u8]) -> bool
     ensures { result ≡ needs_quotes format bytes.now }
 {
-    let mut place = next_mark(bytes, 0);
-    while place < bytes.len() {
+    let mut at = 0;
+    let mut marks = Marks::new();
+    while let Some(place) = marks.next(bytes, at) {
         if matches!(bytes[place], b',' | b'"' | b'\r' | b'\n') {
             return true;
         }
-        place = next_mark(bytes, place + 1);
+        at = place + 1;
     }
     false
 }

@@ -17,5 +17,6 @@ pub mod HomeReads
 pub mod HomeWrites
 pub mod HomeOrders
 pub mod Undelivered
+pub mod MomentsRead
 pub mod HomeDeliveries
 pub mod Sendable

@@ -16,7 +16,7 @@ use Rattle.schema.specs.EachRow.{EachRow}
 use Rattle.schema.specs.MapRows.{map_rows}
 use Rattle.schema.specs.Database.{is_line_number, is_of_order}
 use Rattle.schema.specs.OrderRows.{LineTable, line_key}
-use Rattle.schema.proofs.Deliveries.{is_before, order_test}
+use Rattle.schema.proofs.Deliveries.{order_test}
 use Rattle.schema.proofs.KeyOrders.{orders_total, orders_exact, lines_total, lines_exact}
 use Rattle.schema.proofs.TableWrites.{get-map_rows}
 use Rattle.partitions.specs.Deliveries.{with_carrier_back, with_moments_back}
@@ -29,7 +29,8 @@ carried_back order carrier old new h = same_map orders_total orders_exact new (m
     h q ∙ ap (λ b. option_map (λ (row : Order). cond b (record row { carrier_id = carrier }) row) (get old q)) (order_test order q)
     ∙ sym (get-map_rows order_cmp (with_carrier_back order carrier) orders_exact old q))
 
-is_equal : (r : Ordering) → is_eq r ≡ true → r ≡ Equal
+-- a comparison that passes the test is of equals
+pub is_equal : (r : Ordering) → is_eq r ≡ true → r ≡ Equal
 is_equal Less h = absurd cc
 is_equal Equal h = refl
 is_equal Greater h = absurd cc
@@ -41,7 +42,7 @@ own_line : (order : OrderKey) (number : ℕ) → (is_of_order order (line_key or
 own_line order number = grind (arith, nat_tests)
 
 -- the key of one line of the order
-line_test : (order : OrderKey) (number : ℕ) (key : OrderLineKey) → eq_by_cmp line_cmp key (line_key order number) ≡ (is_of_order order key && (key.number == number))
+pub line_test : (order : OrderKey) (number : ℕ) (key : OrderLineKey) → eq_by_cmp line_cmp key (line_key order number) ≡ (is_of_order order key && (key.number == number))
 line_test order number key =
     elim (eq_by_cmp line_cmp key (line_key order number)) as (λ b. eq_by_cmp line_cmp key (line_key order number) ≡ b → b ≡ (is_of_order order key && (key.number == number))) [
       | true ↦ λ e.
@@ -60,6 +61,10 @@ pub index_any : {X : Type 0} (xs : List X) (i : ℕ) (d e : X) → i < length xs
 index_any [] i d e l = absurd (omega arith)
 index_any (x ∷ xs) zero d e l = refl
 index_any (x ∷ xs) (suc i) d e l = index_any xs i d e (omega arith)
+
+-- the line is the order's, and of a number below this one
+abbrev is_before : OrderKey → ℕ → OrderLineKey → Bool
+is_before order number key = is_of_order order key && (nat_le 1 key.number && nat_lt key.number number)
 
 -- the row of a line with the moment at its number
 abbrev dated_back : List (Option ℕ) → OrderLineKey → OrderLine → OrderLine

@@ -35,8 +35,11 @@ pub(crate) fn moments_of(lines: &OrderLines, order: OrderKey) -> [Option<Moment>
     ensures each { (n : ℕ) → n < 15 → slice_index_or result n None ≡ moment_at (line_table lines.now) (line_key order (n + 1)) }
 {
     let mut moments = [None; 15];
-    for place in 0..15 {
-        moments[place] = moment_of(lines, line_key(order, place as u32 + 1));
+    for (key, row) in lines.of_order(order) {
+        // An order has no lines of other numbers.
+        if (1..=15).contains(&key.number) {
+            moments[key.number as usize - 1] = row.delivery_d;
+        }
     }
     moments
 }
@@ -67,13 +70,6 @@ pub(crate) fn put_moments_back(
     for place in 0..15 {
         lines.set_delivery(line_key(order, place as u32 + 1), moments[place]);
     }
-}
-
-// The moment at which the line was delivered, where it was.
-fn moment_of(lines: &OrderLines, key: OrderLineKey) -> Option<Moment>
-    ensures { result ≡ moment_at (line_table lines.now) key }
-{
-    lines.get(key)?.delivery_d
 }
 
 fn line_key(order: OrderKey, number: u32) -> OrderLineKey

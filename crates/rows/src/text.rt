@@ -84,7 +84,7 @@ impl<const WIDTH: usize> Text<WIDTH> {
         memchr(0, &self.bytes).unwrap_or(WIDTH)
     }
 
-    // Adds printable bytes at the end of the text, where it ends here and there is room for them.
+    // Adds printable bytes to the text, which has `end` of them; there is room for more.
     fn write(&mut self, end: usize, more: &[u8])
         requires end { end ≡ length self.old }
         requires room { end + length more.now ≤ WIDTH }

@@ -14,6 +14,7 @@ pub mod ScaleKept
 pub mod TableWrites
 pub mod EntriesAdded
 pub mod LinesPut
+pub mod LinesDelivered
 pub mod Deliveries
 pub mod OrderSpans
 pub mod OrdersKept

@@ -1,15 +1,22 @@
 -- The lines of an order, put one after another.
-use Rattle.std.proofs.Common.{◌≡◌, ◌≢◌, ℕ, zero, suc, ◌+◌, ◌<◌, true, false, cond, List, [], ◌∷◌, ◌++◌, length, map, Option, Some, IsTrue, is_some, refl, sym, ap, ◌∙◌, append_assoc, length-append, arith}
-use Rattle.std.specs.declared.cmp.Ordering.TheVariants.{Equal}
+use Rattle.std.proofs.Common.{◌≡◌, ◌≢◌, ℕ, zero, suc, ◌+◌, ◌<◌, true, false, cond, List, [], ◌∷◌, ◌++◌, length, map, replicate, Option, Some, None, IsTrue, is_some, refl, sym, ap, ◌∙◌, append_assoc, length-append, arith}
+use Rattle.std.specs.declared.cmp.Ordering.TheVariants.{Less, Equal}
 use Rattle.std.specs.Ordering.{nat_cmp, eq_by_cmp, is_eq}
 use Rattle.std.specs.FinMap as table
-use Rattle.std.specs.FinMap.{get}
+use Rattle.std.specs.FinMap.{get, same_map}
+use Rattle.std.specs.FinMap.Entries.{find}
+use Rattle.std.specs.List.{AllByRecursion}
+use Rattle.std.specs.List.Sorted.{IsStrictlySortedBy}
+use Rattle.std.specs.Map.{keys_of}
+use Rattle.std.specs.Option.{option_or}
 use Rattle.std.proofs.lemmas.Bool.Decides.{nat_tests}
 use Rattle.rows.specs.declared.keys.OrderKey.{OrderKey}
+use Rattle.rows.specs.declared.keys.OrderLineKey.{OrderLineKey}
 use Rattle.rows.specs.declared.records.OrderLine.{OrderLine}
 use Rattle.rows.specs.Keys.{line_cmp}
 use Rattle.schema.specs.MapRows.{put_row}
-use Rattle.schema.specs.OrderRows.{LineTable, line_key, put_lines, lines_at, TakenBackOrderIsAsBefore}
+use Rattle.schema.specs.OrderRows.{LineTable, line_key, line_table, put_lines, lines_at, TakenBackOrderIsAsBefore}
+use Rattle.schema.specs.PackedLines.{with_keys, numbered_from}
 use Rattle.schema.proofs.KeyOrders.{orders_total, orders_exact, lines_total, lines_exact}
 use Rattle.schema.proofs.TableWrites.{get-put_row, put_row_same, put_row_twice, put_row_apart}
 
@@ -154,3 +161,43 @@ other_lines_there order last was old new n below back there =
 pub no_elements : {X : Type 0} (xs : List X) → length xs ≡ 0 → xs ≡ []
 no_elements [] h = refl
 no_elements (x ∷ xs) h = absurd (omega arith)
+
+-- ---- all lines of an order at once, where it has none
+
+-- the lines as they come, and those that were there
+pub get-all_put : (order : OrderKey) (number : ℕ) (rows : List OrderLine) (lines : LineTable) (q : OrderLineKey)
+    → get (put_lines order number (map (λ r. Some r) rows) lines) q ≡ option_or (find line_cmp q (with_keys order (numbered_from number rows))) (get lines q)
+get-all_put order number [] lines q = refl
+get-all_put order number (row ∷ rows) lines q =
+    get-put_row lines_total lines_exact (put_lines order (number + 1) (map (λ r. Some r) rows) lines) (line_key order number) (Some row) q
+    ∙ ap (cond (eq_by_cmp line_cmp q (line_key order number)) (Some row)) (get-all_put order (number + 1) rows lines q)
+    ∙ elim (eq_by_cmp line_cmp q (line_key order number)) as (λ b. cond b (Some row) (option_or (find line_cmp q (with_keys order (numbered_from (number + 1) rows))) (get lines q))
+    ≡ option_or (cond b (Some row) (find line_cmp q (with_keys order (numbered_from (number + 1) rows)))) (get lines q)) [ true ↦ refl | false ↦ refl ]
+
+pub all_put : (order : OrderKey) (rows : List OrderLine) (old new : LineTable)
+    → ((q : OrderLineKey) → get new q ≡ option_or (get (line_table (with_keys order (numbered_from 1 rows))) q) (get old q)) → new ≡ put_lines order 1 (map (λ r. Some r) rows) old
+all_put order rows old new put = same_map lines_total lines_exact new (put_lines order 1 (map (λ r. Some r) rows) old) (λ q.
+    put q ∙ ap (λ r. option_or r (get old q)) (table.get-from_entries lines_total (with_keys order (numbered_from 1 rows)) q) ∙ sym (get-all_put order 1 rows old q))
+
+-- nothing stood at the lines of an order that has none
+pub none_stood : (lines : LineTable) (order : OrderKey) → ((n : ℕ) → get lines (line_key order n) ≡ None) → (number count : ℕ) → lines_at lines order number count ≡ replicate count None
+none_stood lines order none number zero = refl
+none_stood lines order none number (suc count) =
+    ap (λ r. r ∷ lines_at lines order (number + 1) count) (none number) ∙ ap (λ l. None ∷ l) (none_stood lines order none (number + 1) count)
+
+-- numbers that are counted up ascend
+above : (m n : ℕ) (rows : List OrderLine) → m < n → AllByRecursion (λ q. nat_cmp m q ≡ Less) (keys_of (numbered_from n rows))
+above m n [] h = tt
+above m n (row ∷ rows) h = (grind (arith, nat_tests), above m (n + 1) rows (omega arith))
+
+pub counted_up : (n : ℕ) (rows : List OrderLine) → IsStrictlySortedBy nat_cmp (keys_of (numbered_from n rows))
+unfolding IsStrictlySortedBy
+counted_up n [] = tt
+counted_up n (row ∷ rows) = (above n (n + 1) rows (omega arith), counted_up (n + 1) rows)
+
+-- one row more is numbered
+pub one_more_numbered : (lines : List (ℕ × OrderLine)) (number : ℕ) (row : OrderLine) (rest all : List OrderLine) → lines ++ numbered_from number (row ∷ rest) ≡ numbered_from 1 all → number ≡ length lines + 1
+    → (lines ++ (number, row) ∷ []) ++ numbered_from (length (lines ++ (number, row) ∷ []) + 1) rest ≡ numbered_from 1 all
+one_more_numbered lines number row rest all so_far is =
+    let next : length (lines ++ (number, row) ∷ []) + 1 ≡ number + 1 = omega (arith, length-append lines ((number, row) ∷ []), is) in
+    ap (λ n. (lines ++ (number, row) ∷ []) ++ numbered_from n rest) next ∙ append_assoc lines ((number, row) ∷ []) (numbered_from (number + 1) rest) ∙ so_far

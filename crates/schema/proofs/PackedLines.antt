@@ -1,6 +1,6 @@
 -- Lines that stand under their orders: which line is at a key, and that all are in order.
-use Rattle.std.proofs.Common.{◌≡◌, ◌≢◌, ℕ, ◌+◌, ◌-◌, ◌<◌, ◌≤◌, ◌^◌, Bool, true, false, cond, not, ◌&&◌, List, [], ◌∷◌, ◌++◌, length, Option, Some, None, IsTrue, is_some, nat_eq, nat_le, nat_lt, length-append, suc, refl, sym, ap, subst, ◌∙◌, arith}
-use Rattle.std.specs.List.{filter, AllByRecursion}
+use Rattle.std.proofs.Common.{◌≡◌, ◌≢◌, ℕ, ◌+◌, ◌-◌, ◌<◌, ◌≤◌, ◌^◌, Bool, true, false, cond, not, ◌&&◌, ◌||◌, List, [], ◌∷◌, ◌++◌, length, Option, Some, None, IsTrue, IsSome, is_some, nat_eq, nat_le, nat_lt, length-append, suc, refl, sym, ap, subst, ◌∙◌, arith, drop}
+use Rattle.std.specs.List.{filter, list_all, AllByRecursion}
 use Rattle.std.specs.List.Sorted.{IsStrictlySortedBy}
 use Rattle.std.specs.Map.{keys_of, lookup, set_value}
 use Rattle.std.specs.BTreeMap.{BTreeMap, is_at, insert_entry}
@@ -10,13 +10,14 @@ use Rattle.std.specs.declared.ops.Bound.{Bound}
 use Rattle.std.specs.Option.{option_and_then, option_map, option_or, unwrap_or}
 use Rattle.std.specs.declared.cmp.Ordering.{Ordering}
 use Rattle.std.specs.declared.cmp.Ordering.TheVariants.{Less, Equal, Greater}
-use Rattle.std.specs.Ordering.{nat_cmp, ordering_then, eq_by_cmp, is_eq, is_le, is_gt, match_ordering}
+use Rattle.std.specs.Ordering.{nat_cmp, ordering_then, eq_by_cmp, is_eq, is_le, is_gt, is_lt, ordering_reverse, match_ordering}
 use Rattle.std.specs.FinMap as table
 use Rattle.std.specs.FinMap.{get, contains_key, insert, remove, len, len-insert, len-remove, get-insert, from_entries, get-from_entries, same_map, nat_cmp-IsAntisymmetric}
 use Rattle.std.specs.FinMap.Entries.{find}
 use Rattle.std.proofs.lemmas.Bool.{false≢true}
 use Rattle.std.proofs.lemmas.Bool.Decides.{nat_tests}
 use Rattle.std.proofs.lemmas.List.Filters.{length-filter_both}
+use Rattle.std.proofs.lemmas.List.Folds.{list_all-append}
 use Rattle.std.proofs.lemmas.Map.Keys.{sorted_head, sorted_tail}
 use Rattle.std.specs.Cmp.{nat_cmp_total, eq_by_cmp_equiv}
 use Rattle.rows.specs.declared.keys.OrderKey.{OrderKey}
@@ -210,6 +211,26 @@ pub count_lines : (orders : List (OrderKey × List (ℕ × OrderLine))) → IsSt
 count_lines orders sorted each =
     ap length (sym (entries-ordered lines_total (all_lines orders) (lines_sorted orders sorted each))) ∙ sym (table.len-entries (line_table (all_lines orders)))
 
+-- a test of each line's order, at the orders that have lines
+pub of_orders : (test : OrderKey → Bool) (orders : List (OrderKey × List (ℕ × OrderLine)))
+    → list_all (λ e. test (order_of_line e.0)) (all_lines orders) ≡ list_all (λ o. nat_eq (length o.1) 0 || test o.0) orders
+of_orders test [] = refl
+of_orders test (order ∷ orders) =
+    list_all-append (λ e. test (order_of_line e.0)) (with_keys order.0 order.1) (all_lines orders)
+    ∙ ap (λ b. b && list_all (λ e. test (order_of_line e.0)) (all_lines orders)) (of_order order.1)
+    ∙ ap (λ b. (nat_eq (length order.1) 0 || test order.0) && b) (of_orders test orders)
+  where
+    absorb : (t b : Bool) → (t && (b || t)) ≡ t
+    absorb true true = refl
+    absorb true false = refl
+    absorb false b = refl
+
+    of_order : (lines : List (ℕ × OrderLine)) → list_all (λ e. test (order_of_line e.0)) (with_keys order.0 lines) ≡ nat_eq (length lines) 0 || test order.0
+    of_order [] = refl
+    of_order (line ∷ lines) =
+        let some : nat_eq (length (line ∷ lines)) 0 ≡ false = grind (arith, nat_tests) in
+        ap (λ b. test order.0 && b) (of_order lines) ∙ absorb (test order.0) (nat_eq (length lines) 0) ∙ sym (ap (λ b. b || test order.0) some)
+
 -- ---- one order changes
 
 -- the order's own table, by the numbers of its lines
@@ -297,6 +318,17 @@ line_unset orders sorted order none f number q =
       | false ↦ λ e. unmapped (get (line_table (all_lines orders)) q)
     ] refl
     ∙ ap (λ b. option_map (λ row. cond b (f row) row) (get (line_table (all_lines orders)) q)) (sym (same_line q order number))
+
+-- an order behind all that have lines has none
+pub none_behind : (orders : BTreeMap OrderKey (List (ℕ × OrderLine))) (last order : OrderKey) → tree.IsUpperBound order_cmp orders last → order_cmp order last ≡ Greater → tree.get order_cmp orders order ≡ None
+none_behind orders last order bound behind =
+    elim (tree.get order_cmp orders order) as (λ r. tree.get order_cmp orders order ≡ r → r ≡ None) [
+      | None ↦ λ e. refl
+      | Some lines ↦ λ e.
+          let back : order_cmp last order ≡ Less = orders_total.antisymm last order ∙ ap ordering_reverse behind in
+          let not_less = bound order (subst (λ r. IsSome r) (sym e) refl) in
+          absurd (false≢true (sym not_less ∙ ap is_lt back))
+    ] refl
 
 -- ---- each order's lines stay in order
 
@@ -473,6 +505,19 @@ set_same at lines (order ∷ orders) h =
       | true ↦ λ e. ap (λ r. (order.0, unwrap_or r []) ∷ orders) e
       | false ↦ λ e. ap (λ l. order ∷ l) (set_same at lines orders e)
     ] h
+
+-- where no key comes in, the entry is written in its place
+pub set_in_place : (order : OrderKey) (lines : List (ℕ × OrderLine)) (orders : List (OrderKey × List (ℕ × OrderLine))) → keys_of (insert_entry order_cmp orders order lines) ≡ keys_of orders
+    → insert_entry order_cmp orders order lines ≡ set_value (is_at (order_cmp order)) orders lines
+set_in_place order lines [] stay = cc
+set_in_place order lines (o ∷ orders) stay =
+    elim (order_cmp order o.0) as (λ r. keys_of (match_ordering r ((order, lines) ∷ o ∷ orders) ((o.0, lines) ∷ orders) (o ∷ insert_entry order_cmp orders order lines)) ≡ o.0 ∷ keys_of orders
+    → match_ordering r ((order, lines) ∷ o ∷ orders) ((o.0, lines) ∷ orders) (o ∷ insert_entry order_cmp orders order lines)
+    ≡ cond (is_eq r) ((o.0, lines) ∷ orders) (o ∷ set_value (is_at (order_cmp order)) orders lines)) [
+      | Less ↦ λ e. let many = ap length e in absurd (omega arith)
+      | Equal ↦ λ e. refl
+      | Greater ↦ λ e. ap (λ l. o ∷ l) (set_in_place order lines orders (ap (drop 1) e))
+    ] stay
 
 -- as many lines as were there
 pub set_many : (at : OrderKey → Bool) (was lines : List (ℕ × OrderLine)) (orders : List (OrderKey × List (ℕ × OrderLine))) → Some was ≡ lookup at orders → length lines ≡ length was

@@ -13,7 +13,8 @@ use Rattle.std.specs.FinMap.Entries.{find, is_sorted, below_all}
 use Rattle.schema.specs.MapRows.{table_of, mapped, map_rows, put_row}
 use Rattle.schema.proofs.RowReads.{read_entry}
 
-is_equal : (r : Ordering) → is_eq r ≡ true → r ≡ Equal
+-- a comparison that passes the test is of equals
+pub is_equal : (r : Ordering) → is_eq r ≡ true → r ≡ Equal
 is_equal Less h = cc
 is_equal Equal h = refl
 is_equal Greater h = cc
@@ -123,7 +124,8 @@ module _ {K X Y : Type 0} (R : K → K → Ordering) (f : K → X → Y) where
   sorted-mapped [] = refl
   sorted-mapped (e ∷ es) = ap (λ b. b && is_sorted R (mapped f es)) (below-mapped e.0 es) ∙ ap (λ b. below_all R e.0 es && b) (sorted-mapped es)
 
-  find-mapped : IsAntisymmetric R → (q : K) (es : List (K × X)) → find R q (mapped f es) ≡ option_map (f q) (find R q es)
+  -- what a search finds is changed too
+  pub find-mapped : IsAntisymmetric R → (q : K) (es : List (K × X)) → find R q (mapped f es) ≡ option_map (f q) (find R q es)
   find-mapped a q [] = refl
   find-mapped a q (e ∷ es) =
       elim (R q e.0) as (λ r. R q e.0 ≡ r → cond (is_eq r) (Some (f e.0 e.1)) (find R q (mapped f es)) ≡ option_map (f q) (cond (is_eq r) (Some e.1) (find R q es))) [

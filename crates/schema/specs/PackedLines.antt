@@ -1,5 +1,6 @@
 -- Lines that stand under their orders, each with its number.
-use Rattle.std.specs.Prelude.{◌≡◌, ℕ, ◌<◌, ◌^◌, List, [], ◌∷◌, ◌++◌, length}
+use Rattle.std.specs.Prelude.{◌≡◌, ℕ, ◌+◌, ◌<◌, ◌-◌, ◌^◌, List, [], ◌∷◌, ◌++◌, length, slice_get, Some, None}
+use Rattle.std.specs.BTreeMap.{BTreeMap, get}
 use Rattle.std.specs.List.{AllByRecursion}
 use Rattle.std.specs.List.Sorted.{IsStrictlySortedBy}
 use Rattle.std.specs.Map.{keys_of}
@@ -15,6 +16,11 @@ use Rattle.schema.specs.OrderRows.{line_key}
 abbrev pub numbered : List (ℕ × OrderLine) → table.FinMap nat_cmp OrderLine
 numbered lines = table.from_entries lines
 
+-- lines with their numbers, from that number on
+abbrev pub numbered_from : ℕ → List OrderLine → List (ℕ × OrderLine)
+numbered_from number [] = []
+numbered_from number (row ∷ rows) = (number, row) ∷ numbered_from (number + 1) rows
+
 -- the lines of the order with their keys
 abbrev pub with_keys : OrderKey → List (ℕ × OrderLine) → List (OrderLineKey × OrderLine)
 with_keys order [] = []
@@ -28,6 +34,14 @@ all_lines (order ∷ orders) = with_keys order.0 order.1 ++ all_lines orders
 -- the lines of each order stand in the order of their numbers
 abbrev pub AreNumbered : List (OrderKey × List (ℕ × OrderLine)) → Type 0
 AreNumbered orders = AllByRecursion (λ order. IsStrictlySortedBy nat_cmp (keys_of order.1)) orders
+
+-- this order is the last that has lines
+abbrev pub IsLast : OrderKey → BTreeMap OrderKey (List (ℕ × OrderLine)) → Type 0
+IsLast order orders = slice_get (keys_of orders.entries) (length orders.entries - 1) ≡ Some order
+
+-- this order has no lines
+abbrev pub HasNone : OrderKey → BTreeMap OrderKey (List (ℕ × OrderLine)) → Type 0
+HasNone order orders = get order_cmp orders order ≡ None
 
 -- so many lines, under orders that ascend
 pub record AreKept (orders : List (OrderKey × List (ℕ × OrderLine))) (count : ℕ) : Type 0 where

@@ -1,5 +1,5 @@
 //! The rows of ORDER-LINE of one order, packed.
-ghost use Rattle.std.specs.Prelude.{◌≡◌, ℕ, ◌+◌, [], length, is_some, nat_eq, if◌then◌else◌, IsTrue, IfOk, IfErr, OnOk, OnErr};
+ghost use Rattle.std.specs.Prelude.{◌≡◌, ℕ, ◌+◌, ◌≤◌, [], length, map, is_some, nat_eq, if◌then◌else◌, IsTrue, IfOk, IfErr, OnOk, OnErr};
 ghost use Rattle.std.specs.FinMap as table;
 ghost use Rattle.std.specs.List.Sorted.{IsStrictlySortedBy};
 ghost use Rattle.std.specs.Map.{keys_of};
@@ -7,7 +7,8 @@ ghost use Rattle.std.specs.Option.{option_copied, option_map};
 ghost use Rattle.std.specs.Ordering.{nat_cmp};
 ghost use Rattle.schema.specs.MapRows.{put_row};
 ghost use Rattle.schema.specs.NumberedRows.{StandsAt, BelongsAt};
-ghost use Rattle.schema.specs.PackedLines.{numbered};
+ghost use Rattle.schema.specs.OrderRows.{delivered_at};
+ghost use Rattle.schema.specs.PackedLines.{numbered, numbered_from};
 
 use crate::NoMemory;
 use rows::{Moment, OrderLine};
@@ -15,7 +16,12 @@ use std::alloc::Global;
 use std::marker::Model;
 use std::mem;
 
-/// The lines of one order with their numbers, which ascend; packed, with no room for more.
+// An order has so many lines at least (clause 2.4.1.3).
+const FEWEST: usize = 5;
+
+/// The lines of one order with their numbers, which ascend; packed. Those that come together have no room
+/// for more; of those that come one by one the first makes room for the fewest that an order has, and each
+/// that finds none makes it for itself.
 #[derive(Clone, Drop)]
 pub(crate) struct Numbered {
     rows: Vec<(u32, OrderLine)>,
@@ -43,6 +49,19 @@ impl Numbered {
         Numbered {
             rows: Vec::new(alloc),
         }
+    }
+
+    /// These lines, numbered from 1.
+    pub(crate) fn from_rows(rows: Vec<OrderLine>) -> Result<Numbered, NoMemory>
+        requires { length rows.items ≤ 15 }
+        ensures { IfOk result (λ lines. lines ≡ numbered_from 1 rows.items) }
+    {
+        let mut lines = Vec::with_capacity(*rows.allocator(), rows.len())?;
+        for row in rows {
+            let number = lines.len() as u32 + 1;
+            lines.push((number, row))?;
+        }
+        Ok(Numbered { rows: lines })
     }
 
     /// The lines with their numbers, in ascending order.
@@ -97,6 +116,14 @@ impl Numbered {
     {
         set_delivery(&mut self.rows, number, moment);
     }
+
+    /// Every line gets this moment of its delivery. It takes no memory.
+    pub(crate) fn deliver(&mut self, moment: Moment)
+        ensures rows { self.new ≡ map (λ line. (line.0, delivered_at moment line.1)) self.old }
+        ensures ordered { IsStrictlySortedBy nat_cmp (keys_of self.new) }
+    {
+        deliver(&mut self.rows, moment);
+    }
 }
 
 // Where the line of that number stands, or, as an error, where it would have to be put.
@@ -144,7 +171,8 @@ fn put(
     match find(rows.as_slice(), number) {
         Ok(place) => Ok(Some(mem::replace(&mut rows[place].1, row))),
         Err(place) => {
-            rows.reserve_exact(1)?;
+            let more = if rows.is_empty() { FEWEST } else { 1 };
+            rows.reserve_exact(more)?;
             rows.insert(place, (number, row))?;
             Ok(None)
         }
@@ -179,5 +207,14 @@ fn set_delivery(rows: &mut Vec<(u32, OrderLine)>, number: u32, moment: Option<Mo
 {
     if let Ok(place) = find(rows.as_slice(), number) {
         rows[place].1.delivery_d = moment;
+    }
+}
+
+// Every line gets the moment of its delivery.
+fn deliver(rows: &mut Vec<(u32, OrderLine)>, moment: Moment)
+    ensures { rows.new.items ≡ map (λ line. (line.0, delivered_at moment line.1)) rows.old.items }
+{
+    for row in rows.iter_mut() {
+        row.1.delivery_d = Some(moment);
     }
 }

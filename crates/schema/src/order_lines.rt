@@ -1,24 +1,26 @@
 //! The rows of ORDER-LINE, of all warehouses or of one. Only here is it known how they are kept.
-ghost use Rattle.std.specs.Prelude.{◌≡◌, ◌+◌, ◌<◌, ◌≤◌, ◌^◌, ℕ, Some, [], ◌++◌, ◌&&◌, map, length, nat_le, nat_lt, IsTrue, IfOk, OnOk, OnErr, if◌then◌else◌};
-ghost use Rattle.std.specs.BTreeMap.{IsOrdered, insert_entry};
+ghost use Rattle.std.specs.Prelude.{◌≡◌, ◌+◌, ◌<◌, ◌≤◌, ◌^◌, ℕ, Some, None, [], ◌++◌, ◌&&◌, map, replicate, length, nat_le, nat_lt, IsTrue, is_some, IfOk, OnOk, OnErr, if◌then◌else◌};
+ghost use Rattle.std.specs.BTreeMap.{IsOrdered, get, insert_entry};
 ghost use Rattle.std.specs.FinMap as table;
-ghost use Rattle.std.specs.List.{filter};
+ghost use Rattle.std.specs.List.{filter, list_all};
 ghost use Rattle.std.specs.List.Sorted.{IsStrictlySortedBy};
 ghost use Rattle.std.specs.Map.{keys_of};
 ghost use Rattle.std.specs.Option.{option_copied, option_map, option_or};
 ghost use Rattle.std.specs.Ordering.{nat_cmp, eq_by_cmp};
+ghost use Rattle.std.specs.declared.cmp.Ordering.{Ordering};
 ghost use Rattle.std.specs.Vec.{vec_len, vec_capacity};
 ghost use Rattle.rows.specs.Keys.{order_cmp, line_cmp, order_of_line};
 ghost use Rattle.schema.specs.EachRow.{EachRow};
 ghost use Rattle.schema.specs.MapRows.{map_rows, put_row};
-ghost use Rattle.schema.specs.PackedLines.{all_lines, with_keys, AreNumbered};
-ghost use Rattle.schema.specs.Database.{is_order_id, is_line_number, rows_where, is_of_district, is_of_order};
+ghost use Rattle.schema.specs.PackedLines.{all_lines, with_keys, AreNumbered, AreKept, IsLast, HasNone};
+ghost use Rattle.schema.specs.Database.{is_order_id, rows_where, is_of_district, is_of_order};
 ghost use Rattle.schema.specs.OrderRows.{line_table, line_key, put_lines, lines_at, with_moment, is_in_span};
 
 use crate::NoMemory;
 use crate::numbered::Numbered;
-use rows::{DistrictKey, Moment, OrderKey, OrderLine, OrderLineKey};
+use rows::{DistrictKey, Moment, Order, OrderKey, OrderLine, OrderLineKey};
 use std::alloc::Global;
+use std::cmp::Ordering;
 use std::collections::BTreeMap;
 use std::collections::btree_map::Range;
 use std::marker::Model;
@@ -234,6 +236,17 @@ impl OrderLines {
         )
     }
 
+    // Whether every line belongs to one of these orders.
+    pub(crate) fn have_orders(&self, orders: &BTreeMap<OrderKey, Order>) -> bool
+        ensures each { result ≡ list_all (λ e. is_some (get order_cmp orders.now (order_of_line e.0))) self.now }
+        ensures ordered { IsStrictlySortedBy line_cmp (keys_of self.now) }
+    {
+        self.orders.iter().all(|(order, lines)| {
+            let lines = lines.as_slice();
+            lines.is_empty() || orders.contains_key(order)
+        })
+    }
+
     /// The line's row, if it is there, gets this moment of its delivery, or none. It takes no memory.
     pub fn set_delivery(&mut self, key: OrderLineKey, moment: Option<Moment>)
         ensures { (q : OrderLineKey) → table.get (line_table self.new) q
@@ -262,13 +275,7 @@ impl OrderLines {
         if self.orders.contains_key(&order) {
             return self.put_all(order, lines.into_rows());
         }
-        let many = lines.as_slice().len();
-        if many > MOST - self.count {
-            return Err(NoMemory);
-        }
-        self.orders.insert(order, lines)?;
-        self.count += many;
-        Ok(())
+        put_order(&mut self.orders, &mut self.count, order, lines)
     }
 
     // Puts lines of an order, one by one. After an error some are left out.
@@ -303,9 +310,31 @@ impl OrderLines {
         })
     }
 
-    // Adds the order's lines at the numbers from 1, the last first, and what stood there at the end of `were`. An error
-    // changes no line.
+    // Adds the order's lines at the numbers from 1, and gives what stood there. An error changes no line.
     pub(crate) fn add(
+        &mut self,
+        order: OrderKey,
+        rows: Vec<OrderLine>,
+    ) -> Result<Vec<Option<OrderLine>>, NoMemory>
+        requires few { length rows.items ≤ 15 }
+        ensures lines { OnOk result (line_table self.new ≡ put_lines order 1 (map Some rows.items) (line_table self.old)) }
+        ensures were { IfOk result (λ were. were.items ≡ lines_at (line_table self.old) order 1 (length rows.items)) }
+        ensures err { OnErr result (line_table self.new ≡ line_table self.old) }
+    {
+        if self.orders.contains_key(&order) {
+            let mut rows = rows;
+            let mut were = Vec::with_capacity(*rows.allocator(), rows.len())?;
+            self.add_each(order, &mut rows, &mut were)?;
+            return Ok(were);
+        }
+        let were = no_rows(*rows.allocator(), rows.len())?;
+        let lines = Numbered::from_rows(rows)?;
+        put_order(&mut self.orders, &mut self.count, order, lines)?;
+        Ok(were)
+    }
+
+    // The same one by one, the last first, with what stood there at the end of `were`.
+    fn add_each(
         &mut self,
         order: OrderKey,
         rows: &mut Vec<OrderLine>,
@@ -323,7 +352,7 @@ impl OrderLines {
         };
         let key = line_key(order, rows.len() as u32 + 1);
         let was = self.put(key, row)?;
-        match self.add(order, rows, were) {
+        match self.add_each(order, rows, were) {
             Ok(()) => match were.push(was) {
                 Ok(()) => Ok(()),
                 // There is room for it.
@@ -351,12 +380,9 @@ impl OrderLines {
 
     // The order's lines get the moment of their delivery. It takes no memory.
     pub(crate) fn deliver(&mut self, order: OrderKey, moment: Moment)
-        requires { EachRow (λ key _. is_line_number key.number) (line_table self.old) }
         ensures { line_table self.new ≡ map_rows (with_moment order moment) (line_table self.old) }
     {
-        for number in 1..16 {
-            self.set_delivery(line_key(order, number), Some(moment));
-        }
+        deliver(&mut self.orders, order, moment);
     }
 }
 
@@ -367,7 +393,8 @@ fn put(
     key: OrderLineKey,
     row: OrderLine,
 ) -> Result<Option<OrderLine>, NoMemory>
-    requires { AreNumbered orders.old.entries }
+    requires ordered { IsOrdered order_cmp orders.old }
+    requires numbered { AreNumbered orders.old.entries }
     ensures was { IfOk result (λ was. was ≡ table.get (line_table (all_lines orders.old.entries)) key) }
     ensures ok { OnOk result (line_table (all_lines orders.new.entries) ≡ table.insert (line_table (all_lines orders.old.entries)) key row) }
     ensures err { OnErr result (orders.new.entries ≡ orders.old.entries) }
@@ -375,15 +402,107 @@ fn put(
     ensures ordered { IsOrdered order_cmp orders.new }
 {
     let order = key.order();
-    if let Some(lines) = orders.get_mut(&order) {
-        return lines.put(key.number, row);
+    // Lines come mostly in the order of their keys.
+    match against_last(orders, order) {
+        Ordering::Less => {
+            if let Some(lines) = orders.get_mut(&order) {
+                return lines.put(key.number, row);
+            }
+            put_first(alloc, orders, key, row)
+        }
+        Ordering::Equal => put_in_last(orders, key, row),
+        Ordering::Greater => put_first(alloc, orders, key, row),
     }
+}
+
+// Where the order stands against the last that has lines; greater where none has.
+fn against_last(orders: &BTreeMap<OrderKey, Numbered>, order: OrderKey) -> Ordering
+    ensures last { result ≡ Ordering.Equal → IsLast order orders.now }
+    ensures behind { result ≡ Ordering.Greater → HasNone order orders.now }
+{
+    match orders.last_key_value() {
+        Some((last, _)) => order.cmp(last),
+        None => Ordering::Greater,
+    }
+}
+
+// Puts a line under its order, which is the last that has lines, as `put` does.
+fn put_in_last(
+    orders: &mut BTreeMap<OrderKey, Numbered>,
+    key: OrderLineKey,
+    row: OrderLine,
+) -> Result<Option<OrderLine>, NoMemory>
+    requires last { IsLast (order_of_line key) orders.old }
+    requires numbered { AreNumbered orders.old.entries }
+    ensures was { IfOk result (λ was. was ≡ table.get (line_table (all_lines orders.old.entries)) key) }
+    ensures ok { OnOk result (line_table (all_lines orders.new.entries) ≡ table.insert (line_table (all_lines orders.old.entries)) key row) }
+    ensures err { OnErr result (orders.new.entries ≡ orders.old.entries) }
+    ensures numbered { AreNumbered orders.new.entries }
+    ensures ordered { IsOrdered order_cmp orders.new }
+{
+    match orders.last_entry() {
+        Some(last) => last.into_mut().put(key.number, row),
+        // There is one.
+        None => Err(NoMemory),
+    }
+}
+
+// Puts the first line of an order that has none, as `put` does.
+fn put_first(
+    alloc: Global,
+    orders: &mut BTreeMap<OrderKey, Numbered>,
+    key: OrderLineKey,
+    row: OrderLine,
+) -> Result<Option<OrderLine>, NoMemory>
+    requires none { HasNone (order_of_line key) orders.old }
+    requires ordered { IsOrdered order_cmp orders.old }
+    requires numbered { AreNumbered orders.old.entries }
+    ensures was { IfOk result (λ was. was ≡ table.get (line_table (all_lines orders.old.entries)) key) }
+    ensures ok { OnOk result (line_table (all_lines orders.new.entries) ≡ table.insert (line_table (all_lines orders.old.entries)) key row) }
+    ensures err { OnErr result (orders.new.entries ≡ orders.old.entries) }
+    ensures numbered { AreNumbered orders.new.entries }
+    ensures ordered { IsOrdered order_cmp orders.new }
+{
     let mut lines = Numbered::new(alloc);
     lines.put(key.number, row)?;
-    match orders.insert(order, lines) {
+    match orders.insert(key.order(), lines) {
         Ok(_) => Ok(None),
         Err(_) => Err(NoMemory),
     }
+}
+
+// So many places where no row stood.
+fn no_rows(alloc: Global, count: usize) -> Result<Vec<Option<OrderLine>>, NoMemory>
+    ensures { IfOk result (λ rows. rows.items ≡ replicate count None) }
+{
+    let mut rows = Vec::with_capacity(alloc, count)?;
+    for _ in 0..count {
+        rows.push(None)?;
+    }
+    Ok(rows)
+}
+
+// Puts the lines of an order that has none, and counts them. An error changes no line.
+fn put_order(
+    orders: &mut BTreeMap<OrderKey, Numbered>,
+    count: &mut usize,
+    order: OrderKey,
+    lines: Numbered,
+) -> Result<(), NoMemory>
+    requires none { HasNone order orders.old }
+    requires kept { AreKept orders.old.entries count.old }
+    ensures lines { OnOk result ((key : OrderLineKey) → table.get (line_table (all_lines orders.new.entries)) key
+        ≡ option_or (table.get (line_table (with_keys order lines)) key) (table.get (line_table (all_lines orders.old.entries)) key)) }
+    ensures err { OnErr result (all_lines orders.new.entries ≡ all_lines orders.old.entries) }
+    ensures kept { AreKept orders.new.entries count.new }
+{
+    let many = lines.as_slice().len();
+    if many > MOST - *count {
+        return Err(NoMemory);
+    }
+    orders.insert(order, lines)?;
+    *count += many;
+    Ok(())
 }
 
 // Puts back what stood at the key, in place of the line that is there. It takes no memory.
@@ -414,6 +533,19 @@ fn set_delivery(
 {
     if let Some(lines) = orders.get_mut(&key.order()) {
         lines.set_delivery(key.number, moment);
+    }
+}
+
+// The order's lines get the moment of their delivery.
+fn deliver(orders: &mut BTreeMap<OrderKey, Numbered>, order: OrderKey, moment: Moment)
+    requires { AreNumbered orders.old.entries }
+    ensures rows { line_table (all_lines orders.new.entries) ≡ map_rows (with_moment order moment) (line_table (all_lines orders.old.entries)) }
+    ensures many { length (all_lines orders.new.entries) ≡ length (all_lines orders.old.entries) }
+    ensures numbered { AreNumbered orders.new.entries }
+    ensures ordered { IsOrdered order_cmp orders.new }
+{
+    if let Some(lines) = orders.get_mut(&order) {
+        lines.deliver(moment);
     }
 }
 

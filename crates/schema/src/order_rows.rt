@@ -47,8 +47,6 @@ pub fn add_order_rows(
     ensures err_new { OnErr result (table_of order_cmp new_orders.new ≡ table_of order_cmp new_orders.old) }
     ensures err_lines { OnErr result (line_table lines.new ≡ line_table lines.old) }
 {
-    let mut rows = rows;
-    let mut were = Vec::with_capacity(*rows.allocator(), rows.len())?;
     let was_order = put(orders, key, order)?;
     let was_new = match put(new_orders, key, NewOrder) {
         Ok(was) => was,
@@ -57,8 +55,8 @@ pub fn add_order_rows(
             return Err(NoMemory);
         }
     };
-    match lines.add(key, &mut rows, &mut were) {
-        Ok(()) => Ok(Replaced {
+    match lines.add(key, rows) {
+        Ok(were) => Ok(Replaced {
             order: was_order,
             new_order: was_new,
             lines: were,

@@ -53,16 +53,6 @@ pub fn have_new_orders_orders(
     new_orders.iter().all(|(key, _)| orders.contains_key(key))
 }
 
-/// Whether every line belongs to an order.
-pub fn have_lines_orders(lines: &OrderLines, orders: &BTreeMap<OrderKey, Order>) -> bool
-    ensures each { result ≡ list_all (λ e. is_some (get order_cmp orders.now (order_of_line e.0))) lines.now }
-    ensures ordered { IsStrictlySortedBy line_cmp (keys_of lines.now) }
-{
-    lines
-        .entries()
-        .all(|(key, _)| orders.contains_key(&key.order()))
-}
-
 /// Whether every OL_NUMBER is in its range.
 pub fn are_lines_numbered(lines: &OrderLines) -> bool
     ensures each { result ≡ list_all (λ e. is_line_number e.0.number) lines.now }

@@ -2,8 +2,8 @@ ghost use Rattle.std.specs.Prelude.{MatchOption, IfOk};
 ghost use Rattle.schema.specs.Rows.{HasCounts, FitsScale, Breaks, AreNoRows, AreSameRows};
 
 use crate::row_rules::{
-    are_lines_numbered, are_orders_numbered, have_lines_items, have_lines_orders,
-    have_lines_suppliers, have_new_orders_orders, have_orders_customers, name_payers_customers,
+    are_lines_numbered, are_orders_numbered, have_lines_items, have_lines_suppliers,
+    have_new_orders_orders, have_orders_customers, name_payers_customers,
 };
 use crate::{HistoryList, NoMemory, OrderLines, Scale, ScaleFault};
 use rows::{Customer, District, Item, NewOrder, Order, OrderKey, Stock, Warehouse};
@@ -121,7 +121,7 @@ impl TableRows {
         if !have_new_orders_orders(&self.new_orders, &self.orders) {
             return Some(ScaleFault::NewOrderOrder);
         }
-        if !have_lines_orders(&self.lines, &self.orders) {
+        if !self.lines.have_orders(&self.orders) {
             return Some(ScaleFault::LineOrder);
         }
         if !are_lines_numbered(&self.lines) {

@@ -8,6 +8,7 @@ use Rattle.rows.specs.declared.keys.CustomerKey.{CustomerKey}
 use Rattle.rows.specs.declared.keys.OrderLineKey.{OrderLineKey}
 use Rattle.rows.specs.declared.records.OrderLine.{OrderLine}
 use Rattle.schema.specs.declared.scale.Scale.{Scale}
+use Rattle.schema.specs.Database.{Database}
 use Rattle.schema.specs.Entries.{entry}
 use Rattle.schema.specs.Sums.{sum_entries}
 use Rattle.schema.specs.Consistency.{delivered}
@@ -33,6 +34,7 @@ loop-key-init c =
           (subst (λ (totals : List ℤ). AreTotals t.scale start totals) nothing (totals_none t.scale rows c.rows-rows.ensures.fits start none)),
       subst (λ (totals : List ℤ). AreWithin 0 totals) nothing (within_none 0 (length rows.customers.items)),
       omega (arith, ap length (c.into_iter-key-iterator.ensures.into_iter_gives ∙ c.lines-key-items.ensures.rows)),
+      c.new-orders.ensures,
     )
 
 pub credit-requires-clause-room : goal.credit-requires-clause-room
@@ -68,7 +70,7 @@ loop-key-preserved-in-Some-receiver c =
     subst (λ (totals : List ℤ). AreTotals scale before totals) (sym c.deref_mut.ensures.value)
     (subst (λ (es : List (OrderLineKey × OrderLine)). AreTotals scale (λ key. all key -ℤ sum_entries (line_share t key) es) old) left c.loop-key.invariant.2) in
     let bounded : AreWithin (2 ^ 50 * count) c.deref_mut.result.now = subst (λ (totals : List ℤ). AreWithin (2 ^ 50 * count) totals) (sym c.deref_mut.ensures.value) c.loop-key.invariant.3 in
-    let to : receiver t k line ≡ Some c.in-Some-receiver.customer = sym c.receiver.ensures ∙ c.in-Some-receiver.is in (
+    let to : receiver t k line ≡ Some c.in-Some-receiver.customer = ap (λ (d : Database). receiver d k line) (sym c.loop-key.invariant.5) ∙ sym c.receiver.ensures.customer ∙ c.in-Some-receiver.is in (
       tt,
       tt,
       subst (λ (totals : List ℤ). AreTotals scale after totals) (sym back)
@@ -76,6 +78,7 @@ loop-key-preserved-in-Some-receiver c =
       subst (λ (totals : List ℤ). AreWithin (2 ^ 50 * length (c.loop-key.yielded ++ (c.in-Some.key, c.in-Some.line) ∷ [])) totals) (sym back)
           (within-more (2 ^ 50 * count + 2 ^ 50) _ new (omega arith) (c.credit.ensures.within (2 ^ 50 * count) bounded)),
       omega (arith, ap length left, c.loop-key.invariant.4),
+      c.receiver.ensures.same ∙ c.loop-key.invariant.5,
     )
 
 pub loop-key-preserved : goal.loop-key-preserved
@@ -92,12 +95,13 @@ loop-key-preserved c =
     let all = λ (key : CustomerKey). sum_entries (line_share t key) (map.entries t.lines) in
     let held : AreTotals scale (λ key. all key -ℤ sum_entries (line_share t key) ((k, line) ∷ rest)) old =
     subst (λ (es : List (OrderLineKey × OrderLine)). AreTotals scale (λ key. all key -ℤ sum_entries (line_share t key) es) old) left c.loop-key.invariant.2 in
-    let to : receiver t k line ≡ None = sym c.receiver.ensures ∙ c.in_default.is in (
+    let to : receiver t k line ≡ None = ap (λ (d : Database). receiver d k line) (sym c.loop-key.invariant.5) ∙ sym c.receiver.ensures.customer ∙ c.in_default.is in (
       tt,
       tt,
       totals-same scale _ _ old (λ key. line_passed t key k line rest (all key) to) held,
       within-more (2 ^ 50 * count) _ old (omega arith) c.loop-key.invariant.3,
       omega (arith, ap length left, c.loop-key.invariant.4),
+      c.receiver.ensures.same ∙ c.loop-key.invariant.5,
     )
 
 pub returns-clause-totals : goal.returns-clause-totals

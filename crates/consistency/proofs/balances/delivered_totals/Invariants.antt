@@ -13,3 +13,4 @@ invariant-loop-key l =
     × AreTotals l.scale (λ key. sum_entries (line_share l.tables key) (map.entries l.tables.lines) -ℤ sum_entries (line_share l.tables key) l.key-iterator) l.totals.items
     × AreWithin (2 ^ 50 * length l.yielded) l.totals.items
     × (length l.yielded + length l.key-iterator ≡ length (map.entries l.tables.lines))
+    × (l.orders ≡ l.tables)

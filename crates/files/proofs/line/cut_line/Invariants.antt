@@ -1,9 +1,10 @@
-use Rattle.std.proofs.Common.{length, ◌-◌, ◌≤◌}
+use Rattle.std.proofs.Common.{length, ◌-◌}
+use Rattle.files.specs.Marks.{Tells}
 use Rattle.files.proofs.Lines.{IsCutSoFar}
 use Rattle.files.proofs.line.cut_line.Given as goal
 
 abbrev pub invariant-loop-to : goal.invariant-loop-to
-invariant-loop-to l = (l.to ≤ length l.bytes) × IsCutSoFar l.bytes l.spans.items l.from l.to
+invariant-loop-to l = Tells l.bytes l.at l.marks × IsCutSoFar l.bytes l.spans.items l.from l.at
 
 abbrev pub decreases-loop-to : goal.decreases-loop-to
-decreases-loop-to l = length l.bytes - l.to
+decreases-loop-to l = length l.bytes - l.at

@@ -1,14 +1,12 @@
 use Rattle.std.proofs.Common.{◌≡◌, List, [], ℕ, Option, Some, sym, ap, subst, ◌∙◌, rules}
-use Rattle.std.specs.BTreeMap.{BTreeMap, Updates, is_at, insert_entry}
+use Rattle.std.specs.BTreeMap.{is_at}
 use Rattle.std.specs.FinMap as table
 use Rattle.std.specs.Option.{unwrap_or}
-use Rattle.std.specs.Ordering.{nat_cmp}
-use Rattle.rows.specs.declared.keys.OrderKey.{OrderKey}
 use Rattle.rows.specs.declared.records.OrderLine.{OrderLine}
 use Rattle.rows.specs.Keys.{order_cmp}
 use Rattle.schema.specs.OrderRows.{line_table, line_key}
 use Rattle.schema.specs.PackedLines.{numbered, all_lines, AreNumbered}
-use Rattle.schema.proofs.PackedLines.{own, read_own, line_put, set_numbered, insert_numbered, set_same}
+use Rattle.schema.proofs.PackedLines.{own, read_own, line_put, set_numbered, set_same}
 use Rattle.std.proofs.lemmas.Result.{on_ok_weaker, on_err_weaker, IfOk-weaker}
 use Rattle.schema.proofs.order_lines.put.Goals as goal
 
@@ -40,26 +38,4 @@ returns-in-Some-clause-err c =
 pub returns-in-Some-clause-numbered : goal.returns-in-Some-clause-numbered
 returns-in-Some-clause-numbered c =
     let held = c.get_mut.follows.holds c.put.new.self in
-    subst AreNumbered (sym held.0) (set_numbered (is_at (order_cmp c.order-order.result)) c.put.new.self c.args.orders.now.entries c.put.ensures.ordered c.requires)
-
-pub returns-in-Ok-clause-was : goal.returns-in-Ok-clause-was
-returns-in-Ok-clause-was c =
-    let entries = c.args.orders.now.entries in
-    let none : own entries c.order-order.result ≡ [] = sym (ap (λ (r : Option (List (ℕ × OrderLine))). unwrap_or r []) c.in_default.ensures.value) in
-    sym (read_own entries c.get_mut.ensures.ordered c.args.key ∙ ap (λ o. table.get (numbered (own entries o)) c.args.key.number) (sym c.order-order.ensures)
-    ∙ ap (λ ls. table.get (numbered ls) c.args.key.number) none ∙ table.get-empty nat_cmp c.args.key.number)
-
-pub returns-in-Ok-clause-ok : goal.returns-in-Ok-clause-ok
-returns-in-Ok-clause-ok c =
-    let old = c.args.orders.now in
-    let number = c.args.key.number in
-    let none : own old.entries c.order-order.result ≡ [] = sym (ap (λ (r : Option (List (ℕ × OrderLine))). unwrap_or r []) c.in_default.ensures.value) in
-    line_put old c.insert.new.self c.order-order.result c.put-2.new.self c.get_mut.ensures.ordered c.in-Ok.ensures.ordered
-    (subst (λ (m : BTreeMap OrderKey (List (ℕ × OrderLine))). Updates order_cmp m c.insert.new.self c.order-order.result (Some c.put-2.new.self)) c.get_mut.follows.holds-at-none c.in-Ok.ensures.updates) number (Some c.args.row)
-    (c.in_ok-put.ensures.ok ∙ ap (λ ls. table.insert (numbered ls) number c.args.row) (c.new-lines.ensures ∙ sym none))
-    ∙ ap (λ o. table.insert (line_table (all_lines old.entries)) (line_key o number) c.args.row) c.order-order.ensures
-
-pub returns-in-Ok-clause-numbered : goal.returns-in-Ok-clause-numbered
-returns-in-Ok-clause-numbered c =
-    let same = ap (λ (m : BTreeMap OrderKey (List (ℕ × OrderLine))). insert_entry order_cmp m.entries c.order-order.result c.put-2.new.self) c.get_mut.follows.holds-at-none in
-    subst AreNumbered (sym (c.in-Ok.ensures.entries ∙ same)) (insert_numbered c.order-order.result c.put-2.new.self c.args.orders.now.entries c.put-2.ensures.ordered c.requires)
+    subst AreNumbered (sym held.0) (set_numbered (is_at (order_cmp c.order-order.result)) c.put.new.self c.args.orders.now.entries c.put.ensures.ordered c.requires.numbered)

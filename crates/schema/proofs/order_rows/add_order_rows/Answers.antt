@@ -25,12 +25,12 @@ put_back-requires-in-Err-add-2-clause-there c =
     there_after orders_total orders_exact (table_of order_cmp c.args.orders.now) (table_of order_cmp c.put.new.rows) (table_of order_cmp c.put.new.rows) c.args.key c.args.order
     c.in_ok-was_order.ensures.ok refl
 
-pub returns-clause-err_order : goal.returns-clause-err_order
-returns-clause-err_order c =
+pub returns-in-Err-add-clause-err_order : goal.returns-in-Err-add-clause-err_order
+returns-in-Err-add-clause-err_order c =
     undone orders_total orders_exact (table_of order_cmp c.args.orders.now) (table_of order_cmp c.put.new.rows) (table_of order_cmp c.put.new.rows) (table_of order_cmp c.put_back-in-Err-add-2.new.rows)
     c.args.key c.args.order c.in_ok-was_order.was_order c.in_ok-was_order.ensures.ok refl c.in_ok-was_order.ensures.was c.put_back-in-Err-add-2.ensures
 
-pub returns-clause-err_new : goal.returns-clause-err_new
-returns-clause-err_new c =
+pub returns-in-Err-add-clause-err_new : goal.returns-in-Err-add-clause-err_new
+returns-in-Err-add-clause-err_new c =
     undone orders_total orders_exact (table_of order_cmp c.args.new_orders.now) (table_of order_cmp c.put-2.new.rows) (table_of order_cmp c.put-2.new.rows) (table_of order_cmp c.put_back-in-Err-add.new.rows)
     c.args.key (record {}) c.in-Ok.was c.in-Ok.ensures.ok refl c.in-Ok.ensures.was c.put_back-in-Err-add.ensures

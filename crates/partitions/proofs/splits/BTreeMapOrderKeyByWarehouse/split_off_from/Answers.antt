@@ -1,18 +1,8 @@
-use Rattle.std.proofs.Common.{◌≡◌, ℕ, nat_le, nat_lt, ◌∙◌, rules}
-use Rattle.std.specs.Ordering.{is_gt, is_le}
+use Rattle.std.proofs.Common.{◌∙◌}
 use Rattle.std.proofs.lemmas.List.Elements.{filter_agree}
 use Rattle.std.proofs.lemmas.Result.{on_ok_weaker, IfOk-weaker}
-use Rattle.rows.specs.declared.keys.OrderKey.{OrderKey}
-use Rattle.rows.specs.Keys.{order_cmp}
+use Rattle.schema.proofs.OrderSpans.{before_warehouse, from_warehouse}
 use Rattle.partitions.proofs.splits.BTreeMapOrderKeyByWarehouse.split_off_from.Goals as goal
-
--- before the warehouse's first key stand those of the warehouses before it
-before_warehouse : (warehouse : ℕ) (key : OrderKey) → is_gt (order_cmp (record { w_id = warehouse; d_id = 0; o_id = 0 }) key) ≡ nat_lt key.w_id warehouse
-before_warehouse warehouse key = search rules
-
--- and from it on those of the others
-from_warehouse : (warehouse : ℕ) (key : OrderKey) → is_le (order_cmp (record { w_id = warehouse; d_id = 0; o_id = 0 }) key) ≡ nat_le warehouse key.w_id
-from_warehouse warehouse key = search rules
 
 pub returns-clause-from : goal.returns-clause-from
 returns-clause-from g c =

@@ -27,10 +27,10 @@ returns-then-not-have_new_orders_orders c =
     let r = c.have_new_orders_orders in
     fails r.result c.if-not-have_new_orders_orders.true (new_order_rule c.args.scale c.args.self.now r.result r.ensures.ordered r.ensures.each)
 
-pub returns-then-not-have_lines_orders : goal.returns-then-not-have_lines_orders
-returns-then-not-have_lines_orders c =
-    let r = c.have_lines_orders in
-    fails r.result c.if-not-have_lines_orders.true (line_order_rule c.args.scale c.args.self.now r.result r.ensures.ordered r.ensures.each)
+pub returns-then-not-have_orders : goal.returns-then-not-have_orders
+returns-then-not-have_orders c =
+    let r = c.have_orders in
+    fails r.result c.if-not-have_orders.true (line_order_rule c.args.scale c.args.self.now r.result r.ensures.ordered r.ensures.each)
 
 pub returns-then-not-are_lines_numbered : goal.returns-then-not-are_lines_numbered
 returns-then-not-are_lines_numbered c =
@@ -67,7 +67,7 @@ returns c =
         orders_numbered = (order_rule scale rows (λ key _. is_order_id key.o_id) c.are_orders_numbered.result c.are_orders_numbered.ensures.ordered c.are_orders_numbered.ensures.each).0 c.if-not-are_orders_numbered.false;
         orders_have_customers = (order_rule scale rows (λ key row. has_customer scale (customer_of_order key row)) c.have_orders_customers.result c.have_orders_customers.ensures.ordered c.have_orders_customers.ensures.each).0 c.if-not-have_orders_customers.false;
         new_orders_have_orders = (new_order_rule scale rows c.have_new_orders_orders.result c.have_new_orders_orders.ensures.ordered c.have_new_orders_orders.ensures.each).0 c.if-not-have_new_orders_orders.false;
-        lines_have_orders = (line_order_rule scale rows c.have_lines_orders.result c.have_lines_orders.ensures.ordered c.have_lines_orders.ensures.each).0 c.if-not-have_lines_orders.false;
+        lines_have_orders = (line_order_rule scale rows c.have_orders.result c.have_orders.ensures.ordered c.have_orders.ensures.each).0 c.if-not-have_orders.false;
         lines_numbered = (line_rule scale rows (λ key _. is_line_number key.number) c.are_lines_numbered.result c.are_lines_numbered.ensures.ordered c.are_lines_numbered.ensures.each).0 c.if-not-are_lines_numbered.false;
         lines_have_items = (line_rule scale rows (λ _ row. has_item scale row.i_id) c.have_lines_items.result c.have_lines_items.ensures.ordered c.have_lines_items.ensures.each).0 c.if-not-have_lines_items.false;
         lines_have_suppliers = (line_rule scale rows (λ _ row. has_warehouse scale row.supply_w_id) c.have_lines_suppliers.result c.have_lines_suppliers.ensures.ordered c.have_lines_suppliers.ensures.each).0 c.if-not-have_lines_suppliers.false;
