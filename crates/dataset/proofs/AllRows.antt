@@ -6,16 +6,17 @@ use Rattle.std.specs.Map.{keys_of, values_of}
 use Rattle.std.specs.Ordering.{nat_cmp}
 use Rattle.std.specs.declared.cmp.Ordering.{Ordering}
 use Rattle.std.specs.declared.cmp.Ordering.TheVariants.{Less}
-use Rattle.std.specs.Cmp.{nat_cmp_total}
+use Rattle.std.specs.Cmp.{IsTotalOrder, nat_cmp_total}
 use Rattle.std.specs.FinMap as table
 use Rattle.std.specs.FinMap.{entries, nat_cmp-IsAntisymmetric}
 use Rattle.std.proofs.lemmas.List.{map-append}
 use Rattle.std.proofs.lemmas.Bool.Decides.{nat_tests}
+use Rattle.std.proofs.lemmas.Bool.{and_parts}
 use Rattle.rows.specs.declared.keys.DistrictKey.{DistrictKey}
 use Rattle.rows.specs.declared.keys.OrderKey.{OrderKey}
 use Rattle.rows.specs.declared.records.History.{History}
 use Rattle.rows.specs.declared.records.Order.{Order}
-use Rattle.rows.specs.Keys.{district_cmp, order_of_line}
+use Rattle.rows.specs.Keys.{customer_cmp, district_cmp, line_cmp, order_cmp, order_of_line, stock_cmp}
 use Rattle.schema.specs.declared.scale.Scale.{Scale}
 use Rattle.schema.specs.Scale.{has_item, has_warehouse, has_district, has_stock, has_customer}
 use Rattle.schema.specs.Database.{Database, IsWithinScale, customer_of_order, are_payers_known, is_order_id, is_line_number}
@@ -26,9 +27,9 @@ use Rattle.dataset.specs.Ranges.{InRange, IsFrom, ItemInRange, WarehouseInRange,
 use Rattle.dataset.specs.Records.{Field, records_by_table, row_records, payment_records, history_fields, item_fields, warehouse_fields, district_fields, stock_fields, customer_fields, order_fields, new_order_fields, line_fields}
 use Rattle.dataset.specs.TableRow.{TableRow, OfItem, OfWarehouse, OfDistrict, OfStock, OfCustomer, OfHistory, OfOrder, OfNewOrder, OfLine, RowFits, row_fields, row_place}
 use Rattle.dataset.specs.Loading.{AreInOrder}
-use Rattle.dataset.proofs.Bounds.{bounds, both}
+use Rattle.dataset.proofs.Bounds.{bounds}
 use Rattle.dataset.proofs.Keys.{all-append, all-weaker}
-use Rattle.dataset.proofs.Order.{place_number, earlier_table, follows_less, place_itself, item_above, warehouse_above, district_above, stock_above, customer_above, history_above, order_above, new_order_above, line_above}
+use Rattle.dataset.proofs.Order.{place_number, earlier_table, follows_less, place_itself, same_item, same_warehouse, same_district, same_stock, same_customer, same_history, same_order, same_new_order, same_line}
 use Rattle.dataset.proofs.TableEntries.{entries_ascend, rows_pass, keys_pass, all-true, all-both, all-of_values}
 
 -- ---- the rows
@@ -112,7 +113,7 @@ above_all n [] [] h p = tt
 above_all n [] (part ∷ parts) h p = absurd p
 above_all n (m ∷ ns) [] h p = absurd p
 above_all n (m ∷ ns) (part ∷ parts) h p =
-    let tests = both _ _ h in
+    let tests = and_parts _ _ h in
     let above = later_number n m tests.0 in
     all-append _ part (flat_map (λ x. x) parts) (all-weaker _ _ (λ row e. subst (λ k. n < k) (sym e) above) part p.0.numbered) (above_all n ns parts tests.1 p.1)
 
@@ -122,17 +123,17 @@ parts_in_order [] [] h p = tt
 parts_in_order [] (part ∷ parts) h p = absurd p
 parts_in_order (n ∷ ns) [] h p = absurd p
 parts_in_order (n ∷ ns) (part ∷ parts) h p =
-    let tests = both _ _ h in
+    let tests = and_parts _ _ h in
     let later = above_all n ns parts tests.0 p.1 in
     in_order-append part (flat_map (λ x. x) parts) p.0.in_order (parts_in_order ns parts tests.1 p.1)
     (all-weaker _ _ (λ row e. all-weaker _ _ (λ after above. earlier_table (row_place row) (row_place after) (subst (λ k. k < place_number (row_place after)) (sym e) above)) (flat_map (λ x. x) parts) later) part p.0.numbered)
 
 module _ {K X : Type 0} (make : K → X → TableRow) (cmp : K → K → Ordering) (n : ℕ) (number : (k : K) (x : X) → place_number (row_place (make k x)) ≡ n)
-    (above : (j k : K) (x y : X) → cmp j k ≡ Less → place_cmp (row_place (make j x)) (row_place (make k y)) ≡ Less) where
+    (same : (j k : K) (x y : X) → place_cmp (row_place (make j x)) (row_place (make k y)) ≡ cmp j k) where
   later_rows : (k : K) (x : X) (es : List (K × X)) → AllByRecursion (λ j. cmp k j ≡ Less) (keys_of es) → AllByRecursion (λ row. After (make k x) row) (rows_of make es)
   unfolding After
   later_rows k x [] h = tt
-  later_rows k x (e ∷ es) h = (follows_less (row_place (make e.0 e.1)) (row_place (make k x)) (above k e.0 x e.1 h.0), later_rows k x es h.1)
+  later_rows k x (e ∷ es) h = (follows_less (row_place (make e.0 e.1)) (row_place (make k x)) (same k e.0 x e.1 ∙ h.0), later_rows k x es h.1)
 
   table_in_order : (es : List (K × X)) → IsStrictlySortedBy cmp (keys_of es) → AreInOrder (rows_of make es)
   unfolding IsStrictlySortedBy After
@@ -159,7 +160,7 @@ list_in_order home (row ∷ rows) = (list_after home row rows, list_in_order hom
 list_later : (home other : DistrictKey) (x : History) → district_cmp home other ≡ Less → (rows : List History) → AllByRecursion (λ row. After (OfHistory home x) row) (map (OfHistory other) rows)
 unfolding After
 list_later home other x less [] = tt
-list_later home other x less (row ∷ rows) = (follows_less (at.History other) (at.History home) (history_above home other less), list_later home other x less rows)
+list_later home other x less (row ∷ rows) = (follows_less (at.History other) (at.History home) (same_history home other ∙ less), list_later home other x less rows)
 
 paid_later : (home : DistrictKey) (x : History) (es : List (DistrictKey × List History)) → AllByRecursion (λ j. district_cmp home j ≡ Less) (keys_of es) → AllByRecursion (λ row. After (OfHistory home x) row) (rows_paid es)
 paid_later home x [] h = tt
@@ -186,31 +187,17 @@ paid_numbered (e ∷ es) = all-append _ (map (OfHistory e.0) e.1) (rows_paid es)
 pub rows_in_order : (t : Database) → AreInOrder (all_rows t)
 unfolding all_rows rows_by_table
 rows_in_order t =
-    parts_in_order (1 ∷ 2 ∷ 3 ∷ 4 ∷ 5 ∷ 6 ∷ 7 ∷ 8 ∷ 9 ∷ []) (rows_by_table t) refl (
-      table_part OfItem nat_cmp 1 (λ k x. refl) (λ j k x y. item_above j k) (entries t.items) (entries_ascend t.items),
-      (
-        table_part OfWarehouse nat_cmp 2 (λ k x. refl) (λ j k x y. warehouse_above j k) (entries t.warehouses) (entries_ascend t.warehouses),
-        (
-          table_part OfDistrict _ 3 (λ k x. refl) (λ j k x y. district_above j k) (entries t.districts) (entries_ascend t.districts),
-          (
-            table_part OfStock _ 4 (λ k x. refl) (λ j k x y. stock_above j k) (entries t.stocks) (entries_ascend t.stocks),
-            (
-              table_part OfCustomer _ 5 (λ k x. refl) (λ j k x y. customer_above j k) (entries t.customers) (entries_ascend t.customers),
-              (
-                record { numbered = paid_numbered (entries t.histories); in_order = paid_in_order (entries t.histories) (entries_ascend t.histories) },
-                (
-                  table_part OfOrder _ 7 (λ k x. refl) (λ j k x y. order_above j k) (entries t.orders) (entries_ascend t.orders),
-                  (
-                    table_part OfNewOrder _ 8 (λ k x. refl) (λ j k x y. new_order_above j k) (entries t.new_orders) (entries_ascend t.new_orders),
-                    (table_part OfLine _ 9 (λ k x. refl) (λ j k x y. line_above j k) (entries t.lines) (entries_ascend t.lines), tt),
-                  ),
-                ),
-              ),
-            ),
-          ),
-        ),
-      ),
-    )
+    let items = table_part OfItem nat_cmp 1 (λ k x. refl) (λ j k x y. same_item j k) (entries t.items) (entries_ascend t.items) in
+    let warehouses = table_part OfWarehouse nat_cmp 2 (λ k x. refl) (λ j k x y. same_warehouse j k) (entries t.warehouses) (entries_ascend t.warehouses) in
+    let districts = table_part OfDistrict district_cmp 3 (λ k x. refl) (λ j k x y. same_district j k) (entries t.districts) (entries_ascend t.districts) in
+    let stocks = table_part OfStock stock_cmp 4 (λ k x. refl) (λ j k x y. same_stock j k) (entries t.stocks) (entries_ascend t.stocks) in
+    let customers = table_part OfCustomer customer_cmp 5 (λ k x. refl) (λ j k x y. same_customer j k) (entries t.customers) (entries_ascend t.customers) in
+    let histories : IsPart 6 (rows_paid (entries t.histories)) =
+    record { numbered = paid_numbered (entries t.histories); in_order = paid_in_order (entries t.histories) (entries_ascend t.histories) } in
+    let orders = table_part OfOrder order_cmp 7 (λ k x. refl) (λ j k x y. same_order j k) (entries t.orders) (entries_ascend t.orders) in
+    let new_orders = table_part OfNewOrder order_cmp 8 (λ k x. refl) (λ j k x y. same_new_order j k) (entries t.new_orders) (entries_ascend t.new_orders) in
+    let lines = table_part OfLine line_cmp 9 (λ k x. refl) (λ j k x y. same_line j k) (entries t.lines) (entries_ascend t.lines) in
+    parts_in_order (1 ∷ 2 ∷ 3 ∷ 4 ∷ 5 ∷ 6 ∷ 7 ∷ 8 ∷ 9 ∷ []) (rows_by_table t) refl (items, (warehouses, (districts, (stocks, (customers, (histories, (orders, (new_orders, (lines, tt)))))))))
 
 -- ---- that they fit
 
@@ -222,10 +209,18 @@ all-rows : {K X : Type 0} (scale : Scale) (make : K → X → TableRow) (es : Li
 all-rows scale make [] h = tt
 all-rows scale make (e ∷ es) h = (h.0, all-rows scale make es h.1)
 
+-- rows whose keys are all those of the scale
+scale_rows : {K X : Type 0} {R : K → K → Ordering} → IsTotalOrder R → table.IsAntisymmetric R → (scale : Scale) (make : K → X → TableRow) (has : K → Bool) (IsInRange : X → Type 0)
+    → ((k : K) (x : X) → IsTrue (has k) → IsInRange x → RowFits scale (make k x)) → (m : table.FinMap R X) → ((k : K) → table.contains_key m k ≡ has k) → AllByRecursion IsInRange (values_of (entries m))
+    → AllByRecursion (RowFits scale) (rows_of make (entries m))
+scale_rows o exact scale make has IsInRange fits m keys rows =
+    let known = all-true _ (entries m) (rows_pass o exact (λ key _. has key) m (keys_pass has m keys)) in
+    all-rows scale make (entries m) (all-both (λ e. IsTrue (has e.0)) (λ e. IsInRange e.1) (λ e. RowFits scale (make e.0 e.1)) (λ e. fits e.0 e.1) (entries m) known (all-of_values IsInRange (entries m) rows))
+
 fits_list : (scale : Scale) (home : DistrictKey) → IsTrue (has_district scale home) → (rows : List History) → IsTrue (are_payers_known scale rows) → AllByRecursion HistoryInRange rows → AllByRecursion (RowFits scale) (map (OfHistory home) rows)
 fits_list scale home there [] known range = tt
 fits_list scale home there (row ∷ rows) known range =
-    let tests = both _ _ known in
+    let tests = and_parts _ _ known in
     ((there, record { payer = tests.0; in_range = range.0 }), fits_list scale home there rows tests.1 range.1)
 
 fits_paid : (scale : Scale) (es : List (DistrictKey × List History)) → AllByRecursion (λ e. IsTrue (has_district scale e.0)) es → AllByRecursion (λ e. IsTrue (are_payers_known scale e.1)) es → AllByRecursion (AllByRecursion HistoryInRange) (values_of es)
@@ -236,7 +231,7 @@ fits_paid scale (e ∷ es) there known range = all-append _ (map (OfHistory e.0)
 module _ (t : Database) (w : IsWithinScale t) (h : InRange t) where
   order_key : (key : OrderKey) (row : Order) → IsTrue (is_order_id key.o_id) → IsTrue (has_customer t.scale (customer_of_order key row)) → IsOrderKey t.scale key × IsFrom 1 t.scale.customers row.c_id
   order_key key row numbered known =
-      let tests = both _ _ known in
+      let tests = and_parts _ _ known in
       (record { home = tests.0; number = numbered }, bounds 1 t.scale.customers row.c_id tests.1)
 
   known_order : (key : OrderKey) → IsTrue (table.contains_key t.orders key) → IsOrderKey t.scale key
@@ -249,11 +244,6 @@ module _ (t : Database) (w : IsWithinScale t) (h : InRange t) where
   pub rows_fit : AllByRecursion (RowFits t.scale) (all_rows t)
   unfolding all_rows rows_by_table
   rows_fit =
-      let items = entries t.items in
-      let warehouses = entries t.warehouses in
-      let districts = entries t.districts in
-      let stocks = entries t.stocks in
-      let customers = entries t.customers in
       let histories = entries t.histories in
       let orders = entries t.orders in
       let new_orders = entries t.new_orders in
@@ -269,38 +259,19 @@ module _ (t : Database) (w : IsWithinScale t) (h : InRange t) where
       let numbered = all-true _ orders (rows_pass orders_total orders_exact (λ key _. is_order_id key.o_id) t.orders w.orders_numbered) in
       let known = all-true _ orders (rows_pass orders_total orders_exact (λ key row. has_customer t.scale (customer_of_order key row)) t.orders w.orders_have_customers) in
       let keyed = all-both (λ e. IsTrue (is_order_id e.0.o_id)) (λ e. IsTrue (has_customer t.scale (customer_of_order e.0 e.1))) (λ e. IsOrderKey t.scale e.0 × IsFrom 1 t.scale.customers e.1.c_id) (λ e n k. order_key e.0 e.1 n k) orders numbered known in
-      all-flat (RowFits t.scale) (rows_by_table t) (
-        all-rows t.scale OfItem items (all-both (λ e. IsTrue (has_item t.scale e.0)) (λ e. ItemInRange e.1) (λ e. RowFits t.scale (OfItem e.0 e.1)) (λ e k r. (k, r)) items
-            (all-true _ items (rows_pass nat_cmp_total nat_cmp-IsAntisymmetric (λ key _. has_item t.scale key) t.items (keys_pass (has_item t.scale) t.items w.items))) (all-of_values ItemInRange items h.items)),
-        (
-          all-rows t.scale OfWarehouse warehouses (all-both (λ e. IsTrue (has_warehouse t.scale e.0)) (λ e. WarehouseInRange e.1) (λ e. RowFits t.scale (OfWarehouse e.0 e.1)) (λ e k r. (k, r)) warehouses
-              (all-true _ warehouses (rows_pass nat_cmp_total nat_cmp-IsAntisymmetric (λ key _. has_warehouse t.scale key) t.warehouses (keys_pass (has_warehouse t.scale) t.warehouses w.warehouses))) (all-of_values WarehouseInRange warehouses h.warehouses)),
-          (
-            all-rows t.scale OfDistrict districts (all-both (λ e. IsTrue (has_district t.scale e.0)) (λ e. DistrictInRange e.1) (λ e. RowFits t.scale (OfDistrict e.0 e.1)) (λ e k r. (k, r)) districts
-                (all-true _ districts (rows_pass districts_total districts_exact (λ key _. has_district t.scale key) t.districts (keys_pass (has_district t.scale) t.districts w.districts))) (all-of_values DistrictInRange districts h.districts)),
-            (
-              all-rows t.scale OfStock stocks (all-both (λ e. IsTrue (has_stock t.scale e.0)) (λ e. StockInRange e.1) (λ e. RowFits t.scale (OfStock e.0 e.1)) (λ e k r. (k, r)) stocks
-                  (all-true _ stocks (rows_pass stocks_total stocks_exact (λ key _. has_stock t.scale key) t.stocks (keys_pass (has_stock t.scale) t.stocks w.stocks))) (all-of_values StockInRange stocks h.stocks)),
-              (
-                all-rows t.scale OfCustomer customers (all-both (λ e. IsTrue (has_customer t.scale e.0)) (λ e. CustomerInRange e.1) (λ e. RowFits t.scale (OfCustomer e.0 e.1)) (λ e k r. (k, r)) customers
-                    (all-true _ customers (rows_pass customers_total customers_exact (λ key _. has_customer t.scale key) t.customers (keys_pass (has_customer t.scale) t.customers w.customers))) (all-of_values CustomerInRange customers h.customers)),
-                (
-                  fits_paid t.scale histories
-                      (all-true _ histories (rows_pass districts_total districts_exact (λ key _. has_district t.scale key) t.histories (keys_pass (has_district t.scale) t.histories w.histories)))
-                      (all-true _ histories (rows_pass districts_total districts_exact (λ _ rows. are_payers_known t.scale rows) t.histories w.payers_known)) h.histories,
-                  (
-                    all-rows t.scale OfOrder orders (all-both (λ e. IsOrderKey t.scale e.0 × IsFrom 1 t.scale.customers e.1.c_id) (λ e. OrderInRange e.1) (λ e. RowFits t.scale (OfOrder e.0 e.1)) (λ e k r. (k.0, record { c_id = k.1; in_range = r })) orders keyed (all-of_values OrderInRange orders h.orders)),
-                    (
-                      all-rows t.scale OfNewOrder new_orders (all-both (λ e. IsTrue (table.contains_key t.orders e.0)) (λ e. IsTrue (table.contains_key t.orders e.0)) (λ e. RowFits t.scale (OfNewOrder e.0 e.1)) (λ e k _. (known_order e.0 k, tt)) new_orders in_orders in_orders),
-                      (all-rows t.scale OfLine lines (all-both (λ e. IsLineKey t.scale e.0) (λ e. IsLine t.scale e.1) (λ e. RowFits t.scale (OfLine e.0 e.1)) (λ e k r. (k, r)) lines line_keys line_rows), tt),
-                    ),
-                  ),
-                ),
-              ),
-            ),
-          ),
-        ),
-      )
+      let fit_items = scale_rows nat_cmp_total nat_cmp-IsAntisymmetric t.scale OfItem (has_item t.scale) ItemInRange (λ k x a b. (a, b)) t.items w.items h.items in
+      let fit_warehouses = scale_rows nat_cmp_total nat_cmp-IsAntisymmetric t.scale OfWarehouse (has_warehouse t.scale) WarehouseInRange (λ k x a b. (a, b)) t.warehouses w.warehouses h.warehouses in
+      let fit_districts = scale_rows districts_total districts_exact t.scale OfDistrict (has_district t.scale) DistrictInRange (λ k x a b. (a, b)) t.districts w.districts h.districts in
+      let fit_stocks = scale_rows stocks_total stocks_exact t.scale OfStock (has_stock t.scale) StockInRange (λ k x a b. (a, b)) t.stocks w.stocks h.stocks in
+      let fit_customers = scale_rows customers_total customers_exact t.scale OfCustomer (has_customer t.scale) CustomerInRange (λ k x a b. (a, b)) t.customers w.customers h.customers in
+      let fit_histories =
+      fits_paid t.scale histories (all-true _ histories (rows_pass districts_total districts_exact (λ key _. has_district t.scale key) t.histories (keys_pass (has_district t.scale) t.histories w.histories)))
+      (all-true _ histories (rows_pass districts_total districts_exact (λ _ rows. are_payers_known t.scale rows) t.histories w.payers_known)) h.histories in
+      let fit_orders = all-rows t.scale OfOrder orders (all-both (λ e. IsOrderKey t.scale e.0 × IsFrom 1 t.scale.customers e.1.c_id) (λ e. OrderInRange e.1) (λ e. RowFits t.scale (OfOrder e.0 e.1)) (λ e k r. (k.0, record { c_id = k.1; in_range = r })) orders keyed (all-of_values OrderInRange orders h.orders)) in
+      let fit_new_orders = all-rows t.scale OfNewOrder new_orders (all-weaker (λ e. IsTrue (table.contains_key t.orders e.0)) (λ e. RowFits t.scale (OfNewOrder e.0 e.1)) (λ e k. (known_order e.0 k, tt)) new_orders in_orders) in
+      let fit_lines = all-rows t.scale OfLine lines (all-both (λ e. IsLineKey t.scale e.0) (λ e. IsLine t.scale e.1) (λ e. RowFits t.scale (OfLine e.0 e.1)) (λ e k r. (k, r)) lines line_keys line_rows) in
+      all-flat (RowFits t.scale) (rows_by_table t)
+      (fit_items, (fit_warehouses, (fit_districts, (fit_stocks, (fit_customers, (fit_histories, (fit_orders, (fit_new_orders, (fit_lines, tt)))))))))
 
 -- every row follows the header
 pub after_header : (rows : List TableRow) → AllByRecursion (λ row. IsTrue (follows (row_place row) at.Header)) rows

@@ -1,5 +1,5 @@
 -- What the test of a range says.
-use Rattle.std.proofs.Common.{◌≤◌, ◌&&◌, ℕ, Bool, true, false, IsTrue, refl, arith}
+use Rattle.std.proofs.Common.{◌≤◌, ℕ, IsTrue, arith}
 use Rattle.std.proofs.lemmas.Bool.Decides.{nat_tests}
 use Rattle.rows.specs.Ranged.{is_between}
 
@@ -8,8 +8,3 @@ bounds low high number h =
     let least : low ≤ number = grind (arith, nat_tests) in
     let most : number ≤ high = grind (arith, nat_tests) in
     (least, most)
-
-pub both : (b c : Bool) → IsTrue (b && c) → IsTrue b × IsTrue c
-both true true h = (refl, refl)
-both true false h = absurd cc
-both false c h = absurd cc

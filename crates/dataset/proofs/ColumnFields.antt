@@ -5,13 +5,13 @@ use Rattle.std.specs.Fmt.{decimal}
 use Rattle.std.specs.Str.Parse.{digits_value}
 use Rattle.std.specs.List.{list_all}
 use Rattle.std.proofs.lemmas.Bool.Decides.{nat_tests}
+use Rattle.std.proofs.lemmas.Bool.{and_parts}
 use Rattle.amounts.specs.Money.{IsMoney}
 use Rattle.rows.specs.Text.{IsText, is_printable_byte}
 use Rattle.files.specs.declared.fault.FaultKind.{FaultKind}
 use Rattle.files.specs.Columns.{Column, Whole, Words as Texts, Cents, Moment, Credit, MaybeWhole, MaybeMoment, Count, Spelt}
 use Rattle.rows.specs.declared.records.Credit.TheVariants.{Good}
 use Rattle.files.specs.FieldRead.{Taking, is_negative, is_within, value_or, whole_read}
-use Rattle.files.proofs.FieldsRead.{both}
 use Rattle.files.specs.KindsRead.{moment_read, optional_read}
 use Rattle.files.specs.MomentText.{IsMoment, IsMomentText}
 use Rattle.files.specs.Number.{is_number}
@@ -179,7 +179,7 @@ whole_between low high n text e = by (is_number text) refl (is_within low high t
     by true number false is = let no = rw (number, is) at e in absurd cc
     by true number true is =
         let value : digits_value 10 text ≡ n = let v = rw (number, is) at e in cc in
-        let ends = both (nat_le low (digits_value 10 text)) (nat_le (digits_value 10 text) high) (both (not (is_negative text)) _ is).1 in
+        let ends = and_parts (nat_le low (digits_value 10 text)) (nat_le (digits_value 10 text) high) (and_parts (not (is_negative text)) _ is).1 in
         let least : low ≤ digits_value 10 text = let l = ends.0 in grind (arith, nat_tests, l) in
         let most : digits_value 10 text ≤ high = let m = ends.1 in grind (arith, nat_tests, m) in
         (omega (arith, least, value), omega (arith, most, value))

@@ -8,6 +8,7 @@ use Rattle.std.specs.declared.cmp.Ordering.{Ordering}
 use Rattle.std.specs.Cmp.{IsTotalOrder, nat_cmp_total}
 use Rattle.std.specs.FinMap.{FinMap, IsAntisymmetric, contains_key, entries, from_entries, same_entries_map, nat_cmp-IsAntisymmetric}
 use Rattle.std.proofs.lemmas.List.{length-map}
+use Rattle.std.proofs.lemmas.Slice.Zip.{firsts-zip}
 use Rattle.rows.specs.Keys.{district_cmp}
 use Rattle.schema.specs.declared.scale.Scale.{Scale}
 use Rattle.schema.specs.declared.table_rows.TableRows.{TableRows}
@@ -30,7 +31,7 @@ use Rattle.dataset.specs.TableRow.{TableRow, rows_read}
 use Rattle.dataset.proofs.AllRows.{all_rows}
 use Rattle.dataset.proofs.Contents.{entries_in, get_item, get_warehouse, get_district, get_stock, get_customer, get_history, get_order, get_new_order, get_line}
 use Rattle.dataset.proofs.Finished.{customers_are, districts_are, items_are, lines_are, new_orders_are, orders_are, paid, payments_are, stocks_are, warehouses_are, zip-split}
-use Rattle.dataset.proofs.Keys.{keys_of-zip, sorted-item_ids, sorted-warehouse_ids, sorted-district_keys, sorted-stock_keys, sorted-customer_keys}
+use Rattle.dataset.proofs.Keys.{sorted-item_ids, sorted-warehouse_ids, sorted-district_keys, sorted-stock_keys, sorted-customer_keys}
 use Rattle.dataset.proofs.Payments.{payments_of, payments-opened}
 use Rattle.dataset.proofs.TableEntries.{entries_ascend, same_keys}
 use Rattle.dataset.proofs.Tables.{dense}
@@ -43,7 +44,7 @@ keys_are : {K X : Type 0} {R : K → K → Ordering} → IsTotalOrder R → IsAn
 keys_are {K} {X} {R} o exact m ks slot sorted placed has =
     let n : FinMap R K = from_entries (zip ks ks) in
     let same = same_keys o exact m n (λ q. has q ∙ sym (contains-dense o exact ks ks refl q ∙ ap is_some (placed q))) in
-    same ∙ ap keys_of (dense o ks ks sorted refl) ∙ keys_of-zip ks ks refl
+    same ∙ ap keys_of (dense o ks ks sorted refl) ∙ firsts-zip ks ks refl
 
 some_if : (b : Bool) (n : ℕ) → b ≡ is_some (cond b (Some n) None)
 some_if true n = refl
@@ -107,7 +108,7 @@ module _ (scale : Scale) (has opened : TableRows) (last : Place) (records : List
       let payments : payments_of (zip ks lists) ≡ payments_of (entries t.histories) =
       ap (λ ls. payments_of (zip ks ls)) opens.more ∙ payments-opened ks has.histories.items opens.opened opens.are_empty ∙ payments_are h
       ∙ ap (entries_in get_history) all ∙ all_histories t in
-      let keys = keys_of-zip ks lists lists_even in
+      let keys = firsts-zip ks lists lists_even in
       same_lists (zip ks lists) (entries t.histories) (keys ∙ sym history_keys) (subst (IsStrictlySortedBy district_cmp) (sym keys) (sorted-district_keys scale)) payments
 
   makes_tables : database scale (record has { histories = opened.histories }) ≡ t

@@ -37,9 +37,8 @@ use Rattle.dataset.specs.Order.{place_cmp, place_numbers, follows}
 use Rattle.dataset.specs.TableRow.{TableRow, OfItem, OfWarehouse, OfDistrict, OfStock, OfCustomer, OfHistory, OfOrder, OfNewOrder, OfLine, AddsRow, row_place}
 use Rattle.dataset.proofs.AllRows.{rows_of}
 use Rattle.dataset.proofs.Keys.{all-append, all-weaker, sorted-district_keys}
-use Rattle.dataset.proofs.Loading.{follows_le}
 use Rattle.rows.specs.Keys.{district_cmp, stock_cmp, customer_cmp, order_cmp, line_cmp}
-use Rattle.dataset.proofs.Order.{customer_below, district_below, item_below, line_below, new_order_below, numbers_of, order_below, place_follows, place_number, place_reaches, stock_below, turned, warehouse_below}
+use Rattle.dataset.proofs.Order.{follows_le, numbers_of, place_follows, place_number, place_reaches, same_customer, same_district, same_item, same_line, same_new_order, same_order, same_stock, same_warehouse, turned}
 use Rattle.dataset.proofs.Payments.{all_reached, district_at_slot, few_opened, few_paid, lists_paid, payments_of, places, slots_paid}
 
 -- ---- the rows of one table
@@ -292,28 +291,28 @@ is_line = record { found = λ k x. refl; is = by; other = no }
     no row is e = omega arith
 
 pub items_rise : Rises OfItem nat_cmp
-items_rise = record { less = λ j k x y follow. item_below j k (place_follows (place_cmp (at.Item j) (at.Item k)) follow) }
+items_rise = record { less = λ j k x y follow. sym (same_item j k) ∙ place_follows (place_cmp (at.Item j) (at.Item k)) follow }
 
 pub warehouses_rise : Rises OfWarehouse nat_cmp
-warehouses_rise = record { less = λ j k x y follow. warehouse_below j k (place_follows (place_cmp (at.Warehouse j) (at.Warehouse k)) follow) }
+warehouses_rise = record { less = λ j k x y follow. sym (same_warehouse j k) ∙ place_follows (place_cmp (at.Warehouse j) (at.Warehouse k)) follow }
 
 pub districts_rise : Rises OfDistrict district_cmp
-districts_rise = record { less = λ j k x y follow. district_below j k (place_follows (place_cmp (at.District j) (at.District k)) follow) }
+districts_rise = record { less = λ j k x y follow. sym (same_district j k) ∙ place_follows (place_cmp (at.District j) (at.District k)) follow }
 
 pub stocks_rise : Rises OfStock stock_cmp
-stocks_rise = record { less = λ j k x y follow. stock_below j k (place_follows (place_cmp (at.Stock j) (at.Stock k)) follow) }
+stocks_rise = record { less = λ j k x y follow. sym (same_stock j k) ∙ place_follows (place_cmp (at.Stock j) (at.Stock k)) follow }
 
 pub customers_rise : Rises OfCustomer customer_cmp
-customers_rise = record { less = λ j k x y follow. customer_below j k (place_follows (place_cmp (at.Customer j) (at.Customer k)) follow) }
+customers_rise = record { less = λ j k x y follow. sym (same_customer j k) ∙ place_follows (place_cmp (at.Customer j) (at.Customer k)) follow }
 
 pub orders_rise : Rises OfOrder order_cmp
-orders_rise = record { less = λ j k x y follow. order_below j k (place_follows (place_cmp (at.Order j) (at.Order k)) follow) }
+orders_rise = record { less = λ j k x y follow. sym (same_order j k) ∙ place_follows (place_cmp (at.Order j) (at.Order k)) follow }
 
 pub new_orders_rise : Rises OfNewOrder order_cmp
-new_orders_rise = record { less = λ j k x y follow. new_order_below j k (place_follows (place_cmp (at.NewOrder j) (at.NewOrder k)) follow) }
+new_orders_rise = record { less = λ j k x y follow. sym (same_new_order j k) ∙ place_follows (place_cmp (at.NewOrder j) (at.NewOrder k)) follow }
 
 pub lines_rise : Rises OfLine line_cmp
-lines_rise = record { less = λ j k x y follow. line_below j k (place_follows (place_cmp (at.Line j) (at.Line k)) follow) }
+lines_rise = record { less = λ j k x y follow. sym (same_line j k) ∙ place_follows (place_cmp (at.Line j) (at.Line k)) follow }
 
 differs : (a b : ℕ) → (a ≡ b → ⊥) → (a == b) ≡ false
 differs a b apart = grind (arith, nat_tests, apart)

@@ -1,5 +1,5 @@
 -- The fault of a header.
-use Rattle.std.proofs.Common.{◌≡◌, ◌≢◌, ◌≤◌, ◌==◌, ◌&&◌, ◌+◌, ◌⊎◌, inl, inr, ℕ, List, [], ◌∷◌, ◌++◌, length, not, drop, get_or, Bool, true, false, nat_lt, Option, Some, None, Result, IsUtf8, codes, refl, sym, ap, subst, ◌∙◌, arith}
+use Rattle.std.proofs.Common.{◌≡◌, ◌≢◌, ◌≤◌, ◌==◌, ◌&&◌, ◌+◌, ◌⊎◌, inl, inr, ℕ, List, [], ◌∷◌, ◌++◌, length, not, get_or, Bool, true, false, nat_lt, Option, Some, None, Result, IsUtf8, codes, refl, sym, ap, subst, ◌∙◌, arith}
 use Rattle.std.specs.Prelude.{IsSome}
 use Rattle.std.specs.Option.{ok_or}
 use Rattle.std.specs.Str.{bytes_eq}
@@ -15,7 +15,7 @@ use Rattle.files.specs.declared.fault.FileFault.{FileFault}
 use Rattle.files.specs.declared.fault.FileError.{FileError}
 use Rattle.files.specs.declared.fault.FileError.TheVariants.{NoMemory, Failed, File}
 use Rattle.files.specs.declared.fields.Fields.{Fields}
-use Rattle.files.specs.FieldRead.{Taking, taking, field_read}
+use Rattle.files.specs.FieldRead.{Taking, taking, field_read, next_read}
 use Rattle.files.specs.KindsRead.{word_read}
 use Rattle.files.specs.Place.{FirstIsTooLong, file_fault}
 use Rattle.files.specs.Span.{record_size}
@@ -31,6 +31,7 @@ use Rattle.files.specs.FirstFault.{behind_end, fault_at, fault_or}
 use Rattle.dataset.specs.Records.{AreSpelt, AreRecords, header_fields}
 use Rattle.dataset.specs.TakenAs.{IsHeaderAs, TellsEnd}
 use Rattle.files.specs.FirstFault.{TellsFault}
+use Rattle.files.proofs.KindsRead.{word_is}
 use Rattle.files.proofs.Unlike.{other}
 use Rattle.dataset.proofs.LetterFault.{some_word}
 use Rattle.files.proofs.RecordsLeft.{not_advanced}
@@ -49,32 +50,28 @@ no_difference word other differs is same h =
     cc
 
 -- the first word is another one
-not_word : (left : List (List ℕ)) (known word : List ℕ) → ((field : List ℕ) (rest : List (List ℕ)) → left ≡ field ∷ rest → IsUtf8 field → word ≡ field) → length left ≢ 0 → IsUtf8 known → (word ≡ known → ⊥)
-    → bytes_eq (get_or left 0 []) known ≡ false
-not_word [] known word reads some utf8 apart = absurd (some refl)
-not_word (field ∷ rest) known word reads some utf8 apart = other field known (λ e. apart (reads field rest refl (subst IsUtf8 (sym e) utf8) ∙ e))
+not_word : (left : List (List ℕ)) (known : Option FaultKind) (other_word word : List ℕ) (after : Taking) → ◌≡◌ {A = List ℕ × Taking} (word, after) (next_read word_read [] left known)
+    → length left ≢ 0 → IsUtf8 other_word → (word ≡ other_word → ⊥) → bytes_eq (get_or left 0 []) other_word ≡ false
+not_word [] known other_word word after read some utf8 apart = absurd (some refl)
+not_word (field ∷ rest) known other_word word after read some utf8 apart = other field other_word (λ e.
+    let is = rw (word_is field (subst IsUtf8 (sym e) utf8)) at read in
+    apart (ap (λ (p : List ℕ × Taking). p.0) is ∙ e))
 
 and_false : (a : Bool) → (a && false) ≡ false
 and_false true = refl
 and_false false = refl
 
-pub other_name : (left : List (List ℕ)) (word : List ℕ) → length left ≡ 5 → ((field : List ℕ) (rest : List (List ℕ)) → left ≡ field ∷ rest → IsUtf8 field → word ≡ field) → (word ≡ codes "TPCC" → ⊥) → is_header left ≡ false
-other_name left word five reads apart =
-    let no = not_word left (codes "TPCC") word reads (omega arith) (utf8_words (codes "TPCC") refl) apart in
+pub other_name : (left : List (List ℕ)) (known : Option FaultKind) (word : List ℕ) (after : Taking) → length left ≡ 5
+    → ◌≡◌ {A = List ℕ × Taking} (word, after) (next_read word_read [] left known) → (word ≡ codes "TPCC" → ⊥) → is_header left ≡ false
+other_name left known word after five read apart =
+    let no = not_word left known (codes "TPCC") word after read (omega arith) (utf8_words (codes "TPCC") refl) apart in
     rw no (and_false (length left == 5))
 
-second : (left : List (List ℕ)) → get_or (drop 1 left) 0 [] ≡ get_or left 1 []
-second [] = refl
-second (field ∷ rest) = refl
-
-tail_length : (left : List (List ℕ)) → length left ≡ 5 → length (drop 1 left) ≢ 0
-tail_length [] five = absurd (omega arith)
-tail_length (field ∷ rest) five = λ e. omega (arith, e, five)
-
-pub other_version : (left mid : List (List ℕ)) (word : List ℕ) → length left ≡ 5 → mid ≡ drop 1 left → ((field : List ℕ) (rest : List (List ℕ)) → mid ≡ field ∷ rest → IsUtf8 field → word ≡ field) → (word ≡ codes "1" → ⊥) → is_header left ≡ false
-other_version left mid word five is reads apart =
-    let some : length mid ≢ 0 = subst (λ l. length l ≢ 0) (sym is) (tail_length left five) in
-    let no = ap (λ f. bytes_eq f (codes "1")) (sym (second left) ∙ ap (λ l. get_or l 0 []) (sym is)) ∙ not_word mid (codes "1") word reads some (utf8_words (codes "1") refl) apart in
+pub other_version : (left mid : List (List ℕ)) (known : Option FaultKind) (name word : List ℕ) (after : Taking) → length left ≡ 5 → left ≡ name ∷ mid
+    → ◌≡◌ {A = List ℕ × Taking} (word, after) (next_read word_read [] mid known) → (word ≡ codes "1" → ⊥) → is_header left ≡ false
+other_version left mid known name word after five is read apart =
+    let some : length mid ≢ 0 = λ none. let all = ap length is in omega (arith, all, five, none) in
+    let no = ap (λ l. bytes_eq (get_or l 1 []) (codes "1")) is ∙ not_word mid known (codes "1") word after read some (utf8_words (codes "1") refl) apart in
     rw (no, and_false (bytes_eq (get_or left 0 []) (codes "TPCC"))) (and_false (length left == 5))
 
 -- a header of five fields

@@ -145,12 +145,6 @@ sorted-customer_keys scale =
     (λ a b i j e. then_less (nat_cmp a.w_id b.w_id) (nat_cmp a.d_id b.d_id) (nat_cmp i j) e)
     (sorted-district_keys scale)
 
--- with a row for each key
-pub keys_of-zip : {K X : Type 0} (ks : List K) (xs : List X) → length xs ≡ length ks → keys_of (zip ks xs) ≡ ks
-keys_of-zip [] xs e = refl
-keys_of-zip (k ∷ ks) [] e = absurd (omega arith)
-keys_of-zip (k ∷ ks) (x ∷ xs) e = ap (λ l. k ∷ l) (keys_of-zip ks xs (omega arith))
-
 -- the key whose place is known
 pub get-place : {K : Type 0} {R : K → K → Ordering} → IsAntisymmetric R → (q : K) (ks : List K) (n : ℕ) → place (eq_by_cmp R q) ks ≡ Some n → slice_get ks n ≡ Some q
 get-place exact q [] n e = absurd cc

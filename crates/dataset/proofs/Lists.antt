@@ -2,6 +2,7 @@
 use Rattle.std.proofs.Common.{◌≡◌, ℕ, zero, suc, ◌+◌, ◌<◌, ◌≤◌, List, [], ◌∷◌, ◌++◌, length, take, drop, get_or, Some, sym, ap, ◌∙◌, append_assoc, take-append-drop, arith}
 use Rattle.std.specs.List.{zip, slice_get}
 use Rattle.std.proofs.lemmas.List.{take_more, take_all}
+use Rattle.std.proofs.lemmas.Slice.Zip.{length-zip}
 
 zip-within : {K X : Type 0} (ks : List K) (xs : List X) (n : ℕ) (k : K) → slice_get ks n ≡ Some k → n < length xs → n < length (zip ks xs)
 zip-within [] xs n k e below = absurd cc
@@ -28,14 +29,9 @@ take-zip ks xs n k x e below is =
 pub take-next : {X : Type 0} (xs : List X) (n : ℕ) (x : X) → n < length xs → x ≡ get_or xs n x → take (n + 1) xs ≡ take n xs ++ (x ∷ [])
 take-next xs n x below is = take_more xs n x below ∙ ap (λ y. take n xs ++ (y ∷ [])) (sym is)
 
-zip-shorter : {K X : Type 0} (ks : List K) (xs : List X) → length (zip ks xs) ≤ length xs
-zip-shorter [] xs = omega arith
-zip-shorter (k ∷ ks) [] = omega arith
-zip-shorter (k ∷ ks) (x ∷ xs) = let rest = zip-shorter ks xs in omega arith
-
 -- all of them
 pub take-zip_all : {K X : Type 0} (ks : List K) (xs : List X) (n : ℕ) → length xs ≤ n → take n (zip ks xs) ≡ zip ks xs
-take-zip_all ks xs n h = let shorter = zip-shorter ks xs in take_all n (zip ks xs) (omega arith)
+take-zip_all ks xs n h = take_all n (zip ks xs) (omega (arith, length-zip ks xs, h))
 
 -- an element, between those before it and those after it
 split-at : {X : Type 0} (xs : List X) (n : ℕ) (x : X) → take (n + 1) xs ≡ take n xs ++ (x ∷ []) → xs ≡ take n xs ++ (x ∷ drop (n + 1) xs)

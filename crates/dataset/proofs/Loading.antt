@@ -1,7 +1,7 @@
 -- One row more of what was read.
 use Rattle.std.proofs.Common.{◌≡◌, ℕ, List, [], ◌∷◌, ◌++◌, Bool, true, false, map, Option, Some, None, IsTrue, refl, sym, ap, subst, ◌∙◌}
 use Rattle.std.specs.List.{AllByRecursion, AllZip}
-use Rattle.std.specs.Ordering.{is_le, is_lt}
+use Rattle.std.specs.Ordering.{is_le}
 use Rattle.std.proofs.lemmas.List.{map-append, append-nil}
 use Rattle.std.proofs.lemmas.List.Concat.{flat_map-append}
 use Rattle.schema.specs.declared.scale.Scale.{Scale}
@@ -23,7 +23,7 @@ use Rattle.files.specs.Columns.{read_columns}
 use Rattle.dataset.proofs.ColumnFields.{read_are_between}
 use Rattle.dataset.proofs.Keys.{all-append, all-weaker}
 use Rattle.dataset.proofs.LetterFault.{kind_of_letter}
-use Rattle.dataset.proofs.Order.{place_below, place_follows, place_itself, place_lt_le, place_reaches}
+use Rattle.dataset.proofs.Order.{follows_before, follows_le, place_itself, place_reaches}
 use Rattle.dataset.proofs.RowFields.{known_row, row_is_spelt}
 use Rattle.dataset.proofs.RowTaken.{follows_told, is_read}
 use Rattle.dataset.proofs.Texts.{all_zip-append}
@@ -33,31 +33,6 @@ use Rattle.dataset.proofs.Texts.{all_zip-append}
 adds-push : (scale : Scale) (rows : List TableRow) (row : TableRow) (old mid new : TableRows) → AddsRows scale rows old mid → AddsRow scale row mid new → AddsRows scale (rows ++ (row ∷ [])) old new
 adds-push scale [] row old mid new h add = (new, (subst (λ r. AddsRow scale row r new) h add, refl))
 adds-push scale (first ∷ rows) row old mid new h add = (h.0, (h.1.0, adds-push scale rows row h.0 mid new h.1.1 add))
-
--- what follows a place follows those before it
-follows_before : (q last p : Place) → IsTrue (is_le (place_cmp q last)) → IsTrue (follows p last) → IsTrue (follows p q)
-follows_before q last at.Header le h = ap is_lt (place_below q last at.Header le (place_follows (place_cmp last at.Header) h))
-follows_before q last (at.Item key) le h = ap is_lt (place_below q last (at.Item key) le (place_follows (place_cmp last (at.Item key)) h))
-follows_before q last (at.Warehouse key) le h = ap is_lt (place_below q last (at.Warehouse key) le (place_follows (place_cmp last (at.Warehouse key)) h))
-follows_before q last (at.District key) le h = ap is_lt (place_below q last (at.District key) le (place_follows (place_cmp last (at.District key)) h))
-follows_before q last (at.Stock key) le h = ap is_lt (place_below q last (at.Stock key) le (place_follows (place_cmp last (at.Stock key)) h))
-follows_before q last (at.Customer key) le h = ap is_lt (place_below q last (at.Customer key) le (place_follows (place_cmp last (at.Customer key)) h))
-follows_before q last (at.History key) le h = place_reaches q last (at.History key) le h
-follows_before q last (at.Order key) le h = ap is_lt (place_below q last (at.Order key) le (place_follows (place_cmp last (at.Order key)) h))
-follows_before q last (at.NewOrder key) le h = ap is_lt (place_below q last (at.NewOrder key) le (place_follows (place_cmp last (at.NewOrder key)) h))
-follows_before q last (at.Line key) le h = ap is_lt (place_below q last (at.Line key) le (place_follows (place_cmp last (at.Line key)) h))
-
-pub follows_le : (last p : Place) → IsTrue (follows p last) → IsTrue (is_le (place_cmp last p))
-follows_le last at.Header h = place_lt_le (place_cmp last at.Header) h
-follows_le last (at.Item key) h = place_lt_le (place_cmp last (at.Item key)) h
-follows_le last (at.Warehouse key) h = place_lt_le (place_cmp last (at.Warehouse key)) h
-follows_le last (at.District key) h = place_lt_le (place_cmp last (at.District key)) h
-follows_le last (at.Stock key) h = place_lt_le (place_cmp last (at.Stock key)) h
-follows_le last (at.Customer key) h = place_lt_le (place_cmp last (at.Customer key)) h
-follows_le last (at.History key) h = h
-follows_le last (at.Order key) h = place_lt_le (place_cmp last (at.Order key)) h
-follows_le last (at.NewOrder key) h = place_lt_le (place_cmp last (at.NewOrder key)) h
-follows_le last (at.Line key) h = place_lt_le (place_cmp last (at.Line key)) h
 
 in_order-push : (rows : List TableRow) (row : TableRow) → AreInOrder rows → AllByRecursion (λ before. IsTrue (follows (row_place row) (row_place before))) rows → AreInOrder (rows ++ (row ∷ []))
 in_order-push [] row h after = (tt, tt)

@@ -1,5 +1,5 @@
 -- The order of places, and that of the keys in a table.
-use Rattle.std.proofs.Common.{◌≡◌, ◌<◌, ℕ, List, [], ◌∷◌, IsTrue, refl, sym, ap, ◌∙◌, arith}
+use Rattle.std.proofs.Common.{◌≡◌, ◌<◌, ◌⊎◌, inl, inr, ℕ, List, [], ◌∷◌, IsTrue, refl, sym, ap, ◌∙◌, arith}
 use Rattle.std.specs.Cmp.Lexicographic.{slice_cmp}
 use Rattle.std.proofs.lemmas.Bool.Decides.{nat_tests}
 use Rattle.std.specs.Ordering.{nat_cmp, ordering_then, is_le, is_lt}
@@ -66,77 +66,72 @@ same_two r s = ap (ordering_then r) (then_equal s)
 same_three : (r s t : Ordering) → ordering_then r (ordering_then s (ordering_then t Equal)) ≡ ordering_then r (ordering_then s t)
 same_three r s t = ap (ordering_then r) (same_two s t)
 
-pub item_below : (j k : ℕ) → place_cmp (at.Item j) (at.Item k) ≡ Less → nat_cmp j k ≡ Less
-item_below j k h = sym (then_equal (nat_cmp j k)) ∙ h
+pub same_item : (j k : ℕ) → place_cmp (at.Item j) (at.Item k) ≡ nat_cmp j k
+same_item j k = then_equal (nat_cmp j k)
 
-pub warehouse_below : (j k : ℕ) → place_cmp (at.Warehouse j) (at.Warehouse k) ≡ Less → nat_cmp j k ≡ Less
-warehouse_below j k h = sym (then_equal (nat_cmp j k)) ∙ h
+pub same_warehouse : (j k : ℕ) → place_cmp (at.Warehouse j) (at.Warehouse k) ≡ nat_cmp j k
+same_warehouse j k = then_equal (nat_cmp j k)
 
-pub district_below : (j k : DistrictKey) → place_cmp (at.District j) (at.District k) ≡ Less → district_cmp j k ≡ Less
-district_below j k h = sym (same_two (nat_cmp j.w_id k.w_id) (nat_cmp j.d_id k.d_id)) ∙ h
+pub same_district : (j k : DistrictKey) → place_cmp (at.District j) (at.District k) ≡ district_cmp j k
+same_district j k = same_two (nat_cmp j.w_id k.w_id) (nat_cmp j.d_id k.d_id)
 
-pub stock_below : (j k : StockKey) → place_cmp (at.Stock j) (at.Stock k) ≡ Less → stock_cmp j k ≡ Less
-stock_below j k h = sym (same_two (nat_cmp j.w_id k.w_id) (nat_cmp j.i_id k.i_id)) ∙ h
+pub same_stock : (j k : StockKey) → place_cmp (at.Stock j) (at.Stock k) ≡ stock_cmp j k
+same_stock j k = same_two (nat_cmp j.w_id k.w_id) (nat_cmp j.i_id k.i_id)
 
-pub customer_below : (j k : CustomerKey) → place_cmp (at.Customer j) (at.Customer k) ≡ Less → customer_cmp j k ≡ Less
-customer_below j k h = sym (same_three (nat_cmp j.w_id k.w_id) (nat_cmp j.d_id k.d_id) (nat_cmp j.c_id k.c_id)) ∙ h
+pub same_customer : (j k : CustomerKey) → place_cmp (at.Customer j) (at.Customer k) ≡ customer_cmp j k
+same_customer j k = same_three (nat_cmp j.w_id k.w_id) (nat_cmp j.d_id k.d_id) (nat_cmp j.c_id k.c_id)
 
 pub same_history : (j k : DistrictKey) → place_cmp (at.History j) (at.History k) ≡ district_cmp j k
 same_history j k = same_two (nat_cmp j.w_id k.w_id) (nat_cmp j.d_id k.d_id)
 
-pub order_below : (j k : OrderKey) → place_cmp (at.Order j) (at.Order k) ≡ Less → order_cmp j k ≡ Less
-order_below j k h = sym (same_three (nat_cmp j.w_id k.w_id) (nat_cmp j.d_id k.d_id) (nat_cmp j.o_id k.o_id)) ∙ h
+pub same_order : (j k : OrderKey) → place_cmp (at.Order j) (at.Order k) ≡ order_cmp j k
+same_order j k = same_three (nat_cmp j.w_id k.w_id) (nat_cmp j.d_id k.d_id) (nat_cmp j.o_id k.o_id)
 
-pub new_order_below : (j k : OrderKey) → place_cmp (at.NewOrder j) (at.NewOrder k) ≡ Less → order_cmp j k ≡ Less
-new_order_below j k h = sym (same_three (nat_cmp j.w_id k.w_id) (nat_cmp j.d_id k.d_id) (nat_cmp j.o_id k.o_id)) ∙ h
+pub same_new_order : (j k : OrderKey) → place_cmp (at.NewOrder j) (at.NewOrder k) ≡ order_cmp j k
+same_new_order j k = same_three (nat_cmp j.w_id k.w_id) (nat_cmp j.d_id k.d_id) (nat_cmp j.o_id k.o_id)
 
-pub line_below : (j k : OrderLineKey) → place_cmp (at.Line j) (at.Line k) ≡ Less → line_cmp j k ≡ Less
-line_below j k h =
-    sym (ap (ordering_then (nat_cmp j.w_id k.w_id)) (same_three (nat_cmp j.d_id k.d_id) (nat_cmp j.o_id k.o_id) (nat_cmp j.number k.number))) ∙ h
-
--- ---- and back
-
-pub item_above : (j k : ℕ) → nat_cmp j k ≡ Less → place_cmp (at.Item j) (at.Item k) ≡ Less
-item_above j k h = then_equal (nat_cmp j k) ∙ h
-
-pub warehouse_above : (j k : ℕ) → nat_cmp j k ≡ Less → place_cmp (at.Warehouse j) (at.Warehouse k) ≡ Less
-warehouse_above j k h = then_equal (nat_cmp j k) ∙ h
-
-pub district_above : (j k : DistrictKey) → district_cmp j k ≡ Less → place_cmp (at.District j) (at.District k) ≡ Less
-district_above j k h = same_two (nat_cmp j.w_id k.w_id) (nat_cmp j.d_id k.d_id) ∙ h
-
-pub stock_above : (j k : StockKey) → stock_cmp j k ≡ Less → place_cmp (at.Stock j) (at.Stock k) ≡ Less
-stock_above j k h = same_two (nat_cmp j.w_id k.w_id) (nat_cmp j.i_id k.i_id) ∙ h
-
-pub customer_above : (j k : CustomerKey) → customer_cmp j k ≡ Less → place_cmp (at.Customer j) (at.Customer k) ≡ Less
-customer_above j k h = same_three (nat_cmp j.w_id k.w_id) (nat_cmp j.d_id k.d_id) (nat_cmp j.c_id k.c_id) ∙ h
-
-pub history_above : (j k : DistrictKey) → district_cmp j k ≡ Less → place_cmp (at.History j) (at.History k) ≡ Less
-history_above j k h = same_history j k ∙ h
-
-pub order_above : (j k : OrderKey) → order_cmp j k ≡ Less → place_cmp (at.Order j) (at.Order k) ≡ Less
-order_above j k h = same_three (nat_cmp j.w_id k.w_id) (nat_cmp j.d_id k.d_id) (nat_cmp j.o_id k.o_id) ∙ h
-
-pub new_order_above : (j k : OrderKey) → order_cmp j k ≡ Less → place_cmp (at.NewOrder j) (at.NewOrder k) ≡ Less
-new_order_above j k h = same_three (nat_cmp j.w_id k.w_id) (nat_cmp j.d_id k.d_id) (nat_cmp j.o_id k.o_id) ∙ h
-
-pub line_above : (j k : OrderLineKey) → line_cmp j k ≡ Less → place_cmp (at.Line j) (at.Line k) ≡ Less
-line_above j k h =
-    ap (ordering_then (nat_cmp j.w_id k.w_id)) (same_three (nat_cmp j.d_id k.d_id) (nat_cmp j.o_id k.o_id) (nat_cmp j.number k.number)) ∙ h
+pub same_line : (j k : OrderLineKey) → place_cmp (at.Line j) (at.Line k) ≡ line_cmp j k
+same_line j k = ap (ordering_then (nat_cmp j.w_id k.w_id)) (same_three (nat_cmp j.d_id k.d_id) (nat_cmp j.o_id k.o_id) (nat_cmp j.number k.number))
 
 -- ---- what follows
 
+-- a place follows those that are less, or also those that are equal
+abbrev FollowsThose : Place → Type 0
+FollowsThose p = ((last : Place) → follows p last ≡ is_lt (place_cmp last p)) ⊎ ((last : Place) → follows p last ≡ is_le (place_cmp last p))
+
+follows_is : (p : Place) → FollowsThose p
+follows_is (at.History key) = inr (λ last. refl)
+follows_is at.Header = inl (λ last. refl)
+follows_is (at.Item key) = inl (λ last. refl)
+follows_is (at.Warehouse key) = inl (λ last. refl)
+follows_is (at.District key) = inl (λ last. refl)
+follows_is (at.Stock key) = inl (λ last. refl)
+follows_is (at.Customer key) = inl (λ last. refl)
+follows_is (at.Order key) = inl (λ last. refl)
+follows_is (at.NewOrder key) = inl (λ last. refl)
+follows_is (at.Line key) = inl (λ last. refl)
+
 pub follows_less : (p last : Place) → place_cmp last p ≡ Less → IsTrue (follows p last)
-follows_less at.Header last h = ap is_lt h
-follows_less (at.Item key) last h = ap is_lt h
-follows_less (at.Warehouse key) last h = ap is_lt h
-follows_less (at.District key) last h = ap is_lt h
-follows_less (at.Stock key) last h = ap is_lt h
-follows_less (at.Customer key) last h = ap is_lt h
-follows_less (at.History key) last h = ap is_le h
-follows_less (at.Order key) last h = ap is_lt h
-follows_less (at.NewOrder key) last h = ap is_lt h
-follows_less (at.Line key) last h = ap is_lt h
+follows_less p last h = by (follows_is p)
+  where
+    by : FollowsThose p → IsTrue (follows p last)
+    by (inl is) = is last ∙ ap is_lt h
+    by (inr is) = is last ∙ ap is_le h
+
+pub follows_le : (last p : Place) → IsTrue (follows p last) → IsTrue (is_le (place_cmp last p))
+follows_le last p h = by (follows_is p)
+  where
+    by : FollowsThose p → IsTrue (is_le (place_cmp last p))
+    by (inl is) = place_lt_le (place_cmp last p) (sym (is last) ∙ h)
+    by (inr is) = sym (is last) ∙ h
+
+-- what follows a place follows those before it
+pub follows_before : (q last p : Place) → IsTrue (is_le (place_cmp q last)) → IsTrue (follows p last) → IsTrue (follows p q)
+follows_before q last p le h = by (follows_is p)
+  where
+    by : FollowsThose p → IsTrue (follows p q)
+    by (inl is) = is q ∙ ap is_lt (place_below q last p le (place_follows (place_cmp last p) (sym (is last) ∙ h)))
+    by (inr is) = is q ∙ place_reaches q last p le (sym (is last) ∙ h)
 
 -- the number of the table comes first
 abbrev pub place_number : Place → ℕ

@@ -1,29 +1,31 @@
 -- The records of the nine tables' rows, as their columns.
-use Rattle.std.proofs.Common.{◌≡◌, ◌≤◌, ◌<◌, ◌^◌, ◌==◌, ◌&&◌, ℕ, List, [], ◌∷◌, length, Bool, true, false, None, IsTrue, refl, sym, ap, subst, ◌∙◌, arith}
+use Rattle.std.proofs.Common.{◌≡◌, ◌≤◌, ◌<◌, ◌^◌, ◌==◌, ◌&&◌, ℕ, List, [], ◌∷◌, ◌++◌, length, Bool, true, false, None, IsTrue, refl, sym, ap, subst, ◌∙◌, arith}
 use Rattle.std.specs.Prelude.{if◌then◌else◌}
 use Rattle.std.specs.List.{AllByRecursion, list_all}
 use Rattle.files.specs.Span.{record_size}
 use Rattle.dataset.proofs.Short.{is_narrow, longer, short_fields}
 use Rattle.std.proofs.lemmas.Bool.Decides.{nat_tests}
+use Rattle.std.proofs.lemmas.Bool.{and_parts}
 use Rattle.rows.specs.Ranged.{is_between}
 use Rattle.rows.specs.Text.{IsText}
 use Rattle.rows.specs.declared.keys.DistrictKey.{DistrictKey}
+use Rattle.rows.specs.declared.records.Address.{Address}
 use Rattle.rows.specs.declared.keys.CustomerKey.{CustomerKey}
 use Rattle.rows.specs.Keys.{district_of_customer, district_of_order, order_of_line}
 use Rattle.schema.specs.declared.scale.Scale.{Scale}
 use Rattle.schema.specs.Scale.{has_district, has_customer}
 use Rattle.files.specs.FieldRead.{Taking}
 use Rattle.files.specs.Columns.{Column, Whole, Words as Texts, Cents, Moment, Credit, MaybeWhole, MaybeMoment, Count, Spelt, at_end, columns_fault}
-use Rattle.dataset.specs.Columns.{Sizes, Table, Items, Warehouses, Districts, Stocks, Customers, Histories, Orders, NewOrders, Lines, info_columns, letter, record_columns, sizes}
+use Rattle.dataset.specs.Columns.{Sizes, Table, Items, Warehouses, Districts, Stocks, Customers, Histories, Orders, NewOrders, Lines, address_columns, counter, info_columns, letter, record_columns, sizes}
 use Rattle.dataset.specs.Loading.{HasKey}
-use Rattle.dataset.specs.Ranges.{IsFrom}
+use Rattle.dataset.specs.Ranges.{AddressInRange, IsFrom}
 use Rattle.dataset.specs.Records.{Words, Number, Date, AreSpelt, carrier_field}
 use Rattle.dataset.specs.TableRow.{TableRow, OfItem, OfWarehouse, OfDistrict, OfStock, OfCustomer, OfHistory, OfOrder, OfNewOrder, OfLine, RowFits, infos_of, row_fields, row_of, row_read}
 use Rattle.files.specs.Columns.{Value, Values, read_columns}
-use Rattle.dataset.proofs.Bounds.{both, bounds}
+use Rattle.dataset.proofs.Bounds.{bounds}
 use Rattle.dataset.proofs.ColumnFields.{AreBetween, AreIn, AreSmall, IsBetween, IsIn, fields_of, read_are_between, read_are_spelt, spelt_are_read}
 use Rattle.dataset.proofs.RowTaken.{IsRead}
-use Rattle.files.proofs.ColumnValues.{read-take}
+use Rattle.files.proofs.ColumnValues.{join, read-take}
 
 -- ---- the columns of a scale
 
@@ -145,14 +147,25 @@ rate_within : (rate : ℕ) → rate < 10000 → IsFrom 0 9999 rate
 rate_within rate small = (omega arith, omega arith)
 
 district_within : (scale : Scale) (key : DistrictKey) → IsTrue (has_district scale key) → IsFrom 1 scale.warehouses key.w_id × IsFrom 1 10 key.d_id
-district_within scale key h = let parts = both _ _ h in (bounds 1 scale.warehouses key.w_id parts.0, bounds 1 10 key.d_id parts.1)
+district_within scale key h = let parts = and_parts _ _ h in (bounds 1 scale.warehouses key.w_id parts.0, bounds 1 10 key.d_id parts.1)
 
 customer_within : (scale : Scale) (key : CustomerKey) → IsTrue (has_customer scale key)
     → IsFrom 1 scale.warehouses key.w_id × (IsFrom 1 10 key.d_id × IsFrom 1 scale.customers key.c_id)
 customer_within scale key h =
-    let parts = both _ _ h in
+    let parts = and_parts _ _ h in
     let home = district_within scale (district_of_customer key) parts.0 in
     (home.0, (home.1, bounds 1 scale.customers key.c_id parts.1))
+
+-- columns that are within theirs, and then more
+in_join : (columns more : List Column) (values : Values columns) (others : Values more) → AreIn columns values → AreIn more others → AreIn (columns ++ more) (join columns more values others)
+in_join [] more values others h g = g
+in_join (column ∷ columns) more values others h g = (h.0, in_join columns more values.1 others h.1 g)
+
+abbrev address_values : Address → Values address_columns
+address_values a = (a.street_1, (a.street_2, (a.city, (a.state, (a.zip, tt)))))
+
+address_inside : (a : Address) → AddressInRange a → AreIn address_columns (address_values a)
+address_inside a r = (r.street_1, (r.street_2, (r.city, (r.state, (r.zip, tt)))))
 
 pub row_values : (scale : Scale) (row : TableRow) → RowFits scale row → RowValues scale row
 row_values scale (OfItem key row) h =
@@ -180,186 +193,34 @@ row_values scale (OfDistrict key row) h =
       inside = (k.0, (k.1, (r.name, (r.address.street_1, (r.address.street_2, (r.address.city, (r.address.state, (r.address.zip, (rate_within row.tax r.tax, (r.ytd, (r.next_o_id, tt)))))))))));
     }
 row_values scale (OfStock key row) h =
-    let k = both _ _ h.0 in
+    let k = and_parts _ _ h.0 in
     let r = h.1 in
     let infos = info_values row.dist r.dist.ten r.dist.texts in
-    let v = infos.values in
-    let i = infos.inside in record {
+    let more : List Column = counter ∷ counter ∷ counter ∷ Texts 50 ∷ [] in
+    let others : Values more = (row.ytd, (row.order_cnt, (row.remote_cnt, (row.data, tt)))) in
+    record {
       table = Stocks;
-      values = (
-        key.w_id,
-        (
-          key.i_id,
-          (
-            row.quantity,
-            (
-              v.0,
-              (
-                v.1.0,
-                (
-                  v.1.1.0,
-                  (
-                    v.1.1.1.0,
-                    (
-                      v.1.1.1.1.0,
-                      (
-                        v.1.1.1.1.1.0,
-                        (
-                          v.1.1.1.1.1.1.0,
-                          (
-                            v.1.1.1.1.1.1.1.0,
-                            (
-                              v.1.1.1.1.1.1.1.1.0,
-                              (
-                                v.1.1.1.1.1.1.1.1.1.0,
-                                (row.ytd, (row.order_cnt, (row.remote_cnt, (row.data, tt)))),
-                              ),
-                            ),
-                          ),
-                        ),
-                      ),
-                    ),
-                  ),
-                ),
-              ),
-            ),
-          ),
-        ),
-      );
+      values = (key.w_id, (key.i_id, (row.quantity, join info_columns more infos.values others)));
       is = λ n. OfStock key (record { quantity = row.quantity; dist = infos.is n; ytd = row.ytd; order_cnt = row.order_cnt; remote_cnt = row.remote_cnt; «data» = row.data });
       inside = (
         bounds 1 scale.warehouses key.w_id k.0,
-        (
-          bounds 1 scale.items key.i_id k.1,
-          (
-            r.quantity,
-            (
-              i.0,
-              (
-                i.1.0,
-                (
-                  i.1.1.0,
-                  (
-                    i.1.1.1.0,
-                    (
-                      i.1.1.1.1.0,
-                      (
-                        i.1.1.1.1.1.0,
-                        (
-                          i.1.1.1.1.1.1.0,
-                          (
-                            i.1.1.1.1.1.1.1.0,
-                            (
-                              i.1.1.1.1.1.1.1.1.0,
-                              (
-                                i.1.1.1.1.1.1.1.1.1.0,
-                                (r.ytd, (r.order_cnt, (r.remote_cnt, (r.stock_data, tt)))),
-                              ),
-                            ),
-                          ),
-                        ),
-                      ),
-                    ),
-                  ),
-                ),
-              ),
-            ),
-          ),
-        ),
+        (bounds 1 scale.items key.i_id k.1, (r.quantity, in_join info_columns more infos.values others infos.inside (r.ytd, (r.order_cnt, (r.remote_cnt, (r.stock_data, tt)))))),
       );
     }
 row_values scale (OfCustomer key row) h =
     let k = customer_within scale key h.0 in
     let r = h.1 in
-    let a = row.address in record {
+    let address = address_values row.address in
+    let more : List Column = Texts 16 ∷ Moment ∷ Credit ∷ Cents ∷ Whole 0 9999 ∷ Cents ∷ Cents ∷ counter ∷ counter ∷ Texts 500 ∷ [] in
+    let others : Values more =
+    (row.phone, (row.since, (row.credit, (row.credit_lim, (row.discount, (row.balance, (row.ytd_payment, (row.payment_cnt, (row.delivery_cnt, (row.data, tt)))))))))) in
+    let others_inside : AreIn more others =
+    (r.phone, (r.since, (tt, (r.credit_lim, (rate_within row.discount r.discount, (r.balance, (r.ytd_payment, (r.payment_cnt, (r.delivery_cnt, (r.customer_data, tt)))))))))) in
+    record {
       table = Customers;
-      values = (
-        key.w_id,
-        (
-          key.d_id,
-          (
-            key.c_id,
-            (
-              row.first,
-              (
-                row.middle,
-                (
-                  row.last,
-                  (
-                    a.street_1,
-                    (
-                      a.street_2,
-                      (
-                        a.city,
-                        (
-                          a.state,
-                          (
-                            a.zip,
-                            (
-                              row.phone,
-                              (
-                                row.since,
-                                (
-                                  row.credit,
-                                  (row.credit_lim, (row.discount, (row.balance, (row.ytd_payment, (row.payment_cnt, (row.delivery_cnt, (row.data, tt))))))),
-                                ),
-                              ),
-                            ),
-                          ),
-                        ),
-                      ),
-                    ),
-                  ),
-                ),
-              ),
-            ),
-          ),
-        ),
-      );
+      values = (key.w_id, (key.d_id, (key.c_id, (row.first, (row.middle, (row.last, join address_columns more address others))))));
       is = refl;
-      inside = (
-        k.0,
-        (
-          k.1.0,
-          (
-            k.1.1,
-            (
-              r.first,
-              (
-                r.middle,
-                (
-                  r.last,
-                  (
-                    r.address.street_1,
-                    (
-                      r.address.street_2,
-                      (
-                        r.address.city,
-                        (
-                          r.address.state,
-                          (
-                            r.address.zip,
-                            (
-                              r.phone,
-                              (
-                                r.since,
-                                (
-                                  tt,
-                                  (r.credit_lim, (rate_within row.discount r.discount, (r.balance, (r.ytd_payment, (r.payment_cnt, (r.delivery_cnt, (r.customer_data, tt))))))),
-                                ),
-                              ),
-                            ),
-                          ),
-                        ),
-                      ),
-                    ),
-                  ),
-                ),
-              ),
-            ),
-          ),
-        ),
-      );
+      inside = (k.0, (k.1.0, (k.1.1, (r.first, (r.middle, (r.last, in_join address_columns more address others (address_inside row.address r.address) others_inside))))));
     }
 row_values scale (OfHistory key row) h =
     let k = district_within scale key h.0 in

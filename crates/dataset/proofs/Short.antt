@@ -5,6 +5,7 @@ use Rattle.std.specs.List.{list_all}
 use Rattle.std.proofs.lemmas.Bool.Decides.{nat_tests}
 use Rattle.std.proofs.lemmas.Fmt.{length-decimal-le, length_signed_le}
 use Rattle.std.proofs.lemmas.List.Sums.{sum_by-append}
+use Rattle.std.proofs.lemmas.Bool.{and_parts}
 use Rattle.rows.specs.declared.records.Credit.{Credit as CreditKind}
 use Rattle.rows.specs.declared.records.Credit.TheVariants.{Good, Bad}
 use Rattle.files.specs.Columns.{Column, Whole, Words as Texts, Cents, Moment, Credit, MaybeWhole, MaybeMoment, Count, Spelt}
@@ -12,7 +13,6 @@ use Rattle.files.specs.MomentText.{IsMomentText}
 use Rattle.files.specs.Span.{record_size}
 use Rattle.files.specs.Word.{credit_text}
 use Rattle.files.proofs.Ascii.{small_money}
-use Rattle.files.proofs.FieldsRead.{both}
 use Rattle.files.proofs.Moments.{length_moment}
 use Rattle.dataset.specs.Records.{IsSpelt, AreSpelt}
 use Rattle.files.specs.Columns.{Value, Values}
@@ -67,6 +67,6 @@ short_fields [] values [] small narrow inside spelt = omega arith
 short_fields [] values (text ∷ texts) small narrow inside spelt = absurd spelt
 short_fields (column ∷ columns) values [] small narrow inside spelt = absurd spelt
 short_fields (column ∷ columns) values (text ∷ texts) small narrow inside spelt =
-    let tests = both (is_narrow column) (list_all is_narrow columns) narrow in
+    let tests = and_parts (is_narrow column) (list_all is_narrow columns) narrow in
     let size = longer text texts (length columns) (short_field column values.0 text small.0 tests.0 inside.0 spelt.0) (short_fields columns values.1 texts small.1 tests.1 inside.1 spelt.1) in
     omega (arith, size)

@@ -9,6 +9,7 @@ use Rattle.std.specs.Cmp.{IsTotalOrder, nat_cmp_total}
 use Rattle.std.specs.FinMap.{entries, from_entries}
 use Rattle.std.proofs.lemmas.List.{length-append, length-map}
 use Rattle.std.proofs.lemmas.List.Sums.{sum-map, sum_by-cons}
+use Rattle.std.proofs.lemmas.Slice.Zip.{firsts-zip, length-zip}
 use Rattle.rows.specs.declared.keys.DistrictKey.{DistrictKey}
 use Rattle.rows.specs.declared.records.Item.{Item}
 use Rattle.rows.specs.declared.records.Warehouse.{Warehouse}
@@ -26,16 +27,11 @@ use Rattle.schema.proofs.OrderedParts.{entries-ordered}
 use Rattle.schema.proofs.ScalePlaces.{length-item_ids, length-warehouse_ids, length-district_keys, length-stock_keys, length-customer_keys}
 use Rattle.dataset.specs.Records.{Field, Words, Number, AreSpelt, AreRecords, row_records, table_records, payment_records, records, records_by_table, end_fields, header_fields, item_fields, warehouse_fields, district_fields, stock_fields, customer_fields, history_fields, order_fields, new_order_fields, line_fields}
 use Rattle.dataset.specs.Writing.{count_fields}
-use Rattle.dataset.proofs.Keys.{sorted-item_ids, sorted-warehouse_ids, sorted-district_keys, sorted-stock_keys, sorted-customer_keys, keys_of-zip}
+use Rattle.dataset.proofs.Keys.{sorted-item_ids, sorted-warehouse_ids, sorted-district_keys, sorted-stock_keys, sorted-customer_keys}
 
 -- the entries of a table whose rows stand in the order of its keys
 pub dense : {K X : Type 0} {R : K → K → Ordering} → IsTotalOrder R → (ks : List K) (xs : List X) → IsStrictlySortedBy R ks → length xs ≡ length ks → entries (from_entries {R = R} (zip ks xs)) ≡ zip ks xs
-dense {R = R} o ks xs sorted even = entries-ordered o (zip ks xs) (subst (IsStrictlySortedBy R) (sym (keys_of-zip ks xs even)) sorted)
-
-length-zip : {K X : Type 0} (ks : List K) (xs : List X) → length xs ≡ length ks → length (zip ks xs) ≡ length xs
-length-zip [] xs even = let none : length xs ≡ 0 = even in sym none
-length-zip (k ∷ ks) [] even = absurd (omega arith)
-length-zip (k ∷ ks) (x ∷ xs) even = let rest = length-zip ks xs (omega arith) in omega arith
+dense {R = R} o ks xs sorted even = entries-ordered o (zip ks xs) (subst (IsStrictlySortedBy R) (sym (firsts-zip ks xs even)) sorted)
 
 length-payments : (ks : List DistrictKey) (lists : List (List History)) → length lists ≡ length ks → length (payment_records (zip ks lists)) ≡ sum (map length lists)
 length-payments [] [] even = refl
@@ -46,6 +42,10 @@ length-payments (k ∷ ks) (list ∷ lists) even =
     ∙ ap (λ n. n + length (payment_records (zip ks lists))) (length-map list (history_fields k))
     ∙ ap (λ n. length list + n) (length-payments ks lists (omega arith) ∙ sum-map length lists)
     ∙ sym (sum-map length (list ∷ lists) ∙ sum_by-cons length list lists)
+
+-- there is no row more than keys
+pub few : {X : Type 0} {n : ℕ} {xs ys : List X} → length ys ≡ n → xs ≡ ys → length xs ≤ n
+few even same = omega (arith, even, ap length same)
 
 -- the records of rows that stand in the order of the scale's keys
 abbrev pub items_of : Scale → List Item → List (List Field)
@@ -89,45 +89,26 @@ module _ (scale : Scale) (rows : TableRows) where
   sorted_by_table = dense_then ordered_by_table
 
   module _ (counts : HasCounts scale rows) where
-    item_count : length rows.items.items ≡ length (item_ids scale)
+    pub item_count : length rows.items.items ≡ length (item_ids scale)
     item_count = counts.items ∙ sym (length-item_ids scale)
 
-    warehouse_count : length rows.warehouses.items ≡ length (warehouse_ids scale)
+    pub warehouse_count : length rows.warehouses.items ≡ length (warehouse_ids scale)
     warehouse_count = counts.warehouses ∙ sym (length-warehouse_ids scale)
 
-    district_count : length rows.districts.items ≡ length (district_keys scale)
+    pub district_count : length rows.districts.items ≡ length (district_keys scale)
     district_count = counts.districts ∙ sym (length-district_keys scale)
 
-    stock_count : length rows.stocks.items ≡ length (stock_keys scale)
+    pub stock_count : length rows.stocks.items ≡ length (stock_keys scale)
     stock_count = counts.stocks ∙ sym (length-stock_keys scale)
 
-    customer_count : length rows.customers.items ≡ length (customer_keys scale)
+    pub customer_count : length rows.customers.items ≡ length (customer_keys scale)
     customer_count = counts.customers ∙ sym (length-customer_keys scale)
 
-    history_count : length rows.histories.items ≡ length (district_keys scale)
+    pub history_count : length rows.histories.items ≡ length (district_keys scale)
     history_count = counts.histories ∙ sym (length-district_keys scale)
 
-    -- there is no row more than keys
-    pub few_items : (items : List _) → items ≡ rows.items.items → length items ≤ length (item_ids scale)
-    few_items items same = omega (arith, item_count, ap length same)
-
-    pub few_warehouses : (items : List _) → items ≡ rows.warehouses.items → length items ≤ length (warehouse_ids scale)
-    few_warehouses items same = omega (arith, warehouse_count, ap length same)
-
-    pub few_districts : (items : List _) → items ≡ rows.districts.items → length items ≤ length (district_keys scale)
-    few_districts items same = omega (arith, district_count, ap length same)
-
-    pub few_stocks : (items : List _) → items ≡ rows.stocks.items → length items ≤ length (stock_keys scale)
-    few_stocks items same = omega (arith, stock_count, ap length same)
-
-    pub few_customers : (items : List _) → items ≡ rows.customers.items → length items ≤ length (customer_keys scale)
-    few_customers items same = omega (arith, customer_count, ap length same)
-
-    pub few_histories : (items : List _) → items ≡ rows.histories.items → length items ≤ length (district_keys scale)
-    few_histories items same = omega (arith, history_count, ap length same)
-
     zip_count : {K X : Type 0} (fields : K → X → List Field) (ks : List K) (xs : List X) → length xs ≡ length ks → length (row_records fields (zip ks xs)) ≡ length xs
-    zip_count fields ks xs even = length-map (zip ks xs) (λ e. fields e.0 e.1) ∙ length-zip ks xs even
+    zip_count fields ks xs even = omega (arith, length-map (zip ks xs) (λ e. fields e.0 e.1), length-zip ks xs, even)
 
     counted : end_fields rows_by_table ≡ count_fields rows
     counted i =

@@ -1,9 +1,8 @@
 -- The texts of records, some more at a time.
-use Rattle.std.proofs.Common.{◌≡◌, ℕ, List, [], ◌∷◌, ◌++◌, sym, ap, ◌∙◌, append_assoc}
+use Rattle.std.proofs.Common.{◌≡◌, ℕ, List, [], ◌∷◌, ◌++◌, ap, ◌∙◌, append_assoc}
 use Rattle.std.specs.Prelude.{ℤ}
 use Rattle.std.specs.Fmt.{decimal, signed_decimal}
 use Rattle.std.specs.List.{AllZip}
-use Rattle.std.proofs.lemmas.List.{append-nil}
 use Rattle.dataset.specs.Records.{Field, Words, Number, Money, IsSpelt}
 use Rattle.dataset.specs.Writing.{Adds}
 
@@ -12,10 +11,6 @@ all_zip-append R [] us [] vs h g = g
 all_zip-append R [] us (y ∷ ys) vs h g = absurd h
 all_zip-append R (x ∷ xs) us [] vs h g = absurd h
 all_zip-append R (x ∷ xs) us (y ∷ ys) vs h g = (h.0, all_zip-append R xs us ys vs h.1 g)
-
--- no fields more
-pub adds-none : (r : List (List ℕ)) → Adds [] r r
-adds-none r = record { texts = []; are_spelt = tt; added = sym (append-nil r) }
 
 -- some fields, and then more
 pub adds-then : {fields more : List Field} {old mid new : List (List ℕ)} → Adds fields old mid → Adds more mid new → Adds (fields ++ more) old new

@@ -12,7 +12,7 @@ ghost use Rattle.dataset.specs.Columns.{Histories};
 use crate::loader::Loader;
 use crate::moments::put_moment;
 use crate::place::Place;
-use crate::recorded::{Dense, Recorded};
+use crate::recorded::{Dense, Recorded, write_row};
 use crate::{customers, districts};
 use files::{Fields, FileError, NewRecord, RecordWriter};
 use rows::{District, DistrictKey, History};
@@ -115,9 +115,7 @@ fn write_list<W: Write>(
     ensures failed { IfErr result IsOfWriting }
 {
     for payment in payments {
-        out.clear();
-        payment.put(home, out)?;
-        writer.write(sink, out)?;
+        write_row(writer, sink, out, home, payment)?;
     }
     Ok(())
 }

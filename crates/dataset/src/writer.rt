@@ -7,7 +7,7 @@ ghost use Rattle.dataset.specs.Entries.{GivesEntries};
 ghost use Rattle.dataset.specs.Records.{AreFirstRecords, AreRecords, records, row_records};
 ghost use Rattle.dataset.specs.Writing.{Puts, StopsIn};
 
-use crate::recorded::{Dense, Recorded};
+use crate::recorded::{Dense, Recorded, write_row};
 use crate::{end, header, histories};
 use files::{FileError, NewRecord, RecordWriter};
 use schema::{Entries, Scale, Tables};
@@ -75,9 +75,7 @@ fn write_dense<W: Write, K, T: Dense<K>>(
     ensures failed { IfErr result IsOfWriting }
 {
     for (place, row) in rows.iter().enumerate() {
-        out.clear();
-        row.put(T::key_at(scale, place), out)?;
-        writer.write(sink, out)?;
+        write_row(writer, sink, out, T::key_at(scale, place), row)?;
     }
     Ok(())
 }
@@ -99,9 +97,7 @@ fn write_ordered<
     ensures failed { IfErr result IsOfWriting }
 {
     for (key, row) in rows {
-        out.clear();
-        row.put(key, out)?;
-        writer.write(sink, out)?;
+        write_row(writer, sink, out, key, row)?;
     }
     Ok(())
 }

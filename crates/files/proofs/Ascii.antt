@@ -2,10 +2,10 @@
 use Rattle.std.proofs.Common.{Ok, length, suc, neg_ℤ, ◌≤ℤ◌, ◌≡◌, ◌<◌, ◌/◌, ◌%◌, ◌+◌, ◌^◌, ℕ, ℤ, pos, negsuc, true, nat_le, None, List, [], ◌∷◌, ◌++◌, IsUtf8, codes, refl, sym, subst, arith}
 use Rattle.std.specs.Str.{IsAscii}
 use Rattle.std.specs.List.{list_all}
-use Rattle.std.specs.Fmt.{decimal, signed_decimal}
+use Rattle.std.specs.Fmt.{decimal}
 use Rattle.std.proofs.lemmas.Int.{ints}
 use Rattle.std.proofs.lemmas.Bool.Decides.{nat_tests}
-use Rattle.std.proofs.lemmas.Fmt.{IsAscii-decimal, IsAscii-signed}
+use Rattle.std.proofs.lemmas.Fmt.{IsAscii-decimal}
 use Rattle.std.proofs.lemmas.Str.{IsUtf8-from_ascii, IsAscii-append}
 use Rattle.std.proofs.lemmas.Str.Ascii.{IsAscii-nil, IsAscii-cons}
 use lib.Signed.{mag}
@@ -16,10 +16,8 @@ use Rattle.jiff_fmt.specs.Text.{pad2, pad4, year_text, date_text, time_text, fra
 use Rattle.amounts.specs.Money.{IsMoney}
 use Rattle.rows.specs.Text.{IsText, is_printable_byte}
 use Rattle.rows.proofs.Ascii.{ascii_words}
-use Rattle.rows.specs.declared.records.Credit.{Credit}
-use Rattle.rows.specs.declared.records.Credit.TheVariants.{Good, Bad}
 use Rattle.files.specs.MomentText.{IsMomentText}
-use Rattle.files.specs.Word.{credit_text, text_read}
+use Rattle.files.specs.Word.{text_read}
 
 pub utf8_number : (n : ℕ) → n < 2 ^ 64 → IsUtf8 (decimal n)
 utf8_number n h = IsUtf8-from_ascii (decimal n) (IsAscii-decimal n h)
@@ -29,15 +27,8 @@ pub small_money : (z : ℤ) → IsMoney z → mag z < 2 ^ 63
 small_money (pos n) m = let high = m.high in omega (arith, ints)
 small_money (negsuc n) m = let low = m.low in omega (arith, ints)
 
-pub utf8_money : (z : ℤ) → IsMoney z → IsUtf8 (signed_decimal z)
-utf8_money z m = IsUtf8-from_ascii (signed_decimal z) (IsAscii-signed z (small_money z m))
-
 pub utf8_text : (width : ℕ) (bytes : List ℕ) → IsText width bytes → IsUtf8 bytes
 utf8_text width bytes h = IsUtf8-from_ascii bytes (ascii_words bytes h.printable)
-
-pub utf8_credit : (credit : Credit) → IsUtf8 (credit_text credit)
-utf8_credit Good = IsUtf8-from_ascii (codes "GC") (ascii_words (codes "GC") refl)
-utf8_credit Bad = IsUtf8-from_ascii (codes "BC") (ascii_words (codes "BC") refl)
 
 -- ---- moments
 

@@ -7,9 +7,9 @@ use Rattle.files.specs.declared.fault.FaultKind.TheVariants.{WrongShape}
 use Rattle.files.specs.declared.fields.Fields.{Fields}
 use Rattle.files.specs.FieldRead.{Taking, taking, field_read, whole_read}
 use Rattle.files.specs.KindsRead.{count_read, credit_read, moment_read, money_read, optional_read}
-use Rattle.files.specs.Taken.{fault_of, fields_left, with_fault}
+use Rattle.files.specs.Taken.{with_fault}
 use Rattle.files.specs.Word.{text_read}
-use Rattle.files.specs.Columns.{Column, Whole, Words, Cents, Moment, Credit as CreditColumn, MaybeWhole, MaybeMoment, Count, at_end, columns_end, take_column, take_columns}
+use Rattle.files.specs.Columns.{Column, Whole, Words, Cents, Moment, Credit as CreditColumn, MaybeWhole, MaybeMoment, Count, at_end, take_column, take_columns}
 
 -- the fields were taken so: a record, by which the columns are found
 pub record TakesColumns (columns : List Column) (old new : Fields) : Type 0 where
@@ -53,7 +53,3 @@ count number expected old new same is = record { is = is ∙ ap (λ n. (field_re
 pub ended : (left : List (List ℕ)) (old new : Option FaultKind) → (left ≡ [] → new ≡ old) → (left ≢ [] → new ≡ Some (with_fault old WrongShape)) → new ≡ at_end left old
 ended [] old new none some = none refl
 ended (field ∷ fields) old new none some = some (λ e. cc)
-
--- all columns that are left were taken
-pub took_all : (columns : List Column) (old taken : Fields) (fault : Option FaultKind) → taking taken ≡ take_columns columns (taking old) → fault ≡ at_end (fields_left taken) (fault_of taken) → fault ≡ columns_end columns (taking old)
-took_all columns old taken fault is end = end ∙ ap (λ (t : Taking). at_end t.left t.fault) is

@@ -1,5 +1,5 @@
 -- A field that was parsed is read as it is defined.
-use Rattle.std.proofs.Common.{◌≡◌, ◌≤◌, ◌<◌, ◌^◌, ◌↔◌, ◌⊎◌, ◌==◌, ◌&&◌, inl, inr, ℕ, List, [], ◌∷◌, drop, length, Bool, true, false, not, nat_le, Option, Some, None, Result, Ok, Err, MatchResult, IfOk, IfErr, refl, ap, subst, arith}
+use Rattle.std.proofs.Common.{◌≡◌, ◌≤◌, ◌<◌, ◌^◌, ◌↔◌, ◌⊎◌, ◌==◌, inl, inr, ℕ, List, [], ◌∷◌, drop, length, Bool, true, false, not, nat_le, Option, Some, None, Result, Ok, Err, MatchResult, IfOk, IfErr, refl, ap, subst, arith}
 use Rattle.std.specs.Prelude.{if◌then◌else◌}
 use Rattle.std.specs.Char.{is_ascii_digit}
 use Rattle.std.specs.Fmt.{decimal}
@@ -7,6 +7,7 @@ use Rattle.std.specs.List.{list_all}
 use Rattle.std.specs.Str.Parse.{digits_value}
 use Rattle.std.proofs.lemmas.Bool.Decides.{nat_tests}
 use Rattle.std.proofs.lemmas.Fmt.{decimal_is_IsNumeral}
+use Rattle.std.proofs.lemmas.Bool.{and_parts}
 use Rattle.files.specs.declared.fault.FaultKind.{FaultKind}
 use Rattle.files.specs.declared.fault.FaultKind.TheVariants as fault
 use Rattle.files.specs.Fault.{fault_number, least_fault}
@@ -18,10 +19,6 @@ use Rattle.files.proofs.Numerals.{all_digits_decimal, is_number-decimal, spellin
 not_negative : (bytes : List ℕ) → list_all is_ascii_digit bytes ≡ true → is_negative bytes ≡ false
 not_negative [] h = refl
 not_negative (byte ∷ bytes) h = grind (arith, nat_tests)
-
-pub both : (b c : Bool) → (b && c) ≡ true → (b ≡ true) × (c ≡ true)
-both true c h = (refl, h)
-both false c h = absurd (cc h)
 
 -- what spells a number without a minus sign is digits
 pub unsigned_digits : (bytes : List ℕ) → is_number bytes ≡ true → is_negative bytes ≡ false → (list_all is_ascii_digit bytes ≡ true) × (0 < length bytes)
@@ -69,8 +66,8 @@ whole_is low high bytes (Err kind) fits value range reads no_kind (inr e) =
     by false none w is = let no = no_kind.1 none in let clash : fault.NotOfKind ≡ fault.OutOfRange = cc in absurd (cc clash)
     by true number false is = rw (number, is, e) refl
     by true number true is =
-        let plain = (both (not (is_negative bytes)) _ is).0 in
-        let ends = both (nat_le low (digits_value 10 bytes)) (nat_le (digits_value 10 bytes) high) (both (not (is_negative bytes)) _ is).1 in
+        let plain = (and_parts (not (is_negative bytes)) _ is).0 in
+        let ends = and_parts (nat_le low (digits_value 10 bytes)) (nat_le (digits_value 10 bytes) high) (and_parts (not (is_negative bytes)) _ is).1 in
         let least : low ≤ digits_value 10 bytes = let l = ends.0 in grind (arith, nat_tests, l) in
         let most : digits_value 10 bytes ≤ high = let m = ends.1 in grind (arith, nat_tests, m) in
         let digits = unsigned_digits bytes number (not_true (is_negative bytes) plain) in

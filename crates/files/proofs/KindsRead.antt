@@ -12,6 +12,7 @@ use Rattle.std.proofs.lemmas.Int.{ints}
 use Rattle.std.proofs.lemmas.Str.{is_utf8-from_IsUtf8, IsUtf8-from_is_utf8}
 use Rattle.std.proofs.lemmas.Str.Parse.{parse_signed_plain, parse_signed_minus}
 use Rattle.std.proofs.lemmas.Result.{IfErr-weaker}
+use Rattle.std.proofs.lemmas.Bool.{and_parts}
 use Rattle.jiff.specs.Names.{iso_datetime_text}
 use Rattle.jiff_core.specs.DateTime.{civil_seconds}
 use Rattle.jiff_core.specs.declared.civil.datetime.DateTime.{DateTime}
@@ -34,7 +35,7 @@ use Rattle.files.specs.Taken.{TakesWell, fields_left, fault_of, with_fault}
 use Rattle.files.specs.Word.{credit_text}
 use Rattle.files.proofs.Amounts.{money_fits}
 use Rattle.files.proofs.Ascii.{utf8_moment}
-use Rattle.files.proofs.FieldsRead.{Absent, field_is, given_by, by_result, unsigned_digits, within_digits, both, not_true}
+use Rattle.files.proofs.FieldsRead.{Absent, field_is, given_by, by_result, unsigned_digits, within_digits, not_true}
 use Rattle.files.proofs.Numerals.{own, number_plain, number_of_positive, signed_negative, spelling, is_number-decimal, is_number-signed}
 use Rattle.files.proofs.ShortNumbers.{number_is_text}
 use Rattle.files.proofs.Unlike.{false_unless}
@@ -53,8 +54,8 @@ whole_sound low high bytes n fits e = by (is_number bytes) refl (is_within low h
     by true number false is = let no = rw (number, is) at e in absurd cc
     by true number true is =
         let value : digits_value 10 bytes ≡ n = let v = rw (number, is) at e in cc in
-        let plain = (both (not (is_negative bytes)) _ is).0 in
-        let ends = both (nat_le low (digits_value 10 bytes)) (nat_le (digits_value 10 bytes) high) (both (not (is_negative bytes)) _ is).1 in
+        let plain = (and_parts (not (is_negative bytes)) _ is).0 in
+        let ends = and_parts (nat_le low (digits_value 10 bytes)) (nat_le (digits_value 10 bytes) high) (and_parts (not (is_negative bytes)) _ is).1 in
         let most : digits_value 10 bytes ≤ high = let m = ends.1 in grind (arith, nat_tests, m) in
         let digits = unsigned_digits bytes number (not_true (is_negative bytes) plain) in
         ap decimal (sym value) ∙ spelling bytes number digits.0 digits.1 (omega (arith, most, fits))
@@ -94,7 +95,7 @@ count_sound count n bytes fits e = by (is_number bytes) refl (is_within count co
     by false number w is = let no = rw number at e in absurd cc
     by true number false is = let no = rw (number, is) at e in absurd cc
     by true number true is =
-        let ends = both (nat_le count (digits_value 10 bytes)) (nat_le (digits_value 10 bytes) count) (both (not (is_negative bytes)) _ is).1 in
+        let ends = and_parts (nat_le count (digits_value 10 bytes)) (nat_le (digits_value 10 bytes) count) (and_parts (not (is_negative bytes)) _ is).1 in
         let least : count ≤ digits_value 10 bytes = let l = ends.0 in grind (arith, nat_tests, l) in
         let most : digits_value 10 bytes ≤ count = let m = ends.1 in grind (arith, nat_tests, m) in
         let value : digits_value 10 bytes ≡ count = omega (arith, least, most) in
@@ -104,7 +105,7 @@ count_sound count n bytes fits e = by (is_number bytes) refl (is_within count co
 
 signed_digits : (cs : List ℕ) → is_positive cs ≡ true → (list_all is_ascii_digit cs ≡ true) × (0 < length cs)
 signed_digits [] h = absurd cc
-signed_digits (c ∷ cs) h = ((both (not (c == 48)) _ h).1, omega arith)
+signed_digits (c ∷ cs) h = ((and_parts (not (c == 48)) _ h).1, omega arith)
 
 -- where nothing was read of a number's spelling, it is out of range
 pub too_much : {E : Type 0} (bs : List ℕ) (r : Result ℤ E) (error : E) → ParsesSigned w64 10 bs r → is_number bs ≡ true → r ≡ Err error → money (signed_value bs) ≡ None
@@ -149,7 +150,7 @@ value_of_signed (pos n) m =
     let high = m.high in
     let small : n < 2 ^ 64 = omega (arith, ints) in
     let is = within_digits 0 n n (decimal n) refl small (omega arith) (omega arith) in
-    signed_plain (decimal n) n (not_true (is_negative (decimal n)) (both (not (is_negative (decimal n))) _ is.0).0) (value_of_decimal n small) (is_number-decimal n small)
+    signed_plain (decimal n) n (not_true (is_negative (decimal n)) (and_parts (not (is_negative (decimal n))) _ is.0).0) (value_of_decimal n small) (is_number-decimal n small)
 value_of_signed (negsuc n) m =
     let low = m.low in
     let small : suc n < 2 ^ 64 = omega (arith, ints) in
@@ -197,6 +198,11 @@ money_sound bytes z e = by (is_number bytes) refl (is_money (signed_value bytes)
     by true number true is =
         let value : signed_value bytes ≡ z = let v = rw (number, is) at e in cc in
         ap signed_decimal (sym value) ∙ spelt bytes number is
+
+-- the same of what a parser gives
+pub if_money : (bytes : List ℕ) (r : Result ℤ FaultKind) → r ≡ money_read bytes → IfOk r (λ z. signed_decimal z ≡ bytes)
+if_money bytes (Ok z) is = money_sound bytes z (sym is)
+if_money bytes (Err kind) is = tt
 
 -- ---- credits
 
@@ -248,13 +254,6 @@ field_from {X} read other stood value f b n word parsed empty is same left none 
     field_is read other value (fields_left f) (fields_left n) (fault_of f) (fault_of b) (fault_of n) word (kept ∙ left) none some empty
     (given_by (read word) parsed other value (fault_of b) (fault_of n) is
     (by_result parsed other value (fault_of b) (fault_of n) ok err (IfErr-weaker parsed _ _ (λ kind e. e ∙ same) stands)))
-
--- what a field spells is read of it
-pub reads_field : {X : Type 0} (read : List ℕ → Result X FaultKind) (other value : X) (f n : Fields) (text : List ℕ) (rest : List (List ℕ)) (v : X)
-    → ◌≡◌ {A = X × Taking} (value, taking n) (field_read read other (taking f)) → fields_left f ≡ text ∷ rest → read text ≡ Ok v → (value ≡ v) × (fault_of n ≡ fault_of f)
-reads_field {X} read other value f n text rest v is next e =
-    let read_is = rw (next, e) at is in
-    (ap (λ (p : X × Taking). p.0) read_is, ap (λ (p : X × Taking). p.1.fault) read_is)
 
 -- a field that was taken without a fault, and what it was read as
 pub record TookField {X : Type 0} (read : List ℕ → Result X FaultKind) (value : X) (old new : List (List ℕ)) (known : Option FaultKind) : Type 0 where
@@ -340,7 +339,7 @@ moment_complete text seconds (moment, s) most =
 
 pub spelt_not : (text : List ℕ) (moment : DateTime) → ((iso_datetime_text moment ≡ text) × (moment.time.subsec_nanosecond ≡ 0) → ⊥) → (bytes_eq (iso_datetime_text moment) text && (moment.time.subsec_nanosecond == 0)) ≡ false
 spelt_not text moment other = false_unless (bytes_eq (iso_datetime_text moment) text && (moment.time.subsec_nanosecond == 0)) (λ h.
-    let parts = both (bytes_eq (iso_datetime_text moment) text) (moment.time.subsec_nanosecond == 0) h in
+    let parts = and_parts (bytes_eq (iso_datetime_text moment) text) (moment.time.subsec_nanosecond == 0) h in
     let whole : moment.time.subsec_nanosecond ≡ 0 = let z = parts.1 in grind (arith, nat_tests, z) in
     other ((bytes_decides (iso_datetime_text moment) text).0 parts.0, whole))
 
@@ -363,31 +362,6 @@ unspelt (Err error) = refl
 pub no_bytes_no_moment : moment_read [] ≡ Err fault.NotOfKind
 unfolding moment_read
 no_bytes_no_moment = elim (is_utf8 []) as (λ b. cond b (spelt_moment [] (parse_datetime [])) (Err fault.NotOfKind) ≡ Err fault.NotOfKind) [ true ↦ unspelt (parse_datetime []) | false ↦ refl ]
-
--- ---- faults
-
-at_fault : (seconds : ℤ) → IfErr (moment_at seconds) (λ kind. kind ≡ fault.NotOfKind)
-at_fault (pos n) = elim (nat_le n 253402300799) as (λ b. IfErr (cond b (Ok n) (Err fault.NotOfKind)) (λ kind. kind ≡ fault.NotOfKind)) [ true ↦ tt | false ↦ refl ]
-at_fault (negsuc n) = refl
-
-spelt_fault : (text : List ℕ) (r : Result (DateParts × TimeParts) Error) → IfErr (spelt_moment text r) (λ kind. kind ≡ fault.NotOfKind)
-spelt_fault text (Ok (date, time)) =
-    elim (bytes_eq (parts_text date time) text && (time.subsec == 0)) as (λ b. IfErr (cond b (moment_at (parts_seconds date time)) (Err fault.NotOfKind)) (λ kind. kind ≡ fault.NotOfKind)) [
-      | true ↦ at_fault (parts_seconds date time)
-      | false ↦ refl
-    ]
-spelt_fault text (Err error) = refl
-
--- the one fault of a moment
-pub moment_fault : (bytes : List ℕ) → IfErr (moment_read bytes) (λ kind. kind ≡ fault.NotOfKind)
-unfolding moment_read
-moment_fault bytes =
-    elim (is_utf8 bytes) as (λ b. IfErr (cond b (spelt_moment bytes (parse_datetime bytes)) (Err fault.NotOfKind)) (λ kind. kind ≡ fault.NotOfKind)) [
-      | true ↦ spelt_fault bytes (parse_datetime bytes)
-      | false ↦ refl
-    ]
-
--- ---- words
 
 pub word_is : (bytes : List ℕ) → IsUtf8 bytes → word_read bytes ≡ Ok bytes
 unfolding word_read

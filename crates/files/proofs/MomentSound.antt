@@ -1,11 +1,12 @@
 -- What is read as a moment is spelt as it.
 use Rattle.std.proofs.Common.{◌≡◌, ◌<◌, ◌-◌, ◌+◌, ◌*◌, ◌==◌, ◌&&◌, ◌||◌, ℕ, ℤ, zero, suc, pos, negsuc, List, [], ◌∷◌, Bool}
-use Rattle.std.proofs.Common.{true, false, not, nat_lt, nat_le, cond, Option, Some, None, Result, Ok, Err, IfOk, IfSome, refl, arith, option_map, option_and_then}
+use Rattle.std.proofs.Common.{true, false, not, nat_lt, nat_le, cond, Option, Some, None, Result, Ok, Err, IfOk, IfSome, refl, sym, arith, option_map, option_and_then}
 use Rattle.std.specs.Char.{is_ascii_digit}
 use Rattle.std.specs.Int.{IsInRange}
 use Rattle.std.specs.Str.{bytes_eq, is_utf8}
 use Rattle.std.specs.Cmp.Lexicographic.{bytes_decides}
 use Rattle.std.proofs.lemmas.Bool.Decides.{nat_tests}
+use Rattle.std.proofs.lemmas.Bool.{and_parts}
 use Rattle.jiff_core.specs.Calendar.{IsYear, IsCivilDate, days_in_month}
 use Rattle.jiff_core.specs.Sign.{signed}
 use Rattle.jiff_core.proofs.SignedLemmas.{signed_arith}
@@ -22,10 +23,10 @@ use Rattle.jiff_fmt.specs.Rfc9557 as Rfc9557
 use Rattle.jiff_fmt.specs.Reader.{◌>>=◌, begins_with, or_err, two_digits, four_digits, field, temporal_fraction}
 use Rattle.jiff_fmt.specs.Temporal.{DateParts, TimeParts, DateTimeParts, year, signed_year, after_sign, year_sign, date_separator, date_spec, second, after_minute}
 use Rattle.jiff_fmt.specs.Temporal.{time_spec, time_part, no_time, after_date, temporal_datetime, is_zulu_option, time_separator, whole, to_date, time_or_midnight, parse_datetime}
+use Rattle.files.specs.declared.fault.FaultKind.{FaultKind}
 use Rattle.files.specs.declared.fault.FaultKind.TheVariants as fault
 use Rattle.files.specs.KindsRead.{moment_at, moment_read, parts_seconds, parts_text, spelt_moment}
 use Rattle.files.specs.MomentText.{IsMomentText}
-use Rattle.files.proofs.FieldsRead.{both}
 
 -- ---- steps
 
@@ -225,7 +226,7 @@ spelt_sound text seconds date time d t e = by (bytes_eq (parts_text date time) t
         → cond b (moment_at (parts_seconds date time)) (Err fault.NotOfKind) ≡ Ok seconds → IsMomentText text seconds
     by false is at = absurd cc
     by true is at =
-        let tests = both (bytes_eq (parts_text date time) text) (time.subsec == 0) is in
+        let tests = and_parts (bytes_eq (parts_text date time) text) (time.subsec == 0) is in
         let no_fraction : time.subsec ≡ 0 = let z = tests.1 in grind (arith, nat_tests, z) in
         let moment : DateTime = record {
           date = record { year = date.year; month = date.month; day = date.day; year_in = d.0; month_in = d.1; day_in = d.2 };
@@ -261,3 +262,8 @@ moment_sound text seconds e =
       | true ↦ λ read. read_sound text seconds (parse_datetime text) (parsed_in text) read
       | false ↦ λ other. absurd cc
     ] e
+
+-- the same of what a parser gives
+pub if_moment : (text : List ℕ) (r : Result ℕ FaultKind) → r ≡ moment_read text → IfOk r (λ seconds. IsMomentText text seconds)
+if_moment text (Ok seconds) is = moment_sound text seconds (sym is)
+if_moment text (Err kind) is = tt

@@ -1,28 +1,15 @@
 -- `jiff` reads what it writes of a date and time.
-use Rattle.std.proofs.Common.{◌≡◌, ◌≤◌, ℕ, ℤ, pos, negsuc, ◌*ℤ◌, List, [], ◌∷◌, ◌++◌, length, None, Result, Ok, Err, refl, sym, ap, ◌∙◌, arith, length-append}
-use Rattle.jiff.specs.Names.{iso_datetime_text}
+use Rattle.std.proofs.Common.{◌≡◌, ◌≤◌, ℕ, ℤ, pos, negsuc, ◌*ℤ◌, List, [], ◌∷◌, ◌++◌, length, None, refl, sym, ap, ◌∙◌, arith, length-append}
 use Rattle.jiff_core.specs.DateTime.{civil_nanos, civil_seconds}
 use Rattle.jiff_core.proofs.DateTimeLemmas.{civil_nanos-civil_seconds}
 use Rattle.jiff.proofs.SpanFacts.{signed_arith}
 use Rattle.jiff_core.specs.declared.civil.datetime.DateTime.{DateTime}
-use Rattle.jiff_core.specs.declared.error.Error.{Error}
-use Rattle.jiff_fmt.specs.Temporal.{DateParts, TimeParts, date_parts, time_parts, datetime_view, parse_datetime}
+use Rattle.jiff_fmt.specs.Temporal.{DateParts, TimeParts, date_parts, time_parts, parse_datetime}
 use Rattle.jiff_fmt.proofs.RoundTrip.{parse_datetime-datetime_text}
 use Rattle.jiff_fmt.specs.Text.{date_text, time_text, year_text, pad2, fraction_part}
 use Rattle.jiff_core.specs.declared.civil.date.Date.{Date}
 use Rattle.jiff_core.specs.declared.civil.time.Time.{Time}
-use Rattle.files.specs.MomentText.{Spells, IsMomentText}
-
-text-parts : (a b : DateTime) → date_parts a.date ≡ date_parts b.date → time_parts a.time ≡ time_parts b.time → iso_datetime_text a ≡ iso_datetime_text b
-text-parts a b d t = rw (
-  ap (λ p. p.year) d,
-  ap (λ p. p.month) d,
-  ap (λ p. p.day) d,
-  ap (λ p. p.hour) t,
-  ap (λ p. p.minute) t,
-  ap (λ p. p.second) t,
-  ap (λ p. p.subsec) t,
-)
+use Rattle.files.specs.MomentText.{IsMomentText}
 
 seconds-parts : (a b : DateTime) → date_parts a.date ≡ date_parts b.date → time_parts a.time ≡ time_parts b.time → civil_seconds a ≡ civil_seconds b
 unfolding civil_seconds
@@ -34,29 +21,6 @@ seconds-parts a b d t = rw (
   ap (λ p. p.minute) t,
   ap (λ p. p.second) t,
 )
-
-view_of_spelling : (r : Result DateTime Error) (text : List ℕ) (moment : DateTime) (seconds : ℕ) → datetime_view r ≡ parse_datetime text → Spells moment text seconds → datetime_view r ≡ Ok (date_parts moment.date, time_parts moment.time)
-view_of_spelling r text moment seconds e s =
-    e ∙ ap parse_datetime (sym s.is_text) ∙ parse_datetime-datetime_text moment
-
--- a date and time that was read is that of the spelling
-pub parsed_spells : (r : Result DateTime Error) (text : List ℕ) (moment read : DateTime) (seconds : ℕ) → datetime_view r ≡ parse_datetime text → Spells moment text seconds → r ≡ Ok read → Spells read text seconds
-parsed_spells r text moment read seconds e s ok =
-    let view = rw ok at (view_of_spelling r text moment seconds e s) in
-    let pair : (date_parts read.date, time_parts read.time) ≡ (date_parts moment.date, time_parts moment.time) = cc in
-    let d : date_parts read.date ≡ date_parts moment.date = ap (λ (p : DateParts × TimeParts). p.0) pair in
-    let t : time_parts read.time ≡ time_parts moment.time = ap (λ (p : DateParts × TimeParts). p.1) pair in
-    record {
-      is_text = text-parts read moment d t ∙ s.is_text;
-      is_whole = ap (λ p. p.subsec) t ∙ s.is_whole;
-      is_second = seconds-parts read moment d t ∙ s.is_second;
-    }
-
--- and something is read of a spelling
-pub spelling_is_parsed : (r : Result DateTime Error) (text : List ℕ) (moment : DateTime) (seconds : ℕ) (error : Error) → datetime_view r ≡ parse_datetime text → Spells moment text seconds → r ≡ Err error → ⊥
-spelling_is_parsed r text moment seconds error e s failed =
-    let view = rw failed at (view_of_spelling r text moment seconds e s) in
-    cc
 
 -- a date and time at a whole second has no fraction
 pub whole_seconds : (moment : DateTime) (seconds : ℕ) → civil_nanos moment ≡ pos seconds *ℤ pos 1_000_000_000 → (civil_seconds moment ≡ pos seconds) × (moment.time.subsec_nanosecond ≡ 0)

@@ -26,11 +26,6 @@ reads_kept s s2 None mid now found fields keeps reads = tt
 reads_kept s s2 (Some xs) None now found fields keeps reads = absurd keeps
 reads_kept s s2 (Some xs) (Some ys) now found fields keeps reads = subst (λ t. ReadsNext default_config s (Some t) now found fields s2) keeps reads
 
-pub too_long_kept : (before mid : Option (List ℕ)) → Keeps before mid → NextIsTooLong mid → NextIsTooLong before
-too_long_kept None mid keeps long = tt
-too_long_kept (Some xs) None keeps long = absurd keeps
-too_long_kept (Some xs) (Some ys) keeps long = subst (λ t. NextIsTooLong (Some t)) keeps long
-
 -- the bytes in memory are where a record's reading begins
 starts : (hand : List ℕ) (known : Option (List ℕ)) (x rest : List ℕ) → hand ≡ x ++ rest
     → Tracks default_config st.StartRecord (prepend_known hand known) st.StartRecord [] [] (prepend_known (x ++ rest) known)

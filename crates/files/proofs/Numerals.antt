@@ -1,10 +1,10 @@
 -- The spelling of a number is what is printed of it, and `parse` reads it.
-use Rattle.std.proofs.Common.{rules, lit<, ◌≡◌, ◌≢◌, ℕ, ℤ, pos, negsuc, zero, suc, ◌<◌, ◌^◌, ◌==◌, true, false, List, [], ◌∷◌, length, get_or, Result, Ok, sym, ap, subst, ◌∙◌, refl, arith, w64, neg_ℤ, FitsSigned}
+use Rattle.std.proofs.Common.{rules, lit<, ◌≡◌, ◌≢◌, ℕ, ℤ, pos, negsuc, zero, suc, ◌<◌, ◌^◌, true, false, List, [], ◌∷◌, length, get_or, Result, Ok, sym, ap, subst, ◌∙◌, arith, w64, neg_ℤ, FitsSigned}
 use Rattle.std.specs.Fmt.{decimal, signed_decimal}
 use Rattle.std.specs.List.{list_all}
 use Rattle.std.specs.Char.{is_ascii_digit}
-use Rattle.std.specs.Str.Parse.{digits_value, ParsesUnsigned, ParsesSigned}
-use Rattle.std.proofs.lemmas.Str.Parse.{IsNumeralModel, numerals_by_value, parse_plain, parse_signed_plain, parse_signed_minus}
+use Rattle.std.specs.Str.Parse.{digits_value, ParsesUnsigned}
+use Rattle.std.proofs.lemmas.Str.Parse.{IsNumeralModel, numerals_by_value, parse_plain}
 use Rattle.std.proofs.lemmas.Fmt.{decimal-digits_value, first_decimal, digits_decimal, decimal_digit}
 use Rattle.std.proofs.lemmas.Bool.Decides.{nat_tests}
 use Rattle.files.specs.Number.{is_positive, is_number}
@@ -61,25 +61,6 @@ signed_negative zero ds e p =
     let no : false ≡ true = subst at (sym zero_text) p in
     cc
 signed_negative (suc k) ds e p = ap (λ l. 45 ∷ l) e
-
--- what was read of a signed number's spelling is printed so
-pub signed-parsed : {E : Type 0} (bs : List ℕ) (r : Result ℤ E) → ParsesSigned w64 10 bs r → is_number bs ≡ true → (z : ℤ) → r ≡ Ok z → signed_decimal z ≡ bs
-signed-parsed {E} [] r h number z e = let no : false ≡ true = number in cc
-signed-parsed {E} (c ∷ cs) r h number z e =
-    elim (c == 45) as (λ test. c == 45 ≡ test → signed_decimal z ≡ c ∷ cs) [
-      | true ↦ λ minus.
-          let is_minus : c ≡ 45 = grind (arith, nat_tests) in
-          let positive : is_positive cs ≡ true = grind (arith, nat_tests) in
-          let read = rw e at (parse_signed_minus own w64 (c ∷ cs) r h is_minus) in
-          let small : digits_value 10 cs < 2 ^ 64 = omega (arith, read.0.2) in
-          let text : decimal (digits_value 10 cs) ≡ cs = spelling cs (number_of_positive cs positive) read.0.0 read.0.1 small in
-          rw (read.1, is_minus) (signed_negative (digits_value 10 cs) cs text positive)
-      | false ↦ λ other.
-          let no_minus : c ≢ 45 = grind (arith, nat_tests) in
-          let read = rw e at (parse_signed_plain own w64 (c ∷ cs) r h (number_plain (c ∷ cs) number) no_minus) in
-          let small : digits_value 10 (c ∷ cs) < 2 ^ 64 = omega (arith, read.0.2) in
-          rw read.1 (spelling (c ∷ cs) number read.0.0 read.0.1 small)
-    ] refl
 
 pub is_number-signed : (z : ℤ) → FitsSigned w64 z → is_number (signed_decimal z) ≡ true
 is_number-signed (pos n) h = is_number-decimal n (omega arith)

@@ -11,7 +11,7 @@ use Rattle.files.specs.Place.{IsCsv, FindsLonger, FirstIsTooLong, HasRead, HasRe
 use Rattle.files.specs.Source.{at_hand, is_begun, unread}
 use Rattle.files.specs.Span.{parts}
 use Rattle.files.specs.declared.span.Span.{Span}
-use Rattle.csv.proofs.ReadFacts.{Tracks, reads-false}
+use Rattle.csv.proofs.ReadFacts.{reads-false}
 use Rattle.files.proofs.NextRecord.{reads_kept}
 
 -- a record without quotation marks is under way
@@ -60,27 +60,6 @@ next_kept remaining before mid found r keeps next = record {
   after = next.after;
   is_between = next.is_between;
   reads = reads_kept state.StartRecord next.after before mid (text_left remaining r) found (record_fields r) keeps next.reads;
-  is_kept = next.is_kept;
-}
-
-reads_tracked : (before mid now : Option (List ℕ)) (found : Bool) (fields : List (List ℕ)) (after : State) → Tracks default_config state.StartRecord before state.StartRecord [] [] mid
-    → ReadsNext default_config state.StartRecord mid now found fields after → ReadsNext default_config state.StartRecord before now found fields after
-reads_tracked None mid now found fields after tracks reads = tt
-reads_tracked (Some xs) None now found fields after tracks reads = absurd tracks
-reads_tracked (Some xs) (Some ys) None found fields after tracks reads = reads
-reads_tracked (Some xs) (Some ys) (Some zs) found fields after tracks reads = rw tracks reads
-
-pub too_long_tracked : (before mid : Option (List ℕ)) → Tracks default_config state.StartRecord before state.StartRecord [] [] mid → NextIsTooLong mid → NextIsTooLong before
-too_long_tracked None mid tracks long = tt
-too_long_tracked (Some xs) None tracks long = absurd tracks
-too_long_tracked (Some xs) (Some ys) tracks long = rw tracks long
-
-pub next_tracked : {R : Type 0} (remaining : R → Option (List ℕ)) (before mid : Option (List ℕ)) (found : Bool) (r : Records R) → Tracks default_config state.StartRecord before state.StartRecord [] [] mid
-    → IsNext remaining mid found r → IsNext remaining before found r
-next_tracked remaining before mid found r tracks next = record {
-  after = next.after;
-  is_between = next.is_between;
-  reads = reads_tracked before mid (text_left remaining r) found (record_fields r) next.after tracks next.reads;
   is_kept = next.is_kept;
 }
 

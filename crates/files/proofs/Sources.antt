@@ -1,7 +1,7 @@
 -- The text that is left, as bytes come into memory and are taken.
-use Rattle.std.proofs.Common.{◌≡◌, ◌<◌, ◌⊎◌, inl, inr, ℕ, List, [], ◌∷◌, ◌++◌, drop, length, Option, Some, None, true, false, cond, refl, sym, ap, ◌∙◌, arith, append_assoc}
+use Rattle.std.proofs.Common.{◌≡◌, ◌<◌, ◌⊎◌, inl, inr, ℕ, List, [], ◌∷◌, ◌++◌, drop, length, Option, Some, None, true, false, cond, refl, ap, ◌∙◌, arith}
 use Rattle.std.specs.Prelude.{option_map}
-use Rattle.std.specs.Io.KnownBytes.{Consumes, IsAtEnd, Keeps, prepend_known}
+use Rattle.std.specs.Io.KnownBytes.{IsAtEnd, Keeps, prepend_known}
 use Rattle.csv.specs.Machine.{step}
 use Rattle.csv.specs.Reading.{default_config, strip_bom, is_bom}
 use Rattle.csv.specs.declared.parser.Action.TheVariants as act
@@ -11,21 +11,11 @@ use Rattle.files.specs.ByteOrder.{is_marked}
 use Rattle.files.specs.Line.{IsFirst}
 use Rattle.files.specs.declared.source.First.TheVariants as first
 
-pub keeps-same : (a : Option (List ℕ)) → Keeps a a
-keeps-same None = tt
-keeps-same (Some bytes) = refl
-
 pub keeps-on : (a b c : Option (List ℕ)) → Keeps a b → Keeps b c → Keeps a c
 keeps-on None b c p q = tt
 keeps-on (Some xs) None c p q = absurd p
 keeps-on (Some xs) (Some ys) None p q = absurd q
 keeps-on (Some xs) (Some ys) (Some zs) p q = q ∙ p
-
--- bytes that come into memory are those that the reader underneath loses
-pub came_keeps : (hand bytes : List ℕ) (old new : Option (List ℕ)) → Consumes old new bytes → Keeps (prepend_known hand old) (prepend_known (hand ++ bytes) new)
-came_keeps hand bytes None new consumes = tt
-came_keeps hand bytes (Some xs) None consumes = consumes
-came_keeps hand bytes (Some xs) (Some ys) consumes = append_assoc hand bytes ys ∙ ap (λ t. hand ++ t) (sym consumes)
 
 -- a text without its byte order mark, of which three bytes are in memory, or all
 pub strip_hand : (hand : List ℕ) (known : Option (List ℕ)) → (length hand < 3 → IsAtEnd known)
@@ -49,11 +39,6 @@ pub skipped : (hand : List ℕ) (before known : Option (List ℕ)) → IsFirst h
 skipped [] before known ends tracks = cc ends
 skipped (byte ∷ hand) before known ends tracks =
     tracks-next default_config st.StartRecord st.StartRecord st.StartRecord act.Skip [] [] [] [] before known byte hand (end_step byte ends) refl refl refl tracks
-
--- there is a byte to skip
-pub some_first : (hand : List ℕ) → IsFirst hand first.LineEnd → 0 < length hand
-some_first [] ends = cc ends
-some_first (byte ∷ hand) ends = omega arith
 
 keeps_stripped : (a b : Option (List ℕ)) → Keeps a b → Keeps (option_map strip_bom a) (option_map strip_bom b)
 keeps_stripped None b h = tt

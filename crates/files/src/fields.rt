@@ -1,8 +1,6 @@
-ghost use Rattle.std.specs.Prelude.{◌≡◌, ◌≢◌, ◌↔◌, ◌<◌, ◌≤◌, ℕ, ℤ, List, [], ◌∷◌, length, drop, IsTrue, None, Some, MatchOption, IfNone, IfSome, IfOk, IfErr, IsUtf8, pos};
+ghost use Rattle.std.specs.Prelude.{◌≡◌, ◌≢◌, ◌↔◌, ◌<◌, ◌≤◌, ℕ, List, [], ◌∷◌, length, drop, IsTrue, None, Some, MatchOption, IfNone, IfSome, IfOk, IfErr, pos};
 ghost use Rattle.std.specs.Fmt.{decimal, signed_decimal};
-ghost use Rattle.amounts.specs.Money.{IsMoney};
 ghost use Rattle.files.specs.Span.{parts};
-ghost use Rattle.rows.specs.Text.{IsText};
 ghost use Rattle.files.specs.MomentText.{IsMomentText};
 ghost use Rattle.files.specs.Word.{credit_text, text_read};
 
@@ -134,10 +132,6 @@ impl<'r> Fields<'r> {
     /// its bytes are no text at all, noted as `NotOfKind`.
     pub fn word(&mut self) -> &'r str
         ensures field { (result.now, taking self.new) ≡ field_read word_read [] (taking self.old) }
-        ensures left { fields_left self.new ≡ drop 1 (fields_left self.old) }
-        ensures none { fields_left self.old ≡ [] → fault_of self.new ≡ Some (with_fault (fault_of self.old) FaultKind.WrongShape) }
-        ensures no_text { (field : List ℕ) (rest : List (List ℕ)) → fields_left self.old ≡ field ∷ rest → ¬ IsUtf8 field → fault_of self.new ≡ Some (with_fault (fault_of self.old) FaultKind.NotOfKind) }
-        ensures text { (field : List ℕ) (rest : List (List ℕ)) → fields_left self.old ≡ field ∷ rest → IsUtf8 field → (result.now ≡ field) × (fault_of self.new ≡ fault_of self.old) }
         ensures taken { TakesWell self.old self.new result.now }
     {
         let bytes = self.bytes();
@@ -155,8 +149,6 @@ impl<'r> Fields<'r> {
     pub fn whole(&mut self, low: u32, high: u32) -> u32
         ensures range { low ≤ high → (low ≤ result) × (result ≤ high) }
         ensures field { (result, taking self.new) ≡ field_read (whole_read low high) low (taking self.old) }
-        ensures reads { (number : ℕ) (rest : List (List ℕ)) → fields_left self.old ≡ decimal number ∷ rest → low ≤ number → number ≤ high → (result ≡ number) × (fault_of self.new ≡ fault_of self.old) }
-        ensures left { fields_left self.new ≡ drop 1 (fields_left self.old) }
         ensures taken { TakesWell self.old self.new (decimal result) }
     {
         match read_whole(self.bytes(), u64::from(low), u64::from(high)) {
@@ -172,8 +164,6 @@ impl<'r> Fields<'r> {
     pub fn ranged<const LOW: u32, const HIGH: u32>(&mut self) -> Ranged<LOW, HIGH>
         requires { LOW ≤ HIGH }
         ensures field { (result, taking self.new) ≡ field_read (whole_read LOW HIGH) LOW (taking self.old) }
-        ensures reads { (number : ℕ) (rest : List (List ℕ)) → fields_left self.old ≡ decimal number ∷ rest → LOW ≤ number → number ≤ HIGH → (result ≡ number) × (fault_of self.new ≡ fault_of self.old) }
-        ensures left { fields_left self.new ≡ drop 1 (fields_left self.old) }
         ensures taken { TakesWell self.old self.new (decimal result) }
     {
         let number = read_ranged(self.bytes());
@@ -183,9 +173,6 @@ impl<'r> Fields<'r> {
     /// The same, and `None` where the field is empty.
     pub fn optional_ranged<const LOW: u32, const HIGH: u32>(&mut self) -> Option<Ranged<LOW, HIGH>>
         ensures field { (result, taking self.new) ≡ field_read (optional_read (whole_read LOW HIGH)) None (taking self.old) }
-        ensures reads { (number : ℕ) (rest : List (List ℕ)) → fields_left self.old ≡ decimal number ∷ rest → LOW ≤ number → number ≤ HIGH → (result ≡ Some number) × (fault_of self.new ≡ fault_of self.old) }
-        ensures reads_null { (rest : List (List ℕ)) → fields_left self.old ≡ [] ∷ rest → (result ≡ None) × (fault_of self.new ≡ fault_of self.old) }
-        ensures left { fields_left self.new ≡ drop 1 (fields_left self.old) }
         ensures taken { MatchOption result (TakesWell self.old self.new []) (λ number. TakesWell self.old self.new (decimal number)) }
     {
         let number = read_optional(self.bytes());
@@ -194,8 +181,6 @@ impl<'r> Fields<'r> {
 
     /// The next field as a text; the empty one after a fault.
     pub fn text<const WIDTH: usize>(&mut self) -> Text<WIDTH>
-        ensures left { fields_left self.new ≡ drop 1 (fields_left self.old) }
-        ensures reads { (text : List ℕ) (rest : List (List ℕ)) → fields_left self.old ≡ text ∷ rest → IsText WIDTH text → (result ≡ text) × (fault_of self.new ≡ fault_of self.old) }
         ensures field { (result, taking self.new) ≡ field_read (text_read WIDTH) [] (taking self.old) }
         ensures taken { TakesWell self.old self.new result }
     {
@@ -206,8 +191,6 @@ impl<'r> Fields<'r> {
     /// The next field as money; 0 after a fault.
     pub fn cents(&mut self) -> Cents
         ensures field { (result, taking self.new) ≡ field_read money_read (pos 0) (taking self.old) }
-        ensures left { fields_left self.new ≡ drop 1 (fields_left self.old) }
-        ensures reads { (cents : ℤ) (rest : List (List ℕ)) → fields_left self.old ≡ signed_decimal cents ∷ rest → IsMoney cents → (result ≡ cents) × (fault_of self.new ≡ fault_of self.old) }
         ensures taken { TakesWell self.old self.new (signed_decimal result) }
     {
         let cents = read_cents(self.bytes());
@@ -217,8 +200,6 @@ impl<'r> Fields<'r> {
     /// The next field as a rate; 0 after a fault.
     pub fn rate(&mut self) -> Rate
         ensures field { (result, taking self.new) ≡ field_read (whole_read 0 9999) 0 (taking self.old) }
-        ensures reads { (number : ℕ) (rest : List (List ℕ)) → fields_left self.old ≡ decimal number ∷ rest → number < 10000 → (result ≡ number) × (fault_of self.new ≡ fault_of self.old) }
-        ensures left { fields_left self.new ≡ drop 1 (fields_left self.old) }
         ensures taken { TakesWell self.old self.new (decimal result) }
     {
         let rate = read_rate(self.bytes());
@@ -228,8 +209,6 @@ impl<'r> Fields<'r> {
     /// The next field as C_CREDIT; good after a fault.
     pub fn credit(&mut self) -> Credit
         ensures field { (result, taking self.new) ≡ field_read credit_read Credit.Good (taking self.old) }
-        ensures reads { (credit : Credit) (rest : List (List ℕ)) → fields_left self.old ≡ credit_text credit ∷ rest → (result ≡ credit) × (fault_of self.new ≡ fault_of self.old) }
-        ensures left { fields_left self.new ≡ drop 1 (fields_left self.old) }
         ensures taken { TakesWell self.old self.new (credit_text result) }
     {
         let credit = read_credit(self.bytes());
@@ -239,8 +218,6 @@ impl<'r> Fields<'r> {
     /// The next field as a moment; the first one after a fault.
     pub fn moment(&mut self) -> Moment
         ensures field { (result, taking self.new) ≡ field_read moment_read 0 (taking self.old) }
-        ensures left { fields_left self.new ≡ drop 1 (fields_left self.old) }
-        ensures reads { (text : List ℕ) (seconds : ℕ) (rest : List (List ℕ)) → fields_left self.old ≡ text ∷ rest → IsUtf8 text → IsMomentText text seconds → seconds ≤ 253402300799 → (result ≡ seconds) × (fault_of self.new ≡ fault_of self.old) }
         ensures taken { fault_of self.new ≡ None → (fault_of self.old ≡ None) × ((text : List ℕ) × IsMomentText text result × (fields_left self.old ≡ text ∷ fields_left self.new)) }
     {
         let moment = read_moment(self.bytes());
@@ -250,9 +227,6 @@ impl<'r> Fields<'r> {
     /// The same, and `None` where the field is empty.
     pub fn optional_moment(&mut self) -> Option<Moment>
         ensures field { (result, taking self.new) ≡ field_read (optional_read moment_read) None (taking self.old) }
-        ensures reads { (text : List ℕ) (seconds : ℕ) (rest : List (List ℕ)) → fields_left self.old ≡ text ∷ rest → IsUtf8 text → IsMomentText text seconds → seconds ≤ 253402300799 → (result ≡ Some seconds) × (fault_of self.new ≡ fault_of self.old) }
-        ensures reads_null { (rest : List (List ℕ)) → fields_left self.old ≡ [] ∷ rest → (result ≡ None) × (fault_of self.new ≡ fault_of self.old) }
-        ensures left { fields_left self.new ≡ drop 1 (fields_left self.old) }
         ensures null { IfNone result (TakesWell self.old self.new []) }
         ensures moment { IfSome result (λ seconds. fault_of self.new ≡ None → (fault_of self.old ≡ None) × ((text : List ℕ) × IsMomentText text seconds × (fields_left self.old ≡ text ∷ fields_left self.new))) }
     {
@@ -263,8 +237,6 @@ impl<'r> Fields<'r> {
     /// Notes `WrongCount` where the next field is another number than `count`.
     pub fn expect_count(&mut self, count: u64)
         ensures field { taking self.new ≡ (field_read (count_read count) count (taking self.old)).1 }
-        ensures reads { (rest : List (List ℕ)) → fields_left self.old ≡ decimal count ∷ rest → fault_of self.new ≡ fault_of self.old }
-        ensures left { fields_left self.new ≡ drop 1 (fields_left self.old) }
         ensures taken { TakesWell self.old self.new (decimal count) }
     {
         let counted = read_count(self.bytes(), count);

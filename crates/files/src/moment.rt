@@ -23,38 +23,40 @@ pub fn parse_moment(field: &str) -> Result<Moment, FaultKind>
     ensures reads { (moment : Civil) (seconds : ℕ) → Spells moment field.now seconds → seconds ≤ 253402300799 → result ≡ Ok seconds }
     ensures faults { IfErr result (λ kind. kind ≡ FaultKind.NotOfKind) }
 {
+    read_moment(field.as_bytes())
+}
+
+/// The same of the bytes of a field.
+pub(crate) fn read_moment(field: &[u8]) -> Result<Moment, FaultKind>
+    ensures exact { result ≡ moment_read field.now }
+    ensures faults { IfErr result (λ kind. kind ≡ FaultKind.NotOfKind) }
+{
+    if let Some(moment) = plain_moment(field) {
+        return Ok(moment);
+    }
+    match from_utf8(field) {
+        Ok(word) => any_moment(word),
+        Err(_) => Err(FaultKind::NotOfKind),
+    }
+}
+
+// The moment that a field of any length spells.
+fn any_moment(field: &str) -> Result<Moment, FaultKind>
+    ensures exact { result ≡ moment_read field.now }
+    ensures faults { IfErr result (λ kind. kind ≡ FaultKind.NotOfKind) }
+{
     let Ok(moment) = field.parse::<DateTime>() else {
         return Err(FaultKind::NotOfKind);
     };
     if !is_spelt(field, moment) {
         return Err(FaultKind::NotOfKind);
     }
-    match seconds_of(moment) {
-        Ok(seconds) => Ok(seconds),
-        Err(kind) => Err(kind),
-    }
-}
-
-/// The same of the bytes of a field.
-pub(crate) fn read_moment(field: &[u8]) -> Result<Moment, FaultKind>
-    ensures exact { result ≡ moment_read field.now }
-    ensures spelt { IfOk result (λ seconds. IsMomentText field.now seconds) }
-    ensures reads { (seconds : ℕ) → IsMomentText field.now seconds → seconds ≤ 253402300799 → result ≡ Ok seconds }
-{
-    if let Some(moment) = plain_moment(field) {
-        return Ok(moment);
-    }
-    match from_utf8(field) {
-        Ok(word) => parse_moment(word),
-        Err(_) => Err(FaultKind::NotOfKind),
-    }
+    seconds_of(moment)
 }
 
 /// The moment of a column that may be empty: null where the field is empty.
 pub(crate) fn read_optional_moment(field: &[u8]) -> Result<Option<Moment>, FaultKind>
-    ensures exact { result ≡ optional_read moment_read field.now }
-    ensures spelt { IfOk result (λ moment. IfSome moment (λ seconds. IsMomentText field.now seconds)) }
-    ensures reads { (seconds : ℕ) → IsMomentText field.now seconds → seconds ≤ 253402300799 → result ≡ Ok (Some seconds) }
+    ensures { result ≡ optional_read moment_read field.now }
 {
     if field.is_empty() {
         return Ok(None);

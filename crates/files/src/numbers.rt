@@ -160,22 +160,33 @@ pub(crate) fn read_count(field: &[u8], count: u64) -> Result<u64, FaultKind>
     }
 }
 
-/// The cents that the bytes of a field spell. Its faults are those of `parse_whole`.
-pub(crate) fn read_cents(field: &[u8]) -> Result<Cents, FaultKind>
-    ensures { result ≡ money_read field.now }
-{
-    match from_utf8(field) {
-        Ok(word) => parse_cents(word),
-        Err(_) => Err(FaultKind::NotOfKind),
-    }
-}
-
 /// The amount of money in whole cents, from -10^15 to 10^15, with `-` before a negative one. Its faults
 /// are those of `parse_whole`.
 pub fn parse_cents(field: &str) -> Result<Cents, FaultKind>
     ensures exact { result ≡ money_read field.now }
     ensures value { IfOk result (λ cents. signed_decimal cents ≡ field.now) }
     ensures reads { (cents : ℤ) → signed_decimal cents ≡ field.now → IsMoney cents → result ≡ Ok cents }
+    ensures not_of_kind { (result ≡ Err FaultKind.NotOfKind) ↔ (is_number field.now ≡ false) }
+    ensures faults { IfErr result (λ kind. (kind ≡ FaultKind.NotOfKind) ⊎ (kind ≡ FaultKind.OutOfRange)) }
+{
+    read_cents(field.as_bytes())
+}
+
+/// The same of the bytes of a field.
+pub(crate) fn read_cents(field: &[u8]) -> Result<Cents, FaultKind>
+    ensures exact { result ≡ money_read field.now }
+    ensures not_of_kind { (result ≡ Err FaultKind.NotOfKind) ↔ (is_number field.now ≡ false) }
+    ensures faults { IfErr result (λ kind. (kind ≡ FaultKind.NotOfKind) ⊎ (kind ≡ FaultKind.OutOfRange)) }
+{
+    match from_utf8(field) {
+        Ok(word) => cents_of(word),
+        Err(_) => Err(FaultKind::NotOfKind),
+    }
+}
+
+// The same of a field that is text.
+fn cents_of(field: &str) -> Result<Cents, FaultKind>
+    ensures exact { result ≡ money_read field.now }
     ensures not_of_kind { (result ≡ Err FaultKind.NotOfKind) ↔ (is_number field.now ≡ false) }
     ensures faults { IfErr result (λ kind. (kind ≡ FaultKind.NotOfKind) ⊎ (kind ≡ FaultKind.OutOfRange)) }
 {

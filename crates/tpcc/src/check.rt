@@ -11,6 +11,7 @@ use command_line::{CheckSettings, Status};
 use files::Input;
 use std::alloc::Global;
 use std::io::Write;
+use std::mem;
 
 /// Tells of each of the twelve conditions of consistency (TPC-C 5.11, clause 3.3.2) whether the dataset
 /// meets it, and gives the exit status.
@@ -49,5 +50,7 @@ fn check<'a, D: Input + Drop, A: Write>(
     let answers = consistency::check(alloc, &tables)?;
     let verdicts = verdicts(alloc, settings.fresh, &answers)?;
     print_lines(alloc, found, verdicts.as_slice())?;
+    // The end of the process gives all rows back at once.
+    mem::forget(tables);
     Ok(any_broken(verdicts.as_slice()))
 }

@@ -1,10 +1,10 @@
-use Rattle.std.proofs.Common.{◌+◌, ◌∷◌, [], List, drop, map, take, sym, subst}
+use Rattle.std.proofs.Common.{◌+◌, List, drop, map, take, sym, subst}
 use Rattle.rows.specs.declared.records.History.{History}
 use Rattle.files.proofs.Sent.{on_any_err}
 use Rattle.dataset.specs.Records.{history_fields}
 use Rattle.dataset.specs.Writing.{Puts}
 use Rattle.dataset.proofs.Lists.{split-next, take-next}
-use Rattle.dataset.proofs.Written.{puts-next, puts-none, puts-one, stops-next, stops-none, stops-one}
+use Rattle.dataset.proofs.Written.{puts-next, puts-none, stops-next}
 use Rattle.dataset.proofs.histories.write_list.Goals as goal
 
 pub loop-payment-init : goal.loop-payment-init
@@ -17,15 +17,14 @@ loop-payment-preserved g c =
     let i = c.loop-payment.payment-index in
     let row = c.payment-item.result in
     let fields = history_fields c.args.home in
-    let after = contents c.write.new.sink in
-    let new = c.write.new.self.text in
-    let one = puts-one (contents c.loop-payment.sink) after c.loop-payment.writer.text (fields row) c.clear.new.self c.put.new.out c.clear.ensures c.in_ok-put.ensures new c.in_ok-write.ensures.sent in
+    let after = contents c.write_row.new.sink in
+    let new = c.write_row.new.writer.text in
     let puts : List History → Type 0 = λ l. Puts (contents c.args.sink.now) after c.args.writer.now.text new (map fields l) in
     subst puts (sym (take-next payments i row c.loop-payment-test.true c.payment-item.is))
-    (puts-next fields (take i payments) c.loop-payment.invariant row one)
+    (puts-next fields (take i payments) c.loop-payment.invariant row c.in_ok-write_row.ensures.written)
 
-pub returns-in_err-put-clause-begun : goal.returns-in_err-put-clause-begun
-returns-in_err-put-clause-begun g c =
+pub returns-in_err-write_row-clause-begun : goal.returns-in_err-write_row-clause-begun
+returns-in_err-write_row-clause-begun g c =
     let contents = g.W.Write.contents in
     let payments = c.args.payments.now in
     let i = c.loop-payment.payment-index in
@@ -34,16 +33,4 @@ returns-in_err-put-clause-begun g c =
     on_any_err c.from_residual.result
     (stops-next fields (take i payments) c.loop-payment.invariant row (drop (i + 1) payments)
     (split-next payments i row c.loop-payment-test.true c.payment-item.is)
-    (stops-none (contents c.loop-payment.sink) c.loop-payment.writer.text (fields row ∷ [])))
-
-pub returns-in_err-write-clause-begun : goal.returns-in_err-write-clause-begun
-returns-in_err-write-clause-begun g c =
-    let contents = g.W.Write.contents in
-    let payments = c.args.payments.now in
-    let i = c.loop-payment.payment-index in
-    let row = c.payment-item.result in
-    let fields = history_fields c.args.home in
-    on_any_err c.from_residual-in_err-write.result
-    (stops-next fields (take i payments) c.loop-payment.invariant row (drop (i + 1) payments)
-    (split-next payments i row c.loop-payment-test.true c.payment-item.is)
-    (stops-one (contents c.loop-payment.sink) (contents c.write.new.sink) c.loop-payment.writer.text (fields row) c.clear.new.self c.put.new.out c.clear.ensures c.in_ok-put.ensures c.in_err-write.ensures.begun))
+    c.in_err-write_row.ensures.begun)

@@ -1,10 +1,10 @@
-use Rattle.std.proofs.Common.{◌+◌, ◌≤◌, ◌∷◌, [], List, drop, length, take, sym, subst}
+use Rattle.std.proofs.Common.{◌+◌, ◌≤◌, List, drop, length, take, sym, subst}
 use Rattle.std.specs.List.{zip}
 use Rattle.files.proofs.Sent.{on_any_err}
 use Rattle.dataset.specs.Records.{row_records}
 use Rattle.dataset.specs.Writing.{Puts}
 use Rattle.dataset.proofs.Lists.{split-zip, take-zip, take-zip_all}
-use Rattle.dataset.proofs.Written.{puts-next, puts-none, puts-one, stops-next, stops-none, stops-one}
+use Rattle.dataset.proofs.Written.{puts-next, puts-none, stops-next}
 use Rattle.dataset.proofs.writer.write_dense.Goals as goal
 
 pub loop-place-init : goal.loop-place-init
@@ -21,15 +21,14 @@ loop-place-preserved g c =
     let row = c.index-rows-place.result in
     let before = contents c.args.sink.now in
     let old = c.args.writer.now.text in
-    let after = contents c.write.new.sink in
-    let new = c.write.new.self.text in
-    let one = puts-one (contents c.loop-place.sink) after c.loop-place.writer.text (fields key row) c.clear.new.self c.put.new.out c.clear.ensures c.in_ok-put.ensures new c.in_ok-write.ensures.sent in
+    let after = contents c.write_row.new.sink in
+    let new = c.write_row.new.writer.text in
     let puts : List _ → Type 0 = λ pairs. Puts before after old new (row_records fields pairs) in
     subst puts (sym (take-zip keys rows i key row c.key_at.ensures c.loop-place-test.true c.index-rows-place.is))
-    (puts-next (λ e. fields e.0 e.1) (take i (zip keys rows)) c.loop-place.invariant (key, row) one)
+    (puts-next (λ e. fields e.0 e.1) (take i (zip keys rows)) c.loop-place.invariant (key, row) c.in_ok-write_row.ensures.written)
 
-pub returns-in_err-put-clause-begun : goal.returns-in_err-put-clause-begun
-returns-in_err-put-clause-begun g c =
+pub returns-in_err-write_row-clause-begun : goal.returns-in_err-write_row-clause-begun
+returns-in_err-write_row-clause-begun g c =
     let contents = g.W.Write.contents in
     let fields = g.T.Recorded.fields in
     let keys = g.T.Dense.keys c.args.scale in
@@ -40,21 +39,7 @@ returns-in_err-put-clause-begun g c =
     on_any_err c.from_residual.result
     (stops-next (λ e. fields e.0 e.1) (take i (zip keys rows)) c.loop-place.invariant (key, row) (drop (i + 1) (zip keys rows))
     (split-zip keys rows i key row c.key_at.ensures c.loop-place-test.true c.index-rows-place.is)
-    (stops-none (contents c.loop-place.sink) c.loop-place.writer.text (fields key row ∷ [])))
-
-pub returns-in_err-write-clause-begun : goal.returns-in_err-write-clause-begun
-returns-in_err-write-clause-begun g c =
-    let contents = g.W.Write.contents in
-    let fields = g.T.Recorded.fields in
-    let keys = g.T.Dense.keys c.args.scale in
-    let rows = c.args.rows.now in
-    let i = c.loop-place.place in
-    let key = c.key_at.result in
-    let row = c.index-rows-place.result in
-    on_any_err c.from_residual-in_err-write.result
-    (stops-next (λ e. fields e.0 e.1) (take i (zip keys rows)) c.loop-place.invariant (key, row) (drop (i + 1) (zip keys rows))
-    (split-zip keys rows i key row c.key_at.ensures c.loop-place-test.true c.index-rows-place.is)
-    (stops-one (contents c.loop-place.sink) (contents c.write.new.sink) c.loop-place.writer.text (fields key row) c.clear.new.self c.put.new.out c.clear.ensures c.in_ok-put.ensures c.in_err-write.ensures.begun))
+    c.in_err-write_row.ensures.begun)
 
 pub returns-clause-written : goal.returns-clause-written
 returns-clause-written g c =

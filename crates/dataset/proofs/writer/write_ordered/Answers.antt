@@ -5,7 +5,7 @@ use Rattle.files.proofs.Sent.{on_any_err}
 use Rattle.dataset.specs.Records.{row_records}
 use Rattle.dataset.specs.Writing.{Puts}
 use Rattle.dataset.proofs.EntriesGiven.{given-next, given-all}
-use Rattle.dataset.proofs.Written.{puts-next, puts-none, puts-one, stops-next, stops-none, stops-one}
+use Rattle.dataset.proofs.Written.{puts-next, puts-none, stops-next}
 use Rattle.dataset.proofs.writer.write_ordered.Goals as goal
 
 pub loop-key-init : goal.loop-key-init
@@ -18,14 +18,13 @@ loop-key-preserved g c =
     let key = c.in-Some.key in
     let row = c.in-Some.row in
     let yielded = c.loop-key.yielded in
-    let after = contents c.write.new.sink in
-    let new = c.write.new.self.text in
-    let one = puts-one (contents c.loop-key.sink) after c.loop-key.writer.text (fields key row.now) c.clear.new.self c.put.new.out c.clear.ensures c.in_ok-put.ensures new c.in_ok-write.ensures.sent in
+    let after = contents c.write_row.new.sink in
+    let new = c.write_row.new.writer.text in
     let puts : List _ → Type 0 = λ pairs. Puts (contents c.args.sink.now) after c.args.writer.now.text new (row_records fields pairs) in
-    subst puts (sym (map-append entry yielded ((key, row) ∷ []))) (puts-next (λ e. fields e.0 e.1) (map entry yielded) c.loop-key.invariant (key, row.now) one)
+    subst puts (sym (map-append entry yielded ((key, row) ∷ []))) (puts-next (λ e. fields e.0 e.1) (map entry yielded) c.loop-key.invariant (key, row.now) c.in_ok-write_row.ensures.written)
 
-pub returns-in_err-put-clause-begun : goal.returns-in_err-put-clause-begun
-returns-in_err-put-clause-begun g c left gives =
+pub returns-in_err-write_row-clause-begun : goal.returns-in_err-write_row-clause-begun
+returns-in_err-write_row-clause-begun g c left gives =
     let contents = g.W.Write.contents in
     let fields = g.T.Recorded.fields in
     let key = c.in-Some.key in
@@ -35,20 +34,7 @@ returns-in_err-put-clause-begun g c left gives =
     on_any_err c.from_residual.result
     (stops-next (λ e. fields e.0 e.1) (map entry yielded) c.loop-key.invariant (key, row.now) (left rest)
     (ap left (sym c.into_iter-key-iterator.ensures.into_iter_gives) ∙ given-next left gives c.into_iter-key-iterator.result yielded c.loop-key.key-iterator c.loop-key.yielded_by (key, row) rest c.in-Some.ensures.steps)
-    (stops-none (contents c.loop-key.sink) c.loop-key.writer.text (fields key row.now ∷ [])))
-
-pub returns-in_err-write-clause-begun : goal.returns-in_err-write-clause-begun
-returns-in_err-write-clause-begun g c left gives =
-    let contents = g.W.Write.contents in
-    let fields = g.T.Recorded.fields in
-    let key = c.in-Some.key in
-    let row = c.in-Some.row in
-    let yielded = c.loop-key.yielded in
-    let rest = c.next.new.self in
-    on_any_err c.from_residual-in_err-write.result
-    (stops-next (λ e. fields e.0 e.1) (map entry yielded) c.loop-key.invariant (key, row.now) (left rest)
-    (ap left (sym c.into_iter-key-iterator.ensures.into_iter_gives) ∙ given-next left gives c.into_iter-key-iterator.result yielded c.loop-key.key-iterator c.loop-key.yielded_by (key, row) rest c.in-Some.ensures.steps)
-    (stops-one (contents c.loop-key.sink) (contents c.write.new.sink) c.loop-key.writer.text (fields key row.now) c.clear.new.self c.put.new.out c.clear.ensures c.in_ok-put.ensures c.in_err-write.ensures.begun))
+    c.in_err-write_row.ensures.begun)
 
 pub returns-clause-written : goal.returns-clause-written
 returns-clause-written g c left gives =

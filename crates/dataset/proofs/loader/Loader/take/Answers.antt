@@ -6,7 +6,7 @@ use Rattle.dataset.proofs.loader.Loader.take.Goals as goal
 
 pub returns-in_ok-take-in-I : goal.returns-in_ok-take-in-I
 returns-in_ok-take-in-I c =
-    row_is Items c.args.self.now c.take.new.loader c.args.fields.now c.word.new.self c.take.new.fields c.word.result.now c.in-I.is c.word.ensures.field c.in_ok-take-in-I.ensures
+    row_is Items c.args.self.now c.take-in-I.new.loader c.args.fields.now c.word.new.self c.take-in-I.new.fields c.word.result.now c.in-I.is c.word.ensures.field c.in_ok-take-in-I.ensures
 
 pub returns-in_ok-take-in-W : goal.returns-in_ok-take-in-W
 returns-in_ok-take-in-W c =
@@ -38,7 +38,7 @@ returns-in_ok-take-in-N c =
 
 pub returns-in_ok-take-in-L : goal.returns-in_ok-take-in-L
 returns-in_ok-take-in-L c =
-    row_is Lines c.args.self.now c.take-in-L.new.loader c.args.fields.now c.word.new.self c.take-in-L.new.fields c.word.result.now c.in-L.is c.word.ensures.field c.in_ok-take-in-L.ensures
+    row_is Lines c.args.self.now c.take.new.loader c.args.fields.now c.word.new.self c.take.new.fields c.word.result.now c.in-L.is c.word.ensures.field c.in_ok-take-in-L.ensures
 
 pub returns-in-END : goal.returns-in-END
 returns-in-END c =

@@ -2,7 +2,7 @@ use Rattle.std.proofs.Common.{refl}
 use Rattle.rows.specs.declared.records.Credit.TheVariants.{Good}
 use Rattle.files.specs.KindsRead.{credit_read}
 use Rattle.files.specs.Word.{credit_text}
-use Rattle.files.proofs.KindsRead.{field_from, reads_field, takes_field, credit_complete, credit_sound}
+use Rattle.files.proofs.KindsRead.{field_from, takes_field, credit_sound}
 use Rattle.files.proofs.FieldsRead.{no_range}
 use Rattle.files.proofs.fields.Fields.credit.Goals as goal
 
@@ -12,10 +12,6 @@ returns-clause-field c =
     let n = c.or_note.ensures in
     field_from credit_read Good Good c.or_note.result c.args.self.now c.bytes.new.self c.or_note.new.self c.bytes.result.now c.read_credit-credit.result
     (no_range refl) c.read_credit-credit.ensures refl b.left b.none b.some n.left n.ok n.err n.stands_in
-
-pub returns-clause-reads : goal.returns-clause-reads
-returns-clause-reads c = λ credit rest next.
-    reads_field credit_read Good c.or_note.result c.args.self.now c.or_note.new.self (credit_text credit) rest credit (returns-clause-field c) next (credit_complete credit)
 
 pub returns-clause-taken : goal.returns-clause-taken
 returns-clause-taken c =

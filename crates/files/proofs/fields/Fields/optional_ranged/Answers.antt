@@ -1,9 +1,8 @@
-use Rattle.std.proofs.Common.{◌<◌, ◌^◌, [], decimal, Some, None, refl, arith}
+use Rattle.std.proofs.Common.{decimal, None, refl, arith}
 use Rattle.files.specs.FieldRead.{whole_read}
 use Rattle.files.specs.KindsRead.{optional_read}
 use Rattle.files.proofs.FieldsRead.{Stands}
-use Rattle.files.proofs.KindsRead.{field_from, reads_field, optional_some, optional_takes, whole_complete, whole_sound}
-use Rattle.files.proofs.Numerals.{some_digits}
+use Rattle.files.proofs.KindsRead.{field_from, optional_takes, whole_sound}
 use Rattle.files.proofs.fields.Fields.optional_ranged.Goals as goal
 
 pub returns-clause-field : goal.returns-clause-field
@@ -12,16 +11,6 @@ returns-clause-field g c =
     let n = c.or_note.ensures in
     field_from (optional_read (whole_read g.row.LOW g.row.HIGH)) None None c.or_note.result c.args.self.now c.bytes.new.self c.or_note.new.self c.bytes.result.now c.read_optional-number.result
     (Stands refl) c.read_optional-number.ensures refl b.left b.none b.some n.left n.ok n.err n.stands_in
-
-pub returns-clause-reads : goal.returns-clause-reads
-returns-clause-reads g c = λ number rest next low high.
-    let small : number < 2 ^ 64 = omega arith in
-    reads_field (optional_read (whole_read g.row.LOW g.row.HIGH)) None c.or_note.result c.args.self.now c.or_note.new.self (decimal number) rest (Some number) (returns-clause-field g c) next
-    (optional_some (whole_read g.row.LOW g.row.HIGH) (decimal number) number (some_digits number small) (whole_complete g.row.LOW g.row.HIGH number small low high))
-
-pub returns-clause-reads_null : goal.returns-clause-reads_null
-returns-clause-reads_null g c = λ rest next.
-    reads_field (optional_read (whole_read g.row.LOW g.row.HIGH)) None c.or_note.result c.args.self.now c.or_note.new.self [] rest None (returns-clause-field g c) next refl
 
 pub returns-clause-taken : goal.returns-clause-taken
 returns-clause-taken g c =

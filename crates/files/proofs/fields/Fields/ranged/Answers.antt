@@ -1,7 +1,7 @@
-use Rattle.std.proofs.Common.{decimal, refl, arith}
+use Rattle.std.proofs.Common.{refl, arith}
 use Rattle.files.specs.FieldRead.{whole_read}
 use Rattle.files.proofs.FieldsRead.{no_kind, whole_is}
-use Rattle.files.proofs.KindsRead.{field_from, reads_field, whole_complete}
+use Rattle.files.proofs.KindsRead.{field_from}
 use Rattle.files.proofs.fields.Fields.ranged.Goals as goal
 
 pub returns-clause-field : goal.returns-clause-field
@@ -11,8 +11,3 @@ returns-clause-field g c =
     let p = c.read_ranged-number.ensures in
     field_from (whole_read g.row.LOW g.row.HIGH) g.row.LOW c.new.result c.or_note.result c.args.self.now c.bytes.new.self c.or_note.new.self c.bytes.result.now c.read_ranged-number.result
     (no_kind refl) (whole_is g.row.LOW g.row.HIGH c.bytes.result.now c.read_ranged-number.result (omega arith) p.value p.range p.reads p.not_of_kind p.faults) c.new.ensures b.left b.none b.some n.left n.ok n.err n.stands_in
-
-pub returns-clause-reads : goal.returns-clause-reads
-returns-clause-reads g c = λ number rest next low high.
-    reads_field (whole_read g.row.LOW g.row.HIGH) g.row.LOW c.or_note.result c.args.self.now c.or_note.new.self (decimal number) rest number (returns-clause-field g c) next
-    (whole_complete g.row.LOW g.row.HIGH number (omega arith) low high)

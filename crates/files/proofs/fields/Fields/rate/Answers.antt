@@ -1,7 +1,7 @@
-use Rattle.std.proofs.Common.{decimal, refl, arith}
+use Rattle.std.proofs.Common.{refl, arith}
 use Rattle.files.specs.FieldRead.{whole_read}
 use Rattle.files.proofs.FieldsRead.{no_kind, whole_is}
-use Rattle.files.proofs.KindsRead.{field_from, reads_field, whole_complete}
+use Rattle.files.proofs.KindsRead.{field_from}
 use Rattle.files.proofs.fields.Fields.rate.Goals as goal
 
 pub returns-clause-field : goal.returns-clause-field
@@ -11,8 +11,3 @@ returns-clause-field c =
     let p = c.read_rate-rate.ensures in
     field_from (whole_read 0 9999) 0 c.new.result c.or_note.result c.args.self.now c.bytes.new.self c.or_note.new.self c.bytes.result.now c.read_rate-rate.result
     (no_kind refl) (whole_is 0 9999 c.bytes.result.now c.read_rate-rate.result (omega arith) p.value p.range (λ n spelt low high. p.reads n spelt (omega arith)) p.not_of_kind p.faults) c.new.ensures b.left b.none b.some n.left n.ok n.err n.stands_in
-
-pub returns-clause-reads : goal.returns-clause-reads
-returns-clause-reads c = λ number rest next high.
-    reads_field (whole_read 0 9999) 0 c.or_note.result c.args.self.now c.or_note.new.self (decimal number) rest number (returns-clause-field c) next
-    (whole_complete 0 9999 number (omega arith) (omega arith) (omega arith))

@@ -1,8 +1,7 @@
 use Rattle.std.proofs.Common.{[]}
 use Rattle.files.specs.Word.{text_read}
-use Rattle.files.proofs.Ascii.{text_is_read}
 use Rattle.files.proofs.FieldsRead.{Stands, no_text}
-use Rattle.files.proofs.KindsRead.{field_from, reads_field}
+use Rattle.files.proofs.KindsRead.{field_from}
 use Rattle.files.proofs.fields.Fields.text.Goals as goal
 
 pub returns-clause-field : goal.returns-clause-field
@@ -11,7 +10,3 @@ returns-clause-field g c =
     let n = c.or_note.ensures in
     field_from (text_read g.row.WIDTH) [] c.new.result c.or_note.result c.args.self.now c.bytes.new.self c.or_note.new.self c.bytes.result.now c.read_text-text.result
     (Stands (no_text g.row.WIDTH)) c.read_text-text.ensures c.new.ensures b.left b.none b.some n.left n.ok n.err n.stands_in
-
-pub returns-clause-reads : goal.returns-clause-reads
-returns-clause-reads g c = λ text rest next is_text.
-    reads_field (text_read g.row.WIDTH) [] c.or_note.result c.args.self.now c.or_note.new.self text rest text (returns-clause-field g c) next (text_is_read g.row.WIDTH text is_text)
