@@ -15,6 +15,7 @@ use schema::{NoMemory, Scale};
 use std::alloc::Global;
 use std::marker::Model;
 use std::sync::atomic::{AtomicU64, Ordering};
+use transactions::home_of_request;
 
 /// A session none of whose requests is under way: its pass is here. It keeps that its requests so far have the answers that
 /// are here, each of which says what came of it.
@@ -186,7 +187,7 @@ impl<'a, J: ServeNames> Ready<'a, J> {
     /// The W_ID of the warehouse whose terminal asks its next request.
     pub(crate) fn next_home(&self) -> Option<u32> {
         let request = self.script.requests().get(self.answers.len())?;
-        Some(home_of(request))
+        Some(home_of_request(request))
     }
 
     /// How often its next request was asked, of so many times that it may be, and died or found no memory.
@@ -277,15 +278,4 @@ pub(crate) fn says_full(answer: &Result<u32, Refusal>) -> bool
     ensures { result ≡ spec.says_full answer.now }
 {
     matches!(answer, Err(Refusal::LogFull))
-}
-
-/// The W_ID of the warehouse whose terminal asks.
-pub(crate) fn home_of(request: &Request) -> u32 {
-    match request {
-        Request::NewOrder(order) => order.home.w_id,
-        Request::Payment(payment) => payment.home.w_id,
-        Request::OrderStatus(asked) => asked.home.w_id,
-        Request::Delivery(delivery) => delivery.w_id,
-        Request::StockLevel(asked) => asked.home.w_id,
-    }
 }

@@ -5,7 +5,7 @@ ghost use Rattle.slices.specs.Openings.{AreOpenedFor};
 ghost use Rattle.engine.specs.Opening.{AreCoursesFrom, IsNamedFor, IsToOpen};
 ghost use Rattle.engine.specs.Sessions.{AreNewFrom};
 
-use crate::asking::{Ready, home_of};
+use crate::asking::Ready;
 use crate::bed::Bed;
 use crate::belongings::Executor;
 use crate::engine::Engine;
@@ -27,6 +27,7 @@ use std::sync::Mutex;
 use std::sync::atomic::{AtomicBool, AtomicU64, AtomicUsize};
 use std::vec::IntoIter;
 use tickets::{GroupSeats, named_all};
+use transactions::home_of_request;
 
 /// What all that is under way will agree on, before it has a name: what a name is picked from.
 #[derive(Drop)]
@@ -201,7 +202,7 @@ fn begin_sessions<J: ServeNames>(
 ) -> Result<(), NoMemory> {
     for (slot, script) in scripts.iter().enumerate() {
         let to = match script.requests().first() {
-            Some(request) => routing.route(home_of(request)),
+            Some(request) => routing.route(home_of_request(request)),
             None => 0,
         };
         if let Some(executor) = executors.get_mut(to as usize) {

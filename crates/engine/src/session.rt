@@ -8,7 +8,7 @@ ghost use Rattle.engine.specs.Outcome.{IsRefusal};
 ghost use Rattle.engine.specs.Served.{Served};
 ghost use Rattle.engine.specs.ByHand.{Asks, HasMet, IsBackIn};
 
-use crate::asking::{home_of, says_full};
+use crate::asking::says_full;
 use crate::message::Message;
 use crate::{Answers, Engine, Gate, ServeNames};
 use commit_log::{Log, Pass, SessionSeat};
@@ -20,6 +20,7 @@ use std::alloc::Global;
 use std::marker::Model;
 use std::sync::Wait;
 use std::sync::atomic::Ordering;
+use transactions::home_of_request;
 
 /// A session that asks by hand, none of whose requests is under way.
 ///
@@ -303,7 +304,7 @@ impl<J: ServeNames> Asker<J> {
         seat.ask(&mut pass, number, &request);
         let age = engine.ages.fetch_add(1, Ordering::SeqCst);
         let slot = pass.session() as usize;
-        let home = home_of(&request);
+        let home = home_of_request(&request);
         let begun = Journey::begin(alloc, age, slot, number, &request, pass);
         let mut away = Away {
             seat,

@@ -10,7 +10,8 @@ use Rattle.transactions.specs.declared.work.Work.{Work}
 use Rattle.transactions.specs.Progresses.{works_of}
 use Rattle.transactions.specs.Works.{HasDone, HaveAllDone}
 use Rattle.executor.specs.AtOnce.{HaveDoneAtOnce, HaveDoneBut}
-use Rattle.executor.specs.Journeys.{AreUndoneBy, CanAllBeUndone, CarriesJourney, Journeying}
+use Rattle.executor.specs.Journeys.{CarriesJourney, Journeying}
+use Rattle.transactions.specs.Acting.{AreUndoneBy, CanAllBeUndone}
 
 -- one more has done its work
 done_more : (shared : Shared) (works : List Work) (found : List Found) (own : List (List Claiming)) (work : Work) (one : Found) (claims : List Claiming) → HaveAllDone shared works found own

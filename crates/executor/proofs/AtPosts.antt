@@ -18,15 +18,14 @@ use Rattle.transactions.specs.declared.station.Parked.{Parked}
 use Rattle.transactions.specs.declared.station.Turned.{Turned}
 use Rattle.transactions.specs.declared.work.Found.{Found}
 use Rattle.transactions.specs.declared.work.Work.{Work}
-use Rattle.transactions.specs.Acting.{IsBy, IsDoneBy, IsRan}
+use Rattle.transactions.specs.Acting.{AreUndoneBy, IsAged, IsBy, IsDoneBy, IsRan, IsRanBy}
 use Rattle.transactions.specs.Laws.{WorksAreDoneAtHome}
 use Rattle.transactions.specs.Stations.{ActsAs, OneTurn, RunsAs, Stationed, parked}
 use Rattle.transactions.specs.Works.{HasDone, wishes_of}
 use Rattle.executor.specs.declared.errand.Carried.{Carried}
-use Rattle.executor.specs.Journeys.{AreUndoneBy, IsAged}
-use Rattle.executor.specs.Carrying.{CarriesErrand, CarriesReport, Erranding, IsRanBy, reporting}
+use Rattle.executor.specs.Carrying.{CarriesErrand, CarriesReport, Erranding, reporting}
 use Rattle.executor.specs.Posts.{AreAtMost, CarriesPost, CarriesWaiting, carried_by, report_by, report_turned}
-use Rattle.executor.proofs.Refusals.{dies_of_wished}
+use Rattle.transactions.proofs.OnGroups.{dies_on}
 
 -- where the scale and the items stay, all that is shared stays
 pub shared_kept : (before after : List Claiming) (old new : Sliced) → SliceKeeps before old after new → shared_of new.tables ≡ shared_of old.tables
@@ -45,7 +44,7 @@ module _ (at_home : WorksAreDoneAtHome) (shared : Shared) where
 
     ran_by : (by : Holder) (age : ℕ) (work : Work) (old new : Sliced) (one : Ran J) → by.age ≡ age → shared_of old.tables ≡ shared → IsRan by old work one new → IsRanBy shared age work one
     ran_by by age work old new (ran.Done claims found) aged is done = done_by by age old work claims found aged is done
-    ran_by by age work old new (ran.Died group holder) aged is dies = dies_of_wished old.holdings by.age (wishes_of work) group holder dies.0
+    ran_by by age work old new (ran.Died group holder) aged is dies = (dies_on old.holdings by.age (wishes_of work) group holder dies.0).wished
     ran_by by age work old new ran.NoMemory aged is none = tt
 
     -- one who would not wait

@@ -7,5 +7,4 @@ pub mod AtPosts
 pub mod Onward
 pub mod AtOnce
 pub mod Logged
-pub mod Homes
 pub mod Sendable

@@ -1,45 +1,62 @@
--- What goes back of a transaction that is logged.
-use Rattle.std.proofs.Common.{ℕ, List, [], ◌∷◌, map, ap}
-use Rattle.std.specs.Prelude.{All}
-use Rattle.std.proofs.lemmas.List.Elements.{All-cons, All-head, All-nil, All-tail}
-use Rattle.requests.specs.declared.reply.Reply.{Reply}
-use Rattle.requests.specs.declared.reply.Reply.TheVariants as reply
-use Rattle.groups.specs.Groups.{warehouse_of}
-use Rattle.tickets.specs.Claims.{Claiming, committed_by, settled}
-use Rattle.tickets.specs.Committed.{all_settled}
-use Rattle.commit_log.specs.Claimed.{claims_logged}
-use Rattle.slices.specs.Sliced.{AreOfOneHome, IsClaimAt}
-use Rattle.transactions.specs.Acting.{CanBeSettled}
-use Rattle.executor.specs.Journeys.{AreUndoneBy}
-use Rattle.executor.specs.Answers.{AreGiven, IsGiven}
-use Rattle.executor.specs.Commits.{is_settled}
+-- What becomes of a transaction by what came of it at the log.
+use Rattle.std.proofs.Common.{◌≡◌, ◌≤◌, ◌++◌, ◌∷◌, [], inl, inr, ℕ, Bool, true, false, List, Err, length, refl, sym, ap, ◌∙◌, subst}
+use Rattle.std.specs.Prelude.{All, ◌↔◌}
+use Rattle.std.proofs.lemmas.List.Elements.{All-weaker}
+use Rattle.tickets.specs.Claims.{Claiming}
+use Rattle.commit_log.specs.declared.entry.Entry.{Entry}
+use Rattle.commit_log.specs.declared.log_book.AppendFault.{AppendFault}
+use Rattle.commit_log.specs.declared.log_book.AppendFault.TheVariants as fault
+use Rattle.commit_log.specs.Items.{item}
+use Rattle.commit_log.specs.Passing.{after_refusal}
+use Rattle.transactions.specs.declared.logging.Logged.{Logged}
+use Rattle.transactions.specs.Acting.{AreGivenBy, AreUndoneBy}
+use Rattle.transactions.specs.Logged.{Logs, why_refused}
+use Rattle.transactions.proofs.Settling.{given_back}
+use Rattle.executor.specs.Answers.{AreGiven, CarriesAnswer, IsGiven, releasing, returning, telling}
+use Rattle.executor.specs.Commits.{Commits, Committing, entry_committed}
+use Rattle.executor.specs.Journeys.{IsAskedBy}
 
--- what a claim left is committed once it is settled
-settled_given : (c : Claiming) → CanBeSettled (settled c)
-settled_given c exclusive = ap (λ m. committed_by m c.left c.told) exclusive
+-- what a transaction of some age gives back goes back
+given_so : (settle : Bool) (age : ℕ) (claims : List Claiming) → AreGivenBy settle age claims → IsGiven settle claims
+given_so true age claims given = given.0
+given_so false age claims given = given.0
 
-all_settled_given : (cs : List Claiming) → All CanBeSettled (all_settled cs)
-all_settled_given [] = All-nil CanBeSettled
-all_settled_given (c ∷ cs) = All-cons CanBeSettled (settled c) (all_settled cs) (settled_given c) (all_settled_given cs)
+module _ {J : Type 0} (c : Committing) (old new : List Entry) (logged : Logged J) (after : List (List Claiming)) where
+  -- its session is told so
+  pub answers : IsAskedBy c.number c.request c.pass → Logs (entry_committed c) c.pass old c.held logged new after → CarriesAnswer (telling c.age c.number logged.pass logged.answer)
+  answers asked (inl logs) =
+      subst (λ (l : Logged J). CarriesAnswer (telling c.age c.number l.pass l.answer)) (sym logs.2) (record {
+        number_is = asked.number_is;
+        told = (
+          subst (λ n. n ≤ length old) asked.seen logs.1,
+          refl,
+          c.shown,
+          ap (λ mine. mine ++ item (length old) c.number c.request c.shown ∷ []) asked.mine
+              ∙ sym (λ i. c.pass.asks.mine ++ item (length old) (asked.number_is i) (asked.request_is i) c.shown ∷ []),
+        );
+      })
+  answers asked (inr refused) = subst (λ (l : Logged J). CarriesAnswer (telling c.age c.number l.pass l.answer)) (sym refused.2) (by refused.0 refused.1)
+    where
+      by : (why : AppendFault) → ((why ≡ fault.LogFull) ↔ (16777216 ≤ length old)) → CarriesAnswer (telling c.age c.number (after_refusal why (length old) c.pass) (Err (why_refused why)))
+      by fault.NoMemory full = record { number_is = asked.number_is; told = (asked.seen, asked.mine, tt) }
+      by fault.LogFull full = record { number_is = asked.number_is; told = (asked.seen, asked.mine, full.0 refl) }
 
--- they are still on groups of one warehouse
-all_settled_at : (home : ℕ) (cs : List Claiming) → All (IsClaimAt home) cs → All (IsClaimAt home) (all_settled cs)
-all_settled_at home [] h = All-nil (IsClaimAt home)
-all_settled_at home (c ∷ cs) h =
-    All-cons (IsClaimAt home) (settled c) (all_settled cs) (All-head (IsClaimAt home) c cs h) (all_settled_at home cs (All-tail (IsClaimAt home) c cs h))
+  -- its claims go back so
+  pub gives : All (AreUndoneBy c.age) c.held → Logs (entry_committed c) c.pass old c.held logged new after → AreGiven logged.is_settled after
+  gives undone logs =
+      All-weaker (AreGivenBy logged.is_settled c.age) (IsGiven logged.is_settled) (given_so logged.is_settled c.age) after
+      (given_back c.age (entry_committed c) c.pass old new c.held after logged logs undone)
 
-all_settled_together : (cs : List Claiming) → AreOfOneHome cs → AreOfOneHome (all_settled cs)
-all_settled_together [] h = h
-all_settled_together (c ∷ cs) h = all_settled_at (warehouse_of c.group) (c ∷ cs) h
-
--- those of one action
-logged_given : (shown : Reply) (age : ℕ) (cs : List Claiming) → AreUndoneBy age cs → IsGiven (is_settled shown) (claims_logged shown cs)
-logged_given (reply.Done shown) age cs h = (all_settled_given cs, all_settled_together cs h.0.1)
-logged_given (reply.RolledBack fault) age cs h = h.0
-
--- and those of all
-pub all_logged_given : (shown : Reply) (age : ℕ) (held : List (List Claiming)) → All (AreUndoneBy age) held → AreGiven (is_settled shown) (map (claims_logged shown) held)
-all_logged_given shown age [] h = All-nil (IsGiven (is_settled shown))
-all_logged_given shown age (cs ∷ held) h =
-    All-cons (IsGiven (is_settled shown)) (claims_logged shown cs) (map (claims_logged shown) held)
-    (logged_given shown age cs (All-head (AreUndoneBy age) cs held h)) (all_logged_given shown age held (All-tail (AreUndoneBy age) cs held h))
+  -- and that is what becomes of it
+  pub commits : Logs (entry_committed c) c.pass old c.held logged new after
+      → Commits c old (releasing (telling c.age c.number logged.pass logged.answer) (returning c.slot logged.is_settled after) c.keeper) new
+  commits (inl logs) =
+      inl (logs.0, ((λ i. releasing (telling c.age c.number (logs.2 i).pass (logs.2 i).answer) (returning c.slot (logs.2 i).is_settled (logs.4 i)) c.keeper), logs.3))
+  commits (inr refused) =
+      inr (
+        refused.0,
+        (
+          refused.1,
+          ((λ i. releasing (telling c.age c.number (refused.2 i).pass (refused.2 i).answer) (returning c.slot (refused.2 i).is_settled (refused.4 i)) c.keeper), refused.3),
+        ),
+      )

@@ -5,27 +5,27 @@ use Rattle.std.proofs.lemmas.List.Elements.{All-append}
 use Rattle.partitions.specs.Parts.{Shared, shared_of}
 use Rattle.schema.specs.Database.{Database}
 use Rattle.requests.specs.declared.request.Request.{Request}
-use Rattle.requests.specs.declared.reply.Fault.{Fault}
 use Rattle.requests.specs.declared.reply.Reply.{Reply}
-use Rattle.requests.specs.declared.reply.Reply.TheVariants as reply
 use Rattle.requests.specs.declared.refusal.Refusal.{Refusal}
 use Rattle.requests.specs.declared.refusal.Refusal.TheVariants as refusal
 use Rattle.tickets.specs.Claims.{Claiming, all_claims}
 use Rattle.commit_log.specs.Claimed.{IsCarriedOut}
+use Rattle.transactions.specs.declared.laws.TheConstants.{MOST_ACTIONS}
 use Rattle.transactions.specs.declared.acting.Ran.{Ran}
 use Rattle.transactions.specs.declared.work.Found.{Found}
 use Rattle.transactions.specs.declared.progress.Progress.{Progress}
-use Rattle.transactions.specs.declared.progress.Gathered.TheVariants.{Next, Finish, RollBack}
+use Rattle.transactions.specs.declared.progress.Gathered.TheVariants.{Next, Finish}
 use Rattle.transactions.specs.Progresses.{FollowsFrom, HasFound, IsReached, works_of}
 use Rattle.executor.specs.declared.following.Following.{Following}
 use Rattle.executor.specs.declared.following.Following.TheVariants.{Over}
 use Rattle.executor.specs.Courses.{Keeping, KeepsWhole}
-use Rattle.executor.specs.Journeys.{AreUndoneBy, CarriesJourney, Journeying}
+use Rattle.executor.specs.Journeys.{CarriesJourney, Journeying}
+use Rattle.transactions.specs.Acting.{AreUndoneBy}
 use Rattle.executor.specs.Phases.{AreAllRans, Meeting}
 use Rattle.transactions.specs.SortedOut.{found_in, held_in, refusal_of}
 use Rattle.transactions.proofs.SortedOut.{memory_last, none_before}
 use Rattle.executor.specs.Released.{refused}
-use Rattle.executor.specs.Followed.{Follows, FollowsUnless, Gathers, HasMetUnder, transaction_of}
+use Rattle.executor.specs.Followed.{Follows, FollowsUnless, HasMetUnder, transaction_of}
 use Rattle.executor.proofs.SortedOut.{all_done, all_undone, as_many}
 
 -- ---- what was found is gathered
@@ -42,10 +42,6 @@ module _ (opening : Database) (request : Request) (progress : Progress) (held : 
   pub finished : (shown : Reply) → FollowsFrom progress found (Finish shown) → IsCarriedOut opening request (all_claims held) shown
   finished shown follows = subst (λ h. IsCarriedOut opening request (all_claims h) shown) (sym met.held_is) (follows (shared_of opening) request met.earlier met.own met.reached met.done opening refl)
 
-  pub rolled_back : (fault : Fault) → FollowsFrom progress found (RollBack fault) → IsCarriedOut opening request (all_claims held) (reply.RolledBack fault)
-  rolled_back fault follows =
-      subst (λ h. IsCarriedOut opening request (all_claims h) (reply.RolledBack fault)) (sym met.held_is) (follows (shared_of opening) request met.earlier met.own met.reached met.done opening refl)
-
 -- ---- all have reported
 
 module _ {J : Type 0} where
@@ -59,7 +55,7 @@ module _ {J : Type 0} where
     met_under none = record { earlier = j.held; own = held_in rans; held_is = refl; reached = carries.reached; done = all_done shared j.age (works_of j.progress) rans are none }
 
     -- and there is room for what they hold
-    pub room_then : length j.held + length (works_of j.progress) ≤ 18 → length j.held + length rans ≤ 18
+    pub room_then : length j.held + length (works_of j.progress) ≤ MOST_ACTIONS → length j.held + length rans ≤ MOST_ACTIONS
     room_then few = omega (arith, few, as_many shared j.age (works_of j.progress) rans are)
 
   -- ---- what follows
@@ -68,21 +64,17 @@ module _ {J : Type 0} where
     abbrev held_then : List (List Claiming)
     held_then = m.journey.held ++ held_in m.rans
 
-    pub follows_gathered : (start : Option Refusal) (following : Following J) → refusal_of start m.rans ≡ None
-        → Gathers keeper (transaction_of m.journey) held_then m.journey.progress (found_in m.rans) following → Follows m following
-    follows_gathered start following none gathers =
-        (keeper, (whole, subst (λ (o : Option Refusal). FollowsUnless o keeper m following) (sym (none_before start m.rans none)) gathers))
+    abbrev told : Option Refusal → List Found → Following J → Type 0
+    told refused found after = FollowsUnless refused keeper (transaction_of m.journey) held_then m.journey.progress found after
 
-    over : (why : Refusal) → Following J
-    over why = Over (refused keeper (transaction_of m.journey) held_then why)
-
-    pub follows_refused : (start : Option Refusal) (why : Refusal) → IfSome start (λ w. w ≡ refusal.NoMemory) → refusal_of start m.rans ≡ Some why
+    -- it is refused for the first death, or else for want of memory
+    follows_refused : (start : Option Refusal) (why : Refusal) → IfSome start (λ w. w ≡ refusal.NoMemory) → refusal_of start m.rans ≡ Some why
         → Follows m (Over (refused keeper (transaction_of m.journey) held_then why))
-    follows_refused None why begun told = (keeper, (whole, subst (λ (o : Option Refusal). FollowsUnless o keeper m (Over (refused keeper (transaction_of m.journey) held_then why))) (sym told) refl))
-    follows_refused (Some w) why begun told = by (memory_last m.rans)
+    follows_refused None why begun is = (keeper, (whole, subst (λ (o : Option Refusal). told o (found_in m.rans) (Over (refused keeper (transaction_of m.journey) held_then why))) (sym is) refl))
+    follows_refused (Some w) why begun is = by (memory_last m.rans)
       where
         told_so : refusal_of (Some refusal.NoMemory) m.rans ≡ Some why
-        told_so = ap (λ (r : Refusal). refusal_of (Some r) m.rans) (sym begun) ∙ told
+        told_so = ap (λ (r : Refusal). refusal_of (Some r) m.rans) (sym begun) ∙ is
 
         by : ((refusal_of None m.rans ≡ None) × (refusal_of (Some refusal.NoMemory) m.rans ≡ Some refusal.NoMemory)) ⊎ (refusal_of (Some refusal.NoMemory) m.rans ≡ refusal_of None m.rans)
             → Follows m (Over (refused keeper (transaction_of m.journey) held_then why))
@@ -93,8 +85,21 @@ module _ {J : Type 0} where
               keeper,
               (
                 whole,
-                subst (λ (o : Option Refusal). FollowsUnless o keeper m (Over (refused keeper (transaction_of m.journey) held_then why))) (sym none.0)
+                subst (λ (o : Option Refusal). told o (found_in m.rans) (Over (refused keeper (transaction_of m.journey) held_then why))) (sym none.0)
                     (ap (λ (r : Refusal). refused keeper (transaction_of m.journey) held_then r) same),
               ),
             )
-        by (inr alike) = (keeper, (whole, subst (λ (o : Option Refusal). FollowsUnless o keeper m (Over (refused keeper (transaction_of m.journey) held_then why))) (sym (sym alike ∙ told_so)) refl))
+        by (inr alike) = (keeper, (whole, subst (λ (o : Option Refusal). told o (found_in m.rans) (Over (refused keeper (transaction_of m.journey) held_then why))) (sym (sym alike ∙ told_so)) refl))
+
+    -- so it goes on, or is refused, by what was sorted out
+    pub follows : (start sorted : Option Refusal) (found : List Found) (after : Following J) → IfSome start (λ w. w ≡ refusal.NoMemory) → refusal_of start m.rans ≡ sorted
+        → (sorted ≡ None → found ≡ found_in m.rans) → told sorted found after → Follows m after
+    follows start None found after begun is same goes = (
+      keeper,
+      (
+        whole,
+        subst (λ (o : Option Refusal). told o (found_in m.rans) after) (sym (none_before start m.rans is))
+            (subst (λ (f : List Found). told None f after) (same refl) goes),
+      ),
+    )
+    follows start (Some why) found after begun is same goes = subst (λ (one : Following J). Follows m one) (sym goes) (follows_refused start why begun is)

@@ -7,7 +7,8 @@ use Rattle.transactions.specs.declared.acting.Ran.{Ran}
 use Rattle.partitions.specs.Parts.{Shared}
 use Rattle.transactions.specs.Progresses.{works_of}
 use Rattle.executor.specs.declared.course.Course.{Course}
-use Rattle.executor.specs.Carrying.{CarriesReport, Reporting, IsOn, IsCarriedAt, IsRanAt, IsRanBy}
+use Rattle.executor.specs.Carrying.{CarriesReport, Reporting, IsOn, IsCarriedAt, IsRanAt}
+use Rattle.transactions.specs.Acting.{IsRanBy}
 use Rattle.executor.specs.Journeys.{Journeying}
 use Rattle.executor.specs.Phases.{AreAllRans, AreRans, CarriesMeeting, CarriesPhase, HasCome, Phasing, come_with, with_report}
 

@@ -2,6 +2,7 @@
 use Rattle.std.proofs.Common.{◌≡◌, ◌≤◌, ℕ, ◌+◌, List, [], ◌∷◌, ◌++◌, length, sym, ap, ◌∙◌, subst, arith}
 use Rattle.atomic_table.specs.Seated.{TableId}
 use Rattle.agreement.specs.Telling.{Telling, with_share, IsSpent}
+use Rattle.transactions.specs.declared.laws.TheConstants.{MOST_ACTIONS}
 use Rattle.executor.specs.declared.course.Course.{Course}
 use Rattle.executor.specs.Courses.{AreSpent, IsKeeper, course_agreement, course_seat}
 
@@ -29,7 +30,7 @@ module _ (table : TableId) where
 
   -- what the keeper has once its share is another
   pub keeps : (told : Course) (k share : ℕ) (was now : Telling Course) (spare : List (Telling Course)) (room : ℕ)
-      → was ≡ course_seat table told k → now ≡ with_share was share → share ≡ length spare + 1 → length spare ≤ 18 → 18 ≤ room → AreSpent table spare
+      → was ≡ course_seat table told k → now ≡ with_share was share → share ≡ length spare + 1 → length spare ≤ MOST_ACTIONS → MOST_ACTIONS ≤ room → AreSpent table spare
       → IsKeeper table now spare room
   keeps told k share was now spare room is changed same few room_is spent = record {
     seat_is = tells_own told (length spare + 1) now (changed ∙ ap (λ t. with_share t share) is ∙ ap (course_seat table told) same);

@@ -7,7 +7,7 @@ use Rattle.transactions.specs.declared.acting.Ran.{Ran}
 use Rattle.transactions.specs.declared.acting.Ran.TheVariants as ran
 use Rattle.partitions.specs.Parts.{Shared}
 use Rattle.transactions.specs.Works.{HaveAllDone}
-use Rattle.executor.specs.Journeys.{AreUndoneBy}
+use Rattle.transactions.specs.Acting.{AreUndoneBy}
 use Rattle.executor.specs.Phases.{AreAllRans}
 use Rattle.transactions.specs.SortedOut.{found_in, held_in, refusal_of}
 use Rattle.transactions.proofs.SortedOut.{stays_refused}

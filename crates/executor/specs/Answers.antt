@@ -10,7 +10,7 @@ use Rattle.commit_log.specs.declared.asking.Asking.{Asking}
 use Rattle.commit_log.specs.Items.{item}
 use Rattle.commit_log.specs.Passing.{Passing}
 use Rattle.executor.specs.Courses.{Keeping}
-use Rattle.executor.specs.Journeys.{CanAllBeSettled, CanAllBeUndone}
+use Rattle.transactions.specs.Acting.{CanAllBeSettled, CanAllBeUndone}
 
 -- ---- the answer
 

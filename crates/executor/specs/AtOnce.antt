@@ -9,7 +9,7 @@ use Rattle.transactions.specs.Works.{HaveAllDone}
 use Rattle.executor.specs.declared.paused.Tried.{Tried}
 use Rattle.executor.specs.declared.paused.Tried.TheVariants.{Apart, Done}
 use Rattle.executor.specs.Followed.{Gathers, transaction_of}
-use Rattle.executor.specs.Journeys.{AreUndoneBy}
+use Rattle.transactions.specs.Acting.{AreUndoneBy}
 use Rattle.executor.specs.Pauses.{Pausing}
 
 -- Of these works all but the last ones were done, under claims of a transaction of this age that are held after those before;

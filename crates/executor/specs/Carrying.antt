@@ -1,17 +1,16 @@
 -- What an action carries with it on its way, and what its report does, whatever becomes of the others.
-use Rattle.std.specs.Prelude.{◌≡◌, ◌+◌, ℕ, zero, suc, Contains, Option, Some, None, length}
+use Rattle.std.specs.Prelude.{◌≡◌, ◌+◌, ℕ, zero, suc, Option, Some, None, length}
 use Rattle.std.specs.List.{slice_get}
 use Rattle.partitions.specs.Parts.{Shared}
-use Rattle.groups.specs.Footprint.{groups_of}
 use Rattle.wait_die.specs.declared.deciding.Holder.{Holder}
 use Rattle.transactions.specs.declared.work.Work.{Work}
 use Rattle.transactions.specs.declared.acting.Ran.{Ran}
-use Rattle.transactions.specs.declared.acting.Ran.TheVariants.{Done, Died, NoMemory}
-use Rattle.transactions.specs.Works.{CanDo, HasDone, wishes_of}
+use Rattle.transactions.specs.Works.{CanDo}
 use Rattle.transactions.specs.Progresses.{works_of}
 use Rattle.executor.specs.declared.course.Course.{Course}
 use Rattle.executor.specs.Courses.{Sharing, course}
-use Rattle.executor.specs.Journeys.{AreUndoneBy, Journeying}
+use Rattle.executor.specs.Journeys.{Journeying}
+use Rattle.transactions.specs.Acting.{IsRanBy}
 
 -- ---- a transaction
 
@@ -63,13 +62,6 @@ pub record CarriesErrand (shared : Shared) (e : Erranding) : Type 0 where
   pub journey_is : IsCarriedAt e.slot e.course e.number e.journey
 
 module _ {J : Type 0} where
-  -- What came of this work of a transaction of this age: it was done under claims of the transaction's, and all of it can be taken
-  -- back; or nothing was done, and it died on a group that it claims, or found no memory.
-  abbrev pub IsRanBy : Shared → ℕ → Work → Ran J → Type 0
-  IsRanBy shared age work (Done claims found) = HasDone shared work found claims × AreUndoneBy age claims
-  IsRanBy shared age work (Died group holder) = Contains (groups_of (wishes_of work)) group
-  IsRanBy shared age work NoMemory = Unit {0}
-
   -- what came of the work of this number
   abbrev pub IsRanAt : Shared → Course → ℕ → Ran J → Type 0
   IsRanAt shared told number ran = (work : Work) × (IsWorkAt told number work × IsRanBy shared told.age work ran)

@@ -1,11 +1,9 @@
 -- A transaction is logged.
-use Rattle.std.specs.Prelude.{◌≡◌, ◌⊎◌, ◌<◌, ◌≤◌, ◌↔◌, ℕ, Bool, true, false, List, [], ◌∷◌, ◌++◌, All, length, map, Ok, Err}
+use Rattle.std.specs.Prelude.{◌≡◌, ◌⊎◌, ◌<◌, ◌≤◌, ◌↔◌, ℕ, false, List, [], ◌∷◌, ◌++◌, All, length, map, Ok, Err}
 use Rattle.schema.specs.Database.{Database}
 use Rattle.requests.specs.declared.request.Request.{Request}
 use Rattle.requests.specs.declared.reply.Reply.{Reply}
-use Rattle.requests.specs.declared.reply.Reply.TheVariants as reply
 use Rattle.requests.specs.declared.refusal.Refusal.{Refusal}
-use Rattle.requests.specs.declared.refusal.Refusal.TheVariants as refusal
 use Rattle.requests.specs.Check.{IsAccepted}
 use Rattle.tickets.specs.Claims.{Claiming, all_claims}
 use Rattle.commit_log.specs.declared.entry.Entry.{Entry}
@@ -15,19 +13,11 @@ use Rattle.commit_log.specs.Claimed.{IsCarriedOut, claims_logged}
 use Rattle.commit_log.specs.Items.{entry_of, item}
 use Rattle.commit_log.specs.Passing.{Passing, after_item, after_refusal}
 use Rattle.executor.specs.Courses.{Keeping, KeepsWhole}
-use Rattle.executor.specs.Journeys.{AreUndoneBy, IsAskedBy}
+use Rattle.executor.specs.Journeys.{IsAskedBy}
+use Rattle.transactions.specs.Acting.{AreUndoneBy}
+use Rattle.transactions.specs.Logged.{is_settled, why_refused}
 use Rattle.executor.specs.Transactions.{Transacting}
 use Rattle.executor.specs.Answers.{Releasing, releasing, returning, telling}
-
--- the refusal by which a fault of the log is answered
-abbrev pub why_refused : AppendFault → Refusal
-why_refused fault.NoMemory = refusal.NoMemory
-why_refused fault.LogFull = refusal.LogFull
-
--- the claims are settled, unless it was rolled back
-abbrev pub is_settled : Reply → Bool
-is_settled (reply.Done shown) = true
-is_settled (reply.RolledBack fault) = false
 
 -- a transaction that was carried out: who keeps its course, its age, its slot, the number of its request in its session, the request, the
 -- session's pass, the claims of its actions, by place, and the reply

@@ -3,6 +3,7 @@ use Rattle.std.specs.Prelude.{◌≡◌, ◌≤◌, ◌+◌, ℕ, List, [], ◌�
 use Rattle.atomic_table.specs.Seated.{TableId}
 use Rattle.agreement.specs.Telling.{Agreement, Telling, telling, IsSpent}
 use Rattle.executor.specs.declared.course.Course.{Course}
+use Rattle.transactions.specs.declared.laws.TheConstants.{MOST_ACTIONS}
 use Rattle.transactions.specs.declared.progress.Progress.{Progress}
 use Rattle.transactions.specs.declared.progress.Progress.TheVariants.{StockLevel}
 use Rattle.transactions.specs.declared.stock_level.Progress.TheVariants.{ReadNext}
@@ -42,7 +43,7 @@ KeepsWhole slot keeper = (keeper.slot ≡ slot) × (keeper.out ≡ 0)
 
 -- the agreement on a course: a share for each action that a transaction may have, and one more
 abbrev pub course_agreement : TableId → Agreement
-course_agreement table = record { table = table; count = 19 }
+course_agreement table = record { table = table; count = MOST_ACTIONS + 1 }
 
 -- a seat that tells this course, with so many shares
 abbrev pub course_seat : TableId → Course → ℕ → Telling Course
@@ -56,12 +57,12 @@ AreSpent table (seat ∷ seats) = IsSpent (course_agreement table) seat × AreSp
 -- What the keeper has: all shares that are not out, and a spent seat for each of them but its own. There is room for all.
 pub record IsKeeper (table : TableId) (seat : Telling Course) (spare : List (Telling Course)) (room : ℕ) : Type 0 where
   pub seat_is : seat ≡ course_seat table seat.value (length spare + 1)
-  pub few : length spare ≤ 18
-  pub room_is : 18 ≤ room
+  pub few : length spare ≤ MOST_ACTIONS
+  pub room_is : MOST_ACTIONS ≤ room
   pub spent : AreSpent table spare
 
 -- what it has at the opening: all shares
 pub record IsOpened (table : TableId) (seat : Telling Course) (spare : List (Telling Course)) (room : ℕ) : Type 0 where
   pub told : seat.value ≡ no_course
-  pub all : length spare ≡ 18
+  pub all : length spare ≡ MOST_ACTIONS
   pub keeper : IsKeeper table seat spare room

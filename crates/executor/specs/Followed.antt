@@ -2,15 +2,12 @@
 use Rattle.std.specs.Prelude.{◌≡◌, List, ◌++◌, Option, Some, None}
 use Rattle.partitions.specs.Parts.{Shared}
 use Rattle.requests.specs.declared.request.Request.{Request}
-use Rattle.requests.specs.declared.reply.Reply.{Reply}
-use Rattle.requests.specs.declared.reply.Reply.TheVariants.{RolledBack}
 use Rattle.requests.specs.declared.refusal.Refusal.{Refusal}
 use Rattle.requests.specs.declared.refusal.Refusal.TheVariants as refusal
 use Rattle.tickets.specs.Claims.{Claiming}
 use Rattle.transactions.specs.declared.work.Found.{Found}
 use Rattle.transactions.specs.declared.progress.Progress.{Progress}
-use Rattle.transactions.specs.declared.progress.Gathered.{Gathered}
-use Rattle.transactions.specs.declared.progress.Gathered.TheVariants.{Next, Finish, RollBack}
+use Rattle.transactions.specs.declared.progress.Gathered.TheVariants.{Next, Finish}
 use Rattle.transactions.specs.Works.{HaveAllDone}
 use Rattle.transactions.specs.Progresses.{FollowsFrom, IsReached, works_of}
 use Rattle.executor.specs.declared.following.Following.{Following}
@@ -33,12 +30,6 @@ pub record HasMetUnder (shared : Shared) (request : Request) (progress : Progres
   pub reached : IsReached shared request progress earlier
   pub done : HaveAllDone shared (works_of progress) found own
 
--- the reply of a request that was carried out, or rolled back
-abbrev pub IsReplyOf : Gathered → Reply → Type 0
-IsReplyOf (Next progress) shown = ⊥
-IsReplyOf (Finish reply) shown = shown ≡ reply
-IsReplyOf (RollBack fault) shown = shown ≡ RolledBack fault
-
 -- who the transaction is
 abbrev pub transaction_of : Journeying → Transacting
 transaction_of j = record { age = j.age; slot = j.slot; number = j.number; request = j.request; pass = j.pass }
@@ -54,14 +45,16 @@ module _ {J : Type 0} where
   Gathers keeper t held progress found (following.Next paused) =
       (next : Progress) × (FollowsFrom progress found (Next next) × (paused ≡ pausing keeper (moved t held next)))
   Gathers keeper t held progress found (following.Commit commit) =
-      (g : Gathered) × (FollowsFrom progress found g × (IsReplyOf g commit.shown × (commit ≡ committing keeper t held commit.shown)))
+      FollowsFrom progress found (Finish commit.shown) × (commit ≡ committing keeper t held commit.shown)
   Gathers keeper t held progress found (following.Over release) = release ≡ refused keeper t held refusal.NoMemory
 
   -- One action has died or found no memory, and the transaction is refused; or all have done their work.
-  abbrev pub FollowsUnless : Option Refusal → Keeping → Meeting J → Following J → Type 0
-  FollowsUnless (Some why) keeper m after = after ≡ following.Over (refused keeper (transaction_of m.journey) (m.journey.held ++ held_in m.rans) why)
-  FollowsUnless None keeper m after = Gathers keeper (transaction_of m.journey) (m.journey.held ++ held_in m.rans) m.journey.progress (found_in m.rans) after
+  abbrev pub FollowsUnless : Option Refusal → Keeping → Transacting → List (List Claiming) → Progress → List Found → Following J → Type 0
+  FollowsUnless (Some why) keeper t held progress found after = after ≡ following.Over (refused keeper t held why)
+  FollowsUnless None keeper t held progress found after = Gathers keeper t held progress found after
 
   -- What follows when these have met, while this one keeps the course.
   abbrev pub Follows : Meeting J → Following J → Type 0
-  Follows m after = (keeper : Keeping) × (KeepsWhole m.journey.slot keeper × FollowsUnless (refusal_of None m.rans) keeper m after)
+  Follows m after =
+      (keeper : Keeping) × (KeepsWhole m.journey.slot keeper
+      × FollowsUnless (refusal_of None m.rans) keeper (transaction_of m.journey) (m.journey.held ++ held_in m.rans) m.journey.progress (found_in m.rans) after)

@@ -1,6 +1,5 @@
 -- The claims of an action on their way back.
-use Rattle.std.specs.Prelude.{ℕ, List, [], ◌∷◌}
-use Rattle.groups.specs.Groups.{warehouse_of}
+use Rattle.std.specs.Prelude.{ℕ, List}
 use Rattle.tickets.specs.Claims.{Claiming}
 
 -- the slot of the transaction, and the claims of one action
@@ -10,8 +9,3 @@ pub record Giving : Type 0 where
 
 abbrev pub giving : ℕ → List Claiming → Giving
 giving slot claims = record { slot = slot; claims = claims }
-
--- the warehouse of the claims of an action, which are all on groups of one
-abbrev pub home_of_claims : List Claiming → ℕ
-home_of_claims [] = 0
-home_of_claims (claim ∷ claims) = warehouse_of claim.group

@@ -3,31 +3,10 @@ use Rattle.std.specs.Prelude.{◌≡◌, ℕ, List, [], All}
 use Rattle.partitions.specs.Parts.{Shared}
 use Rattle.requests.specs.declared.request.Request.{Request}
 use Rattle.tickets.specs.Claims.{Claiming}
-use Rattle.slices.specs.Sliced.{AreOfOneHome}
 use Rattle.commit_log.specs.Passing.{Passing}
 use Rattle.transactions.specs.declared.progress.Progress.{Progress}
-use Rattle.transactions.specs.Acting.{CanBeSettled, CanBeUndone}
+use Rattle.transactions.specs.Acting.{AreUndoneBy}
 use Rattle.transactions.specs.Progresses.{IsReached}
-
--- ---- the claims of one action
-
--- the claim was granted to an action of a transaction of this age
-abbrev pub IsAged : ℕ → Claiming → Type 0
-IsAged age claim = claim.by.age ≡ age
-
--- they are on groups of one warehouse, and all that was done under them can be taken back
-abbrev pub CanAllBeUndone : List Claiming → Type 0
-CanAllBeUndone claims = All CanBeUndone claims × AreOfOneHome claims
-
--- they are on groups of one warehouse, and what they left is committed
-abbrev pub CanAllBeSettled : List Claiming → Type 0
-CanAllBeSettled claims = All CanBeSettled claims × AreOfOneHome claims
-
--- all that was done under them can be taken back, and they are a transaction's of this age
-abbrev pub AreUndoneBy : ℕ → List Claiming → Type 0
-AreUndoneBy age claims = CanAllBeUndone claims × All (IsAged age) claims
-
--- ---- the transaction
 
 -- Its session asks this request with this pass, and the pass is as it was when it asked: it has seen and logged nothing since.
 pub record IsAskedBy (number : ℕ) (request : Request) (pass : Passing) : Type 0 where

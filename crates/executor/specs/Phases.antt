@@ -7,7 +7,8 @@ use Rattle.transactions.specs.declared.acting.Ran.{Ran}
 use Rattle.partitions.specs.Parts.{Shared}
 use Rattle.transactions.specs.Progresses.{works_of}
 use Rattle.executor.specs.declared.course.Course.{Course}
-use Rattle.executor.specs.Carrying.{IsOn, IsRanBy, Reporting}
+use Rattle.executor.specs.Carrying.{IsOn, Reporting}
+use Rattle.transactions.specs.Acting.{IsRanBy}
 use Rattle.executor.specs.Journeys.{Journeying}
 
 -- A phase that is under way: the slot of its transaction, and the course; the transaction, once it has come; and what came of each

@@ -14,7 +14,8 @@ use rendezvous::Meeting;
 use requests::Refusal;
 use std::alloc::Global;
 use transactions::{
-    Work, actions_can_do_their_work, phases_have_actions, transactions_have_few_actions,
+    MOST_ACTIONS, Work, actions_can_do_their_work, phases_have_actions,
+    transactions_have_few_actions,
 };
 use wait_die::Holder;
 
@@ -115,7 +116,7 @@ fn send<J: CourseNames>(
     work: Work,
     journey: Option<Journey<J>>,
 ) -> Errand<J>
-    requires few { keeper.old.out < 18 }
+    requires few { keeper.old.out < MOST_ACTIONS }
     requires by { by ≡ action_at keeper.old.course number }
     requires work { IsWorkAt keeper.old.course number work }
     requires can { CanDo (shared_of J.opening) work }

@@ -3,19 +3,19 @@ ghost use Rattle.std.specs.Prelude.{◌≡◌, ◌<◌, All};
 ghost use Rattle.requests.specs.Check.{IsAccepted};
 ghost use Rattle.tickets.specs.Claims.{all_claims};
 ghost use Rattle.commit_log.specs.Claimed.{IsCarriedOut};
-ghost use Rattle.executor.specs.Commits as spec;
 ghost use Rattle.executor.specs.Commits.{Commits, committing};
 ghost use Rattle.executor.specs.Courses.{KeepsWhole};
-ghost use Rattle.executor.specs.Journeys.{AreUndoneBy, IsAskedBy};
+ghost use Rattle.executor.specs.Journeys.{IsAskedBy};
+ghost use Rattle.transactions.specs.Acting.{AreUndoneBy};
 ghost use Rattle.executor.specs.Transactions.{transacting};
 
 use crate::journey::Transaction;
 use crate::release::Returns;
 use crate::{CourseNames, Keeper, Release, Told};
-use commit_log::{AppendFault, Entry, Log};
-use requests::{Refusal, Reply, Request};
+use commit_log::{Entry, Log};
+use requests::Request;
 use std::marker::Model;
-use transactions::HeldClaims;
+use transactions::{HeldClaims, Logged};
 
 /// A transaction that was carried out, on its way to the log.
 ///
@@ -96,7 +96,7 @@ impl<J: CourseNames> Commit<J> {
     {
         let Commit {
             transaction,
-            held,
+            mut held,
             keeper,
         } = self;
         let Transaction {
@@ -112,45 +112,20 @@ impl<J: CourseNames> Commit<J> {
             request: matter.take_request(),
             reply: matter.take_reply(),
         };
-        let is_settled = is_settled(&entry.reply);
-        let mut held = held;
-        match held.append(log, pass, entry) {
-            Ok((place, pass)) => Release {
-                told: Told {
-                    age,
-                    number,
-                    pass,
-                    answer: Ok(place),
-                },
-                returns: Returns::new(slot, is_settled, held),
-                keeper,
+        let Logged {
+            answer,
+            pass,
+            is_settled,
+        } = held.log(log, pass, entry);
+        Release {
+            told: Told {
+                age,
+                number,
+                pass,
+                answer,
             },
-            Err((fault, pass)) => Release {
-                told: Told {
-                    age,
-                    number,
-                    pass,
-                    answer: Err(why_refused(fault)),
-                },
-                returns: Returns::new(slot, false, held),
-                keeper,
-            },
+            returns: Returns::new(slot, is_settled, held),
+            keeper,
         }
-    }
-}
-
-// Whether the claims are settled: what a transaction that was rolled back did is taken back.
-fn is_settled(reply: &Reply) -> bool
-    ensures { result ≡ spec.is_settled reply.now }
-{
-    !matches!(reply, Reply::RolledBack(_))
-}
-
-fn why_refused(fault: AppendFault) -> Refusal
-    ensures { result ≡ spec.why_refused fault }
-{
-    match fault {
-        AppendFault::NoMemory => Refusal::NoMemory,
-        AppendFault::LogFull => Refusal::LogFull,
     }
 }

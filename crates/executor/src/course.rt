@@ -88,8 +88,8 @@ impl OpenedCourse {
 fn spare_seats(alloc: Global, seat: &mut Seat<Course>) -> Result<Vec<Seat<Course>>, NoMemory>
     requires count { seat.old.agreement ≡ course_agreement seat.old.agreement.table }
     ensures same { seat.new ≡ seat.old }
-    ensures all { IfOk result (λ spare. vec_len spare ≡ 18) }
-    ensures room { IfOk result (λ spare. 18 ≤ vec_capacity spare) }
+    ensures all { IfOk result (λ spare. vec_len spare ≡ MOST_ACTIONS) }
+    ensures room { IfOk result (λ spare. MOST_ACTIONS ≤ vec_capacity spare) }
     ensures spent { IfOk result (λ spare. AreSpent seat.old.agreement.table spare.items) }
 {
     let mut spare = Vec::with_capacity(alloc, MOST_ACTIONS)?;
@@ -145,10 +145,11 @@ pub struct Keeper<J: CourseNames> {
 impl<J: CourseNames> Model for Keeper<J> {
     ghost use Rattle.executor.specs.Courses.{Keeping, keeping, IsKeeper};
     ghost use Rattle.std.specs.Prelude.{◌-◌, length, vec_capacity};
+    ghost use Rattle.transactions.specs.declared.laws.TheConstants.{MOST_ACTIONS};
 
     ghost Value = { Keeping };
 
-    ghost view = { λ k. keeping k.slot k.seat.value (18 - length k.spare.items) };
+    ghost view = { λ k. keeping k.slot k.seat.value (MOST_ACTIONS - length k.spare.items) };
 
     ghost invariant = { λ k. IsKeeper (J.course k.slot) k.seat k.spare.items (vec_capacity k.spare) };
 }
@@ -170,7 +171,7 @@ impl<J: CourseNames> Keeper<J> {
 
     /// A share goes out, with an action.
     pub fn give(&mut self) -> Share<J>
-        requires few { self.old.out < 18 }
+        requires few { self.old.out < MOST_ACTIONS }
         ensures share { result ≡ sharing self.old.slot self.old.course }
         ensures keeper { self.new ≡ keeping self.old.slot self.old.course (self.old.out + 1) }
     {

@@ -1,18 +1,19 @@
 //! What follows when a phase is over.
-ghost use Rattle.std.specs.Prelude.{◌≡◌, ◌≤◌, ◌+◌, ◌++◌, All, None, [], length, vec_capacity};
+ghost use Rattle.std.specs.Prelude.{◌≡◌, ◌≤◌, ◌+◌, ◌++◌, All, IfSome, None, [], length, vec_capacity};
 ghost use Rattle.partitions.specs.Parts.{shared_of};
-ghost use Rattle.executor.specs.Journeys.{AreUndoneBy, IsAskedBy};
-ghost use Rattle.executor.specs.Followed.{Follows, Gathers, HasMetUnder};
+ghost use Rattle.executor.specs.Journeys.{IsAskedBy};
+ghost use Rattle.transactions.specs.Acting.{AreUndoneBy};
+ghost use Rattle.executor.specs.Answers.{MayBeRefused};
+ghost use Rattle.executor.specs.Followed.{Follows, FollowsUnless, HasMetUnder};
 ghost use Rattle.executor.specs.Transactions.{transacting};
 ghost use Rattle.transactions.specs.SortedOut.{found_in, held_in, refusal_of};
 
 use crate::journey::Transaction;
 use crate::{Commit, CourseNames, Journey, Keeper, Met, Paused, Release};
 use rendezvous::Results;
-use requests::{Refusal, Reply};
 use std::alloc::Global;
 use transactions::{
-    Found, Gathered, HeldClaims, MOST_ACTIONS, Progress, Ran, Sorted, claims_are_of_the_footprint,
+    Gathered, HeldClaims, MOST_ACTIONS, Ran, Sorted, claims_are_of_the_footprint,
     reached_requests_are_accepted, transactions_have_few_actions,
 };
 
@@ -40,20 +41,10 @@ impl<J: CourseNames> Met<J> {
             journey,
             rans,
         } = self;
-        let Journey {
-            mut transaction,
-            held,
-        } = journey;
+        let Journey { transaction, held } = journey;
         let start = Sorted::start(alloc, rans.len());
         let (held, sorted) = sort_out(rans, held, start);
-        let Sorted { found, refusal } = sorted;
-        match refusal {
-            Some(why) => Following::Over(Release::refused(keeper, transaction, held, why)),
-            None => {
-                let progress = transaction.take_progress();
-                gather(alloc, keeper, transaction, held, progress, found)
-            }
-        }
+        go_on(alloc, keeper, transaction, held, sorted)
     }
 }
 
@@ -75,38 +66,33 @@ fn sort_out<J: CourseNames>(
     (held, sorted)
 }
 
-// What follows of what the actions of a phase found, which all have done their work.
-pub(crate) fn gather<J: CourseNames>(
+// What follows of what came of the actions of a phase, which hold the last of these claims.
+pub(crate) fn go_on<J: CourseNames>(
     alloc: Global,
     keeper: Keeper<J>,
     mut transaction: Transaction<J>,
     held: HeldClaims<J>,
-    progress: Progress,
-    found: Vec<Found>,
+    sorted: Sorted,
 ) -> Following<J>
     requires slot { transaction.slot ≡ keeper.slot }
     requires all { keeper.out ≡ 0 }
     requires asked { IsAskedBy transaction.number transaction.matter.value.request transaction.pass }
     requires undone { All (AreUndoneBy transaction.age) held }
-    requires met { HasMetUnder (shared_of J.opening) transaction.matter.value.request progress held found.items }
-    ensures { Gathers keeper (transacting transaction) held progress found.items result }
+    requires may { IfSome sorted.refusal (MayBeRefused transaction.pass.reached transaction.matter.value.request) }
+    requires met { sorted.refusal ≡ None → HasMetUnder (shared_of J.opening) transaction.matter.value.request transaction.matter.value.progress held sorted.found.items }
+    ensures { FollowsUnless sorted.refusal keeper (transacting transaction) held transaction.matter.value.progress sorted.found.items result }
 {
     reached_requests_are_accepted();
-    let Ok(gathered) = progress.gather(alloc, found) else {
-        return Following::Over(Release::refused(keeper, transaction, held, Refusal::NoMemory));
-    };
-    match gathered {
-        Gathered::Next(progress) => {
+    let progress = transaction.take_progress();
+    match sorted.follow(alloc, progress) {
+        Ok(Gathered::Next(progress)) => {
             transaction.put_progress(progress);
             Following::Next(Paused::between(Journey { transaction, held }, keeper))
         }
-        Gathered::Finish(reply) => {
+        Ok(Gathered::Finish(reply)) => {
             transaction.put_reply(reply);
             Following::Commit(Commit::new(keeper, transaction, held))
         }
-        Gathered::RollBack(fault) => {
-            transaction.put_reply(Reply::RolledBack(fault));
-            Following::Commit(Commit::new(keeper, transaction, held))
-        }
+        Err(why) => Following::Over(Release::refused(keeper, transaction, held, why)),
     }
 }

@@ -1,6 +1,6 @@
 //! The claims of an action on their way back to the slice of their warehouse.
 ghost use Rattle.std.specs.Prelude.{◌≡◌};
-ghost use Rattle.executor.specs.Givings.{home_of_claims};
+ghost use Rattle.transactions.specs.Works.{home_of_claims};
 
 use crate::CourseNames;
 use std::marker::Model;
@@ -26,7 +26,7 @@ impl<J: CourseNames> Model for Settle<J> {
     ghost coded = { Prim.hlevel (codes, content.the_row.coded) };
 
     ghost use Rattle.executor.specs.Givings.{giving};
-    ghost use Rattle.executor.specs.Journeys.{CanAllBeSettled};
+    ghost use Rattle.transactions.specs.Acting.{CanAllBeSettled};
 
     ghost view = { λ s. giving s.slot s.claims };
 
@@ -69,7 +69,7 @@ impl<J: CourseNames> Model for Undo<J> {
     ghost coded = { Prim.hlevel (codes, content.the_row.coded) };
 
     ghost use Rattle.executor.specs.Givings.{giving};
-    ghost use Rattle.executor.specs.Journeys.{CanAllBeUndone};
+    ghost use Rattle.transactions.specs.Acting.{CanAllBeUndone};
 
     ghost view = { λ u. giving u.slot u.claims };
 

@@ -4,15 +4,16 @@ ghost use Rattle.partitions.specs.Parts.{shared_of};
 ghost use Rattle.transactions.specs.Works.{CanDo};
 ghost use Rattle.executor.specs.AtOnce.{HaveDoneAtOnce, RunsHere};
 ghost use Rattle.executor.specs.Courses.{KeepsWhole};
-ghost use Rattle.executor.specs.Journeys.{AreUndoneBy, CanAllBeUndone};
+ghost use Rattle.transactions.specs.Acting.{AreUndoneBy, CanAllBeUndone};
 ghost use Rattle.executor.specs.Pauses.{pausing};
 
-use crate::following::gather;
+use crate::following::go_on;
 use crate::{CourseNames, Following, GivenBack, Journey, Keeper, Posts, Undo};
 use std::alloc::Global;
 use std::marker::Model;
 use transactions::{
-    Found, HeldClaims, Work, actions_can_do_their_work, transactions_have_few_actions,
+    Found, HeldClaims, MOST_ACTIONS, Sorted, Work, actions_can_do_their_work,
+    transactions_have_few_actions,
 };
 use wait_die::{Age, Holder};
 
@@ -98,10 +99,7 @@ impl<J: CourseNames> Paused<J> {
         let Ok(found) = Vec::with_capacity(alloc, works.len()) else {
             return Tried::Apart(Paused::between(journey, keeper));
         };
-        let Journey {
-            mut transaction,
-            held,
-        } = journey;
+        let Journey { transaction, held } = journey;
         match do_all(
             alloc,
             posts,
@@ -112,8 +110,11 @@ impl<J: CourseNames> Paused<J> {
             found,
         ) {
             Ok((held, found)) => {
-                let progress = transaction.take_progress();
-                Tried::Done(gather(alloc, keeper, transaction, held, progress, found))
+                let sorted = Sorted {
+                    found,
+                    refusal: None,
+                };
+                Tried::Done(go_on(alloc, keeper, transaction, held, sorted))
             }
             Err(held) => {
                 let journey = Journey { transaction, held };
@@ -135,7 +136,7 @@ fn do_all<J: CourseNames>(
 ) -> Result<(HeldClaims<J>, Vec<Found>), HeldClaims<J>>
     requires can { All (CanDo (shared_of J.opening)) works.items }
     requires undone { All (AreUndoneBy age) held }
-    requires few { length held + length works.items ≤ 18 }
+    requires few { length held + length works.items ≤ MOST_ACTIONS }
     requires empty { found.items ≡ [] }
     requires room { length works.items ≤ vec_capacity found }
     ensures done { IfOk result (λ done. HaveDoneAtOnce (shared_of J.opening) age works.items held done.0 done.1.items) }

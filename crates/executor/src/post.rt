@@ -3,10 +3,9 @@ ghost use Rattle.std.specs.Prelude.{◌≡◌, ◌<◌, ◌≤◌, ◌+◌, [], 
 ghost use Rattle.partitions.specs.Parts.{shared_of};
 ghost use Rattle.slices.specs.Sliced.{SliceKeeps};
 ghost use Rattle.transactions.specs.Stations.{RunsAs};
-ghost use Rattle.transactions.specs.Works.{CanDo, home_of};
-ghost use Rattle.executor.specs.Carrying.{IsRanBy};
+ghost use Rattle.transactions.specs.Works.{CanDo, home_of, home_of_claims};
+ghost use Rattle.transactions.specs.Acting.{IsRanBy};
 ghost use Rattle.executor.specs.Posts.{TurnsAt, WorksAt};
-ghost use Rattle.executor.specs.Givings.{home_of_claims};
 ghost use Rattle.executor.specs.Released.{giving_of};
 
 use crate::{Carried, CourseNames, Errand, GivenBack, Report, Settle, Undo};

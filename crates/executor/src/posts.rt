@@ -2,7 +2,7 @@
 ghost use Rattle.std.specs.Prelude.{◌≡◌, IfErr, IfSome};
 ghost use Rattle.partitions.specs.Parts.{shared_of};
 ghost use Rattle.transactions.specs.Works.{CanDo, HasDone};
-ghost use Rattle.executor.specs.Journeys.{AreUndoneBy};
+ghost use Rattle.transactions.specs.Acting.{AreUndoneBy};
 
 use crate::{CourseNames, GivenBack, Post};
 use schema::NoMemory;

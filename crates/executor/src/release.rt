@@ -1,9 +1,10 @@
 //! A transaction that is over: its answer, and what its actions give back.
 ghost use Rattle.std.specs.Prelude.{◌≡◌, [], All, IfNone, IfSome, length};
-ghost use Rattle.executor.specs.Journeys.{AreUndoneBy, IsAskedBy};
+ghost use Rattle.executor.specs.Journeys.{IsAskedBy};
+ghost use Rattle.transactions.specs.Acting.{AreUndoneBy};
 ghost use Rattle.executor.specs.Answers.{AreGiven, IsGiven, IsToldBy, MayBeRefused, returning};
 ghost use Rattle.executor.specs.Courses.{KeepsWhole};
-ghost use Rattle.executor.specs.Givings.{home_of_claims};
+ghost use Rattle.transactions.specs.Works.{home_of_claims};
 ghost use Rattle.executor.specs.Released.{IsGivenBack, IsGivenFor, giving_of, refused};
 ghost use Rattle.executor.specs.Transactions.{transacting};
 

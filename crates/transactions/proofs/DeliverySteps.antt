@@ -22,7 +22,7 @@ use Rattle.transactions.specs.declared.work.Work.TheVariants as any_work
 use Rattle.transactions.specs.declared.work.Found.{Found}
 use Rattle.transactions.specs.declared.work.Found.TheVariants as any_found
 use Rattle.transactions.specs.declared.progress.Progress.TheVariants as any_progress
-use Rattle.transactions.specs.declared.progress.Gathered.TheVariants.{Next, Finish, RollBack}
+use Rattle.transactions.specs.declared.progress.Gathered.TheVariants.{Next, Finish}
 use Rattle.transactions.specs.Delivery.{AreCustomersCredited, AreCustomersOf, AreOrdersDelivered, AreOrdersOf, Deliveries, HasDone, is_any, numbers_of, ten}
 use Rattle.transactions.specs.Works.{HaveAllDone}
 use Rattle.transactions.specs.Progresses.{FollowsFrom}
@@ -127,7 +127,7 @@ credited_follow d delivered found is shared asked held claims known done opening
     (deliveries_are_carried_out opening d delivered known.orders customers.0 known.done customers.2))
 
 pub out_follows : (d : Delivery) (delivered : Deliveries) (found : List Found) → found ≡ any_found.Delivery (Customers OutOfRange) ∷ []
-    → FollowsFrom (any_progress.Delivery (at.CreditCustomers d delivered)) found (RollBack Range)
+    → FollowsFrom (any_progress.Delivery (at.CreditCustomers d delivered)) found (Finish (reply.RolledBack Range))
 out_follows d delivered found is shared asked held claims known done opening same =
     let customers = customers_are shared d delivered found OutOfRange claims is done in
     let all = both_claims held claims known.orders customers.0 known.claims customers.1 in

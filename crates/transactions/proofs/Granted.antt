@@ -28,5 +28,5 @@ two_kept wish other (claim ∷ next ∷ []) first rest any some new_first new_re
 two_kept wish other (claim ∷ next ∷ more ∷ claims) first rest any some new_first new_rest old slice granted front back kept = absurd granted.1.1
 
 -- a vector of so many claims, all of which were lent, has what was made of them
-pub written_back : (new old : List Claiming) (count : ℕ) → count ≡ length new → take count (new ++ drop (length new) old) ≡ new
+pub written_back : {X : Type 0} (new old : List X) (count : ℕ) → count ≡ length new → take count (new ++ drop (length new) old) ≡ new
 written_back new old count same = ap (λ n. take n (new ++ drop (length new) old)) same ∙ take-append_seam new (drop (length new) old)

@@ -49,4 +49,7 @@ pub mod Stations
 pub mod Wanted
 pub mod Held
 pub mod SortedOut
+pub mod Settling
+pub mod OnGroups
+pub mod ClaimHomes
 pub mod Sendable

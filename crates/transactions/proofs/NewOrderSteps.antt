@@ -26,7 +26,7 @@ use Rattle.transactions.specs.declared.work.Work.TheVariants as any_work
 use Rattle.transactions.specs.declared.work.Found.{Found}
 use Rattle.transactions.specs.declared.work.Found.TheVariants as any_found
 use Rattle.transactions.specs.declared.progress.Progress.TheVariants as any_progress
-use Rattle.transactions.specs.declared.progress.Gathered.TheVariants.{Next, Finish, RollBack}
+use Rattle.transactions.specs.declared.progress.Gathered.TheVariants.{Next, Finish}
 use Rattle.transactions.specs.NewOrder.{AreStocksFound, AreStocksTaken, IsHomeOrdered, IsNumberKnown, IsOrdererKnown, IsOrdererShown, decided, taking, works_of}
 use Rattle.transactions.specs.Works.{HaveAllDone}
 use Rattle.transactions.specs.Progresses.{FollowsFrom}
@@ -113,7 +113,7 @@ module _
           known = subst (IsOrdererKnown shared.scale n) orderers rows.known;
         }
 
-    pub nobody_follows : (home ≡ h.Missing) ⊎ (orderer ≡ c.Missing) → FollowsFrom (any_progress.NewOrder (ReadRows n)) found (RollBack NoCustomer)
+    pub nobody_follows : (home ≡ h.Missing) ⊎ (orderer ≡ c.Missing) → FollowsFrom (any_progress.NewOrder (ReadRows n)) found (Finish (reply.RolledBack NoCustomer))
     nobody_follows missing shared asked held claims known done opening same =
         let rows = these shared claims done in
         let all : held ++ claims ≡ (rows.warehouse ∷ rows.district ∷ []) ∷ (rows.customers ∷ []) ∷ [] = ap (λ xs. xs ++ claims) known.none ∙ rows.claims_is in
@@ -220,7 +220,7 @@ module _ (given : OrderBegun) (found : List Found) (taken : List StockTaken) (is
         next = next;
       }
 
-  pub fault_follows : (fault : Fault) → decided given.order given.home given.orderer taken ≡ Err fault → FollowsFrom (any_progress.NewOrder (TakeLines given)) found (RollBack fault)
+  pub fault_follows : (fault : Fault) → decided given.order given.home given.orderer taken ≡ Err fault → FollowsFrom (any_progress.NewOrder (TakeLines given)) found (Finish (reply.RolledBack fault))
   fault_follows fault back shared asked held claims known done opening same =
       let sold = sold_by shared claims done in
       let are = subst (λ groups. AreStocksTaken shared given.order groups taken sold.stocks) known.supplies sold.are in

@@ -21,7 +21,7 @@ use Rattle.transactions.specs.declared.work.Work.TheVariants as any_work
 use Rattle.transactions.specs.declared.work.Found.{Found}
 use Rattle.transactions.specs.declared.work.Found.TheVariants as any_found
 use Rattle.transactions.specs.declared.progress.Progress.TheVariants as any_progress
-use Rattle.transactions.specs.declared.progress.Gathered.TheVariants.{Next, Finish, RollBack}
+use Rattle.transactions.specs.declared.progress.Gathered.TheVariants.{Next, Finish}
 use Rattle.transactions.specs.OrderStatus.{IsCustomerShown, IsOrderShown, reply_shown, works_of}
 use Rattle.transactions.specs.Works.{HaveAllDone}
 use Rattle.transactions.specs.Progresses.{FollowsFrom}
@@ -57,7 +57,7 @@ same_customer : (customer other : CustomerShown) → any_found.OrderStatus (Cust
 same_customer customer other same = cc
 
 pub customer_missing : (o : OrderStatus) (found : List Found) → found ≡ any_found.OrderStatus (Customer Missing) ∷ []
-    → FollowsFrom (any_progress.OrderStatus (ReadCustomer o)) found (RollBack NoCustomer)
+    → FollowsFrom (any_progress.OrderStatus (ReadCustomer o)) found (Finish (reply.RolledBack NoCustomer))
 customer_missing o found is shared asked held claims known done opening same =
     let read = customer_done shared o found claims done in
     let shown = subst (λ customer. IsCustomerShown o customer read.customers) (same_customer read.customer Missing (sym read.found_is ∙ is)) read.shown in

@@ -15,6 +15,7 @@ use Rattle.requests.specs.declared.group.Group.TheVariants as g
 use Rattle.requests.specs.declared.payment.Payment.{Payment}
 use Rattle.requests.specs.declared.reply.Fault.{Fault}
 use Rattle.requests.specs.declared.reply.Fault.TheVariants.{NoCustomer, Range}
+use Rattle.requests.specs.declared.reply.Reply.TheVariants.{RolledBack}
 use Rattle.groups.specs.Content.{content}
 use Rattle.groups.specs.Content.Content.{OfWarehouse, OfDistrict, OfCustomers}
 use Rattle.tickets.specs.Claims.{Claiming}
@@ -26,7 +27,7 @@ use Rattle.transactions.specs.declared.payment.HomePaid.{HomePaid}
 use Rattle.transactions.specs.declared.payment.HomePaid.TheVariants as h
 use Rattle.transactions.specs.declared.payment.CustomerPaid.{CustomerPaid}
 use Rattle.transactions.specs.declared.payment.CustomerPaid.TheVariants as c
-use Rattle.transactions.specs.declared.progress.Gathered.TheVariants.{RollBack}
+use Rattle.transactions.specs.declared.progress.Gathered.TheVariants.{Finish}
 use Rattle.transactions.specs.Granted.{IsExclusiveOn}
 use Rattle.transactions.specs.Payment.{FindsHome, IsHomeOutOfRange, AreHomeRowsPaid, FindsCustomer, IsCustomerMissing, IsCustomerOutOfRange, payer_paid, gathered}
 use Rattle.transactions.specs.PaymentLaws.{RolledBackPaymentsAreCarriedOut}
@@ -102,7 +103,7 @@ module _ (t : Database) (p : Payment) where
           ∙ customer_out _ _ _ _ _ found.out
 
       rolled : (home : HomePaid) (customer : CustomerPaid) (fault : Fault) → FindsHome p home warehouse district → FindsCustomer p customer customers
-          → gathered p home customer ≡ RollBack fault → payment t p ≡ rolled_back t fault
+          → gathered p home customer ≡ Finish (RolledBack fault) → payment t p ≡ rolled_back t fault
       rolled h.Missing customer fault found there is = missing_home found.none ∙ ap (rolled_back t) (let same : NoCustomer ≡ fault = cc in same)
       rolled h.OutOfRange c.Missing fault found there is = missing_customer there ∙ ap (rolled_back t) (let same : NoCustomer ≡ fault = cc in same)
       rolled (h.Paid warehouse_name district_name) c.Missing fault found there is = missing_customer there ∙ ap (rolled_back t) (let same : NoCustomer ≡ fault = cc in same)

@@ -22,7 +22,7 @@ use Rattle.transactions.specs.declared.work.Found.{Found}
 use Rattle.transactions.specs.declared.work.Found.TheVariants as any_found
 use Rattle.transactions.specs.declared.progress.Progress.TheVariants as any_progress
 use Rattle.transactions.specs.declared.progress.Gathered.{Gathered}
-use Rattle.transactions.specs.declared.progress.Gathered.TheVariants.{Finish, RollBack}
+use Rattle.transactions.specs.declared.progress.Gathered.TheVariants.{Finish}
 use Rattle.transactions.specs.Granted.{IsAsked}
 use Rattle.transactions.specs.Payment.{IsHomePaid, IsCustomerPaid, IsPayerKnown, gathered, works_of}
 use Rattle.transactions.specs.Works.{HaveAllDone}
@@ -81,8 +81,8 @@ module _
     (shared : Shared) (asked : Request) (p : Payment) (held : List (List Claiming)) (known : IsAsked shared asked (request.Payment p) held)
     (warehouse district customers : Claiming) (claims : List (List Claiming)) (claims_are : claims ≡ (warehouse ∷ district ∷ []) ∷ (customers ∷ []) ∷ [])
   where
-    rolled : (home : HomePaid) (customer : CustomerPaid) (fault : Fault) → gathered p home customer ≡ RollBack fault
-        → IsHomePaid p home warehouse district → IsCustomerPaid p customer customers → Follows shared asked claims (RollBack fault)
+    rolled : (home : HomePaid) (customer : CustomerPaid) (fault : Fault) → gathered p home customer ≡ Finish (reply.RolledBack fault)
+        → IsHomePaid p home warehouse district → IsCustomerPaid p customer customers → Follows shared asked claims (Finish (reply.RolledBack fault))
     rolled home customer fault back home_paid customer_paid opening same =
         subst (λ r. IsCarriedOut opening r (all_claims claims) (reply.RolledBack fault)) (sym known.is)
         (subst (λ all. IsCarriedOut opening (request.Payment p) (all_claims all) (reply.RolledBack fault)) (sym claims_are)

@@ -1,11 +1,14 @@
 -- What comes of the actions of a phase, sorted out.
-use Rattle.std.proofs.Common.{◌≡◌, ◌≤◌, ◌⊎◌, inl, inr, List, [], ◌∷◌, length, Option, Some, None, refl, arith}
+use Rattle.std.proofs.Common.{◌≡◌, ◌≤◌, ◌⊎◌, inl, inr, ℕ, List, [], ◌∷◌, length, Option, Some, None, refl, sym, subst, ⊎_elim, arith}
+use Rattle.std.specs.Prelude.{All, IfSome}
 use Rattle.std.proofs.lemmas.List.{length-append}
+use Rattle.std.proofs.lemmas.List.Elements.{All-head, All-tail}
+use Rattle.requests.specs.declared.group.Group.{Group}
 use Rattle.requests.specs.declared.refusal.Refusal.{Refusal}
 use Rattle.requests.specs.declared.refusal.Refusal.TheVariants as refusal
 use Rattle.transactions.specs.declared.acting.Ran.{Ran}
 use Rattle.transactions.specs.declared.acting.Ran.TheVariants as ran
-use Rattle.transactions.specs.SortedOut.{found_by, held_by, held_in, refusal_of, refused_by, refused_still}
+use Rattle.transactions.specs.SortedOut.{earlier_death, found_by, held_by, held_in, refusal_of, refused_by, refused_still}
 
 module _ {J : Type 0} where
   -- an action holds the claims of one at most, and finds one thing at most
@@ -50,3 +53,47 @@ module _ {J : Type 0} where
   memory_last (ran.Done claims found ∷ rans) = memory_last rans
   memory_last (ran.Died group holder ∷ rans) = inr refl
   memory_last (ran.NoMemory ∷ rans) = inr refl
+
+-- ---- why it is refused
+
+-- the death that is told is the one before, or this one
+first_told : (why : Refusal) (group : Group) (holder : ℕ) → (earlier_death why group holder ≡ why) ⊎ (earlier_death why group holder ≡ refusal.Died group holder)
+first_told (refusal.Died first older) group holder = inl refl
+first_told refusal.NoMemory group holder = inr refl
+first_told refusal.LogFull group holder = inr refl
+first_told refusal.BadWarehouse group holder = inr refl
+first_told refusal.BadDistrict group holder = inr refl
+first_told refusal.BadLines group holder = inr refl
+first_told refusal.BadQuantity group holder = inr refl
+first_told refusal.BadSupply group holder = inr refl
+first_told refusal.BadAmount group holder = inr refl
+first_told refusal.BadThreshold group holder = inr refl
+first_told refusal.BadCarrier group holder = inr refl
+first_told refusal.Busy group holder = inr refl
+first_told refusal.SessionBusy group holder = inr refl
+first_told refusal.Closed group holder = inr refl
+
+module _ {J : Type 0} (P : Refusal → Type 0) where
+  -- this is so of the action's death, if it died
+  abbrev pub IfDied : Ran J → Type 0
+  IfDied (ran.Done claims found) = Unit {0}
+  IfDied (ran.Died group holder) = P (refusal.Died group holder)
+  IfDied ran.NoMemory = Unit {0}
+
+  module _ (memory : P refusal.NoMemory) where
+    -- then it is so of what the transaction is refused for, after one action more
+    pub refused_by_one : (before : Option Refusal) (own : Ran J) → IfDied own → IfSome before P → IfSome (refused_by before own) P
+    refused_by_one None (ran.Done claims found) died so = so
+    refused_by_one None (ran.Died group holder) died so = died
+    refused_by_one None ran.NoMemory died so = memory
+    refused_by_one (Some why) (ran.Done claims found) died so = so
+    refused_by_one (Some why) (ran.Died group holder) died so =
+        ⊎_elim (λ (same : earlier_death why group holder ≡ why). subst P (sym same) so)
+        (λ (same : earlier_death why group holder ≡ refusal.Died group holder). subst P (sym same) died) (first_told why group holder)
+    refused_by_one (Some why) ran.NoMemory died so = so
+
+    -- and after all of these
+    pub refused_by_all : (before : Option Refusal) (rans : List (Ran J)) → All IfDied rans → IfSome before P → IfSome (refusal_of before rans) P
+    refused_by_all before [] died so = so
+    refused_by_all before (own ∷ rans) died so =
+        refused_by_all (refused_by before own) rans (All-tail IfDied own rans died) (refused_by_one before own (All-head IfDied own rans died) so)

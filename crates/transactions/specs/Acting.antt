@@ -1,18 +1,19 @@
 -- What comes of an action, from its claims to their return.
-use Rattle.std.specs.Prelude.{◌≡◌, List, [], All}
+use Rattle.std.specs.Prelude.{◌≡◌, ℕ, Bool, true, false, List, [], All, Contains}
 use Rattle.partitions.specs.Parts.{Shared, shared_of}
 use Rattle.groups.specs.declared.wishes.Mode.TheVariants.{Exclusive}
+use Rattle.groups.specs.Footprint.{groups_of}
 use Rattle.tickets.specs.Claims.{Claiming}
 use Rattle.wait_die.specs.declared.deciding.Holder.{Holder}
 use Rattle.local_locks.specs.Conflicts.{IsFree, MustDie}
 use Rattle.local_locks.specs.Locking.{Holding}
-use Rattle.slices.specs.Sliced.{Sliced, IsAsBefore}
+use Rattle.slices.specs.Sliced.{AreOfOneHome, Sliced, IsAsBefore}
 use Rattle.transactions.specs.declared.work.Found.{Found}
 use Rattle.transactions.specs.declared.work.Work.{Work}
 use Rattle.transactions.specs.declared.acting.Ran.{Ran}
 use Rattle.transactions.specs.declared.acting.Ran.TheVariants.{Done, Died, NoMemory}
 use Rattle.transactions.specs.Granted.{AreLeft}
-use Rattle.transactions.specs.Works.{wants_of, HasDone}
+use Rattle.transactions.specs.Works.{wants_of, wishes_of, HasDone}
 
 -- What was done under the claim can be taken back, and then there is what it tells. Of a shared claim nothing is asked,
 -- since nothing was done.
@@ -22,6 +23,34 @@ CanBeUndone claim = claim.mode ≡ Exclusive → claim.told ≡ claim.back
 -- what the claim left is committed; of a shared claim nothing is asked
 abbrev pub CanBeSettled : Claiming → Type 0
 CanBeSettled claim = claim.mode ≡ Exclusive → claim.told ≡ claim.left
+
+-- ---- the claims of one action
+
+-- they are on groups of one warehouse, and all that was done under them can be taken back
+abbrev pub CanAllBeUndone : List Claiming → Type 0
+CanAllBeUndone claims = All CanBeUndone claims × AreOfOneHome claims
+
+-- they are on groups of one warehouse, and what they left is committed
+abbrev pub CanAllBeSettled : List Claiming → Type 0
+CanAllBeSettled claims = All CanBeSettled claims × AreOfOneHome claims
+
+-- the claim was granted to an action of a transaction of this age
+abbrev pub IsAged : ℕ → Claiming → Type 0
+IsAged age claim = claim.by.age ≡ age
+
+-- all that was done under them can be taken back, and they are a transaction's of this age
+abbrev pub AreUndoneBy : ℕ → List Claiming → Type 0
+AreUndoneBy age claims = CanAllBeUndone claims × All (IsAged age) claims
+
+-- what they left is committed, and they are a transaction's of this age
+abbrev pub AreSettledBy : ℕ → List Claiming → Type 0
+AreSettledBy age claims = CanAllBeSettled claims × All (IsAged age) claims
+
+-- they are a transaction's of this age, which gives them back: what they left is committed, where they are settled, and else all
+-- that was done under them can be taken back
+abbrev pub AreGivenBy : Bool → ℕ → List Claiming → Type 0
+AreGivenBy true age claims = AreSettledBy age claims
+AreGivenBy false age claims = AreUndoneBy age claims
 
 -- ---- what comes of an action
 
@@ -55,3 +84,10 @@ abbrev pub IsRanUnder : {J : Type 0} → Sliced → Work → List Claiming → R
 IsRanUnder old work granted (Done claims found) new = HasDone (shared_of old.tables) work found claims × AreLeft granted claims
 IsRanUnder old work granted (Died group holder) new = ⊥
 IsRanUnder old work granted NoMemory new = new.tables ≡ old.tables
+
+-- What came of this work of a transaction of this age: it was done under claims of the transaction's, and all of it can be taken
+-- back; or nothing was done, and it died on a group that it claims, or found no memory.
+abbrev pub IsRanBy : {J : Type 0} → Shared → ℕ → Work → Ran J → Type 0
+IsRanBy shared age work (Done claims found) = HasDone shared work found claims × AreUndoneBy age claims
+IsRanBy shared age work (Died group holder) = Contains (groups_of (wishes_of work)) group
+IsRanBy shared age work NoMemory = Unit {0}

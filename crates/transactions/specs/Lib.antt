@@ -15,4 +15,5 @@ pub mod Works
 pub mod Progresses
 pub mod Acting
 pub mod SortedOut
+pub mod Logged
 pub mod Laws

@@ -17,6 +17,7 @@ use Rattle.requests.specs.declared.payment.Payment.{Payment}
 use Rattle.requests.specs.declared.request.Request.{Request}
 use Rattle.requests.specs.declared.request.Request.TheVariants as request
 use Rattle.requests.specs.declared.reply.Fault.TheVariants.{NoCustomer, Range}
+use Rattle.requests.specs.declared.reply.Reply.TheVariants.{RolledBack}
 use Rattle.requests.specs.declared.payment.PaymentReply.{PaymentReply}
 use Rattle.requests.specs.Check.{IsAccepted}
 use Rattle.groups.specs.Content.Content.{OfWarehouse, OfDistrict, OfCustomers, OfHistory}
@@ -42,7 +43,7 @@ use Rattle.transactions.specs.declared.work.Found.{Found as AnyFound}
 use Rattle.transactions.specs.declared.work.Found.TheVariants as any_found
 use Rattle.transactions.specs.declared.progress.Progress.TheVariants as any_progress
 use Rattle.transactions.specs.declared.progress.Gathered.{Gathered}
-use Rattle.transactions.specs.declared.progress.Gathered.TheVariants.{Next, RollBack}
+use Rattle.transactions.specs.declared.progress.Gathered.TheVariants.{Next, Finish}
 use Rattle.transactions.specs.Granted.{IsAsked, IsExclusiveOn}
 
 -- ---- the home warehouse and district
@@ -195,10 +196,10 @@ paid_with p reply warehouse district = record {
 -- What becomes of a payment that found this. A row that isn't there comes before a sum out of its range.
 abbrev pub gathered : Payment → HomePaid → CustomerPaid → Gathered
 gathered p (h.Paid warehouse district) (c.Paid reply) = Next (any_progress.Payment (AddRow (paid_with p reply warehouse district)))
-gathered p h.Missing _ = RollBack NoCustomer
-gathered p h.OutOfRange c.Missing = RollBack NoCustomer
-gathered p (h.Paid warehouse district) c.Missing = RollBack NoCustomer
-gathered p _ _ = RollBack Range
+gathered p h.Missing _ = Finish (RolledBack NoCustomer)
+gathered p h.OutOfRange c.Missing = Finish (RolledBack NoCustomer)
+gathered p (h.Paid warehouse district) c.Missing = Finish (RolledBack NoCustomer)
+gathered p _ _ = Finish (RolledBack Range)
 
 -- the home rows and the customer's have been paid under these claims, and the row and the reply are what follows
 pub record IsPaid (shared : Shared) (asked : Request) (given : Paid) (held : List (List Claiming)) : Type 0 where

@@ -16,7 +16,7 @@ use Rattle.transactions.specs.declared.payment.CustomerPaid.{CustomerPaid}
 use Rattle.transactions.specs.declared.payment.Paid.{Paid}
 use Rattle.transactions.specs.declared.payment.Progress.TheVariants.{AddRow}
 use Rattle.transactions.specs.declared.progress.Progress.TheVariants as any_progress
-use Rattle.transactions.specs.declared.progress.Gathered.TheVariants.{Next, RollBack}
+use Rattle.transactions.specs.declared.progress.Gathered.TheVariants.{Next, Finish}
 use Rattle.transactions.specs.Payment.{IsHomePaid, IsCustomerPaid, IsPayerKnown, IsPaymentAdded, gathered}
 
 -- Where its home rows and its customer's row were paid and its row was added to the list of payments, the payment was
@@ -35,7 +35,7 @@ RolledBackPaymentsAreCarriedOut =
     (opening : Database) (p : Payment) (home : HomePaid) (customer : CustomerPaid) (fault : Fault)
     (warehouse district customers : Claiming)
     → IsHomePaid p home warehouse district → IsCustomerPaid p customer customers
-    → gathered p home customer ≡ RollBack fault
+    → gathered p home customer ≡ Finish (reply.RolledBack fault)
     → IsCarriedOut opening (request.Payment p) (warehouse ∷ district ∷ customers ∷ []) (reply.RolledBack fault)
 
 -- The row that is added to the list of payments names the customer whose row was paid.

@@ -3,7 +3,6 @@ use Rattle.std.specs.Prelude.{◌≡◌, List, ◌++◌}
 use Rattle.partitions.specs.Parts.{Shared, shared_of}
 use Rattle.schema.specs.Database.{Database}
 use Rattle.requests.specs.declared.request.Request.{Request}
-use Rattle.requests.specs.declared.reply.Reply.TheVariants.{RolledBack}
 use Rattle.tickets.specs.Claims.{Claiming, all_claims}
 use Rattle.commit_log.specs.Claimed.{IsCarriedOut}
 use Rattle.transactions.specs.declared.work.Work.{Work}
@@ -11,7 +10,7 @@ use Rattle.transactions.specs.declared.work.Found.{Found}
 use Rattle.transactions.specs.declared.progress.Progress.{Progress}
 use Rattle.transactions.specs.declared.progress.Progress.TheVariants.{NewOrder, Payment, OrderStatus, Delivery, StockLevel}
 use Rattle.transactions.specs.declared.progress.Gathered.{Gathered}
-use Rattle.transactions.specs.declared.progress.Gathered.TheVariants.{Next, Finish, RollBack}
+use Rattle.transactions.specs.declared.progress.Gathered.TheVariants.{Next, Finish}
 use Rattle.transactions.specs.NewOrder as new_order
 use Rattle.transactions.specs.Payment as payment
 use Rattle.transactions.specs.OrderStatus as order_status
@@ -42,11 +41,10 @@ abbrev pub HasFound : Progress → List Found → Type 0
 HasFound progress found = (shared : Shared) × (claims : List (List Claiming)) × HaveAllDone shared (works_of progress) found claims
 
 -- Under these claims of each action the next phase is given what is known to it, or the request was carried out with this
--- reply, or with this rollback, whatever tables of this scale with these items there were in the beginning.
+-- reply, a rollback or not, whatever tables of this scale with these items there were in the beginning.
 abbrev pub Follows : Shared → Request → List (List Claiming) → Gathered → Type 0
 Follows shared asked claims (Next progress) = IsReached shared asked progress claims
 Follows shared asked claims (Finish shown) = (opening : Database) → shared_of opening ≡ shared → IsCarriedOut opening asked (all_claims claims) shown
-Follows shared asked claims (RollBack fault) = (opening : Database) → shared_of opening ≡ shared → IsCarriedOut opening asked (all_claims claims) (RolledBack fault)
 
 -- The law of each phase: whatever the request, the claims of each action of the phases before and those of its own actions,
 -- this follows of what the actions found.

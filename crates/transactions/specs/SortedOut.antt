@@ -1,5 +1,5 @@
 -- What came of the actions of a phase: what they hold, what they found, and why the transaction is refused, if it is.
-use Rattle.std.specs.Prelude.{ℕ, List, [], ◌∷◌, ◌++◌, Option, Some, None}
+use Rattle.std.specs.Prelude.{◌≡◌, ℕ, List, [], ◌∷◌, ◌++◌, Option, Some, None}
 use Rattle.requests.specs.declared.group.Group.{Group}
 use Rattle.requests.specs.declared.refusal.Refusal.{Refusal}
 use Rattle.requests.specs.declared.refusal.Refusal.TheVariants as refusal
@@ -53,3 +53,8 @@ module _ {J : Type 0} where
   abbrev pub refusal_of : Option Refusal → List (Ran J) → Option Refusal
   refusal_of why [] = why
   refusal_of why (ran ∷ rans) = refusal_of (refused_by why ran) rans
+
+-- for what it is refused in the end: as it was to be, and else for want of memory for what follows
+abbrev pub IsRefusedFor : Option Refusal → Refusal → Type 0
+IsRefusedFor (Some first) why = why ≡ first
+IsRefusedFor None why = why ≡ refusal.NoMemory

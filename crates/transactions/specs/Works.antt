@@ -1,9 +1,12 @@
 -- What the actions of all transactions do, and what they claim for it, by kind.
 use Rattle.std.specs.Prelude.{◌≡◌, ℕ, List, [], ◌∷◌, ◌++◌, map}
 use Rattle.partitions.specs.Parts.{Shared}
+use Rattle.requests.specs.declared.request.Request.{Request}
+use Rattle.requests.specs.declared.request.Request.TheVariants as request
 use Rattle.groups.specs.declared.wishes.Wish.{Wish}
 use Rattle.groups.specs.declared.wants.Extent.TheVariants.{One}
 use Rattle.groups.specs.declared.wants.Want.{Want}
+use Rattle.groups.specs.Groups.{warehouse_of}
 use Rattle.tickets.specs.Claims.{Claiming}
 use Rattle.transactions.specs.declared.new_order.work.Found.{Found as NewOrderFound}
 use Rattle.transactions.specs.declared.payment.Found.{Found as PaymentFound}
@@ -27,6 +30,19 @@ home_of (Payment work) = payment.home_of work
 home_of (OrderStatus work) = order_status.home_of work
 home_of (Delivery work) = delivery.home_of work
 home_of (StockLevel work) = stock_level.home_of work
+
+-- the warehouse whose terminal asks
+abbrev pub home_of_request : Request → ℕ
+home_of_request (request.NewOrder asked) = asked.home.w_id
+home_of_request (request.Payment asked) = asked.home.w_id
+home_of_request (request.OrderStatus asked) = asked.home.w_id
+home_of_request (request.Delivery asked) = asked.w_id
+home_of_request (request.StockLevel asked) = asked.home.w_id
+
+-- the warehouse of the claims of an action, which are all on groups of one
+abbrev pub home_of_claims : List Claiming → ℕ
+home_of_claims [] = 0
+home_of_claims (claim ∷ claims) = warehouse_of claim.group
 
 -- the groups that an action claims for its work, and how
 abbrev pub wishes_of : Work → List Wish

@@ -1,13 +1,7 @@
 //! What the actions of a transaction hold.
-ghost use Rattle.std.specs.Prelude.{◌≡◌, ◌<◌, ◌≤◌, ◌↔◌, [], ◌∷◌, ◌++◌, length, map, IfErr, IfNone, IfOk, option_to_list};
-ghost use Rattle.requests.specs.Check.{IsAccepted};
-ghost use Rattle.tickets.specs.Claims.{all_claims};
-ghost use Rattle.commit_log.specs.Claimed.{IsCarriedOut, claims_logged};
-ghost use Rattle.commit_log.specs.Items.{item};
-ghost use Rattle.commit_log.specs.Passing.{after_item, after_refusal};
+ghost use Rattle.std.specs.Prelude.{◌≡◌, ◌<◌, [], ◌∷◌, ◌++◌, length, IfNone, IfOk, option_to_list};
 
 use crate::MOST_ACTIONS;
-use commit_log::{AppendFault, Entry, Log, Names, Pass};
 use schema::NoMemory;
 use std::alloc::Global;
 use std::marker::Model;
@@ -17,7 +11,7 @@ use tickets::{Claims, GroupNames};
 /// has. Only its opening takes memory.
 #[derive(Drop)]
 pub struct HeldClaims<J: GroupNames> {
-    places: Vec<Claims<J>>,
+    pub(crate) places: Vec<Claims<J>>,
 }
 
 impl<J: GroupNames> Model for HeldClaims<J> {
@@ -73,31 +67,5 @@ impl<J: GroupNames> HeldClaims<J> {
         ensures { result.items ≡ self }
     {
         self.places
-    }
-}
-
-impl<J: Names> HeldClaims<J> {
-    /// The log has the entry more, which was carried out under these claims, or refuses it (`Log::append`).
-    pub fn append(
-        &mut self,
-        log: &mut Log<J>,
-        pass: Pass<J>,
-        entry: Entry,
-    ) -> Result<(u32, Pass<J>), (AppendFault, Pass<J>)>
-        requires session { entry.session ≡ pass.session }
-        requires number { pass.asks.number ≡ entry.number }
-        requires request { pass.asks.request ≡ entry.request }
-        requires accepted { IsAccepted J.opening.scale entry.request }
-        requires carried_out { IsCarriedOut J.opening entry.request (all_claims self.old) entry.reply }
-        ensures entry { IfOk result (λ done. (length log.old < 16777216) × (log.new ≡ log.old ++ entry ∷ [])) }
-        ensures place { IfOk result (λ done. done.0 ≡ length log.old) }
-        ensures later { IfOk result (λ done. pass.seen ≤ done.0) }
-        ensures pass { IfOk result (λ done. done.1 ≡ after_item pass (item done.0 entry.number entry.request entry.reply)) }
-        ensures held { IfOk result (λ done. self.new ≡ map (claims_logged entry.reply) self.old) }
-        ensures err { IfErr result (λ refused. (log.new ≡ log.old) × (self.new ≡ self.old)) }
-        ensures full { IfErr result (λ refused. (refused.0 ≡ AppendFault.LogFull) ↔ (16777216 ≤ length log.old)) }
-        ensures refused { IfErr result (λ refused. refused.1 ≡ after_refusal refused.0 (length log.old) pass) }
-    {
-        log.append(&mut self.places, pass, entry)
     }
 }

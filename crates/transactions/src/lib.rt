@@ -17,6 +17,7 @@ pub mod delivery;
 mod holding;
 mod laws;
 mod listed;
+mod logging;
 pub mod new_order;
 pub mod order_status;
 pub mod payment;
@@ -35,7 +36,8 @@ pub use laws::{
     works_are_done_at_home, works_claim_at_home, works_have_their_groups, works_have_wishes,
 };
 pub use listed::Listed;
+pub use logging::Logged;
 pub use progress::{Gathered, Progress};
 pub use sorting::Sorted;
 pub use station::{Acted, Parked, Station, Turned};
-pub use work::{Found, Work, run};
+pub use work::{Found, Work, home_of_request, run};

@@ -233,7 +233,7 @@ fn gather_customer(asked: OrderStatus, found: Vec<crate::Found>) -> Gathered
 {
     drop(asked);
     match customer_found(found) {
-        CustomerShown::Missing => Gathered::RollBack(Fault::NoCustomer),
+        CustomerShown::Missing => Gathered::Finish(Reply::RolledBack(Fault::NoCustomer)),
         CustomerShown::Shown { key, customer } => Gathered::Next(crate::Progress::OrderStatus(
             Progress::ReadOrder(StatusShown { key, customer }),
         )),

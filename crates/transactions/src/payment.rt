@@ -385,9 +385,9 @@ fn decided(payment: Payment, home: HomePaid, customer: CustomerPaid) -> Gathered
             })))
         }
         (HomePaid::Missing, _) | (_, CustomerPaid::Missing) => {
-            Gathered::RollBack(Fault::NoCustomer)
+            Gathered::Finish(Reply::RolledBack(Fault::NoCustomer))
         }
-        (_, _) => Gathered::RollBack(Fault::Range),
+        (_, _) => Gathered::Finish(Reply::RolledBack(Fault::Range)),
     }
 }
 

@@ -8,7 +8,7 @@ ghost use Rattle.transactions.specs.Progresses.{FollowsFrom, HasFound, IsReached
 
 use crate::work::{Found, Work};
 use crate::{delivery, new_order, order_status, payment, stock_level};
-use requests::{Fault, Reply, Request};
+use requests::{Reply, Request};
 use schema::NoMemory;
 use std::alloc::Global;
 
@@ -27,10 +27,8 @@ pub enum Progress {
 pub enum Gathered {
     /// The next phase.
     Next(Progress),
-    /// It was carried out, with this reply.
+    /// It was carried out, with this reply. Where that is a fault, all that was done is to be taken back.
     Finish(Reply),
-    /// It was carried out, with this fault as its reply: all that was done is to be taken back.
-    RollBack(Fault),
 }
 
 impl Progress {

@@ -1,8 +1,9 @@
 //! What comes of the actions of a phase is sorted out, one after another.
-ghost use Rattle.std.specs.Prelude.{◌≡◌, ◌<◌, ◌≤◌, ◌+◌, ◌++◌, [], length, vec_capacity, None, IfSome};
-ghost use Rattle.transactions.specs.SortedOut.{found_by, held_by, refused_by};
+ghost use Rattle.std.specs.Prelude.{◌≡◌, ◌<◌, ◌≤◌, ◌+◌, ◌++◌, [], length, vec_capacity, None, IfErr, IfOk, IfSome};
+ghost use Rattle.transactions.specs.Progresses.{FollowsFrom, HasFound};
+ghost use Rattle.transactions.specs.SortedOut.{IsRefusedFor, found_by, held_by, refused_by};
 
-use crate::{Found, HeldClaims, MOST_ACTIONS, Ran};
+use crate::{Found, Gathered, HeldClaims, MOST_ACTIONS, Progress, Ran};
 use requests::Refusal;
 use std::alloc::Global;
 use tickets::GroupNames;
@@ -60,6 +61,24 @@ impl Sorted {
                     self.refusal = Some(Refusal::NoMemory);
                 }
             }
+        }
+    }
+
+    /// What follows of it, once all actions of the phase are sorted out: for what the transaction is refused; or else what follows
+    /// of what they found, unless there is no memory for it.
+    pub fn follow(self, alloc: Global, progress: Progress) -> Result<Gathered, Refusal>
+        requires { self.refusal ≡ None → HasFound progress self.found.items }
+        ensures refused { IfErr result (IsRefusedFor self.refusal) }
+        ensures none { IfOk result (λ gathered. self.refusal ≡ None) }
+        ensures gathered { IfOk result (FollowsFrom progress self.found.items) }
+    {
+        let Sorted { found, refusal } = self;
+        if let Some(why) = refusal {
+            return Err(why);
+        }
+        match progress.gather(alloc, found) {
+            Ok(gathered) => Ok(gathered),
+            Err(_) => Err(Refusal::NoMemory),
         }
     }
 }

@@ -3,10 +3,12 @@ ghost use Rattle.std.specs.Prelude.{◌≡◌, length, slice_get, IfOk, OnErr};
 ghost use Rattle.partitions.specs.Parts.{shared_of};
 ghost use Rattle.slices.specs.Sliced.{SliceKeeps};
 ghost use Rattle.transactions.specs.Granted.{AreGrantedFor, AreLeft};
+ghost use Rattle.transactions.specs.Works as spec;
 ghost use Rattle.transactions.specs.Works.{CanDo, HasDone, home_of, wants_of, wishes_of};
 
 use crate::{delivery, new_order, order_status, payment, stock_level};
 use groups::{Extent, Want, Wish};
+use requests::Request;
 use schema::NoMemory;
 use slices::Slice;
 use std::alloc::Global;
@@ -111,5 +113,18 @@ pub fn run<J: GroupNames>(
         Work::OrderStatus(work) => Ok(Found::OrderStatus(work.run(alloc, slice, claims)?)),
         Work::Delivery(work) => Ok(Found::Delivery(work.run(slice, claims)?)),
         Work::StockLevel(work) => Ok(Found::StockLevel(work.run(alloc, slice, claims)?)),
+    }
+}
+
+/// The W_ID of the warehouse whose terminal asks: a transaction starts there.
+pub fn home_of_request(request: &Request) -> u32
+    ensures { result ≡ spec.home_of_request request.now }
+{
+    match request {
+        Request::NewOrder(order) => order.home.w_id,
+        Request::Payment(payment) => payment.home.w_id,
+        Request::OrderStatus(asked) => asked.home.w_id,
+        Request::Delivery(delivery) => delivery.w_id,
+        Request::StockLevel(asked) => asked.home.w_id,
     }
 }

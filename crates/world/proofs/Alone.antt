@@ -13,7 +13,6 @@ use Rattle.schema.specs.Database.{Database}
 use Rattle.requests.specs.declared.group.Group.{Group}
 use Rattle.tickets.specs.Claims.{Claiming, all_claims}
 use Rattle.wait_die.specs.declared.deciding.Holder.{Holder}
-use Rattle.commit_log.specs.declared.entry.Entry.{Entry}
 use Rattle.history.specs.declared.event.Event.{Event}
 use Rattle.history.specs.declared.event.Event.TheVariants.{Submit, Order, Take, Send}
 use Rattle.history.specs.declared.event.EventAnswer.{EventAnswer}
@@ -33,11 +32,12 @@ use Rattle.local_locks.specs.Locking.{Holding, Waiting}
 use Rattle.local_locks.proofs.Members.{contains_here, contains_joined}
 use Rattle.transactions.specs.Laws.{TransactionsClaimEachGroupOnce}
 use Rattle.transactions.specs.Progresses.{works_of}
-use Rattle.transactions.specs.Works.{all_wishes, home_of, wants_of, wishes_of}
+use Rattle.transactions.specs.Works.{all_wishes, home_of, wants_of, wishes_of, home_of_claims}
 use Rattle.transactions.proofs.Held.{HoldsWished, dies_of_holder}
 use Rattle.transactions.proofs.Reached.{some_actions}
 use Rattle.rendezvous.specs.Awaited.{awaited_from, reported}
 use Rattle.slices.specs.Sliced.{Sliced, held_at}
+use Rattle.commit_log.specs.declared.entry.Entry.{Entry}
 use Rattle.world.specs.declared.desk.Active.{Active}
 use Rattle.world.specs.declared.desk.Active.TheVariants as active
 use Rattle.world.specs.declared.flight.Act.{Act as AnyAct}
@@ -59,7 +59,7 @@ use Rattle.world.specs.Following.{acts_from, acts_of}
 use Rattle.world.specs.Stations.{HaveToWait, IsStationOf, act_of, message_of, waiting_at, waiting_in}
 use Rattle.world.specs.Together.{IsSound, together}
 use Rattle.world.specs.Queues.{all_of, queue_of}
-use Rattle.world.specs.Letters.{home_of_claims, items_in, letter, messages_in, messages_of, posted_by}
+use Rattle.world.specs.Letters.{items_in, letter, messages_in, messages_of, posted_by}
 use Rattle.world.specs.declared.flight.Letter.{Letter}
 use Rattle.world.specs.declared.flight.Load.TheVariants as load
 use Rattle.world.specs.declared.flight.Posted.{Posted}
@@ -72,7 +72,7 @@ use Rattle.world.proofs.Executing.{beside, message_fits, message_sound, posted_i
 use Rattle.world.proofs.Posting.{holding, is_own}
 use Rattle.world.proofs.Puttings.{IsPush, PutsPushes, opens_put, pushes_all, put_stands}
 use Rattle.world.proofs.Shuffles.{has_queue}
-use Rattle.world.proofs.OnGroups.{claimed_once, wishes_on, claims_on, one_wish_on, one_claim_on, done_on, claimed, wished}
+use Rattle.transactions.proofs.OnGroups.{claimed_once, wishes_on, claims_on, one_wish_on, one_claim_on, done_on, claimed, wished}
 use Rattle.world.proofs.Reported.{met_tokens}
 use Rattle.world.proofs.Taking.{message_in_hand}
 use Rattle.world.proofs.Courses.{messages_stay, items_stay}
@@ -343,7 +343,7 @@ module _ {J : Type 0} (once : TransactionsClaimEachGroupOnce) (shared : Shared) 
         ap {B = ℕ} (λ (p : InFlight). claims_on group p.claims) (message_taken w (Act act) rest is),
         sum_by-append (one_claim_on group) (part_carried act.flow).claims (flight mid).claims,
         claims_count group mid,
-        claimed_once once shared u group phase.reached,
+        claimed_once shared u.request u.progress u.held phase.reached group once,
         phase_few u group shared slot at.0 0 at.1.0 (works_of u.progress) (omega (arith, phase.first_is)) phase.many from_zero told,
         messages_few u group shared rest inbox (omega (arith, weighed weigh_other, no_other)),
         items_few u group shared w.outbox outbox (omega (arith, weighed weigh_other, no_other)),

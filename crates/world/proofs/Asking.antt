@@ -25,6 +25,7 @@ use Rattle.transactions.specs.declared.work.Work.{Work}
 use Rattle.transactions.specs.Works.{CanDo}
 use Rattle.transactions.specs.Progresses.{IsReached}
 use Rattle.transactions.proofs.Reached.{can_all, few_actions, some_actions}
+use Rattle.transactions.specs.Acting.{AreUndoneBy}
 use Rattle.rendezvous.specs.Awaited.{awaited_from, reported}
 use Rattle.world.specs.declared.desk.Active.{Active}
 use Rattle.world.specs.declared.desk.Active.TheVariants as active
@@ -33,7 +34,7 @@ use Rattle.world.specs.declared.flight.Message.{Message}
 use Rattle.world.specs.declared.flight.Message.TheVariants.{Start, Act, Settle, Undo}
 use Rattle.world.specs.declared.flight.Report.{Report}
 use Rattle.world.specs.declared.world.Parts.{Parts}
-use Rattle.world.specs.Parted.{AreUndoneBy, joined_in}
+use Rattle.world.specs.Parted.{joined_in}
 use Rattle.world.specs.Flights.{Token, Acting, nothing, join, parts, part_message, part_met, acting_from, unanswered_transaction}
 use Rattle.world.specs.Sound.{Courses, HaveTheirAges, UnderWay, IsSoundWith, IsSoundStart, IsSoundPhase, IsSoundMessage, AreSoundActive, IsBalanced, IsPassOf, flight, is_here}
 use Rattle.world.specs.Worlds.{FitsPart, Fits, tables_now, IsAcceptedIn, IsClaimOf}

@@ -5,16 +5,16 @@ use Rattle.std.specs.List.{sum_by}
 use Rattle.std.proofs.lemmas.List.Elements.{All-nil, All-cons, All-head, All-tail}
 use Rattle.std.proofs.lemmas.List.Sums.{sum_by-cons, sum_by-append}
 use Rattle.partitions.specs.Parts.{Shared}
-use Rattle.commit_log.specs.declared.entry.Entry.{Entry}
 use Rattle.transactions.specs.declared.work.Work.{Work}
 use Rattle.transactions.proofs.Reached.{some_actions}
+use Rattle.transactions.specs.Acting.{AreSettledBy, AreUndoneBy}
+use Rattle.commit_log.specs.declared.entry.Entry.{Entry}
 use Rattle.world.specs.declared.flight.Message.{Message}
 use Rattle.world.specs.declared.flight.Message.TheVariants.{Start, Act, Settle, Undo}
 use Rattle.world.specs.declared.flight.Item.{Item}
 use Rattle.world.specs.declared.flight.Item.TheVariants as item
 use Rattle.world.specs.Flights.{Acting, Committing, Ending, acting_from, parts, part_message, part_item}
 use Rattle.world.specs.Sound.{Courses, UnderWay, IsSoundMessage, IsSoundItem, IsSoundStart, IsSoundAct, IsSoundCommit, IsSoundReport}
-use Rattle.world.specs.Parted.{AreSettledBy, AreUndoneBy}
 use Rattle.world.proofs.Tokens.{is_itself, is_other}
 use Rattle.world.proofs.OneSlot.{weigh_slots}
 

@@ -12,8 +12,8 @@ use Rattle.requests.specs.declared.request.Request.{Request}
 use Rattle.requests.specs.Check.{check_of}
 use Rattle.requests.proofs.Checked.{refused_by_itself}
 use Rattle.groups.specs.Footprint.{footprint, groups_of}
-use Rattle.commit_log.specs.declared.entry.Entry.{Entry}
 use Rattle.commit_log.specs.Passing.{Passing}
+use Rattle.commit_log.specs.declared.entry.Entry.{Entry}
 use Rattle.history.specs.declared.event.Event.{Event}
 use Rattle.history.specs.declared.event.Event.TheVariants.{Submit, Order, Take, Send}
 use Rattle.history.specs.declared.event.EventAnswer.{EventAnswer}
@@ -28,7 +28,7 @@ use Rattle.world.specs.declared.world.Core.{Core}
 use Rattle.world.specs.declared.world.Parts.{Parts}
 use Rattle.world.specs.Flights.{parts, part_item, part_message, part_met, unanswered_reply}
 use Rattle.world.specs.Sound.{AnswersOlder, Courses, IsSoundItem, flight, reported_to_all}
-use Rattle.world.specs.Events.{Commits, Pushes, SendsItem}
+use Rattle.world.specs.Events.{Pushes, SendsItem, told_of}
 use Rattle.world.specs.Together.{IsSound, together}
 use Rattle.world.specs.Happening.{Delivers, Happens, Orders, SendsFirst, SendsPosted, SubmitsAt, SubmitsInto, SubmitsUnless, TakesFirst, answer_arrived, begins_at, can_admit, has_room, is_full, refuses}
 use Rattle.world.specs.Letters.{items_of}
@@ -89,7 +89,11 @@ module _ {J : Type 0} (session number : ℕ) (group : Group) (holder : ℕ) wher
   sent_of shared at (item.Push m) old new answer fine said is = absurd (pushed (nat_lt (length old.inbox) 1024) m old new answer said is)
   sent_of shared at (item.Report r) old new answer fine said is = let e = said.0 in absurd (cc)
   sent_of shared at (item.Ended slot) old new answer fine said is = let e = said.0 in absurd (cc)
-  sent_of shared at (item.Commit commit) old new answer fine said is = absurd (subst (λ (a : EventAnswer). Commits commit old a new) is said)
+  sent_of shared at (item.Commit commit) old new answer fine said is = absurd (committed said.logged.answer (sym said.answered ∙ is))
+    where
+      committed : (told : Result ℕ Refusal) → IsDeath session number group holder (told_of told) → ⊥
+      committed (Ok place) is = absurd (cc)
+      committed (Err why) is = absurd (cc)
   sent_of shared at (item.Reply told) old new answer fine said is =
       let e = said.0 in
       let session_is : told.pass.session ≡ session = cc in

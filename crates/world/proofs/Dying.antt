@@ -26,7 +26,7 @@ use Rattle.transactions.specs.declared.work.Work.{Work}
 use Rattle.transactions.specs.Acting.{IsRan, claims_of_ran}
 use Rattle.transactions.specs.Laws.{TransactionsClaimEachGroupOnce}
 use Rattle.transactions.specs.Stations.{ActsAs, OneTurn, Stationed}
-use Rattle.transactions.specs.Works.{home_of, wishes_of}
+use Rattle.transactions.specs.Works.{home_of, wishes_of, home_of_claims}
 use Rattle.wait_die.specs.declared.deciding.Holder.{Holder}
 use Rattle.world.specs.declared.flight.Act.{Act as AnyAct}
 use Rattle.world.specs.declared.flight.Carried.{Carried}
@@ -43,7 +43,7 @@ use Rattle.world.specs.Stations.{slices_in}
 use Rattle.world.specs.Events.{AtStation, TakesMessage, TurnsFollow, carried_by, holder_of, put_for, report_of}
 use Rattle.world.specs.Following.{acts_of}
 use Rattle.world.specs.Together.{IsSound, together}
-use Rattle.world.specs.Letters.{home_of_claims, items_in, letter, posted_by}
+use Rattle.world.specs.Letters.{items_in, letter, posted_by}
 use Rattle.world.specs.Worlds.{DieOfOlder, Fits, HasNotDied, TellsNoDeath, DiedOfOlder, TellsWhom}
 use Rattle.world.specs.Happening.{Happens, TakesFirst, WorksOn}
 use Rattle.world.specs.Queues.{queue_of}
@@ -55,7 +55,7 @@ use Rattle.world.proofs.Puttings.{IsPush, PutsPushes, among_all, opens_put, push
 use Rattle.world.proofs.Executing.{beside, message_hand, posted_items}
 use Rattle.world.proofs.Posting.{is_own}
 use Rattle.world.proofs.Shuffles.{has_queue}
-use Rattle.world.proofs.OnGroups.{dies_on}
+use Rattle.transactions.proofs.OnGroups.{dies_on}
 use Rattle.world.proofs.Older.{reports_of_older}
 use Rattle.world.proofs.Parted.{ran_at_home}
 use Rattle.world.proofs.Stationed.{holds, keeps_on}

@@ -1,5 +1,5 @@
 -- What an event does to a world: what it keeps, and which history goes on.
-use Rattle.std.proofs.Common.{◌≡◌, ℕ, ◌+◌, ◌<◌, ◌≤◌, Bool, true, false, List, [], ◌∷◌, ◌++◌, length, map, refl, sym, ◌∙◌, ap, subst, append_assoc, append-nil, arith}
+use Rattle.std.proofs.Common.{◌≡◌, ℕ, ◌+◌, ◌<◌, Bool, true, false, List, [], ◌∷◌, ◌++◌, length, map, refl, sym, ◌∙◌, ap, subst, append_assoc, append-nil, arith}
 use Rattle.std.specs.Prelude.{All, slice_set}
 use Rattle.std.specs.List.{sum_by}
 use Rattle.std.proofs.lemmas.List.Elements.{All-append, All-cons, All-nil}
@@ -8,9 +8,9 @@ use Rattle.std.proofs.lemmas.List.{map-append}
 use Rattle.std.proofs.lemmas.List.Sums.{sum_by-cons}
 use Rattle.partitions.specs.Parts.{Shared}
 use Rattle.schema.specs.Database.{Database}
-use Rattle.tickets.specs.Claims.{Claiming}
-use Rattle.slices.specs.Sliced.{AreOfOneHome}
 use Rattle.transactions.specs.Laws.{TransactionsClaimEachGroupOnce}
+use Rattle.transactions.specs.Works.{home_of_claims}
+use Rattle.transactions.proofs.ClaimHomes.{some_claims}
 use Rattle.history.specs.declared.event.Event.{Event}
 use Rattle.history.specs.declared.event.Event.TheVariants.{Take}
 use Rattle.history.specs.declared.event.EventAnswer.{EventAnswer}
@@ -36,7 +36,7 @@ use Rattle.world.specs.declared.world.Parts.{Parts}
 use Rattle.world.specs.Events.{TakesMessage}
 use Rattle.world.specs.Flights.{nothing, part_message}
 use Rattle.world.specs.Happening.{FindsSlice, WorksIfHere, WorksOn, bringing, posting}
-use Rattle.world.specs.Letters.{HasHome, HasHomeIn, IsPosted, arrived_of, going_in, going_of, goes, home_of_claims, home_of_message, is_for_slice, items_in, letter, letters_out, messages_in, posted_by, sent_in, sent_of}
+use Rattle.world.specs.Letters.{HasHome, HasHomeIn, IsPosted, arrived_of, going_in, going_of, goes, home_of_message, is_for_slice, items_in, letter, letters_out, messages_in, posted_by, sent_in, sent_of}
 use Rattle.world.specs.Parted.{joined_in}
 use Rattle.world.specs.Queues.{all_of, queue_of}
 use Rattle.world.specs.Sound.{Courses, IsSoundItem, IsSoundMessage, IsSoundWith, flight}
@@ -51,12 +51,6 @@ use Rattle.world.proofs.Reordered.{queued}
 use Rattle.world.proofs.Shuffles.{Shuffle, same, swap}
 use Rattle.world.proofs.Standing.{takes_inbox}
 use Rattle.world.proofs.Taking.{message_in_hand, seen, takes_wait}
-
--- ---- the warehouse of claims
-
-some_claims : (claims : List Claiming) → AreOfOneHome claims → 1 ≤ length claims
-some_claims [] none = absurd none
-some_claims (claim ∷ claims) at = omega arith
 
 module _ {J : Type 0} where
   pub has_home : (shared : Shared) (u : Courses) (m : Message J) → IsSoundMessage shared u m → HasHome m

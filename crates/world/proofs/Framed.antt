@@ -1,16 +1,15 @@
 -- What an event does with one executor's queues in hand, it does with all queues as one.
-use Rattle.std.proofs.Common.{◌≡◌, inl, inr, ℕ, Bool, true, false, List, [], ◌∷◌, ◌++◌, length, Option, Some, None, Ok, Err, refl, sym, ◌∙◌, ap, subst, append_assoc, nat_lt, ⊎_elim}
-use Rattle.std.specs.Prelude.{map}
+use Rattle.std.proofs.Common.{◌≡◌, inl, inr, ℕ, Bool, true, false, List, [], ◌∷◌, ◌++◌, length, Option, Some, None, Err, refl, sym, ◌∙◌, ap, subst, append_assoc, nat_lt, ⊎_elim}
 use Rattle.std.specs.List.{slice_get}
 use Rattle.partitions.specs.Parts.{Shared}
 use Rattle.requests.specs.declared.request.Request.{Request}
 use Rattle.requests.specs.declared.refusal.Refusal.{Refusal}
 use Rattle.history.specs.declared.event.Event.TheVariants.{Submit}
 use Rattle.history.specs.declared.event.EventAnswer.{EventAnswer}
-use Rattle.history.specs.declared.event.EventAnswer.TheVariants.{Accepted, Ordered, Took, Sent, Full, Logged, Moved, Answered, Nothing}
+use Rattle.history.specs.declared.event.EventAnswer.TheVariants.{Answered, Nothing}
 use Rattle.history.specs.History.{step}
 use Rattle.transactions.specs.declared.progress.Gathered.{Gathered}
-use Rattle.transactions.specs.declared.progress.Gathered.TheVariants.{Next, Finish, RollBack}
+use Rattle.transactions.specs.declared.progress.Gathered.TheVariants.{Next, Finish}
 use Rattle.transactions.specs.declared.progress.Progress.{Progress}
 use Rattle.transactions.specs.declared.work.Found.{Found}
 use Rattle.world.specs.declared.desk.Active.{Active}
@@ -25,13 +24,9 @@ use Rattle.world.specs.declared.flight.Item.{Item}
 use Rattle.world.specs.declared.flight.Item.TheVariants as item
 use Rattle.world.specs.declared.world.Parts.{Parts}
 use Rattle.world.specs.Flights.{nothing, part_item}
-use Rattle.commit_log.specs.Claimed.{claims_logged}
-use Rattle.commit_log.specs.Items.{item as item_of}
-use Rattle.commit_log.specs.Passing.{after_item}
-use Rattle.world.specs.declared.sending.Release.{Release}
-use Rattle.world.specs.Following.{is_settled, items_released, putting, refusal_of, release}
+use Rattle.world.specs.Following.{putting, refusal_of}
 use Rattle.world.specs.Sound.{IsSoundWith, IsSoundItem}
-use Rattle.world.specs.Events.{Commits, GathersInto, MeetsAs, MeetsUnless, Pushes, Reports, ReportsInto, SendsItem, goes_on, logging}
+use Rattle.world.specs.Events.{Commits, GathersInto, MeetsAs, MeetsUnless, Pushes, Reports, ReportsInto, SendsItem, goes_on}
 use Rattle.world.specs.Happening.{Admits, SubmitsAt, SubmitsInto, SubmitsUnless, can_admit, refusal_at}
 use Rattle.world.specs.Worlds.{Advances}
 use Rattle.world.proofs.Happened.{stays, submits_into}
@@ -52,7 +47,6 @@ module _ {J : Type 0} (messages : List (Message J)) (items : List (Item J)) wher
   goes_framed : (t : Transaction J) (g : Gathered) (w : Parts J) → framed (goes_on t g w) ≡ goes_on t g (framed w)
   goes_framed t (Next progress) w = puts_framed _ _ _ w
   goes_framed t (Finish shown) w = puts_framed _ _ _ w
-  goes_framed t (RollBack fault) w = puts_framed _ _ _ w
 
   gathers_framed : (progress : Progress) (found : List Found) (t : Transaction J) (old new : Parts J) → GathersInto progress found t old new → GathersInto progress found t (framed old) (framed new)
   gathers_framed progress found t old new (inl said) = inl (ap framed said ∙ puts_framed _ _ _ old)
@@ -74,23 +68,15 @@ module _ {J : Type 0} (messages : List (Message J)) (items : List (Item J)) wher
   reports_framed : (r : Report J) (old new : Parts J) → Reports r old new → Reports r (framed old) (framed new)
   reports_framed r old new said = (said.0, (said.1.0, (said.1.1.0, into_framed r.slot said.0 _ old new said.1.1.1)))
 
-  logs_framed : (commit : CommitItem J) (w : Parts J) → framed (logging commit w) ≡ logging commit (framed w)
-  logs_framed commit w =
-      let t = commit.transaction in
-      let pass = after_item t.pass (item_of (length w.log) t.number t.request commit.reply) in
-      let released : Release J = release t pass (Ok (length w.log)) (map (claims_logged commit.reply) t.held) in
-      (λ i. record (logging commit (framed w)) { outbox = sym (append_assoc items w.outbox (items_released (is_settled commit.reply) released)) i })
-
   commits_framed : (commit : CommitItem J) (old new : Parts J) (answer : EventAnswer) → Commits commit old answer new → Commits commit (framed old) answer (framed new)
-  commits_framed commit old new (Logged place) said = (said.0, (said.1.0, ap framed said.1.1 ∙ logs_framed commit old))
-  commits_framed commit old new Sent said = (said.0, (said.1.0, ap framed said.1.1 ∙ puts_framed _ _ _ old))
-  commits_framed commit old new (Accepted age) said = absurd said
-  commits_framed commit old new Took said = absurd said
-  commits_framed commit old new Full said = absurd said
-  commits_framed commit old new (Answered session number told) said = absurd said
-  commits_framed commit old new Ordered said = absurd said
-  commits_framed commit old new Moved said = absurd said
-  commits_framed commit old new Nothing said = absurd said
+  commits_framed commit old new answer said = record {
+    logged = said.logged;
+    log = said.log;
+    held = said.held;
+    logs = said.logs;
+    answered = said.answered;
+    over = ap framed said.over ∙ puts_framed _ _ _ (record old { log = said.log });
+  }
 
   pushes_framed : (room : Bool) (m : Message J) (old new : Parts J) (answer : EventAnswer) → Pushes room m old answer new → Pushes room m (framed old) answer (framed new)
   pushes_framed true m old new answer said =

@@ -8,7 +8,6 @@ use Rattle.std.proofs.lemmas.List.Elements.{All-append, All-contains, All-head, 
 use Rattle.std.proofs.lemmas.List.Sums.{sum_by-append, sum_by-cons}
 use Rattle.partitions.specs.Parts.{Shared}
 use Rattle.tickets.specs.Claims.{Claiming, all_claims}
-use Rattle.commit_log.specs.declared.entry.Entry.{Entry}
 use Rattle.local_locks.specs.Asking.{held_by}
 use Rattle.local_locks.specs.Locking.{Holding}
 use Rattle.slices.specs.Sliced.{at_home, held_at}
@@ -17,8 +16,9 @@ use Rattle.rendezvous.specs.Awaited.{awaited_from, reported}
 use Rattle.transactions.specs.declared.acting.Ran.{Ran}
 use Rattle.transactions.specs.declared.acting.Ran.TheVariants as ran
 use Rattle.transactions.specs.declared.work.Work.{Work}
-use Rattle.transactions.specs.Acting.{claims_of_ran}
+use Rattle.transactions.specs.Acting.{claims_of_ran, AreUndoneBy, IsAged}
 use Rattle.transactions.proofs.Reached.{some_actions}
+use Rattle.commit_log.specs.declared.entry.Entry.{Entry}
 use Rattle.world.specs.declared.desk.Active.{Active}
 use Rattle.world.specs.declared.desk.Active.TheVariants as active
 use Rattle.world.specs.declared.flight.Flow.{Flow}
@@ -29,7 +29,6 @@ use Rattle.world.specs.declared.flight.Message.TheVariants.{Start, Act, Settle, 
 use Rattle.world.specs.declared.flight.Report.{Report}
 use Rattle.world.specs.declared.world.Parts.{Parts}
 use Rattle.world.specs.Flights.{InFlight, Token, Acting, Committing, Ending, acting_from, nothing, parts, part_carried, part_item, part_message, part_met}
-use Rattle.world.specs.Parted.{AreUndoneBy, IsAged}
 use Rattle.world.specs.Sound.{Courses, IsActiveAt, IsCarriedAt, IsSoundActive, IsSoundItem, IsSoundMessage, IsSoundPhase, IsSoundRan, IsSoundWith, UnderWay, awaited, awaited_by_all, flight, reported_to, reported_to_all}
 use Rattle.world.proofs.Asking.{as_many_from}
 use Rattle.world.proofs.OneSlot.{of_slot, sound_in, weigh_slots}

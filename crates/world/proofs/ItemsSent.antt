@@ -1,12 +1,14 @@
 -- An item is sent.
-use Rattle.std.proofs.Common.{◌≡◌, ℕ, Bool, true, false, List, [], ◌∷◌, ◌++◌, length, Option, Some, None, refl, sym, subst, nat_lt, ◌+◌, ◌-◌, ◌≤◌, arith}
+use Rattle.std.proofs.Common.{◌≡◌, ℕ, Bool, true, false, List, [], ◌∷◌, ◌++◌, length, Option, Some, None, refl, sym, subst, nat_lt, ◌+◌, ◌-◌, ◌≤◌, arith, ◌∙◌, ap, inl, inr}
 use Rattle.std.specs.List.{slice_get}
 use Rattle.partitions.specs.Parts.{Shared}
 use Rattle.schema.specs.Database.{Database}
 use Rattle.history.specs.declared.event.Event.TheVariants.{Send}
 use Rattle.history.specs.declared.event.EventAnswer.{EventAnswer}
-use Rattle.history.specs.declared.event.EventAnswer.TheVariants.{Accepted, Ordered, Took, Sent, Full, Logged, Moved, Answered, Nothing}
+use Rattle.history.specs.declared.event.EventAnswer.TheVariants.{Sent, Full, Logged}
 use Rattle.history.specs.History.{Step, step}
+use Rattle.transactions.specs.Logged.{Logs}
+use Rattle.transactions.specs.declared.logging.Logged.{Logged as AnyLogged}
 use Rattle.world.specs.declared.desk.Active.TheVariants as active
 use Rattle.world.specs.declared.flight.CommitItem.{CommitItem}
 use Rattle.world.specs.declared.flight.Message.{Message}
@@ -17,7 +19,7 @@ use Rattle.world.specs.Parted.{joined_in}
 use Rattle.world.specs.declared.flight.Report.{Report}
 use Rattle.world.specs.Flights.{Acting, InFlight, nothing, join, part_message, part_item}
 use Rattle.world.specs.Sound.{IsSoundWith, IsSoundMessage, IsSoundCommit, IsSoundItem, IsSoundPhase, awaited_by_all, flight}
-use Rattle.world.specs.Events.{Pushes, Commits, SendsItem, logging}
+use Rattle.world.specs.Events.{Pushes, Commits, SendsItem, told_of}
 use Rattle.world.specs.Worlds.{FitsPart, Fits}
 use Rattle.world.proofs.Fitting.{fits_quiet}
 use Rattle.world.proofs.Tokens.{is_awaited, acting_weighs, weigh_acting, acting_under_way}
@@ -26,8 +28,9 @@ use Rattle.world.proofs.Puts.{GoesOn}
 use Rattle.world.proofs.Reporting.{pushes_sound, pushes_fits, put_back_sound, put_back_fits}
 use Rattle.world.proofs.Meetings.{reports_go_on}
 use Rattle.world.proofs.Endings.{ended_goes_on}
-use Rattle.world.proofs.Logging.{refusing_goes_on, logging_goes_on}
+use Rattle.world.proofs.Logging.{refusing_goes_on, logging_goes_on, logging, refusing}
 use Rattle.world.proofs.Replying.{replies_sound, replies_fits}
+use Rattle.world.specs.Following.{entry_of, release, releasing}
 
 module _ {J : Type 0} where
   -- the next world is sound, and what fitted fits with the Send and its answer at its end
@@ -63,22 +66,27 @@ module _ {J : Type 0} where
 
   sends_commit : (shared : Shared) (w new : Parts J) (commit : CommitItem J) (answer : EventAnswer) (h : IsSoundWith shared (part_item (item.Commit commit)) w) (s : IsSoundCommit shared (h.under_way commit.transaction.slot) commit)
       → Commits commit w answer new → SendsOn shared (part_item (item.Commit commit)) w answer new
-  sends_commit shared w new commit (Logged place) h s said =
-      let both = logging_goes_on shared w commit h s in
-      record {
-        sound = subst (λ v. IsSoundWith shared nothing v) (sym said.1.1) both.0;
-        fits = λ opening history executor f.
-            subst (λ v. Fits opening (history ++ step (Send executor) (Logged place) ∷ []) v) (sym said.1.1)
-            (subst (λ n. Fits opening (history ++ step (Send executor) (Logged n) ∷ []) (logging commit w)) (sym said.0) (both.1 opening history executor f));
-      }
-  sends_commit shared w new commit Sent h s said = quietly shared (part_item (item.Commit commit)) w _ new Sent (refusing_goes_on shared w commit h s said.0) refl said.1.1
-  sends_commit shared w new commit (Accepted age) h s said = absurd said
-  sends_commit shared w new commit Took h s said = absurd said
-  sends_commit shared w new commit Full h s said = absurd said
-  sends_commit shared w new commit (Answered session number told) h s said = absurd said
-  sends_commit shared w new commit Ordered h s said = absurd said
-  sends_commit shared w new commit Moved h s said = absurd said
-  sends_commit shared w new commit Nothing h s said = absurd said
+  sends_commit shared w new commit answer h s said = by said.logs
+    where
+      hand : InFlight
+      hand = part_item (item.Commit commit)
+
+      by : Logs (entry_of commit) commit.transaction.pass w.log commit.transaction.held said.logged said.log said.held → SendsOn shared hand w answer new
+      by (inl logs) =
+          let both = logging_goes_on shared w commit h s in
+          let next = logging commit w in
+          let is : new ≡ next = said.over ∙ (λ i. releasing (logs.2 i).is_settled (release commit.transaction (logs.2 i).pass (logs.2 i).answer (logs.4 i)) (record w { log = logs.3 i })) in
+          let told : answer ≡ Logged (length w.log) = said.answered ∙ ap (λ (l : AnyLogged J). told_of l.answer) logs.2 in
+          record {
+            sound = subst (λ v. IsSoundWith shared nothing v) (sym is) both.0;
+            fits = λ opening history executor f.
+                subst (λ v. Fits opening (history ++ step (Send executor) answer ∷ []) v) (sym is)
+                (subst (λ a. Fits opening (history ++ step (Send executor) a ∷ []) next) (sym told) (both.1 opening history executor f));
+          }
+      by (inr refused) =
+          let why = refused.0 in
+          quietly shared hand w (refusing commit why w) new answer (refusing_goes_on shared w commit h s why) (said.answered ∙ ap (λ (l : AnyLogged J). told_of l.answer) refused.2)
+          (said.over ∙ (λ i. releasing (refused.2 i).is_settled (release commit.transaction (refused.2 i).pass (refused.2 i).answer (refused.4 i)) (record w { log = refused.3 i })))
 
   -- the phase that is under way where a report comes
   pub phase_at : (shared : Shared) (w : Parts J) (r : Report J) (h : IsSoundWith shared (part_item (item.Report r)) w) (first : ℕ) (slots : List (Option (Report J)))

@@ -1,4 +1,3 @@
-pub mod Stays
 pub mod Joins
 pub mod Apart
 pub mod Balances
@@ -55,6 +54,7 @@ pub mod Keeping
 pub mod Submitting
 pub mod Admissions
 pub mod Opened
-pub mod OnGroups
 pub mod Alone
 pub mod Schedules
+pub mod Changing
+pub mod Changed

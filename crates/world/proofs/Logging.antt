@@ -1,17 +1,16 @@
 -- A transaction is logged, or refused by the log.
-use Rattle.std.proofs.Common.{◌≡◌, ℕ, ◌<◌, ◌≤◌, Bool, false, List, [], ◌∷◌, ◌++◌, length, Some, None, Ok, Err, refl, sym, ◌∙◌, ap, subst}
+use Rattle.std.proofs.Common.{◌≡◌, ℕ, ◌<◌, ◌≤◌, false, List, [], ◌∷◌, ◌++◌, length, Some, None, Ok, Err, refl, sym, ◌∙◌, ap, subst, inl, inr}
 use Rattle.std.specs.Prelude.{All, map}
 use Rattle.std.specs.List.{slice_get}
 use Rattle.std.proofs.lemmas.List.{length-map, map-append}
-use Rattle.std.proofs.lemmas.List.Elements.{All-weaker, All-cons, All-nil, All-head, All-tail, All-append}
+use Rattle.std.proofs.lemmas.List.Elements.{All-cons, All-nil, All-head, All-tail, All-append, All-weaker}
 use Rattle.partitions.specs.Parts.{Shared}
 use Rattle.schema.specs.Database.{Database}
 use Rattle.requests.specs.declared.reply.Reply.{Reply}
 use Rattle.requests.specs.declared.reply.Reply.TheVariants as reply
 use Rattle.requests.specs.declared.group.Group.{Group}
 use Rattle.groups.specs.Footprint.{footprint, groups_of}
-use Rattle.groups.specs.Groups.{warehouse_of}
-use Rattle.tickets.specs.Claims.{Claiming, all_claims, settled, committed_by}
+use Rattle.tickets.specs.Claims.{Claiming, all_claims, settled}
 use Rattle.tickets.specs.Committed.{all_settled}
 use Rattle.commit_log.specs.declared.entry.Entry.{Entry}
 use Rattle.commit_log.specs.declared.log_book.AppendFault.{AppendFault}
@@ -23,20 +22,20 @@ use Rattle.history.specs.declared.event.Event.TheVariants.{Send}
 use Rattle.history.specs.declared.event.EventAnswer.TheVariants.{Logged}
 use Rattle.history.specs.History.{Step, step, Unanswered}
 use Rattle.history.specs.Laws.{with_place}
-use Rattle.slices.specs.Sliced.{AreAllHeld, AreOfOneHome, IsClaimAt}
-use Rattle.transactions.specs.Acting.{CanBeSettled}
+use Rattle.slices.specs.Sliced.{AreAllHeld}
 use Rattle.transactions.specs.declared.laws.TheConstants.{MOST_ACTIONS}
+use Rattle.transactions.specs.Logged.{is_settled, why_refused, Logs}
+use Rattle.transactions.proofs.Settling.{all_logged_given}
+use Rattle.transactions.specs.declared.logging.Logged.{Logged as AnyLogged}
 use Rattle.world.specs.declared.desk.Active.TheVariants as active
-use Rattle.world.specs.declared.flight.Item.{Item}
 use Rattle.world.specs.declared.flight.Item.TheVariants as item
 use Rattle.world.specs.declared.flight.CommitItem.{CommitItem}
 use Rattle.world.specs.declared.sending.Release.{Release}
 use Rattle.world.specs.declared.world.Parts.{Parts}
-use Rattle.world.specs.Parted.{AreUndoneBy, IsAged, joined_in}
+use Rattle.world.specs.Parted.{joined_in}
 use Rattle.world.specs.Flights.{Committing, InFlight, part, nothing, join, part_item, unanswered_transaction}
-use Rattle.world.specs.Sound.{Courses, NamesOlder, IsSoundWith, IsSoundCommit, awaited_by_all, flight}
-use Rattle.world.specs.Following.{entry_of, is_settled, release, releasing}
-use Rattle.world.specs.Events.{logging, refusing, why_refused}
+use Rattle.world.specs.Sound.{NamesOlder, IsSoundWith, IsSoundCommit, awaited_by_all, flight, Courses}
+use Rattle.world.specs.Following.{entry_of, release, releasing}
 use Rattle.world.specs.Worlds.{FitsPart, Fits, IsAcceptedIn, IsClaimOf}
 use Rattle.world.proofs.Fitting.{fits_entry, fits_same, logged_held, All-behind, all_accepted, all_claimed}
 use Rattle.world.proofs.Joins.{IsSame, same-refl, same-join}
@@ -44,36 +43,14 @@ use Rattle.world.proofs.Tokens.{is_awaited, weigh_committing, commit_under_way, 
 use Rattle.world.proofs.Balances.{held_same}
 use Rattle.world.proofs.OneSlot.{lots, flight_apart}
 use Rattle.world.proofs.Puts.{AreServed, GoesOn, Rests, rests_of}
-use Rattle.world.proofs.Releases.{AreGiven, unanswered_release, releases_fits, releases_sound}
+use Rattle.world.proofs.Releases.{unanswered_release, releases_fits, releases_sound}
 use Rattle.world.proofs.Reporting.{served_same}
+use Rattle.world.specs.declared.flight.Item.{Item}
 use Rattle.tickets.proofs.Committed.{All-front}
 
 -- ---- the claims of what is logged
 
-settled_given : (c : Claiming) → CanBeSettled (settled c)
-settled_given c exclusive = ap (λ m. committed_by m c.left c.told) exclusive
-
-all_settled_given : (cs : List Claiming) → All CanBeSettled (all_settled cs)
-all_settled_given [] = All-nil CanBeSettled
-all_settled_given (c ∷ cs) = All-cons CanBeSettled (settled c) (all_settled cs) (settled_given c) (all_settled_given cs)
-
--- they are still on groups of one warehouse
-all_settled_at : (home : ℕ) (cs : List Claiming) → All (IsClaimAt home) cs → All (IsClaimAt home) (all_settled cs)
-all_settled_at home [] h = All-nil (IsClaimAt home)
-all_settled_at home (c ∷ cs) h =
-    All-cons (IsClaimAt home) (settled c) (all_settled cs) (All-head (IsClaimAt home) c cs h) (all_settled_at home cs (All-tail (IsClaimAt home) c cs h))
-
-all_settled_together : (cs : List Claiming) → AreOfOneHome cs → AreOfOneHome (all_settled cs)
-all_settled_together [] h = h
-all_settled_together (c ∷ cs) h = all_settled_at (warehouse_of c.group) (c ∷ cs) h
-
--- and of the same transaction
-all_settled_aged : (age : ℕ) (cs : List Claiming) → All (IsAged age) cs → All (IsAged age) (all_settled cs)
-all_settled_aged age [] h = All-nil (IsAged age)
-all_settled_aged age (c ∷ cs) h =
-    All-cons (IsAged age) (settled c) (all_settled cs) (All-head (IsAged age) c cs h) (all_settled_aged age cs (All-tail (IsAged age) c cs h))
-
--- and on a group of the same request
+-- they are still on a group of the same request
 all_settled_claimed : (history : List Step) (cs : List Claiming) → All (IsClaimOf history) cs → All (IsClaimOf history) (all_settled cs)
 all_settled_claimed history [] h = All-nil (IsClaimOf history)
 all_settled_claimed history (c ∷ cs) h =
@@ -82,18 +59,6 @@ all_settled_claimed history (c ∷ cs) h =
 logged_claimed : (history : List Step) (shown : Reply) (cs : List Claiming) → All (IsClaimOf history) cs → All (IsClaimOf history) (claims_logged shown cs)
 logged_claimed history (reply.Done shown) cs h = all_settled_claimed history cs h
 logged_claimed history (reply.RolledBack fault) cs h = h
-
--- those of one action
-logged_given : (shown : Reply) (age : ℕ) (cs : List Claiming) → AreUndoneBy age cs → AreGiven (is_settled shown) age (claims_logged shown cs)
-logged_given (reply.Done shown) age cs h = ((all_settled_given cs, all_settled_together cs h.0.1), all_settled_aged age cs h.1)
-logged_given (reply.RolledBack fault) age cs h = h
-
--- and those of all
-all_logged_given : (shown : Reply) (age : ℕ) (held : List (List Claiming)) → All (AreUndoneBy age) held → All (AreGiven (is_settled shown) age) (map (claims_logged shown) held)
-all_logged_given shown age [] h = All-nil (AreGiven (is_settled shown) age)
-all_logged_given shown age (cs ∷ held) h =
-    All-cons (AreGiven (is_settled shown) age) (claims_logged shown cs) (map (claims_logged shown) held)
-    (logged_given shown age cs (All-head (AreUndoneBy age) cs held h)) (all_logged_given shown age held (All-tail (AreUndoneBy age) cs held h))
 
 -- what is logged of two lots of claims is logged of both together
 logged_none : (shown : Reply) → claims_logged shown [] ≡ []
@@ -121,19 +86,23 @@ refused_pass fault.LogFull entries pass = (refl, refl)
 module _ {J : Type 0} where
   -- ---- the commit
 
-  -- the log has the entry, and what the claims are then is given back
-  pub logs : (commit : CommitItem J) (w : Parts J) (place : ℕ) (pass : Passing) (settle : Bool) (session : ℕ) (log : List Entry) (held : List (List Claiming))
-      → (let t = commit.transaction in
-      session ≡ t.pass.session → place ≡ length w.log → pass ≡ after_item t.pass (item_of place t.number t.request commit.reply) → settle ≡ is_settled commit.reply
-      → log ≡ w.log ++ record { session = session; number = t.number; request = t.request; reply = commit.reply } ∷ [] → held ≡ map (claims_logged commit.reply) t.held
-      → releasing settle (release t pass (Ok place) held) (record w { log = log }) ≡ logging commit w)
-  logs commit w place pass settle session log held session_is place_is pass_is settle_is log_is held_is =
+  -- the log has the entry more, and the transaction's claims are given back
+  abbrev pub logging : CommitItem J → Parts J → Parts J
+  logging commit w =
       let t = commit.transaction in
-      let passes : pass ≡ after_item t.pass (item_of (length w.log) t.number t.request commit.reply) =
-      pass_is ∙ ap (λ n. after_item t.pass (item_of n t.number t.request commit.reply)) place_is in
-      let longer : log ≡ w.log ++ entry_of commit ∷ [] =
-      log_is ∙ ap (λ (n : ℕ). w.log ++ record { session = n; number = t.number; request = t.request; reply = commit.reply } ∷ []) session_is in
-      λ i. releasing (settle_is i) (release t (passes i) (Ok (place_is i)) (held_is i)) (record w { log = longer i })
+      let pass = after_item t.pass (item_of (length w.log) t.number t.request commit.reply) in
+      record (releasing (is_settled commit.reply) (release t pass (Ok (length w.log)) (map (claims_logged commit.reply) t.held)) w) { log = w.log ++ entry_of commit ∷ [] }
+
+  -- the log refused the entry, and what the transaction did is taken back
+  abbrev pub refusing : CommitItem J → AppendFault → Parts J → Parts J
+  refusing commit why w =
+      let t = commit.transaction in
+      releasing false (release t (after_refusal why (length w.log) t.pass) (Err (why_refused why)) t.held) w
+
+  -- as many actions hold claims as before
+  pub as_many_hold : (entry : Entry) (pass : Passing) (old new : List Entry) (held after : List (List Claiming)) (logged : AnyLogged J) → Logs entry pass old held logged new after → length after ≡ length held
+  as_many_hold entry pass old new held after logged (inl logs) = ap (λ (hs : List (List Claiming)). length hs) logs.4 ∙ length-map held (claims_logged entry.reply)
+  as_many_hold entry pass old new held after logged (inr refused) = ap (λ (hs : List (List Claiming)). length hs) refused.4
 
   module _ (shared : Shared) (w : Parts J) (commit : CommitItem J) (h : IsSoundWith shared (part_item (item.Commit commit)) w) (s : IsSoundCommit shared (h.under_way commit.transaction.slot) commit) where
     abbrev slot : ℕ

@@ -1,6 +1,6 @@
 -- A report comes to where its phase meets: it is kept, or all have reported, and what follows is done.
 use Rattle.std.proofs.Common.{◌≡◌, ◌⊎◌, inl, inr, ℕ, ◌+◌, ◌<◌, ◌≤◌, false, zero, suc, List, [], ◌∷◌, ◌++◌, length, Option, Some, None, refl, sym, ◌∙◌, ap, subst, arith, append-nil, ⊎_elim}
-use Rattle.std.specs.Prelude.{All, map, replicate, slice_set}
+use Rattle.std.specs.Prelude.{All, map, replicate, slice_set, IfSome}
 use Rattle.std.specs.List.{slice_get, sum_by}
 use Rattle.std.specs.List.Sorted.{IsPermutation}
 use Rattle.std.proofs.lemmas.List.{length-append, length-replicate, length-set}
@@ -23,10 +23,10 @@ use Rattle.transactions.specs.Works.{HaveAllDone}
 use Rattle.transactions.specs.Progresses.{Follows, FollowsFrom, IsReached, works_of}
 use Rattle.transactions.specs.declared.laws.TheConstants.{MOST_ACTIONS}
 use Rattle.transactions.specs.declared.progress.Gathered.{Gathered}
-use Rattle.transactions.specs.declared.progress.Gathered.TheVariants.{Next, Finish, RollBack}
+use Rattle.transactions.specs.declared.progress.Gathered.TheVariants.{Next, Finish}
 use Rattle.transactions.specs.declared.work.Work.{Work}
 use Rattle.transactions.specs.declared.progress.Progress.{Progress}
-use Rattle.transactions.proofs.Reached.{can_all, accepted, few_actions, some_actions}
+use Rattle.transactions.proofs.Reached.{can_all, accepted, few_actions, some_actions, within}
 use Rattle.rendezvous.specs.Awaited.{awaited_from, reported}
 use Rattle.rendezvous.proofs.Awaiting.{all_awaited, report_takes_one_number, none_awaited}
 use Rattle.world.specs.declared.desk.Active.{Active}
@@ -37,11 +37,11 @@ use Rattle.world.specs.declared.flight.Report.{Report}
 use Rattle.world.specs.declared.flight.Item.{Item}
 use Rattle.world.specs.declared.flight.Item.TheVariants as item
 use Rattle.world.specs.declared.world.Parts.{Parts}
-use Rattle.world.specs.Parted.{AreUndoneBy, joined_in}
+use Rattle.world.specs.Parted.{joined_in}
 use Rattle.slices.specs.Sliced.{AreAllHeld}
 use Rattle.world.proofs.Balances.{held_same}
 use Rattle.world.specs.Flights.{Acting, InFlight, part, join, parts, acting_from, part_met, part_report, part_transaction, unanswered_transaction}
-use Rattle.world.specs.Following.{acts_of, committing, found_in, held_in, holding, refusal_of, refused, releasing, with_active, IfCarried}
+use Rattle.world.specs.Following.{acts_of, committing, found_in, held_in, holding, refusal_of, refused, releasing, with_active, IfCarried, rans_of}
 use Rattle.world.specs.Sound.{Courses, NamesOlder, UnderWay, IsSoundWith, IsSoundItem, IsSoundReport, IsSoundPhase, IsSoundFlow, IsSoundStart, IsSoundCommit, IsAskedBy, WeighAlike, flight}
 use Rattle.world.specs.Events.{MeetsAs, MeetsUnless, ReportsInto, goes_on}
 use Rattle.world.specs.Worlds.{FitsPart}
@@ -53,8 +53,10 @@ use Rattle.world.proofs.OneSlot.{lots, flight_apart}
 use Rattle.world.proofs.Puts.{AreServed, GoesOn, Rests, joins_on, puts_fits, puts_sound, rests_of, rests_with}
 use Rattle.world.proofs.Releases.{releases_fits, releases_sound}
 use Rattle.world.proofs.Reporting.{served_same}
-use Rattle.world.proofs.OnGroups.{of_footprint}
-use Rattle.world.proofs.Reported.{HaveReported, NamesOlderIf, all_done, all_fair, all_undo, few_hold, is_carried, met_one_more, met_tokens, parts_all, phase_reported, put_at, reported-map}
+use Rattle.transactions.proofs.OnGroups.{of_footprint}
+use Rattle.transactions.specs.Acting.{AreUndoneBy}
+use Rattle.transactions.proofs.SortedOut.{refused_by_all}
+use Rattle.world.proofs.Reported.{HaveReported, all_done, all_fair, all_undo, few_hold, is_carried, met_one_more, met_tokens, parts_all, phase_reported, put_at, reported-map}
 use Rattle.world.proofs.Works.{acts_fine, part_acts}
 
 -- nothing has been reported of a phase that begins
@@ -309,15 +311,16 @@ module _ {J : Type 0} where
             by : (g : Gathered) → Follows shared u.request t.held g → GoesOn shared (part_report r) w (goes_on t g w)
             by (Next progress) is = next progress is
             by (Finish shown) is = commits shown is
-            by (RollBack fault) is = commits (reply.RolledBack fault) is
 
         goes_by : {new next_w : Parts J} → new ≡ next_w → GoesOn shared (part_report r) w next_w → GoesOn shared (part_report r) w new
         goes_by is goes = subst (λ v. GoesOn shared (part_report r) w v) (sym is) goes
 
         pub meets_unless : (why : Option Refusal) (new : Parts J) → refusal_of None reports ≡ why → MeetsUnless why reports flow w new → GoesOn shared (part_report r) w new
         meets_unless (Some why) new refused_by_one said =
-            let fair = all_fair shared r.slot u (footprint u.request) 0 (works_of u.progress) reports have (of_footprint shared u at.reached) None tt in
-            goes_by said (refuses why (subst (λ (o : Option Refusal). NamesOlderIf (groups_of (footprint u.request)) u.age o) refused_by_one fair))
+            let P : Refusal → Type 0 = NamesOlder (groups_of (footprint u.request)) u.age in
+            let died = all_fair shared r.slot u (footprint u.request) 0 (works_of u.progress) reports have
+            (λ group is. of_footprint shared u.request u.progress u.held at.reached group within is) in
+            goes_by said (refuses why (subst (λ (o : Option Refusal). IfSome o P) refused_by_one (refused_by_all P tt None (rans_of reports) died tt)))
         meets_unless None new none said =
             ⊎_elim (λ no_memory. goes_by no_memory (refuses refusal.NoMemory tt)) (λ gathered. goes_by gathered.1.1 (follows gathered.0 none gathered.1.0)) said
 

@@ -18,11 +18,11 @@ use Rattle.slices.specs.Sliced.{held_at, Sliced}
 use Rattle.transactions.specs.declared.acting.Ran.{Ran}
 use Rattle.transactions.specs.declared.acting.Ran.TheVariants as ran
 use Rattle.transactions.specs.declared.work.Work.{Work}
-use Rattle.transactions.specs.Acting.{claims_of_ran, IsBy, IsRan}
+use Rattle.transactions.specs.Acting.{claims_of_ran, IsBy, IsRan, IsAged}
 use Rattle.transactions.specs.Laws.{TransactionsClaimEachGroupOnce}
 use Rattle.transactions.specs.Progresses.{works_of}
 use Rattle.transactions.specs.Works.{wants_of, wishes_of, all_wishes}
-use Rattle.transactions.proofs.Reached.{some_actions}
+use Rattle.transactions.proofs.Reached.{some_actions, within}
 use Rattle.transactions.proofs.Wished.{works_have_a_claim_for_each_wish}
 use Rattle.world.specs.declared.desk.Active.{Active}
 use Rattle.world.specs.declared.desk.Active.TheVariants as active
@@ -35,10 +35,10 @@ use Rattle.world.specs.declared.flight.Message.TheVariants.{Start, Act, Settle, 
 use Rattle.world.specs.declared.flight.Report.{Report}
 use Rattle.world.specs.declared.world.Parts.{Parts}
 use Rattle.world.specs.Flights.{Token, Acting, Committing, Ending, claims_reported, nothing, parts, part_carried, part_item, part_message, part_met, acting_from, unanswered_transaction}
-use Rattle.world.specs.Parted.{IsAged, joined_in}
+use Rattle.world.specs.Parted.{joined_in}
 use Rattle.world.specs.Sound.{Courses, IsCarriedAt, IsSoundAct, IsSoundActive, IsSoundItem, IsSoundMessage, IsSoundPhase, IsSoundRan, IsSoundReport, IsSoundWith, IsWorkAt, UnderWay, awaited_by_all, flight, reported_to_all, IsActiveAt, IsSoundFlow, reported_to}
 use Rattle.world.proofs.Holders.{all_aged, claim_of, contains_mapped, first_acting, met_at, one_acting, one_of_all, reported_at, whose_claim, holder_active, whose_token, in_parts}
-use Rattle.world.proofs.OnGroups.{claim_counts, claimed_once, dies_on, group_counts, one_of_works, two_of_works, counted_there, of_footprint}
+use Rattle.transactions.proofs.OnGroups.{claim_counts, claimed_once, dies_on, group_counts, one_of_works, two_of_works, counted_there, of_footprint}
 use Rattle.world.proofs.OneSlot.{awaited_of, none_of_slot, of_slot, sound_in, weigh_slots, without}
 use Rattle.world.proofs.Reported.{met_tokens}
 use Rattle.world.proofs.Tokens.{IsFalse, acting_under_way, acting_weighs, by_bool, commit_under_way, ending_under_way, is_itself, is_other, one_weighs, waiting_slot, weigh_acting, weigh_committing, weigh_ending}
@@ -484,7 +484,7 @@ module _ {J : Type 0} (shared : Shared) (w : Parts J) (h : IsSoundWith shared no
         of_phase (inl held) =
             omega (
               arith,
-              claimed_once once shared u c.group phase_now.reached,
+              claimed_once shared u.request u.progress u.held phase_now.reached c.group once,
               claim_counts (all_claims u.held) c held,
               one_of_works c.group works fine.number act.work fine.work,
               group_counts c.group (wishes_of act.work) wished,
@@ -499,7 +499,7 @@ module _ {J : Type 0} (shared : Shared) (w : Parts J) (h : IsSoundWith shared no
             (λ differs.
             omega (
               arith,
-              claimed_once once shared u c.group phase_now.reached,
+              claimed_once shared u.request u.progress u.held phase_now.reached c.group once,
               two_of_works c.group works run.0 fine.number run.1.0 act.work run.1.1.0 fine.work (λ same. subst (λ b. IsFalse b) (sym differs ∙ eq-eqb run.0 fine.number same) tt),
               group_counts c.group (wishes_of run.1.0) run.1.1.1.0,
               group_counts c.group (wishes_of act.work) wished,
@@ -540,7 +540,7 @@ module _ {J : Type 0} (shared : Shared) (w : Parts J) (h : IsSoundWith shared no
             let works = works_of u.progress in
             let on = works_have_a_claim_for_each_wish (shared_of was.tables) act.work found claims of.done in
             let wished = subst (λ (gs : List Group). Contains gs c.group) on (contains_mapped (λ (claim : Claiming). claim.group) claims c is) in
-            of_footprint shared u phase_now.reached c.group
+            of_footprint shared u.request u.progress u.held phase_now.reached c.group within
             (counted_there c.group (all_wishes works) (omega (arith, group_counts c.group (wishes_of act.work) wished, one_of_works c.group works fine.number act.work fine.work)))
 
   -- ---- a death that is reported
@@ -576,7 +576,7 @@ module _ {J : Type 0} (shared : Shared) (w : Parts J) (h : IsSoundWith shared no
       let of = All-contains (IsClaimOf history) claims claim.0 f.claimed claim.1.0 in
       record {
         accepted = accepted_as opening history f r.slot acting;
-        of_footprint = of_footprint shared (at r.slot) phase.reached group wished;
+        of_footprint = of_footprint shared (at r.slot).request (at r.slot).progress (at r.slot).held phase.reached group within wished;
         older = died.1.1.1;
         active = subst (λ n. IsActiveAt at slots n) aged (holder_active shared w h claim.0 claim.1.0);
         asked = of.0;

@@ -6,9 +6,8 @@ use Rattle.std.proofs.lemmas.Map.Views.{exact_unsigned_eq}
 use Rattle.std.proofs.lemmas.List.{get_or-set_other, get_or-set_same}
 use Rattle.requests.specs.declared.refusal.Refusal.{Refusal}
 use Rattle.history.specs.declared.event.EventAnswer.{EventAnswer}
-use Rattle.history.specs.declared.event.EventAnswer.TheVariants.{Accepted, Ordered, Took, Sent, Full, Logged, Moved, Answered, Nothing}
 use Rattle.transactions.specs.declared.progress.Gathered.{Gathered}
-use Rattle.transactions.specs.declared.progress.Gathered.TheVariants.{Next, Finish, RollBack}
+use Rattle.transactions.specs.declared.progress.Gathered.TheVariants.{Next, Finish}
 use Rattle.world.specs.declared.flight.CommitItem.{CommitItem}
 use Rattle.world.specs.declared.flight.Flow.{Flow}
 use Rattle.world.specs.declared.flight.Transaction.{Transaction}
@@ -45,7 +44,6 @@ module _ {J : Type 0} where
   goes_inbox : (t : Transaction J) (g : Gathered) (w : Parts J) → (goes_on t g w).inbox ≡ w.inbox
   goes_inbox t (Next progress) w = refl
   goes_inbox t (Finish shown) w = refl
-  goes_inbox t (RollBack fault) w = refl
 
   unless_inbox : (why : Option Refusal) (reports : List (Report J)) (flow : Flow J) (old new : Parts J) → MeetsUnless why reports flow old new → new.inbox ≡ old.inbox
   unless_inbox (Some why) reports flow old new said = ap (λ (w : Parts J). w.inbox) said
@@ -58,15 +56,7 @@ module _ {J : Type 0} where
       carried_both reports P P (new.inbox ≡ old.inbox) (λ flow one same. unless_inbox (refusal_of None reports) reports flow old new one) said said
 
   commits_inbox : (commit : CommitItem J) (old new : Parts J) (answer : EventAnswer) → Commits commit old answer new → new.inbox ≡ old.inbox
-  commits_inbox commit old new (Logged place) said = ap (λ (w : Parts J). w.inbox) said.1.1
-  commits_inbox commit old new Sent said = ap (λ (w : Parts J). w.inbox) said.1.1
-  commits_inbox commit old new (Accepted age) said = absurd said
-  commits_inbox commit old new Took said = absurd said
-  commits_inbox commit old new Full said = absurd said
-  commits_inbox commit old new (Answered session number told) said = absurd said
-  commits_inbox commit old new Ordered said = absurd said
-  commits_inbox commit old new Moved said = absurd said
-  commits_inbox commit old new Nothing said = absurd said
+  commits_inbox commit old new answer said = ap (λ (w : Parts J). w.inbox) said.over
 
   into_inbox : (slot first : ℕ) (slots : List (Option (Report J))) (old new : Parts J) → ReportsInto slot first slots old new → new.inbox ≡ old.inbox
   into_inbox slot first slots old new (inl kept) = ap (λ (w : Parts J). w.inbox) kept.1

@@ -1,6 +1,6 @@
 -- Where nothing is active nothing is under way but answers, and where nothing can be taken or sent nothing is active.
 use Rattle.std.proofs.Common.{◌≡◌, ℕ, suc, Bool, true, false, List, [], ◌∷◌, ◌++◌, length, Option, Some, None, refl, sym, ◌∙◌, ap, subst, arith, nat_lt}
-use Rattle.std.specs.Prelude.{All}
+use Rattle.std.specs.Prelude.{All, Result, Ok, Err}
 use Rattle.std.specs.List.{sum_by}
 use Rattle.std.proofs.lemmas.List.Elements.{All-head, All-tail}
 use Rattle.std.proofs.lemmas.List.Sums.{sum_by-append}
@@ -13,12 +13,13 @@ use Rattle.tickets.proofs.Committed as kept
 use Rattle.groups.proofs.RowsInGroups.{contents_make_tables}
 use Rattle.machine.proofs.RequestLaws.{tables_after-scale, tables_after-items}
 use Rattle.commit_log.specs.Log.{requests_of}
+use Rattle.commit_log.specs.declared.entry.Entry.{Entry}
 use Rattle.history.specs.declared.event.EventAnswer.{EventAnswer}
 use Rattle.history.specs.declared.event.EventAnswer.TheVariants.{Nothing}
 use Rattle.history.specs.History.{Step}
 use Rattle.rendezvous.specs.Awaited.{awaited_from}
 use Rattle.slices.specs.Sliced.{all_standing, everywhere}
-use Rattle.commit_log.specs.declared.entry.Entry.{Entry}
+use Rattle.requests.specs.declared.refusal.Refusal.{Refusal}
 use Rattle.world.specs.declared.desk.Active.{Active}
 use Rattle.world.specs.declared.desk.Active.TheVariants as active
 use Rattle.world.specs.declared.flight.Message.{Message}
@@ -30,7 +31,7 @@ use Rattle.world.specs.Flights.{nothing, parts, part_message, part_item, part_me
 use Rattle.world.specs.declared.flight.Report.{Report}
 use Rattle.world.specs.Slots.{count_active}
 use Rattle.world.specs.Sound.{Courses, UnderWay, IsSoundWith, IsSoundActive, AreSoundActive, IsSoundItem, awaited, awaited_by_all, flight, reported_to_all}
-use Rattle.world.specs.Events.{Pushes, Commits, SendsItem}
+use Rattle.world.specs.Events.{Pushes, SendsItem, told_of}
 use Rattle.world.specs.Worlds.{Fits, tables_now}
 use Rattle.world.proofs.Balances.{in_inbox, in_outbox}
 use Rattle.world.proofs.FreeSlots.{count-none, count-some}
@@ -135,5 +136,9 @@ module _ {J : Type 0} where
       pushed false said is = absurd (cc)
   sends_something (item.Report r) old new answer said is = let e = said.0 in absurd (cc)
   sends_something (item.Ended slot) old new answer said is = let e = said.0 in absurd (cc)
-  sends_something (item.Commit commit) old new answer said is = subst (λ a. Commits commit old a new) is said
+  sends_something (item.Commit commit) old new answer said is = told said.logged.answer (sym said.answered ∙ is)
+    where
+      told : (result : Result ℕ Refusal) → told_of result ≡ Nothing → ⊥
+      told (Ok place) is = absurd (cc)
+      told (Err why) is = absurd (cc)
   sends_something (item.Reply told) old new answer said is = let e = said.0 in absurd (cc)

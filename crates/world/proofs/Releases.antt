@@ -9,25 +9,21 @@ use Rattle.partitions.specs.Parts.{Shared}
 use Rattle.schema.specs.Database.{Database}
 use Rattle.groups.specs.Footprint.{footprint, groups_of}
 use Rattle.tickets.specs.Claims.{Claiming, all_claims}
-use Rattle.commit_log.specs.declared.entry.Entry.{Entry}
 use Rattle.history.specs.History.{Step, Unanswered}
 use Rattle.slices.specs.Sliced.{AreAllHeld}
 use Rattle.transactions.specs.declared.laws.TheConstants.{MOST_ACTIONS}
+use Rattle.transactions.specs.Acting.{AreGivenBy}
+use Rattle.commit_log.specs.declared.entry.Entry.{Entry}
 use Rattle.world.specs.declared.desk.Active.{Active}
 use Rattle.world.specs.declared.sending.Release.{Release}
 use Rattle.world.specs.declared.world.Parts.{Parts}
-use Rattle.world.specs.Parted.{AreSettledBy, AreUndoneBy, joined_in}
+use Rattle.world.specs.Parted.{joined_in}
 use Rattle.world.specs.Flights.{Ending, InFlight, nothing, join, parts, part_item, part_held, place_answered}
 use Rattle.world.specs.Sound.{Courses, UnderWay, IsSoundWith, IsSoundItem, IsSoundActive, AnswersOlder, awaited, reported_to}
 use Rattle.world.specs.Following.{ending, items_released, push_of, releasing}
 use Rattle.world.specs.Worlds.{FitsPart, Fits}
 use Rattle.world.proofs.OneSlot.{lots}
 use Rattle.world.proofs.Puts.{puts_fits, puts_sound, AreServed, Rests}
-
--- what is asked of claims of a transaction of this age that are settled, and of those that are taken back
-abbrev pub AreGiven : Bool → ℕ → List Claiming → Type 0
-AreGiven true age claims = AreSettledBy age claims
-AreGiven false age claims = AreUndoneBy age claims
 
 -- ---- what several actions hold
 
@@ -68,17 +64,17 @@ module _ (J : Type 0) where
   pushes_part settle slot [] = refl
   pushes_part settle slot (claims ∷ all) = λ i. join (push_part settle slot claims i) (pushes_part settle slot all i)
 
-  push_sound : (shared : Shared) (at : Courses) (settle : Bool) (slot : ℕ) (claims : List Claiming) → AreGiven settle (at slot).age claims → IsSoundItem {J = J} shared at (push_of settle slot claims)
+  push_sound : (shared : Shared) (at : Courses) (settle : Bool) (slot : ℕ) (claims : List Claiming) → AreGivenBy settle (at slot).age claims → IsSoundItem {J = J} shared at (push_of settle slot claims)
   push_sound shared at true slot claims h = h
   push_sound shared at false slot claims h = h
 
-  pushes_sound : (shared : Shared) (at : Courses) (settle : Bool) (slot : ℕ) (all : List (List Claiming)) → All (AreGiven settle (at slot).age) all
+  pushes_sound : (shared : Shared) (at : Courses) (settle : Bool) (slot : ℕ) (all : List (List Claiming)) → All (AreGivenBy settle (at slot).age) all
       → All (IsSoundItem {J = J} shared at) (map (push_of settle slot) all)
   pushes_sound shared at settle slot [] h = All-nil (IsSoundItem shared at)
   pushes_sound shared at settle slot (claims ∷ all) h =
       All-cons (IsSoundItem shared at) (push_of settle slot claims) (map (push_of settle slot) all)
-      (push_sound shared at settle slot claims (All-head (AreGiven settle (at slot).age) claims all h))
-      (pushes_sound shared at settle slot all (All-tail (AreGiven settle (at slot).age) claims all h))
+      (push_sound shared at settle slot claims (All-head (AreGivenBy settle (at slot).age) claims all h))
+      (pushes_sound shared at settle slot all (All-tail (AreGivenBy settle (at slot).age) claims all h))
 
 module _ {J : Type 0} where
   abbrev pub unanswered_release : Release J → Unanswered
@@ -115,7 +111,7 @@ module _ {J : Type 0} where
 
   pub releases_sound : (shared : Shared) (at : Courses) (w : Parts J) (hand : InFlight) (settle : Bool) (r : Release J) → Rests shared at r.slot w → (x : Active J) × (slice_get w.desk.active r.slot ≡ Some (Some x))
       → r.pass.session < 64 → r.pass.asks.number ≡ r.number → AnswersOlder (groups_of (footprint r.pass.asks.request)) r.age r.answer
-      → All (AreGiven settle (at r.slot).age) r.held → length r.held ≤ MOST_ACTIONS
+      → All (AreGivenBy settle (at r.slot).age) r.held → length r.held ≤ MOST_ACTIONS
       → hand.claims ≡ all_claims r.held → AreAllHeld (joined_in w).holdings (hand.claims ++ (lots r.slot w).claims)
       → hand.pending ≡ unanswered_release r ∷ [] → AreServed w.desk (hand.pending ++ (lots r.slot w).pending)
       → IsSoundWith shared nothing (releasing settle r w)

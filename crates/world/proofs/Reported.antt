@@ -7,7 +7,6 @@ use Rattle.std.proofs.lemmas.List.Elements.{All-nil, All-cons, All-append}
 use Rattle.std.proofs.lemmas.Option.{slice_get-map}
 use Rattle.partitions.specs.Parts.{Shared}
 use Rattle.requests.specs.declared.group.Group.{Group}
-use Rattle.requests.specs.declared.refusal.Refusal.{Refusal}
 use Rattle.requests.specs.declared.refusal.Refusal.TheVariants as refusal
 use Rattle.groups.specs.declared.wishes.Wish.{Wish}
 use Rattle.groups.specs.Footprint.{groups_of}
@@ -16,19 +15,18 @@ use Rattle.transactions.specs.Works.{HaveAllDone, HasDone, all_wishes, wishes_of
 use Rattle.transactions.specs.declared.work.Work.{Work}
 use Rattle.transactions.specs.declared.acting.Ran.{Ran}
 use Rattle.transactions.specs.declared.acting.Ran.TheVariants as ran
-use Rattle.transactions.specs.Acting.{claims_of_ran}
+use Rattle.transactions.specs.Acting.{claims_of_ran, AreUndoneBy}
 use Rattle.transactions.specs.Progresses.{works_of}
 use Rattle.rendezvous.specs.Awaited.{reported}
 use Rattle.world.specs.declared.flight.Flow.{Flow}
 use Rattle.world.specs.declared.flight.Report.{Report}
 use Rattle.world.specs.Flights.{part, join, parts, part_carried, part_met, unanswered_transaction}
-use Rattle.world.specs.Parted.{AreUndoneBy}
-use Rattle.transactions.specs.SortedOut.{earlier_death, found_by, held_by, refused_by}
-use Rattle.transactions.proofs.SortedOut.{one_holds, stays_refused}
+use Rattle.transactions.specs.SortedOut.{found_by, held_by, refused_by}
+use Rattle.transactions.proofs.SortedOut.{one_holds, stays_refused, IfDied}
 use Rattle.world.specs.Following.{found_in, held_in, rans_of, refusal_of}
 use Rattle.world.specs.Sound.{NamesOlder, UnderWay, IsPlaceOf, IsWorkAt, IsSoundFlow, IsCarriedAt, IsSoundRan, IsSoundReport, IsSoundPhase}
 use Rattle.world.proofs.Joins.{IsSame, same-refl, same-trans, same-join, same-middle}
-use Rattle.world.proofs.OnGroups.{first_wish, later_wish}
+use Rattle.transactions.proofs.OnGroups.{first_wish, later_wish}
 
 -- ---- lists
 
@@ -53,29 +51,6 @@ put_at (z ∷ xs) (suc k) (suc i) x y is = by (put_at xs k i x y is)
 pub reported-map : {R : Type 0} (rs : List R) → reported (map Some rs) ≡ rs
 reported-map [] = refl
 reported-map (r ∷ rs) = ap (λ ts. r ∷ ts) (reported-map rs)
-
--- ---- refusals
-
--- the refusal, if there is one and it tells of a death, names one of these groups and an age that is less
-abbrev pub NamesOlderIf : List Group → ℕ → Option Refusal → Type 0
-NamesOlderIf groups age None = Unit {0}
-NamesOlderIf groups age (Some why) = NamesOlder groups age why
-
-earlier_fair : (groups : List Group) (age : ℕ) (why : Refusal) (group : Group) (holder : ℕ) → NamesOlder groups age why → NamesOlder groups age (refusal.Died group holder) → NamesOlder groups age (earlier_death why group holder)
-earlier_fair groups age refusal.BadWarehouse group holder first next = next
-earlier_fair groups age refusal.BadDistrict group holder first next = next
-earlier_fair groups age refusal.BadLines group holder first next = next
-earlier_fair groups age refusal.BadQuantity group holder first next = next
-earlier_fair groups age refusal.BadSupply group holder first next = next
-earlier_fair groups age refusal.BadAmount group holder first next = next
-earlier_fair groups age refusal.BadThreshold group holder first next = next
-earlier_fair groups age refusal.BadCarrier group holder first next = next
-earlier_fair groups age refusal.Busy group holder first next = next
-earlier_fair groups age refusal.SessionBusy group holder first next = next
-earlier_fair groups age (refusal.Died other older) group holder first next = first
-earlier_fair groups age refusal.NoMemory group holder first next = next
-earlier_fair groups age refusal.Closed group holder first next = next
-earlier_fair groups age refusal.LogFull group holder first next = next
 
 module _ {J : Type 0} where
   -- ---- parts
@@ -241,26 +216,24 @@ module _ {J : Type 0} where
 
     -- ---- why it is refused
 
-    -- after one more report of work of which these are the wishes, among others
+    -- who died, died of one who is older, on a group that the work wishes for, among others
     one_fair : (wishes : List Wish) (work : Work) → ((group : Group) → Contains (groups_of (wishes_of work)) group → Contains (groups_of wishes) group)
-        → (why : Option Refusal) (own : Ran J) → HasRan work own → NamesOlderIf (groups_of wishes) u.age why → NamesOlderIf (groups_of wishes) u.age (refused_by why own)
-    one_fair wishes work among None (ran.Done claims found) has fair = tt
-    one_fair wishes work among None (ran.Died group holder) has fair = (among group has.0, has.1)
-    one_fair wishes work among None ran.NoMemory has fair = tt
-    one_fair wishes work among (Some why) (ran.Done claims found) has fair = fair
-    one_fair wishes work among (Some why) (ran.Died group holder) has fair = earlier_fair (groups_of wishes) u.age why group holder fair (among group has.0, has.1)
-    one_fair wishes work among (Some why) ran.NoMemory has fair = fair
+        → (own : Ran J) → HasRan work own → IfDied (NamesOlder (groups_of wishes) u.age) own
+    one_fair wishes work among (ran.Done claims found) has = tt
+    one_fair wishes work among (ran.Died group holder) has = (among group has.0, has.1)
+    one_fair wishes work among ran.NoMemory has = tt
 
-    -- the first who died by place, died of one who is older, on a group that one of them wishes for
+    -- so did all who died
     pub all_fair : (wishes : List Wish) (place : ℕ) (works : List Work) (reports : List (Report J)) → HaveReported place works reports
         → ((group : Group) → Contains (groups_of (all_wishes works)) group → Contains (groups_of wishes) group)
-        → (why : Option Refusal) → NamesOlderIf (groups_of wishes) u.age why → NamesOlderIf (groups_of wishes) u.age (refusal_of why reports)
-    all_fair wishes place [] [] h among why fair = fair
-    all_fair wishes place [] (r ∷ reports) h among why fair = absurd h
-    all_fair wishes place (work ∷ works) [] h among why fair = absurd h
-    all_fair wishes place (work ∷ works) (r ∷ reports) h among why fair =
-        all_fair wishes (suc place) works reports h.1 (λ group is. among group (later_wish work works group is)) (refused_by why r.ran)
-        (one_fair wishes work (λ group is. among group (first_wish work works group is)) why r.ran h.0.1 fair)
+        → All (IfDied (NamesOlder (groups_of wishes) u.age)) (rans_of reports)
+    all_fair wishes place [] [] h among = All-nil (IfDied (NamesOlder (groups_of wishes) u.age))
+    all_fair wishes place [] (r ∷ reports) h among = absurd h
+    all_fair wishes place (work ∷ works) [] h among = absurd h
+    all_fair wishes place (work ∷ works) (r ∷ reports) h among =
+        All-cons (IfDied (NamesOlder (groups_of wishes) u.age)) r.ran (rans_of reports)
+        (one_fair wishes work (λ group is. among group (first_wish work works group is)) r.ran h.0.1)
+        (all_fair wishes (suc place) works reports h.1 (λ group is. among group (later_wish work works group is)))
 
     -- those that hold claims are no more than they are
     pub few_hold : (place : ℕ) (works : List Work) (reports : List (Report J)) → HaveReported place works reports → length (held_in reports) ≤ length works

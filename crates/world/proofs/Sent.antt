@@ -196,7 +196,7 @@ module _ {J : Type 0} where
   unless_cases room (Some why) session number asked desk old new answer said = inl said.1
   unless_cases room None session number asked desk old new answer said = into_cases (can_admit room old) session number asked desk old new answer said
 
-  submit_cases : (room : Bool) (found : Option (SessionDesk J)) (session number : ℕ) (asked : Request) (old new : Parts J) (answer : EventAnswer) → SubmitsAt room found session number asked old answer new
+  pub submit_cases : (room : Bool) (found : Option (SessionDesk J)) (session number : ℕ) (asked : Request) (old new : Parts J) (answer : EventAnswer) → SubmitsAt room found session number asked old answer new
       → (new ≡ old) ⊎ ((can_admit room old ≡ true) × ((desk : SessionDesk J) × Admits session number asked desk old new))
   submit_cases room None session number asked old new answer said = inl said.1
   submit_cases room (Some desk) session number asked old new answer said =
@@ -220,7 +220,7 @@ module _ {J : Type 0} where
       (submit_cases room found session number asked old new answer said)
 
   -- nothing is handed out
-  none_begins : (w : Core J) (to : ℕ) → w.parts.inbox ≡ [] → beginning_at to w.parts w ≡ w
+  pub none_begins : (w : Core J) (to : ℕ) → w.parts.inbox ≡ [] → beginning_at to w.parts w ≡ w
   none_begins w to none =
       let inboxes : put_into to (map (λ (m : Message J). letter to (Work m)) w.parts.inbox) w.inboxes ≡ w.inboxes =
       ap (λ (ms : List (Message J)). slice_set w.inboxes to (queue_of to w.inboxes ++ map (λ (m : Message J). letter to (Work m)) ms)) none

@@ -7,7 +7,7 @@ use Rattle.requests.specs.declared.refusal.Refusal.TheVariants as refusal
 use Rattle.tickets.specs.Claims.{Claiming}
 use Rattle.transactions.specs.declared.progress.Progress.{Progress}
 use Rattle.transactions.specs.declared.progress.Gathered.{Gathered}
-use Rattle.transactions.specs.declared.progress.Gathered.TheVariants.{Next, Finish, RollBack}
+use Rattle.transactions.specs.declared.progress.Gathered.TheVariants.{Next, Finish}
 use Rattle.transactions.specs.declared.work.Found.{Found}
 use Rattle.transactions.specs.Progresses.{FollowsFrom, works_of}
 use Rattle.transactions.specs.declared.laws.TheConstants.{MOST_ACTIONS}
@@ -193,7 +193,6 @@ module _ {J : Type 0} where
       goes_alike : (g : Gathered) → goes_on (holding f.transaction (held_in reports)) g (with_active slot a old) ≡ goes_on (holding f.transaction (held_in reports)) g old
       goes_alike (Next progress) = putting_over _ f.transaction.slot slot _ a old same
       goes_alike (Finish shown) = putting_over _ f.transaction.slot slot _ a old same
-      goes_alike (RollBack fault) = putting_over _ f.transaction.slot slot _ a old same
 
   pub meets_active : (reports : List (Report J)) (slot : ℕ) (a : Option (Active J)) (old new : Parts J) → CarriesFirst reports (λ f. f.transaction.slot ≡ slot)
       → MeetsAs reports (with_active slot a old) new → MeetsAs reports old new

@@ -3,9 +3,8 @@ use Rattle.std.proofs.Common.{◌≡◌, inl, inr, ℕ, Bool, true, false, List,
 use Rattle.requests.specs.declared.request.Request.{Request}
 use Rattle.requests.specs.declared.refusal.Refusal.{Refusal}
 use Rattle.history.specs.declared.event.EventAnswer.{EventAnswer}
-use Rattle.history.specs.declared.event.EventAnswer.TheVariants.{Accepted, Ordered, Took, Sent, Full, Logged, Moved, Answered, Nothing}
 use Rattle.transactions.specs.declared.progress.Gathered.{Gathered}
-use Rattle.transactions.specs.declared.progress.Gathered.TheVariants.{Next, Finish, RollBack}
+use Rattle.transactions.specs.declared.progress.Gathered.TheVariants.{Next, Finish}
 use Rattle.transactions.specs.declared.station.Turned.{Turned}
 use Rattle.world.specs.declared.desk.SessionDesk.{SessionDesk}
 use Rattle.world.specs.declared.flight.Carried.{Carried}
@@ -29,7 +28,6 @@ module _ {J : Type 0} where
   goes_stations : (t : Transaction J) (g : Gathered) (w : Parts J) → (goes_on t g w).stations ≡ w.stations
   goes_stations t (Next progress) w = refl
   goes_stations t (Finish shown) w = refl
-  goes_stations t (RollBack fault) w = refl
 
   unless_stations : (why : Option Refusal) (reports : List (Report J)) (flow : Flow J) (old new : Parts J) → MeetsUnless why reports flow old new → new.stations ≡ old.stations
   unless_stations (Some why) reports flow old new said = ap (λ (w : Parts J). w.stations) said
@@ -42,15 +40,7 @@ module _ {J : Type 0} where
       carried_both reports P P (new.stations ≡ old.stations) (λ flow one same. unless_stations (refusal_of None reports) reports flow old new one) said said
 
   commits_stations : (commit : CommitItem J) (old new : Parts J) (answer : EventAnswer) → Commits commit old answer new → new.stations ≡ old.stations
-  commits_stations commit old new (Logged place) said = ap (λ (w : Parts J). w.stations) said.1.1
-  commits_stations commit old new Sent said = ap (λ (w : Parts J). w.stations) said.1.1
-  commits_stations commit old new (Accepted age) said = absurd said
-  commits_stations commit old new Took said = absurd said
-  commits_stations commit old new Full said = absurd said
-  commits_stations commit old new (Answered session number told) said = absurd said
-  commits_stations commit old new Ordered said = absurd said
-  commits_stations commit old new Moved said = absurd said
-  commits_stations commit old new Nothing said = absurd said
+  commits_stations commit old new answer said = ap (λ (w : Parts J). w.stations) said.over
 
   into_stations : (slot first : ℕ) (slots : List (Option (Report J))) (old new : Parts J) → ReportsInto slot first slots old new → new.stations ≡ old.stations
   into_stations slot first slots old new (inl kept) = ap (λ (w : Parts J). w.stations) kept.1

@@ -48,7 +48,7 @@ use Rattle.world.proofs.Rooms.{few_under_way, room_in}
 use Rattle.world.proofs.Sent.{item_taken, sends_item, sends_letter}
 
 -- messages go to one of the executors
-routes_below : (h : Housing) → 1 ≤ h.executors → All (IsHouseOf h.executors) h.houses → (w_id : ℕ) → route_of h w_id < h.executors
+pub routes_below : (h : Housing) → 1 ≤ h.executors → All (IsHouseOf h.executors) h.houses → (w_id : ℕ) → route_of h w_id < h.executors
 routes_below h some kept w_id =
     by_warehouse h w_id (λ there. (kept_house h w_id kept there).there)
     (λ no. subst (λ (x : House). comes_to x.place < h.executors) (sym no) (omega (arith, some)))

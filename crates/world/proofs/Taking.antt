@@ -23,7 +23,7 @@ use Rattle.transactions.specs.declared.station.Turned.{Turned}
 use Rattle.transactions.specs.Acting.{claims_of_ran}
 use Rattle.transactions.specs.Laws.{TransactionsClaimEachGroupOnce}
 use Rattle.transactions.specs.Stations.{ActsAs, OneTurn, Stationed, parked}
-use Rattle.transactions.specs.Works.{home_of}
+use Rattle.transactions.specs.Works.{home_of, home_of_claims}
 use Rattle.transactions.proofs.Reached.{some_actions}
 use Rattle.world.specs.declared.flight.Act.{Act as AnyAct}
 use Rattle.world.specs.declared.flight.Carried.{Carried}
@@ -38,7 +38,6 @@ use Rattle.world.specs.Following.{acts_of}
 use Rattle.world.specs.Sound.{IsSoundWith, IsSoundMessage, IsSoundItem, IsBalanced, flight}
 use Rattle.world.specs.Stations.{HaveToWait, act_of, message_of, slice_of, slices_in, waiting_at, waiting_in}
 use Rattle.world.specs.Events.{AllTurns, AtStation, GivesBack, TakesMessage, TakesTurn, TurnsFollow, carried_by, holder_of, put_for, report_of}
-use Rattle.world.specs.Letters.{home_of_claims}
 use Rattle.world.specs.Worlds.{FitsPart, Fits, IsClaimOf}
 use Rattle.world.proofs.Apart.{others}
 use Rattle.world.proofs.Joins.{IsSame, same-sym}

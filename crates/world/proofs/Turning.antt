@@ -1,20 +1,18 @@
 -- Those who wait at a station have their turns, one after another.
-use Rattle.transactions.specs.Works.{home_of}
-use Rattle.world.specs.Letters.{home_of_claims}
+use Rattle.transactions.specs.Works.{home_of, home_of_claims}
 use Rattle.transactions.specs.declared.station.Parked.{Parked}
 use Rattle.transactions.specs.declared.station.Acted.{Acted}
 use Rattle.world.specs.declared.flight.Act.{Act as AnyAct}
 use Rattle.std.proofs.lemmas.Option.{slice_get_within}
 use Rattle.transactions.specs.declared.laws.TheConstants.{MOST_ACTIONS}
-use Rattle.groups.specs.Groups.{warehouse_of}
 use Rattle.std.proofs.Common.{◌≡◌, ℕ, ◌+◌, ◌-◌, ◌<◌, ◌≤◌, List, [], ◌∷◌, ◌++◌, Some, length, refl, sym, ap, subst, ◌∙◌, length-append, arith}
-use Rattle.std.specs.Prelude.{All, Vec, slice_index_or, slice_set}
+use Rattle.std.specs.Prelude.{All, Vec, slice_set}
 use Rattle.std.specs.List.{slice_get, sum_by}
 use Rattle.std.specs.declared.alloc.Global.{Global}
 use Rattle.std.proofs.lemmas.List.Edits.{length-remove}
 use Rattle.std.proofs.lemmas.List.Elements.{All-nil}
 use Rattle.tickets.specs.Claims.{Claiming}
-use Rattle.slices.specs.Sliced.{AreSlicesOf, IsClaimAt, with_waiters, AreOfOneHome, SliceKeeps}
+use Rattle.slices.specs.Sliced.{AreSlicesOf, IsClaimAt, with_waiters, SliceKeeps}
 use Rattle.transactions.specs.declared.station.Turned.{Turned}
 use Rattle.transactions.specs.Acting.{claims_of_ran}
 use Rattle.transactions.specs.Stations.{OneTurn, Stationed, ActsAs, parked}
@@ -129,11 +127,6 @@ module _ {J : Type 0} where
           let is_now : now ≡ s = cc in
           subst HaveToWait (sym same ∙ is_now) wait;
     }
-
--- the warehouse of claims that are on groups of one
-pub claims_home : (claims : List Claiming) (home : ℕ) → AreOfOneHome claims → ((d : Claiming) → home ≡ warehouse_of (slice_index_or claims 0 d).group) → home ≡ home_of_claims claims
-claims_home [] home none is = absurd none
-claims_home (claim ∷ claims) home at is = is claim
 
 module _ {J : Type 0} where
   -- ---- before the turns

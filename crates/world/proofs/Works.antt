@@ -7,14 +7,14 @@ use Rattle.std.proofs.lemmas.List.Elements.{All-nil, All-cons, All-head, All-tai
 use Rattle.partitions.specs.Parts.{Shared, shared_of}
 use Rattle.requests.specs.declared.group.Group.{Group}
 use Rattle.local_locks.specs.Conflicts.{MustDie}
-use Rattle.commit_log.specs.declared.entry.Entry.{Entry}
 use Rattle.tickets.specs.Claims.{Claiming, all_claims}
 use Rattle.slices.specs.Sliced.{Joined, Sliced, SlicesKeep}
 use Rattle.transactions.specs.declared.work.Work.{Work}
 use Rattle.transactions.specs.declared.acting.Ran.{Ran}
 use Rattle.transactions.specs.declared.acting.Ran.TheVariants as ran
-use Rattle.transactions.specs.Acting.{IsBy, IsRan, claims_of_ran}
+use Rattle.transactions.specs.Acting.{IsBy, IsRan, claims_of_ran, IsAged}
 use Rattle.transactions.specs.Works.{CanDo, HasDone, wants_of, wishes_of}
+use Rattle.commit_log.specs.declared.entry.Entry.{Entry}
 use Rattle.world.specs.declared.flight.Act.{Act as AnyAct}
 use Rattle.world.specs.declared.flight.Flow.{Flow}
 use Rattle.world.specs.declared.flight.Item.{Item}
@@ -24,12 +24,11 @@ use Rattle.world.specs.declared.flight.Message.TheVariants.{Start, Act, Settle, 
 use Rattle.world.specs.Flights.{Acting, InFlight, part, join, parts, part_carried, part_item, part_message, acting_from, unanswered_transaction}
 use Rattle.world.specs.Following.{acts_from, acts_of}
 use Rattle.world.specs.Sound.{IsCarriedAt, IsSoundAct, IsSoundItem, IsSoundMessage, IsSoundRan, IsSoundStart, IsPlaceOf, IsWorkAt, UnderWay, Courses}
-use Rattle.world.specs.Parted.{IsAged}
 use Rattle.transactions.proofs.Wished.{works_are_done_at_home}
 use Rattle.wait_die.specs.declared.deciding.Holder.{Holder}
 use Rattle.world.specs.Events.{carried_by, holder_of, report_of}
 use Rattle.world.proofs.Keeping.{more, stays}
-use Rattle.world.proofs.OnGroups.{dies_on}
+use Rattle.transactions.proofs.OnGroups.{dies_on}
 
 -- actions that carry nothing have their tokens alone
 part_acts_from : (J : Type 0) (place age slot : ℕ) (works : List Work) → parts part_item (acts_from {J = J} place age slot None works) ≡ part [] [] (acting_from slot place works)

@@ -1,19 +1,15 @@
 -- What one event does.
-use Rattle.std.specs.Prelude.{◌≡◌, ◌<◌, ◌≤◌, ℕ, ◌+◌, ◌-◌, Bool, true, false, List, [], ◌∷◌, ◌++◌, Option, Some, None, Ok, Err, All, nat_lt, length, map, replicate, slice_set, ◌⊎◌, ◌↔◌}
+use Rattle.std.specs.Prelude.{◌≡◌, ◌<◌, ◌≤◌, ℕ, ◌+◌, ◌-◌, Bool, true, false, List, [], ◌∷◌, ◌++◌, Option, Some, None, Result, Ok, Err, All, nat_lt, length, map, replicate, slice_set, ◌⊎◌}
 use Rattle.std.specs.List.{slice_get}
 use Rattle.partitions.specs.Parts.{Shared}
 use Rattle.schema.specs.Database.{Database}
 use Rattle.requests.specs.declared.request.Request.{Request}
-use Rattle.requests.specs.declared.reply.Reply.TheVariants as reply
 use Rattle.requests.specs.declared.refusal.Refusal.{Refusal}
 use Rattle.requests.specs.declared.refusal.Refusal.TheVariants as refusal
 use Rattle.requests.specs.Check.{IsAccepted}
 use Rattle.tickets.specs.Claims.{Claiming, all_claims}
-use Rattle.commit_log.specs.declared.log_book.AppendFault.{AppendFault}
-use Rattle.commit_log.specs.declared.log_book.AppendFault.TheVariants as fault
-use Rattle.commit_log.specs.Claimed.{IsCarriedOut, claims_logged}
-use Rattle.commit_log.specs.Items.{item as item_of}
-use Rattle.commit_log.specs.Passing.{after_item, after_refusal}
+use Rattle.commit_log.specs.declared.entry.Entry.{Entry}
+use Rattle.commit_log.specs.Claimed.{IsCarriedOut}
 use Rattle.history.specs.declared.event.EventAnswer.{EventAnswer}
 use Rattle.history.specs.declared.event.EventAnswer.TheVariants.{Sent, Full, Logged, Answered}
 use Rattle.wait_die.specs.declared.deciding.Holder.{Holder}
@@ -22,14 +18,17 @@ use Rattle.transactions.specs.declared.station.Acted.{Acted}
 use Rattle.transactions.specs.declared.station.Acted.TheVariants as acted
 use Rattle.transactions.specs.declared.station.Turned.{Turned}
 use Rattle.transactions.specs.Stations.{ActsAs, OneTurn, Stationed}
-use Rattle.transactions.specs.Works.{HaveAllDone, CanDo, home_of}
+use Rattle.transactions.specs.Works.{HaveAllDone, CanDo, home_of, home_of_claims}
 use Rattle.transactions.specs.Progresses.{FollowsFrom, IsReached, works_of}
 use Rattle.transactions.specs.declared.laws.TheConstants.{MOST_ACTIONS}
+use Rattle.transactions.specs.declared.logging.Logged.{Logged as AnyLogged}
 use Rattle.transactions.specs.declared.progress.Gathered.{Gathered}
-use Rattle.transactions.specs.declared.progress.Gathered.TheVariants.{Next, Finish, RollBack}
+use Rattle.transactions.specs.declared.progress.Gathered.TheVariants.{Next, Finish}
 use Rattle.transactions.specs.declared.acting.Ran.{Ran}
 use Rattle.transactions.specs.declared.work.Found.{Found}
 use Rattle.transactions.specs.declared.progress.Progress.{Progress}
+use Rattle.transactions.specs.Acting.{CanAllBeSettled, CanAllBeUndone}
+use Rattle.transactions.specs.Logged.{Logs}
 use Rattle.rendezvous.specs.Awaited.{awaited_from}
 use Rattle.world.specs.declared.desk.Active.TheVariants.{Acting, Ending}
 use Rattle.world.specs.declared.desk.SessionDesk.{SessionDesk}
@@ -45,15 +44,13 @@ use Rattle.world.specs.declared.flight.ReplyItem.{ReplyItem}
 use Rattle.world.specs.declared.flight.Item.{Item}
 use Rattle.world.specs.declared.flight.Item.TheVariants as item
 use Rattle.world.specs.declared.world.Parts.{Parts}
-use Rattle.world.specs.Letters.{home_of_claims}
-use Rattle.world.specs.Parted.{CanAllBeSettled, CanAllBeUndone}
 use Rattle.world.specs.Stations.{HaveToWait}
-use Rattle.world.specs.Following.{CarriesFirst, acts_of, committing, ending, entry_of, found_in, held_in, holding, is_settled, refusal_of, refused, release, releasing, putting, with_active}
+use Rattle.world.specs.Following.{CarriesFirst, acts_of, committing, ending, entry_of, found_in, held_in, holding, refusal_of, refused, release, releasing, putting, with_active}
 
--- the refusal by which a fault of the log is answered
-abbrev pub why_refused : AppendFault → Refusal
-why_refused fault.NoMemory = refusal.NoMemory
-why_refused fault.LogFull = refusal.LogFull
+-- a commit is answered by the place of its entry, or, where the log refused it, as any item that was sent
+abbrev pub told_of : Result ℕ Refusal → EventAnswer
+told_of (Ok place) = Logged place
+told_of (Err why) = Sent
 
 -- A request has come so far, and the actions of its phase have done their work, and found this.
 abbrev pub HasMet : Progress → List Found → Type 0
@@ -151,7 +148,6 @@ module _ {J : Type 0} where
   goes_on t (Next progress) old =
       putting (acts_of (record { transaction = t; progress = progress }) (works_of progress)) t.slot (Some (Acting (length t.held) (replicate (length (works_of progress)) None))) old
   goes_on t (Finish shown) old = committing t shown old
-  goes_on t (RollBack fault) old = committing t (reply.RolledBack fault) old
 
   -- What follows of what was found is done, unless there is no memory for it: then the transaction is refused.
   abbrev pub GathersInto : Progress → List Found → Transaction J → Parts J → Parts J → Type 0
@@ -194,25 +190,15 @@ module _ {J : Type 0} where
 
   -- ---- a transaction is logged
 
-  -- the log has the entry more, and the transaction's claims are given back
-  abbrev pub logging : CommitItem J → Parts J → Parts J
-  logging commit w =
-      let t = commit.transaction in
-      let pass = after_item t.pass (item_of (length w.log) t.number t.request commit.reply) in
-      record (releasing (is_settled commit.reply) (release t pass (Ok (length w.log)) (map (claims_logged commit.reply) t.held)) w) { log = w.log ++ entry_of commit ∷ [] }
-
-  -- the log refused the entry, and what the transaction did is taken back
-  abbrev pub refusing : CommitItem J → AppendFault → Parts J → Parts J
-  refusing commit why w =
-      let t = commit.transaction in
-      releasing false (release t (after_refusal why (length w.log) t.pass) (Err (why_refused why)) t.held) w
-
-  -- The log has the entry more, or refuses it. A full log refuses every entry as such, and no other does.
-  abbrev pub Commits : CommitItem J → Parts J → EventAnswer → Parts J → Type 0
-  Commits commit old (Logged place) new = (place ≡ length old.log) × ((length old.log < 16777216) × (new ≡ logging commit old))
-  Commits commit old Sent new =
-      (why : AppendFault) × (((why ≡ fault.LogFull) ↔ (16777216 ≤ length old.log)) × (new ≡ refusing commit why old))
-  Commits commit old answer new = ⊥
+  -- The log has the transaction's entry more, or refuses it (`Logs` of transactions). Then the transaction is over, with the pass and the
+  -- answer that came of it, and its claims, as they are then, are given back.
+  pub record Commits (commit : CommitItem J) (old : Parts J) (answer : EventAnswer) (new : Parts J) : Type 0 where
+    pub logged : AnyLogged J
+    pub log : List Entry
+    pub held : List (List Claiming)
+    pub logs : Logs (entry_of commit) commit.transaction.pass old.log commit.transaction.held logged log held
+    pub answered : answer ≡ told_of logged.answer
+    pub over : new ≡ releasing logged.is_settled (release commit.transaction logged.pass logged.answer held) (record old { log = log })
 
   -- What is asked of a commit: the request was carried out under the transaction's claims with this reply.
   pub record CanCommit (opening : Database) (commit : CommitItem J) : Type 0 where

@@ -1,7 +1,6 @@
 -- What follows when a phase has met, and when a transaction is over.
 use Rattle.std.specs.Prelude.{ℕ, ◌+◌, Bool, true, false, zero, suc, List, [], ◌∷◌, ◌++◌, Option, Some, None, Result, Err, map, length, slice_set}
 use Rattle.requests.specs.declared.reply.Reply.{Reply}
-use Rattle.requests.specs.declared.reply.Reply.TheVariants as reply
 use Rattle.requests.specs.declared.refusal.Refusal.{Refusal}
 use Rattle.tickets.specs.Claims.{Claiming}
 use Rattle.commit_log.specs.declared.entry.Entry.{Entry}
@@ -21,11 +20,6 @@ use Rattle.world.specs.declared.flight.Item.{Item}
 use Rattle.world.specs.declared.flight.Item.TheVariants as item
 use Rattle.world.specs.declared.sending.Release.{Release}
 use Rattle.world.specs.declared.world.Parts.{Parts}
-
--- its claims are settled, unless it was rolled back
-abbrev pub is_settled : Reply → Bool
-is_settled (reply.Done shown) = true
-is_settled (reply.RolledBack fault) = false
 
 module _ {J : Type 0} where
   -- ---- the actions of a phase

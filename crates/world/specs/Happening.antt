@@ -22,6 +22,7 @@ use Rattle.range_moves.specs.Housing.{Housing, fetched_from, found_by, house_ins
 use Rattle.range_moves.specs.Orders.{IsWithin, size_of}
 use Rattle.transactions.specs.declared.work.Work.{Work as AnyWork}
 use Rattle.transactions.specs.Progresses.{IsReached, works_of}
+use Rattle.transactions.specs.Works.{home_of_request}
 use Rattle.world.specs.declared.desk.Active.TheVariants.{Acting}
 use Rattle.world.specs.declared.desk.SessionDesk.{SessionDesk}
 use Rattle.world.specs.declared.flight.Flow.{Flow}
@@ -35,7 +36,7 @@ use Rattle.world.specs.declared.flight.Posted.TheVariants as posted
 use Rattle.world.specs.declared.world.Parts.{Parts}
 use Rattle.world.specs.declared.world.Core.{Core}
 use Rattle.world.specs.Events.{SendsItem, TakesMessage}
-use Rattle.world.specs.Letters.{home_of_message, home_of_request, is_for_slice, letter, parked_else, parked_for, posted_by, to_itself}
+use Rattle.world.specs.Letters.{home_of_message, is_for_slice, letter, parked_else, parked_for, posted_by, to_itself}
 use Rattle.world.specs.Queues.{put_into, queue_of}
 use Rattle.world.specs.Slots.{count_active}
 use Rattle.world.specs.Sound.{IsSessionOf}

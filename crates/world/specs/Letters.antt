@@ -1,11 +1,7 @@
 -- What executors have in their inboxes and outboxes: what of it is a transaction's, and what is a move's.
 use Rattle.std.specs.Prelude.{◌≡◌, ℕ, ◌<◌, ◌≤◌, ◌==◌, Bool, true, false, if◌then◌else◌, List, [], ◌∷◌, map, length}
 use Rattle.std.specs.List.{filter, flat_map}
-use Rattle.requests.specs.declared.request.Request.{Request}
-use Rattle.requests.specs.declared.request.Request.TheVariants as request
-use Rattle.groups.specs.Groups.{warehouse_of}
-use Rattle.tickets.specs.Claims.{Claiming}
-use Rattle.transactions.specs.Works.{home_of}
+use Rattle.transactions.specs.Works.{home_of, home_of_claims, home_of_request}
 use Rattle.range_moves.specs.Housing.{Housing, route_of}
 use Rattle.range_moves.specs.Traffic.{Dispatch, Going}
 use Rattle.world.specs.declared.flight.Item.{Item}
@@ -19,19 +15,6 @@ use Rattle.world.specs.declared.flight.Posted.{Posted}
 use Rattle.world.specs.declared.flight.Posted.TheVariants as posted
 
 -- ---- whose each message is
-
--- the warehouse whose terminal asks
-abbrev pub home_of_request : Request → ℕ
-home_of_request (request.NewOrder asked) = asked.home.w_id
-home_of_request (request.Payment asked) = asked.home.w_id
-home_of_request (request.OrderStatus asked) = asked.home.w_id
-home_of_request (request.Delivery asked) = asked.w_id
-home_of_request (request.StockLevel asked) = asked.home.w_id
-
--- the warehouse of the claims of an action, which are all on groups of one
-abbrev pub home_of_claims : List Claiming → ℕ
-home_of_claims [] = 0
-home_of_claims (claim ∷ claims) = warehouse_of claim.group
 
 module _ {J : Type 0} where
   -- The warehouse by which a message finds its executor. A transaction starts at its request's.

@@ -10,5 +10,6 @@ pub mod Events
 pub mod Together
 pub mod InHand
 pub mod Happening
+pub mod Changes
 pub mod Worlds
 pub mod Openings

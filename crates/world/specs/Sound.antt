@@ -21,6 +21,7 @@ use Rattle.transactions.specs.Works.{CanDo, HasDone, wishes_of}
 use Rattle.transactions.specs.declared.progress.Progress.{Progress}
 use Rattle.transactions.specs.Progresses.{IsReached, works_of}
 use Rattle.transactions.specs.declared.laws.TheConstants.{MOST_ACTIONS}
+use Rattle.transactions.specs.Acting.{AreSettledBy, AreUndoneBy}
 use Rattle.rendezvous.specs.Awaited.{awaited_from, reported}
 use Rattle.world.specs.declared.desk.Active.{Active}
 use Rattle.world.specs.declared.desk.Active.TheVariants as active
@@ -38,7 +39,7 @@ use Rattle.world.specs.declared.flight.Item.{Item}
 use Rattle.world.specs.declared.flight.Item.TheVariants as item
 use Rattle.world.specs.declared.world.Parts.{Parts}
 use Rattle.world.specs.Flights.{Token, Acting, Committing, Ending, InFlight, join, parts, part_message, part_item, part_met}
-use Rattle.world.specs.Parted.{AreSettledBy, AreUndoneBy, joined_in}
+use Rattle.world.specs.Parted.{joined_in}
 use Rattle.world.specs.Stations.{slices_in}
 
 -- A refusal that tells of a death names one of these groups, and an age that is less than this one.

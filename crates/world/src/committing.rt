@@ -1,16 +1,15 @@
 //! A transaction is logged.
-ghost use Rattle.std.specs.Prelude.{◌≡◌, ◌≤◌, ◌<◌, ◌+◌, length};
+ghost use Rattle.std.specs.Prelude.{◌≡◌, ◌≤◌, ◌+◌, length};
 ghost use Rattle.world.specs.Events as spec;
 ghost use Rattle.world.specs.Events.{CanCommit, Commits};
-ghost use Rattle.world.specs.Following as following;
 
 use crate::flight::{CommitItem, Transaction};
 use crate::sending::Release;
 use crate::world::Parts;
-use commit_log::{AppendFault, Entry, Names};
+use commit_log::{Entry, Names};
 use history::EventAnswer;
-use requests::{Refusal, Reply};
-use transactions::MOST_ACTIONS;
+use requests::Refusal;
+use transactions::{Logged, MOST_ACTIONS};
 
 impl<J: Names> Parts<J> {
     // The transaction is logged, or refused where there is no memory for an entry, or the log is full.
@@ -20,7 +19,6 @@ impl<J: Names> Parts<J> {
         ensures { Commits commit self.old result self.new }
     {
         let CommitItem { transaction, reply } = commit;
-        let settle = is_settled(&reply);
         let Transaction {
             age,
             slot,
@@ -35,47 +33,30 @@ impl<J: Names> Parts<J> {
             request,
             reply,
         };
-        match held.append(&mut self.log, pass, entry) {
-            Ok((place, pass)) => {
-                let over = Release {
-                    age,
-                    slot,
-                    number,
-                    pass,
-                    answer: Ok(place),
-                    held,
-                };
-                self.release(over, settle);
-                EventAnswer::Logged { place }
-            }
-            Err((fault, pass)) => {
-                let over = Release {
-                    age,
-                    slot,
-                    number,
-                    pass,
-                    answer: Err(why_refused(fault)),
-                    held,
-                };
-                self.release(over, false);
-                EventAnswer::Sent
-            }
-        }
+        let Logged {
+            answer,
+            pass,
+            is_settled,
+        } = held.log(&mut self.log, pass, entry);
+        let over = Release {
+            age,
+            slot,
+            number,
+            pass,
+            answer,
+            held,
+        };
+        self.release(over, is_settled);
+        told_of(answer)
     }
 }
 
-// Whether the claims are settled: what a transaction that was rolled back did is taken back.
-fn is_settled(reply: &Reply) -> bool
-    ensures { result ≡ following.is_settled reply.now }
+// A commit is answered by the place of its entry, or, where the log refused it, as any item that was sent.
+fn told_of(answer: Result<u32, Refusal>) -> EventAnswer
+    ensures { result ≡ spec.told_of answer }
 {
-    !matches!(reply, Reply::RolledBack(_))
-}
-
-fn why_refused(fault: AppendFault) -> Refusal
-    ensures { result ≡ spec.why_refused fault }
-{
-    match fault {
-        AppendFault::NoMemory => Refusal::NoMemory,
-        AppendFault::LogFull => Refusal::LogFull,
+    match answer {
+        Ok(place) => EventAnswer::Logged { place },
+        Err(_) => EventAnswer::Sent,
     }
 }

@@ -69,7 +69,6 @@ impl<J: Names> Parts<J> {
                 Err(_) => self.release(Release::refused(transaction, Refusal::NoMemory), false),
             },
             Gathered::Finish(reply) => self.put_commit(transaction, reply),
-            Gathered::RollBack(fault) => self.put_commit(transaction, Reply::RolledBack(fault)),
         }
     }
 

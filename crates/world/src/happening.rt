@@ -6,13 +6,12 @@ ghost use Rattle.world.specs.Happening.{Happens};
 ghost use Rattle.world.specs.Together.{IsSound, together};
 ghost use Rattle.world.specs.Worlds.{Advances};
 
-use crate::homes::home_of_request;
 use crate::world::{Core, INBOX};
 use commit_log::Names;
 use history::{Event, EventAnswer};
 use requests::Request;
 use std::alloc::Global;
-use transactions::claims_are_of_the_footprint;
+use transactions::{claims_are_of_the_footprint, home_of_request};
 
 impl<J: Names> Core<J> {
     /// What an event brings.

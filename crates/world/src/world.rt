@@ -2,6 +2,7 @@ ghost use Rattle.std.specs.Prelude.{◌≡◌, ◌↔◌, ◌≤◌, [], ◌∷�
 ghost use Rattle.schema.specs.Database.{Database};
 ghost use Rattle.std.specs.Prelude.{List};
 ghost use Rattle.history.specs.History.{Step, step as one_step};
+ghost use Rattle.world.specs.Changes.{ChangesOnly};
 ghost use Rattle.world.specs.Openings.{IsGathered};
 ghost use Rattle.world.specs.Happening.{Happens};
 ghost use Rattle.world.specs.Slots.{count_active};
@@ -126,7 +127,9 @@ impl<J: Names> World<J> {
     /// those of a machine that carries out its requests one at a time, in log order, and the tables that
     /// it leaves are the committed ones; each transaction is whole, and stands behind those that were
     /// answered before it was submitted. What the event changes is told exactly, and what can't happen
-    /// is answered `Nothing` and changes nothing. An executor works on messages for a slice where it has the slice: that is
+    /// is answered `Nothing` and changes nothing. An event changes no other executor's queues than by a letter that it puts into an
+    /// inbox; only a Take changes a slice, and of one warehouse alone, that its executor has; and only a commit that is sent changes the
+    /// log, by its own entry at the end. An executor works on messages for a slice where it has the slice: that is
     /// at one executor, or in one parcel on its way.
     /// Up to 64 transactions are active at a time: `Busy` exactly where they are. Who is in another's way is waited for where it is
     /// younger, and else the other dies: so nobody waits in a circle, and while anything is active something can be taken or sent.
@@ -136,6 +139,7 @@ impl<J: Names> World<J> {
     pub fn step(&mut self, alloc: Global, event: &Event) -> EventAnswer
         ensures advances { Advances (together self.old) (one_step event.now result ∷ []) (together self.new) }
         ensures happens { Happens event.now self.old result self.new }
+        ensures changes { ChangesOnly event.now result self.old self.new }
         ensures nothing { (result ≡ EventAnswer.Nothing) ↔ CannotHappen event.now self.old }
         ensures busy { IsBusyExactly event.now self.old result }
         ensures died { TellsOfOlder self.old result }
@@ -146,6 +150,7 @@ impl<J: Names> World<J> {
         ensures alone { (opening : Database) (history : List Step) → Fits opening history (together self.old) → count_active self.old.parts.desk.active ≡ 1 → NoneDies event.now self.old self.new }
     {
         claims_are_of_the_footprint();
+        self.core.houses.are_kept();
         self.core.happen(alloc, event)
     }
 

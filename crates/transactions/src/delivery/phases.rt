@@ -85,7 +85,7 @@ fn gather_customers(delivery: Delivery, delivered: Delivered, found: Vec<crate::
         CustomersCredited::Credited => {
             Gathered::Finish(Reply::Done(Shown::Delivery(reply(&delivery, &delivered))))
         }
-        CustomersCredited::OutOfRange => Gathered::RollBack(Fault::Range),
+        CustomersCredited::OutOfRange => Gathered::Finish(Reply::RolledBack(Fault::Range)),
     }
 }
 

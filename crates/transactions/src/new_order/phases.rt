@@ -103,10 +103,10 @@ fn gather_rows(
     let first = groups.remove(0);
     let (home, orderer) = rows_found(found);
     let HomeFound::Shown(home) = home else {
-        return Ok(Gathered::RollBack(Fault::NoCustomer));
+        return Ok(Gathered::Finish(Reply::RolledBack(Fault::NoCustomer)));
     };
     let OrdererFound::Shown(orderer) = orderer else {
-        return Ok(Gathered::RollBack(Fault::NoCustomer));
+        return Ok(Gathered::Finish(Reply::RolledBack(Fault::NoCustomer)));
     };
     let begun = OrderBegun {
         order,
@@ -156,7 +156,7 @@ fn gather_stock(
     let stocks = stocks_found(alloc, found)?;
     match decide(alloc, given, stocks)? {
         Ok(placed) => Ok(Gathered::Next(crate::Progress::NewOrder(Progress::AddRows(placed)))),
-        Err(fault) => Ok(Gathered::RollBack(fault)),
+        Err(fault) => Ok(Gathered::Finish(Reply::RolledBack(fault))),
     }
 }
 

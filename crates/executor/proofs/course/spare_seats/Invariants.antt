@@ -1,4 +1,5 @@
 use Rattle.std.proofs.Common.{◌≡◌, ◌≤◌, vec_len, vec_capacity}
+use Rattle.transactions.specs.declared.laws.TheConstants.{MOST_ACTIONS}
 use Rattle.executor.specs.Courses.{AreSpent}
 use Rattle.executor.proofs.course.spare_seats.Given as goal
 
@@ -7,6 +8,6 @@ abbrev pub invariant-loop : goal.invariant-loop
 invariant-loop l = record {
   same : l.seat ≡ l.fn.seat;
   count : vec_len l.spare ≡ l.counter;
-  room : 18 ≤ vec_capacity l.spare;
+  room : MOST_ACTIONS ≤ vec_capacity l.spare;
   spent : AreSpent l.fn.seat.agreement.table l.spare.items;
 }

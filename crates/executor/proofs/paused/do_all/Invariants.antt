@@ -1,6 +1,7 @@
 use Rattle.std.proofs.Common.{◌+◌, ◌≤◌, length, vec_capacity}
 use Rattle.std.specs.Prelude.{All}
 use Rattle.partitions.specs.Parts.{shared_of}
+use Rattle.transactions.specs.declared.laws.TheConstants.{MOST_ACTIONS}
 use Rattle.transactions.specs.Works.{CanDo}
 use Rattle.executor.specs.AtOnce.{HaveDoneBut}
 use Rattle.executor.proofs.paused.do_all.Given as goal
@@ -12,6 +13,6 @@ invariant-loop-work g l = record {
   finite : (goal.iterator-loop-work g).is_finite l.work-iterator;
   can : All (CanDo (shared_of g.J.LogNames.opening)) l.work-iterator.rest.items;
   done : HaveDoneBut (shared_of g.J.LogNames.opening) l.fn.age l.work-iterator.rest.items l.fn.works.items l.fn.held l.held l.found.items;
-  few : length l.held + length l.work-iterator.rest.items ≤ 18;
+  few : length l.held + length l.work-iterator.rest.items ≤ MOST_ACTIONS;
   room : length l.found.items + length l.work-iterator.rest.items ≤ vec_capacity l.found;
 }

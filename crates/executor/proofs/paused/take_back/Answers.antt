@@ -1,7 +1,7 @@
 use Rattle.std.proofs.Common.{◌≤◌, sym, ap, ◌∙◌, length, arith}
 use Rattle.std.proofs.lemmas.List.{length_push}
 use Rattle.std.proofs.lemmas.List.Elements.{All-pop}
-use Rattle.executor.specs.Journeys.{CanAllBeUndone}
+use Rattle.transactions.specs.Acting.{CanAllBeUndone}
 use Rattle.executor.proofs.AtOnce.{take_front}
 use Rattle.executor.proofs.paused.take_back.Goals as goal
 

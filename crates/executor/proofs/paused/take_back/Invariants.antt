@@ -1,6 +1,6 @@
 use Rattle.std.proofs.Common.{◌≡◌, ◌≤◌, length, take}
 use Rattle.std.specs.Prelude.{All}
-use Rattle.executor.specs.Journeys.{CanAllBeUndone}
+use Rattle.transactions.specs.Acting.{CanAllBeUndone}
 use Rattle.executor.proofs.paused.take_back.Given as goal
 
 -- the first claims are the same, and all that was done under those that are held can be taken back

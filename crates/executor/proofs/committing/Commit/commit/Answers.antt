@@ -1,11 +1,20 @@
-use Rattle.std.proofs.Common.{List, sym, subst}
-use Rattle.tickets.specs.Claims.{Claiming}
-use Rattle.executor.specs.Answers.{AreGiven}
-use Rattle.executor.specs.Commits.{is_settled}
-use Rattle.executor.proofs.Logged.{all_logged_given}
+use Rattle.std.proofs.Common.{◌≡◌, subst}
+use Rattle.commit_log.specs.declared.entry.Entry.{Entry}
+use Rattle.commit_log.specs.Items.{entry_of}
+use Rattle.transactions.specs.Logged.{Logs}
+use Rattle.executor.specs.Commits.{committing, entry_committed}
+use Rattle.executor.specs.Transactions.{transacting}
+use Rattle.executor.proofs.Logged.{answers, commits, gives}
 use Rattle.executor.proofs.committing.Commit.commit.Goals as goal
 
 pub new-requires : goal.new-requires
 new-requires g c =
-    subst (λ b. AreGiven b c.append.new.self) (sym c.is_settled-is_settled.ensures)
-    (subst (λ (h : List (List Claiming)). AreGiven (is_settled c.take_reply.result) h) (sym c.in-Ok.ensures.held) (all_logged_given c.take_reply.result c.self.inside.transaction.age c.self.inside.held c.self.invariant.undone))
+    let t = c.self.inside.transaction in
+    let own = committing c.self.inside.keeper (transacting t) c.self.inside.held t.matter.value.reply in
+    let session : c.session.result ≡ t.pass.session = cc in
+    let request : c.take_request.result ≡ t.matter.value.request = cc in
+    let reply : c.take_reply.result ≡ t.matter.value.reply = cc in
+    let entry : entry_of c.session.result t.number c.take_request.result c.take_reply.result ≡ entry_committed own =
+    λ i. entry_of (session i) t.number (request i) (reply i) in
+    gives own c.args.log.now c.log-answer.new.log c.log-answer.result c.log-answer.new.self c.self.invariant.undone
+    (subst (λ (e : Entry). Logs e t.pass c.args.log.now c.self.inside.held c.log-answer.result c.log-answer.new.log c.log-answer.new.self) entry c.log-answer.ensures)

@@ -1,10 +1,30 @@
-use Rattle.std.proofs.Common.{◌∙◌}
-use Rattle.world.proofs.Logging.{logs}
+use Rattle.std.proofs.Common.{subst, arith}
+use Rattle.commit_log.specs.declared.entry.Entry.{Entry}
+use Rattle.transactions.specs.Logged.{Logs}
+use Rattle.world.proofs.Logging.{as_many_hold}
 use Rattle.world.proofs.world.Parts.commit.Goals as goal
 
-pub returns-in-Ok : goal.returns-in-Ok
-returns-in-Ok g c =
-    let done = c.in-Ok.ensures in
-    let now = logs c.args.commit c.args.self.now c.in-Ok.place c.in-Ok.pass c.is_settled-settle.result c.session.result c.append.new.log c.append.new.self
-    c.session.ensures done.place done.pass c.is_settled-settle.ensures done.entry.1 done.held in
-    (done.place, (done.entry.0, c.release.ensures ∙ now))
+pub release-requires : goal.release-requires
+release-requires g c =
+    let t = c.args.commit.transaction in
+    let now = c.log-answer in
+    let entry : Entry = record { session = c.session.result; number = t.number; request = t.request; reply = c.args.commit.reply } in
+    record {
+      room = omega (arith, c.requires.room, c.requires.can.few, as_many_hold entry t.pass c.args.self.now.log now.new.log t.held now.new.self now.result now.ensures);
+      slot = c.requires.can.slot;
+    }
+
+pub returns : goal.returns
+returns g c =
+    let t = c.args.commit.transaction in
+    let now = c.log-answer in
+    record {
+      logged = now.result;
+      log = now.new.log;
+      held = now.new.self;
+      logs = subst
+          (λ n. Logs {J = g.row.J.Denot} (record { session = n; number = t.number; request = t.request; reply = c.args.commit.reply }) t.pass c.args.self.now.log t.held now.result now.new.log now.new.self)
+          c.session.ensures now.ensures;
+      answered = c.told_of.ensures;
+      over = c.release.ensures;
+    }

@@ -1,6 +1,6 @@
 use Rattle.std.proofs.Common.{rules, ◌≡◌, ◌≤◌, ◌++◌, Option, Some, None, length, replicate, false, inl, inr, subst, ap, arith, ◌∙◌}
 use Rattle.transactions.specs.declared.progress.Gathered.{Gathered}
-use Rattle.transactions.specs.declared.progress.Gathered.TheVariants.{Next, Finish, RollBack}
+use Rattle.transactions.specs.declared.progress.Gathered.TheVariants.{Next, Finish}
 use Rattle.transactions.specs.Progresses.{FollowsFrom, works_of}
 use Rattle.world.specs.declared.desk.Active.{Active}
 use Rattle.world.specs.declared.desk.Active.TheVariants.{Acting}
@@ -27,13 +27,6 @@ returns-in-Finish g c =
     inr (
       Finish c.in-Finish.reply,
       (subst (λ (g : Gathered). FollowsFrom c.args.progress c.args.found.items g) c.in-Finish.is c.in-Ok.ensures, c.put_commit.ensures),
-    )
-
-pub returns-in-RollBack : goal.returns-in-RollBack
-returns-in-RollBack g c =
-    inr (
-      RollBack c.in-RollBack.fault,
-      (subst (λ (g : Gathered). FollowsFrom c.args.progress c.args.found.items g) c.in-RollBack.is c.in-Ok.ensures, c.put_commit-in-RollBack.ensures),
     )
 
 pub returns-in-Ok-begin : goal.returns-in-Ok-begin

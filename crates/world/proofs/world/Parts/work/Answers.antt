@@ -3,14 +3,15 @@ use Rattle.std.specs.Prelude.{All}
 use Rattle.std.specs.Vec.{with_item}
 use Rattle.slices.specs.Sliced.{IsClaimAt, SliceKeeps}
 use Rattle.transactions.specs.Works.{CanDo}
+use Rattle.transactions.specs.Acting.{CanAllBeSettled, CanAllBeUndone}
+use Rattle.transactions.proofs.ClaimHomes.{home_is, some_claims}
 use Rattle.world.specs.declared.flight.Item.TheVariants as item
 use Rattle.world.specs.declared.flight.Message.{Message}
 use Rattle.world.specs.Events.{AllTurns, CanWork, TakesMessage}
-use Rattle.world.specs.Parted.{CanAllBeSettled, CanAllBeUndone}
 use Rattle.world.specs.Stations.{HasRoomFor}
 use Rattle.world.proofs.Parted.{claims_at_home, work_within}
 use Rattle.world.proofs.Placed.{home_there, place_within, placed_with, stations_set}
-use Rattle.world.proofs.Turning.{asks_catalog, asks_room, asks_slices, claims_home, gives_room, gives_slices, gives_turns}
+use Rattle.world.proofs.Turning.{asks_catalog, asks_room, asks_slices, gives_room, gives_slices, gives_turns}
 use Rattle.world.proofs.world.Parts.work.Given as given
 use Rattle.world.proofs.world.Parts.work.Goals as goal
 use Rattle.world.proofs.world.Parts.work.Goals.{After-ask}
@@ -91,7 +92,7 @@ returns-in-Settle-clause-takes g c =
     let can : CanAllBeSettled claims = subst (λ (m : Message g.row.J.Denot). CanWork old.catalog m) c.in-Settle.is c.requires.can in
     let last : home ≤ old.catalog.scale.warehouses = subst (λ n. home ≤ n) c.requires.warehouses c.home-home-in-Settle.ensures.known.1 in
     subst (λ (m : Message g.row.J.Denot). TakesMessage m old c.take_turns-in-Settle.new.self) (sym c.in-Settle.is)
-    (gives_turns home c.in-Settle.slot claims old _ c.take_turns-in-Settle.new.self (claims_home claims home can.1 c.home-home-in-Settle.ensures.home)
+    (gives_turns home c.in-Settle.slot claims old _ c.take_turns-in-Settle.new.self (home_is claims home (some_claims claims can.1) c.home-home-in-Settle.ensures.home)
     (placed_with old c.requires.slices home c.home-home-in-Settle.ensures.known.0 last c.index_mut.result.now c.index_mut.ensures.value home refl c.settle.new.self (with_item old.stations (home - 1) c.settle.new.self) (item.Ended c.in-Settle.slot ∷ []) c.put.new.self
     (λ was now. SliceKeeps claims was.slice [] now.slice × (now.parked ≡ was.parked)) refl c.put.ensures (c.settle.ensures.kept, c.settle.ensures.parked))
     c.take_turns-in-Settle.ensures.turns)
@@ -145,7 +146,7 @@ returns-in-Undo-clause-takes g c =
     let can : CanAllBeUndone claims = subst (λ (m : Message g.row.J.Denot). CanWork old.catalog m) c.in-Undo.is c.requires.can in
     let last : home ≤ old.catalog.scale.warehouses = subst (λ n. home ≤ n) c.requires.warehouses c.home-home-in-Undo.ensures.known.1 in
     subst (λ (m : Message g.row.J.Denot). TakesMessage m old c.take_turns-in-Undo.new.self) (sym c.in-Undo.is)
-    (gives_turns home c.in-Undo.slot claims old _ c.take_turns-in-Undo.new.self (claims_home claims home can.1 c.home-home-in-Undo.ensures.home)
+    (gives_turns home c.in-Undo.slot claims old _ c.take_turns-in-Undo.new.self (home_is claims home (some_claims claims can.1) c.home-home-in-Undo.ensures.home)
     (placed_with old c.requires.slices home c.home-home-in-Undo.ensures.known.0 last c.index_mut-in-Undo.result.now c.index_mut-in-Undo.ensures.value home refl c.undo.new.self (with_item old.stations (home - 1) c.undo.new.self) (item.Ended c.in-Undo.slot ∷ []) c.put-in-Undo.new.self
     (λ was now. SliceKeeps claims was.slice [] now.slice × (now.parked ≡ was.parked)) refl c.put-in-Undo.ensures (c.undo.ensures.kept, c.undo.ensures.parked))
     c.take_turns-in-Undo.ensures.turns)

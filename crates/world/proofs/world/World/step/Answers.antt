@@ -6,6 +6,7 @@ use Rattle.world.specs.declared.world.Core.{Core}
 use Rattle.world.specs.Slots.{count_active}
 use Rattle.world.specs.Together.{together}
 use Rattle.world.specs.Worlds.{Advances, AllDieOfOlder, Fits, IsBusyExactly, NoneDies, TellsOfOlder}
+use Rattle.world.specs.Changes.{ChangesOnly}
 use Rattle.world.specs.Happening.{Happens}
 use Rattle.world.proofs.Alone.{none_dies}
 use Rattle.world.proofs.NeverStuck.{is_owned, never_stuck}
@@ -13,12 +14,18 @@ use Rattle.world.proofs.Busy.{busy_exactly}
 use Rattle.world.proofs.Deaths.{tells_of_older}
 use Rattle.world.proofs.Dying.{die_of_older}
 use Rattle.world.proofs.Answered.{nothing_exactly}
+use Rattle.world.proofs.Changed.{changes_only}
 use Rattle.world.proofs.Schedules.{executors_stay}
 use Rattle.world.proofs.world.World.step.Goals as goal
 
 pub returns-clause-advances : goal.returns-clause-advances
 returns-clause-advances g c =
     subst (λ (old : Core g.row.J.Denot). Advances (together old) (step c.args.event.now c.happen.result ∷ []) (together c.happen.new.self)) c.self.view_is c.happen.ensures.advances
+
+pub returns-clause-changes : goal.returns-clause-changes
+returns-clause-changes g c =
+    subst (λ (old : Core g.row.J.Denot). ChangesOnly c.args.event.now c.happen.result old c.happen.new.self) c.self.view_is
+    (changes_only (shared_of g.J.LogNames.opening) c.args.event.now c.self.inside.core c.happen.new.self c.happen.result c.are_kept.ensures c.self.invariant.0 c.happen.ensures.happens)
 
 pub returns-clause-nothing : goal.returns-clause-nothing
 returns-clause-nothing g c =

@@ -5,6 +5,7 @@ use Rattle.std.specs.List.{filter, slice_get}
 use Rattle.std.proofs.lemmas.List.Sums.{sum_by-append, sum_by-cons}
 use Rattle.partitions.specs.Parts.{Shared}
 use Rattle.requests.specs.declared.group.Group.{Group}
+use Rattle.requests.specs.declared.request.Request.{Request}
 use Rattle.groups.specs.declared.wishes.Wish.{Wish}
 use Rattle.groups.specs.Footprint.{footprint, groups_of}
 use Rattle.groups.specs.Groups.{is_same}
@@ -16,15 +17,15 @@ use Rattle.local_locks.specs.Locking.{Holding}
 use Rattle.local_locks.proofs.Members.{contains_cases, contains_here, contains_none, contains_there}
 use Rattle.local_locks.proofs.Views.{unmapped}
 use Rattle.slices.specs.Sliced.{at_home, held_at}
+use Rattle.transactions.specs.declared.progress.Progress.{Progress}
 use Rattle.transactions.specs.declared.work.Work.{Work}
 use Rattle.transactions.specs.declared.work.Found.{Found}
 use Rattle.transactions.specs.Granted.{wish_of}
-use Rattle.transactions.specs.Laws.{TransactionsClaimEachGroupOnce}
+use Rattle.transactions.specs.Laws.{ClaimsAreOfTheFootprint, TransactionsClaimEachGroupOnce}
 use Rattle.transactions.specs.Progresses.{IsReached, works_of}
 use Rattle.transactions.specs.Works.{HasDone, all_wishes, want_of, wishes_of}
-use Rattle.transactions.proofs.Reached.{counted, within}
+use Rattle.transactions.proofs.Reached.{counted}
 use Rattle.transactions.proofs.Wished.{works_have_a_claim_for_each_wish}
-use Rattle.world.specs.Sound.{UnderWay}
 
 -- ---- wishes for a group, and claims on it
 
@@ -177,34 +178,32 @@ two_of_works group (first ∷ works) (suc m) (suc n) a b is there other =
 
 -- ---- a transaction
 
--- of what the transaction holds, and what its actions wish for, one at most is for a group
-pub claimed_once : (once : TransactionsClaimEachGroupOnce) (shared : Shared) (u : UnderWay) (group : Group)
-    → IsReached shared u.request u.progress u.held
-    → claims_on group (all_claims u.held) + wishes_on group (all_wishes (works_of u.progress)) ≤ 1
-claimed_once once shared u group reached =
-    let held = all_claims u.held in
-    let wishes = all_wishes (works_of u.progress) in
-    omega (
-      arith,
-      once shared u.request u.progress u.held reached group,
-      counted (is_same group) (λ (wish : Wish). wish.group) (map wish_of held ++ wishes),
-      sum_by-append (one_wish_on group) (map wish_of held) wishes,
-      counted (λ (wish : Wish). is_same group wish.group) wish_of held,
-    )
+module _ (shared : Shared) (asked : Request) (progress : Progress) (held : List (List Claiming)) (reached : IsReached shared asked progress held) (group : Group) where
+  -- of what the transaction holds, and what its actions wish for, one at most is for a group
+  pub claimed_once : TransactionsClaimEachGroupOnce → claims_on group (all_claims held) + wishes_on group (all_wishes (works_of progress)) ≤ 1
+  claimed_once once =
+      let claims = all_claims held in
+      let wishes = all_wishes (works_of progress) in
+      omega (
+        arith,
+        once shared asked progress held reached group,
+        counted (is_same group) (λ (wish : Wish). wish.group) (map wish_of claims ++ wishes),
+        sum_by-append (one_wish_on group) (map wish_of claims) wishes,
+        counted (λ (wish : Wish). is_same group wish.group) wish_of claims,
+      )
 
--- what its actions wish for is of its request's footprint
-pub of_footprint : (shared : Shared) (u : UnderWay) → IsReached shared u.request u.progress u.held
-    → (group : Group) → Contains (groups_of (all_wishes (works_of u.progress))) group → Contains (groups_of (footprint u.request)) group
-of_footprint shared u reached group is =
-    let held = map wish_of (all_claims u.held) in
-    let wishes = all_wishes (works_of u.progress) in
-    counted_there group (footprint u.request)
-    (omega (
-      arith,
-      group_counts group wishes is,
-      within shared u.request u.progress u.held reached (λ (wish : Wish). is_same group wish.group),
-      sum_by-append (one_wish_on group) held wishes,
-    ))
+  -- what its actions wish for is of its request's footprint
+  pub of_footprint : ClaimsAreOfTheFootprint → Contains (groups_of (all_wishes (works_of progress))) group → Contains (groups_of (footprint asked)) group
+  of_footprint within is =
+      let claims = map wish_of (all_claims held) in
+      let wishes = all_wishes (works_of progress) in
+      counted_there group (footprint asked)
+      (omega (
+        arith,
+        group_counts group wishes is,
+        within shared asked progress held reached (λ (wish : Wish). is_same group wish.group),
+        sum_by-append (one_wish_on group) claims wishes,
+      ))
 
 -- ---- who dies
 

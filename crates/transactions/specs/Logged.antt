@@ -1,0 +1,44 @@
+-- A transaction is logged, or refused by the log.
+use Rattle.std.specs.Prelude.{◌≡◌, ◌⊎◌, ◌<◌, ◌≤◌, ◌↔◌, ℕ, Bool, true, false, List, [], ◌∷◌, ◌++◌, length, map, Ok, Err}
+use Rattle.requests.specs.declared.reply.Reply.{Reply}
+use Rattle.requests.specs.declared.reply.Reply.TheVariants.{Done, RolledBack}
+use Rattle.requests.specs.declared.refusal.Refusal.{Refusal}
+use Rattle.requests.specs.declared.refusal.Refusal.TheVariants as refusal
+use Rattle.tickets.specs.Claims.{Claiming}
+use Rattle.commit_log.specs.declared.entry.Entry.{Entry}
+use Rattle.commit_log.specs.declared.log_book.AppendFault.{AppendFault}
+use Rattle.commit_log.specs.declared.log_book.AppendFault.TheVariants as fault
+use Rattle.commit_log.specs.declared.log_book.TheConstants.{MOST_ENTRIES}
+use Rattle.commit_log.specs.Claimed.{claims_logged}
+use Rattle.commit_log.specs.Items.{item}
+use Rattle.commit_log.specs.Passing.{Passing, after_item, after_refusal}
+use Rattle.transactions.specs.declared.logging.Logged.{Logged}
+
+-- the claims are settled, unless it was rolled back
+abbrev pub is_settled : Reply → Bool
+is_settled (Done shown) = true
+is_settled (RolledBack fault) = false
+
+-- the refusal by which a fault of the log is answered
+abbrev pub why_refused : AppendFault → Refusal
+why_refused fault.NoMemory = refusal.NoMemory
+why_refused fault.LogFull = refusal.LogFull
+
+module _ {J : Type 0} where
+  -- the entry stands at this place, and the session's pass has it
+  abbrev pub logged_at : ℕ → Entry → Passing → Logged J
+  logged_at place entry pass =
+      record { answer = Ok place; pass = after_item pass (item place entry.number entry.request entry.reply); is_settled = is_settled entry.reply }
+
+  -- a log of so many entries refused it for this
+  abbrev pub refused_for : AppendFault → ℕ → Passing → Logged J
+  refused_for why entries pass = record { answer = Err (why_refused why); pass = after_refusal why entries pass; is_settled = false }
+
+  -- The log has the entry more, at its end, behind all that the session has seen, and the claims are as they are then; or it refused
+  -- it, and log and claims are as they were. A full log refuses every entry as such, and no other does.
+  abbrev pub Logs : Entry → Passing → List Entry → List (List Claiming) → Logged J → List Entry → List (List Claiming) → Type 0
+  Logs entry pass old held logged new after =
+      ((length old < MOST_ENTRIES) × (pass.seen ≤ length old) × (logged ≡ logged_at (length old) entry pass)
+      × (new ≡ old ++ entry ∷ []) × (after ≡ map (claims_logged entry.reply) held))
+      ⊎ ((why : AppendFault) × ((why ≡ fault.LogFull) ↔ (MOST_ENTRIES ≤ length old)) × (logged ≡ refused_for why (length old) pass)
+      × (new ≡ old) × (after ≡ held))

@@ -1,0 +1,66 @@
+//! A transaction is logged, or refused by the log.
+ghost use Rattle.std.specs.Prelude.{◌≡◌};
+ghost use Rattle.requests.specs.Check.{IsAccepted};
+ghost use Rattle.tickets.specs.Claims.{all_claims};
+ghost use Rattle.commit_log.specs.Claimed.{IsCarriedOut};
+ghost use Rattle.transactions.specs.Logged as spec;
+ghost use Rattle.transactions.specs.Logged.{Logs};
+
+use crate::HeldClaims;
+use commit_log::{AppendFault, Entry, Log, Names, Pass};
+use requests::{Refusal, Reply};
+
+/// What came of a transaction that was to be logged.
+#[derive(Drop)]
+pub struct Logged<J: Names> {
+    /// The place of its entry in the log, or why it is refused.
+    pub answer: Result<u32, Refusal>,
+    /// The pass of its session, as it is then.
+    pub pass: Pass<J>,
+    /// Whether the claims of its actions are settled; else what was done under them is to be taken back.
+    pub is_settled: bool,
+}
+
+impl<J: Names> HeldClaims<J> {
+    /// The log has the entry more, which was carried out under these claims: what they left is committed from then on, unless it was
+    /// rolled back. Or the entry is refused, where there is no memory for it, or the log is full: the log and the claims are then as they were.
+    pub fn log(&mut self, log: &mut Log<J>, pass: Pass<J>, entry: Entry) -> Logged<J>
+        requires session { entry.session ≡ pass.session }
+        requires number { pass.asks.number ≡ entry.number }
+        requires request { pass.asks.request ≡ entry.request }
+        requires accepted { IsAccepted J.opening.scale entry.request }
+        requires carried_out { IsCarriedOut J.opening entry.request (all_claims self.old) entry.reply }
+        ensures { Logs entry pass log.old self.old result log.new self.new }
+    {
+        let is_settled = is_settled(&entry.reply);
+        match log.append(&mut self.places, pass, entry) {
+            Ok((place, pass)) => Logged {
+                answer: Ok(place),
+                pass,
+                is_settled,
+            },
+            Err((fault, pass)) => Logged {
+                answer: Err(why_refused(fault)),
+                pass,
+                is_settled: false,
+            },
+        }
+    }
+}
+
+// Whether the claims are settled: what a transaction that was rolled back did is taken back.
+fn is_settled(reply: &Reply) -> bool
+    ensures { result ≡ spec.is_settled reply.now }
+{
+    !matches!(reply, Reply::RolledBack(_))
+}
+
+// The refusal by which a fault of the log is answered.
+fn why_refused(fault: AppendFault) -> Refusal
+    ensures { result ≡ spec.why_refused fault }
+{
+    match fault {
+        AppendFault::NoMemory => Refusal::NoMemory,
+        AppendFault::LogFull => Refusal::LogFull,
+    }
+}

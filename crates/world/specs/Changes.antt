@@ -1,0 +1,149 @@
+-- What one event may change: everything that is not named here stays as it was.
+use Rattle.std.specs.Prelude.{◌≡◌, ◌≢◌, ◌⊎◌, ℕ, ◌-◌, ◌≤◌, List, [], ◌∷◌, ◌++◌, length}
+use Rattle.std.specs.List.{slice_get}
+use Rattle.requests.specs.declared.request.Request.{Request}
+use Rattle.commit_log.specs.declared.entry.Entry.{Entry}
+use Rattle.history.specs.declared.event.Event.{Event}
+use Rattle.history.specs.declared.event.Event.TheVariants.{Submit, Order, Take, Send}
+use Rattle.history.specs.declared.event.EventAnswer.{EventAnswer}
+use Rattle.history.specs.declared.event.EventAnswer.TheVariants.{Nothing}
+use Rattle.range_moves.specs.declared.house.Found.TheVariants.{Here}
+use Rattle.range_moves.specs.declared.order.MoveOrder.{MoveOrder}
+use Rattle.range_moves.specs.declared.order.Moving.TheVariants as moving
+use Rattle.range_moves.specs.Housing.{found_by, house_of}
+use Rattle.world.specs.declared.flight.Item.{Item}
+use Rattle.world.specs.declared.flight.Item.TheVariants as item
+use Rattle.world.specs.declared.flight.Letter.{Letter}
+use Rattle.world.specs.declared.flight.Load.{Load}
+use Rattle.world.specs.declared.flight.Load.TheVariants.{Work, Move}
+use Rattle.world.specs.declared.flight.Posted.{Posted}
+use Rattle.world.specs.declared.flight.Posted.TheVariants as posted
+use Rattle.world.specs.declared.world.Core.{Core}
+use Rattle.world.specs.Following.{entry_of}
+use Rattle.world.specs.Happening.{begins_at}
+use Rattle.world.specs.Letters.{home_of_message, letter, parked_for}
+use Rattle.world.specs.Queues.{queue_of}
+
+-- ---- queues
+
+-- there are as many queues as before, and every queue but this executor's is as it was
+pub record OthersStay {X : Type 0} (executor : ℕ) (old new : List (List X)) : Type 0 where
+  pub many : length new ≡ length old
+  pub others : (other : ℕ) → other ≢ executor → queue_of other new ≡ queue_of other old
+
+-- these stand more at the end of this executor's queue, and every other queue is as it was
+pub record HasMore {X : Type 0} (executor : ℕ) (more : List X) (old new : List (List X)) : Type 0 where
+  pub here : queue_of executor new ≡ queue_of executor old ++ more
+  pub rest : OthersStay executor old new
+
+-- this one, which stood first in this executor's queue, is gone, and every other queue is as it was
+pub record HasLost {X : Type 0} (executor : ℕ) (first : X) (old new : List (List X)) : Type 0 where
+  pub here : queue_of executor old ≡ first ∷ queue_of executor new
+  pub rest : OthersStay executor old new
+
+-- this one, which stood first in this executor's queue, is gone, these stand more at its end, and every other queue is as it was
+pub record HasTurned {X : Type 0} (executor : ℕ) (first : X) (more : List X) (old new : List (List X)) : Type 0 where
+  pub left : List X
+  pub was : queue_of executor old ≡ first ∷ left
+  pub now : queue_of executor new ≡ left ++ more
+  pub rest : OthersStay executor old new
+
+module _ {J : Type 0} where
+  -- ---- a submission
+
+  -- The desk changes; and one letter more, or none, stands at the end of the inbox of the executor where the request begins.
+  pub record SubmitChanges (asked : Request) (old new : Core J) : Type 0 where
+    pub more : List (Letter J)
+    pub one : length more ≤ 1
+    pub inbox : HasMore (begins_at asked old) more old.inboxes new.inboxes
+    pub rest : new ≡ record old { parts = record old.parts { desk = new.parts.desk }; inboxes = new.inboxes }
+
+  -- ---- a move is ordered
+
+  -- How many reports are awaited changes; and the order stands at the end of the inbox of its destination.
+  pub record OrderChanges (order : MoveOrder) (old new : Core J) : Type 0 where
+    pub inbox : HasMore order.to (letter order.to (Move (moving.Order order)) ∷ []) old.inboxes new.inboxes
+    pub rest : new ≡ record old { houses = record old.houses { awaited = new.houses.awaited }; inboxes = new.inboxes }
+
+  -- ---- a letter is taken
+
+  -- The letter is about this warehouse: its message is worked on there, its slice is fetched or brought, or its range has it.
+  abbrev pub IsAbout : Load J → ℕ → Type 0
+  IsAbout (Work message) w_id = w_id ≡ home_of_message message
+  IsAbout (Move (moving.Order order)) w_id = (order.lo ≤ w_id) × (w_id ≤ order.hi)
+  IsAbout (Move (moving.Fetch moved to)) w_id = w_id ≡ moved
+  IsAbout (Move (moving.Parcel moved)) w_id = w_id ≡ moved
+
+  -- the station of this warehouse is as it was: its slice, with its rows, claims and those who wait, and the actions parked there
+  abbrev pub IsStationAsBefore : ℕ → Core J → Core J → Type 0
+  IsStationAsBefore w_id old new = slice_get new.parts.stations.items (w_id - 1) ≡ slice_get old.parts.stations.items (w_id - 1)
+
+  -- all that there is of this warehouse is as it was: its station, where its slice is, and what is parked for it
+  pub record IsAsBefore (w_id : ℕ) (old new : Core J) : Type 0 where
+    pub station : IsStationAsBefore w_id old new
+    pub house : house_of new.houses w_id ≡ house_of old.houses w_id
+    pub parked : parked_for w_id new.parked ≡ parked_for w_id old.parked
+
+  -- The first letter of the executor's own inbox is gone, and its own outbox has more at its end. No station changes of a warehouse
+  -- whose slice the executor has not got, and nothing of a warehouse that the letter is not about.
+  pub record TakeChanges (executor : ℕ) (old new : Core J) : Type 0 where
+    pub taken : Letter J
+    pub more : List (Posted J)
+    pub inbox : HasLost executor taken old.inboxes new.inboxes
+    pub outbox : HasMore executor more old.outboxes new.outboxes
+    pub elsewhere : (w_id : ℕ) → 1 ≤ w_id → found_by old.houses executor w_id ≢ Here → IsStationAsBefore w_id old new
+    pub others : (w_id : ℕ) → 1 ≤ w_id → ¬ IsAbout taken.load w_id → IsAsBefore w_id old new
+    pub many : length new.parts.stations.items ≡ length old.parts.stations.items
+    pub rest : new
+        ≡ record old {
+          parts = record old.parts { stations = new.parts.stations };
+          houses = record old.houses { houses = new.houses.houses };
+          parked = new.parked;
+          inboxes = new.inboxes;
+          outboxes = new.outboxes;
+        }
+
+  -- ---- what stands in an outbox is sent
+
+  -- A letter comes to the end of the inbox of the executor to which it is, and nothing more is to be sent; or no inbox changes, and it
+  -- is to be sent again.
+  abbrev pub Comes : Letter J → List (Posted J) → Core J → Core J → Type 0
+  Comes l more old new = (HasMore l.to (l ∷ []) old.inboxes new.inboxes × (more ≡ [])) ⊎ ((new.inboxes ≡ old.inboxes) × (more ≡ posted.Letter l ∷ []))
+
+  -- only a commit puts an entry into the log: its own, at the end
+  abbrev pub MayLog : Item J → List Entry → List Entry → Type 0
+  MayLog (item.Commit commit) old new = (new ≡ old) ⊎ (new ≡ old ++ entry_of commit ∷ [])
+  MayLog (item.Push message) old new = new ≡ old
+  MayLog (item.Report report) old new = new ≡ old
+  MayLog (item.Ended slot) old new = new ≡ old
+  MayLog (item.Reply told) old new = new ≡ old
+
+  -- What changes beside the outbox: by a letter an inbox alone, by an item the desk and the log, and by a report of a slice that has arrived
+  -- how many are awaited.
+  abbrev pub ChangesBySent : Posted J → List (Posted J) → Core J → Core J → Type 0
+  ChangesBySent (posted.Letter l) more old new = Comes l more old new × (new ≡ record old { inboxes = new.inboxes; outboxes = new.outboxes })
+  ChangesBySent (posted.Item i) more old new =
+      MayLog i old.parts.log new.parts.log × (new ≡ record old { parts = record old.parts { desk = new.parts.desk; log = new.parts.log }; outboxes = new.outboxes })
+  ChangesBySent posted.Arrived more old new = (more ≡ []) × (new ≡ record old { houses = record old.houses { awaited = new.houses.awaited }; outboxes = new.outboxes })
+
+  -- The first of the executor's own outbox is gone, with more at its end, and no other outbox changes; beside it, what was sent
+  -- changes.
+  pub record SendChanges (executor : ℕ) (old new : Core J) : Type 0 where
+    pub sent : Posted J
+    pub more : List (Posted J)
+    pub outbox : HasTurned executor sent more old.outboxes new.outboxes
+    pub rest : ChangesBySent sent more old new
+
+  -- ---- one event
+
+  -- What an event may change.
+  abbrev pub MayChange : Event → Core J → Core J → Type 0
+  MayChange (Submit session number asked) old new = SubmitChanges asked old new
+  MayChange (Order order) old new = OrderChanges order old new
+  MayChange (Take executor) old new = TakeChanges executor old new
+  MayChange (Send executor) old new = SendChanges executor old new
+
+  -- Where nothing could happen nothing changes, and else only what the event may change.
+  pub record ChangesOnly (event : Event) (answer : EventAnswer) (old new : Core J) : Type 0 where
+    pub nothing : answer ≡ Nothing → new ≡ old
+    pub something : answer ≢ Nothing → MayChange event old new
