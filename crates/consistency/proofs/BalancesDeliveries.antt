@@ -22,7 +22,7 @@ share key (Some other) amount = cond (is_customer key other) amount (pos 0)
 
 -- what of a line was delivered to the customer
 abbrev pub line_share : Database → CustomerKey → OrderLineKey → OrderLine → ℤ
-line_share t key line_key line = share key (receiver t line_key line) (pos line.amount)
+line_share t key line_key line = share key (receiver line_key line (map.get t.orders (order_of_line line_key))) (pos line.amount)
 
 same_weights : {K X : Type 0} (v w : K → X → ℤ) (es : List (K × X)) → ((k : K) (x : X) → v k x ≡ w k x) → sum_entries v es ≡ sum_entries w es
 same_weights v w [] h = refl
@@ -58,7 +58,7 @@ module _ (t : Database) (key : CustomerKey) where
 
 module _ (t : Database) (key : CustomerKey) (k : OrderLineKey) (line : OrderLine) (rest : List (OrderLineKey × OrderLine)) (whole : ℤ) where
   -- a line that is credited is no longer left
-  pub line_credited : (customer : CustomerKey) (amount : ℤ) → receiver t k line ≡ Some customer → amount ≡ pos line.amount
+  pub line_credited : (customer : CustomerKey) (amount : ℤ) → receiver k line (map.get t.orders (order_of_line k)) ≡ Some customer → amount ≡ pos line.amount
       → cond (is_customer key customer) ((whole -ℤ sum_entries (line_share t key) ((k, line) ∷ rest)) +ℤ amount) (whole -ℤ sum_entries (line_share t key) ((k, line) ∷ rest))
       ≡ (whole -ℤ sum_entries (line_share t key) rest)
   line_credited customer amount to is =
@@ -70,7 +70,7 @@ module _ (t : Database) (key : CustomerKey) (k : OrderLineKey) (line : OrderLine
       ])
 
   -- and so is one that was delivered to nobody
-  pub line_passed : receiver t k line ≡ None → (whole -ℤ sum_entries (line_share t key) ((k, line) ∷ rest)) ≡ (whole -ℤ sum_entries (line_share t key) rest)
+  pub line_passed : receiver k line (map.get t.orders (order_of_line k)) ≡ None → (whole -ℤ sum_entries (line_share t key) ((k, line) ∷ rest)) ≡ (whole -ℤ sum_entries (line_share t key) rest)
   line_passed to =
       let first : line_share t key k line ≡ pos 0 = ap (λ r. share key r (pos line.amount)) to in
       omega (arith, ints)

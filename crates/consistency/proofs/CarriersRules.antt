@@ -1,5 +1,5 @@
 -- Tests of orders and of lines, against the conditions on carriers.
-use Rattle.std.proofs.Common.{◌≡◌, ◌↔◌, Bool, true, false, Option, Some, None, IsTrue, is_none, refl, sym, subst}
+use Rattle.std.proofs.Common.{◌≡◌, ◌↔◌, Bool, true, false, ◌&&◌, List, ◌∷◌, Option, Some, None, IsTrue, is_none, refl, sym, subst}
 use Rattle.std.specs.Bool.{beq}
 use Rattle.std.specs.List.{list_all}
 use Rattle.std.specs.FinMap as map
@@ -15,6 +15,12 @@ use Rattle.consistency.specs.Carriers.{comes_with}
 -- whether the line comes with its order
 abbrev pub comes : Database → OrderLineKey × OrderLine → Bool
 comes t e = comes_with e.1 (map.get t.orders (order_of_line e.0))
+
+-- a line that was looked at is no longer left
+pub comes_more : (t : Database) (k : OrderLineKey) (line : OrderLine) (rest : List (OrderLineKey × OrderLine)) (before here : Bool) → here ≡ comes t (k, line)
+    → (before && list_all (comes t) ((k, line) ∷ rest)) ≡ ((before && here) && list_all (comes t) rest)
+comes_more t k line rest before here is =
+    rw is (elim before as (λ b. (b && (comes t (k, line) && list_all (comes t) rest)) ≡ ((b && comes t (k, line)) && list_all (comes t) rest)) [ true ↦ refl | false ↦ refl ])
 
 -- a null column beside a test
 null_beside : {X : Type 0} (o : Option X) (b : Bool) → IsTrue (beq (is_none o) b) ↔ ((o ≡ None) ↔ IsTrue b)

@@ -1,14 +1,14 @@
 -- Totals of all customers, in the order of the customers' keys.
 use Rattle.std.specs.Prelude.{◌≡◌, ℕ, ◌<◌, ℤ, Bool, ◌&&◌, ◌==◌, List, length, slice_get, Option, Some, None, is_some, if◌then◌else◌}
 use Rattle.std.specs.Option.{option_map}
-use Rattle.std.specs.FinMap as map
 use Rattle.rows.specs.declared.keys.CustomerKey.{CustomerKey}
 use Rattle.rows.specs.declared.keys.OrderLineKey.{OrderLineKey}
+use Rattle.rows.specs.declared.records.Order.{Order}
 use Rattle.rows.specs.declared.records.OrderLine.{OrderLine}
 use Rattle.rows.specs.Keys.{order_of_line}
 use Rattle.schema.specs.declared.scale.Scale.{Scale}
 use Rattle.schema.specs.Scale.{customer_slot}
-use Rattle.schema.specs.Database.{Database, customer_of_order}
+use Rattle.schema.specs.Database.{customer_of_order}
 use Rattle.consistency.specs.Totals.{IsWithin}
 
 -- each customer's total stands at the customer's slot
@@ -27,7 +27,7 @@ AreWithin limit totals = (slot : ℕ) (total : ℤ) → slice_get totals slot �
 abbrev pub is_customer : CustomerKey → CustomerKey → Bool
 is_customer key other = (other.w_id == key.w_id) && ((other.d_id == key.d_id) && (other.c_id == key.c_id))
 
--- to whom the line was delivered, where it was
-abbrev pub receiver : Database → OrderLineKey → OrderLine → Option CustomerKey
-receiver t key line =
-    if is_some line.delivery_d then option_map (λ order. customer_of_order (order_of_line key) order) (map.get t.orders (order_of_line key)) else None
+-- to whom the line of the order was delivered, where it was
+abbrev pub receiver : OrderLineKey → OrderLine → Option Order → Option CustomerKey
+receiver key line order =
+    if is_some line.delivery_d then option_map (λ row. customer_of_order (order_of_line key) row) order else None

@@ -3,37 +3,18 @@ ghost use Rattle.std.specs.List.{filter};
 ghost use Rattle.rows.specs.declared.keys.CustomerKey as customer_key;
 ghost use Rattle.schema.specs.Consistency.{amounts_of, is_payer, delivered, paid, BalancesAreOwed, BalancesArePaid};
 ghost use Rattle.consistency.specs.Totals.{IsWithin};
-ghost use Rattle.consistency.specs.Balances.{AreTotals, HasRoom, AreWithin, is_customer, receiver};
+ghost use Rattle.consistency.specs.Balances.{AreTotals, HasRoom, AreWithin, is_customer};
 
-use crate::orders::OrdersOfLines;
-use schema::{CustomerKey, History, NoMemory, OrderLine, OrderLineKey, Scale, Tables};
+use schema::{CustomerKey, History, NoMemory, Scale, Tables};
 use std::alloc::Global;
 
-/// Which of the conditions on C_BALANCE hold.
-#[derive(Clone, Copy, Debug)]
-pub(crate) struct BalanceCheck {
-    /// Condition 10 (clause 3.3.2.10): it is what was delivered to the customer less what the customer
-    /// paid.
-    pub(crate) are_owed: bool,
-    /// Condition 12 (clause 3.3.2.12): with C_YTD_PAYMENT it is what was delivered to the customer.
-    pub(crate) are_paid: bool,
-}
-
-/// Conditions 10 and 12, which both ask what was delivered to each customer.
-pub(crate) fn check_balances(tables: &Tables, alloc: Global) -> Result<BalanceCheck, NoMemory>
-    ensures owed { IfOk result (λ check. IsTrue check.are_owed ↔ BalancesAreOwed tables.now) }
-    ensures paid { IfOk result (λ check. IsTrue check.are_paid ↔ BalancesArePaid tables.now) }
-{
-    let deliveries = delivered_totals(tables, alloc)?;
-    Ok(BalanceCheck {
-        are_owed: balances_are_owed(tables, &deliveries, alloc)?,
-        are_paid: balances_are_paid(tables, &deliveries),
-    })
-}
-
-// Condition 10 (clause 3.3.2.10): C_BALANCE is what was delivered to the customer less what the
-// customer paid. `deliveries` are the `delivered_totals` of the tables.
-fn balances_are_owed(tables: &Tables, deliveries: &[i128], alloc: Global) -> Result<bool, NoMemory>
+/// Condition 10 (clause 3.3.2.10): C_BALANCE is what was delivered to the customer less what the
+/// customer paid. `deliveries` are what was delivered to each customer.
+pub(crate) fn balances_are_owed(
+    tables: &Tables,
+    deliveries: &[i128],
+    alloc: Global,
+) -> Result<bool, NoMemory>
     requires totals { AreTotals tables.now.scale (delivered tables.now) deliveries.now }
     requires within { AreWithin (2 ^ 124) deliveries.now }
     ensures { IfOk result (λ holds. IsTrue holds ↔ BalancesAreOwed tables.now) }
@@ -48,9 +29,9 @@ fn balances_are_owed(tables: &Tables, deliveries: &[i128], alloc: Global) -> Res
     Ok(true)
 }
 
-// Condition 12 (clause 3.3.2.12): C_BALANCE and C_YTD_PAYMENT are together what was delivered to the
-// customer. `deliveries` are the `delivered_totals` of the tables.
-fn balances_are_paid(tables: &Tables, deliveries: &[i128]) -> bool
+/// Condition 12 (clause 3.3.2.12): C_BALANCE and C_YTD_PAYMENT are together what was delivered to the
+/// customer. `deliveries` are what was delivered to each customer.
+pub(crate) fn balances_are_paid(tables: &Tables, deliveries: &[i128]) -> bool
     requires { AreTotals tables.now.scale (delivered tables.now) deliveries.now }
     ensures { IsTrue result ↔ BalancesArePaid tables.now }
 {
@@ -62,23 +43,6 @@ fn balances_are_paid(tables: &Tables, deliveries: &[i128]) -> bool
         }
     }
     true
-}
-
-// What was delivered to each customer, in the order of the customers' keys.
-fn delivered_totals(tables: &Tables, alloc: Global) -> Result<Vec<i128>, NoMemory>
-    ensures totals { IfOk result (λ totals. AreTotals tables.now.scale (delivered tables.now) totals.items) }
-    ensures within { IfOk result (λ totals. AreWithin (2 ^ 124) totals.items) }
-{
-    let scale = tables.scale();
-    let rows = tables.rows();
-    let mut totals = zeros(rows.customers.len(), alloc)?;
-    let mut orders = OrdersOfLines::new(tables);
-    for (key, line) in tables.lines() {
-        if let Some(customer) = receiver(&mut orders, key, line) {
-            credit(&mut totals, scale, customer, i64::from(line.amount.get()));
-        }
-    }
-    Ok(totals)
 }
 
 // What each customer has paid, in the order of the customers' keys.
@@ -95,8 +59,8 @@ fn paid_totals(tables: &Tables, alloc: Global) -> Result<Vec<i128>, NoMemory>
     Ok(totals)
 }
 
-// That many totals of nothing.
-fn zeros(count: usize, alloc: Global) -> Result<Vec<i128>, NoMemory>
+/// That many totals of nothing.
+pub(crate) fn zeros(count: usize, alloc: Global) -> Result<Vec<i128>, NoMemory>
     ensures { IfOk result (λ totals. totals.items ≡ replicate count (pos 0)) }
 {
     vec![in alloc; 0i128; count]
@@ -115,8 +79,8 @@ fn credit_payers(totals: &mut [i128], scale: Scale, payments: &[History])
     }
 }
 
-// Adds the amount to the customer's total.
-fn credit(totals: &mut [i128], scale: Scale, customer: CustomerKey, amount: i64)
+/// Adds the amount to the customer's total.
+pub(crate) fn credit(totals: &mut [i128], scale: Scale, customer: CustomerKey, amount: i64)
     requires room { HasRoom scale totals.old }
     requires within { AreWithin (2 ^ 125) totals.old }
     requires amount { IsWithin (2 ^ 50) amount }
@@ -127,20 +91,4 @@ fn credit(totals: &mut [i128], scale: Scale, customer: CustomerKey, amount: i64)
     if let Some(slot) = scale.customer_slot(customer) {
         totals[slot] += i128::from(amount);
     }
-}
-
-// To whom the line was delivered, `None` where it was not.
-fn receiver(orders: &mut OrdersOfLines, key: OrderLineKey, line: &OrderLine) -> Option<CustomerKey>
-    ensures customer { result ≡ receiver orders.old key line.now }
-    ensures same { orders.new ≡ orders.old }
-{
-    if line.delivery_d.is_none() {
-        return None;
-    }
-    let order = orders.of(key)?;
-    Some(CustomerKey {
-        w_id: key.w_id,
-        d_id: key.d_id,
-        c_id: order.c_id,
-    })
 }

@@ -1,8 +1,9 @@
 ghost use Rattle.std.specs.Prelude.{IfOk};
 ghost use Rattle.consistency.specs.Conditions.{AreExact};
 
-use crate::balances::check_balances;
-use crate::carriers::{lines_come_with_orders, new_orders_have_no_carrier};
+use crate::balances::{balances_are_owed, balances_are_paid};
+use crate::carriers::new_orders_have_no_carrier;
+use crate::deliveries::read_deliveries;
 use crate::line_counts::{districts_count_lines, orders_count_lines};
 use crate::order_numbers::{new_orders_have_no_gap, next_orders_follow, orders_are_fresh};
 use crate::payments::{districts_sum_payments, warehouses_sum_districts, warehouses_sum_payments};
@@ -17,7 +18,7 @@ use std::alloc::Global;
 pub fn check(alloc: Global, tables: &Tables) -> Result<[bool; 12], NoMemory>
     ensures { IfOk result (λ answers. AreExact tables.now answers) }
 {
-    let balances = check_balances(tables, alloc)?;
+    let deliveries = read_deliveries(tables, alloc)?;
     Ok([
         warehouses_sum_districts(tables),
         next_orders_follow(tables),
@@ -25,11 +26,11 @@ pub fn check(alloc: Global, tables: &Tables) -> Result<[bool; 12], NoMemory>
         districts_count_lines(tables),
         new_orders_have_no_carrier(tables),
         orders_count_lines(tables),
-        lines_come_with_orders(tables),
+        deliveries.come_with_orders,
         warehouses_sum_payments(tables),
         districts_sum_payments(tables),
-        balances.are_owed,
+        balances_are_owed(tables, &deliveries.totals, alloc)?,
         orders_are_fresh(tables),
-        balances.are_paid,
+        balances_are_paid(tables, &deliveries.totals),
     ])
 }

@@ -5,6 +5,7 @@ mod balances;
 mod breaks;
 mod carriers;
 mod checks;
+mod deliveries;
 mod line_counts;
 mod order_numbers;
 mod orders;

@@ -1,7 +1,7 @@
 use Rattle.std.proofs.Common.{List, ◌^◌, sym, subst}
 use Rattle.std.specs.Prelude.{ℤ}
 use Rattle.consistency.specs.Balances.{AreWithin}
-use Rattle.consistency.proofs.balances.check_balances.Goals as goal
+use Rattle.consistency.proofs.checks.check.Goals as goal
 
 pub balances_are_owed-requires-clause-within : goal.balances_are_owed-requires-clause-within
 balances_are_owed-requires-clause-within c =

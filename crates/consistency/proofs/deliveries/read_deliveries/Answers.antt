@@ -1,0 +1,147 @@
+use Rattle.std.proofs.Common.{◌≡◌, ◌+◌, ◌*◌, ◌≤◌, ◌^◌, ◌++◌, ◌&&◌, List, [], ◌∷◌, Some, None, length, take, drop, replicate, sym, ap, subst, ◌∙◌, arith}
+use Rattle.std.proofs.Math.Bool.{and-true}
+use Rattle.std.proofs.lemmas.Int.{ints}
+use Rattle.std.proofs.lemmas.List.{length_push}
+use Rattle.std.proofs.lemmas.Map.Iter.{rest_more, rest_all}
+use Rattle.std.specs.FinMap as map
+use Rattle.std.specs.List.{list_all}
+use Rattle.std.specs.Option.{option_copied}
+use Rattle.std.specs.Prelude.{ℤ, pos, ◌-ℤ◌}
+use Rattle.rows.specs.declared.keys.CustomerKey.{CustomerKey}
+use Rattle.rows.specs.declared.keys.OrderLineKey.{OrderLineKey}
+use Rattle.rows.specs.declared.records.OrderLine.{OrderLine}
+use Rattle.rows.specs.Keys.{order_of_line}
+use Rattle.schema.specs.declared.scale.Scale.{Scale}
+use Rattle.schema.specs.Database.{Database}
+use Rattle.schema.specs.Entries.{entry}
+use Rattle.schema.specs.Sums.{sum_entries}
+use Rattle.schema.specs.Consistency.{delivered}
+use Rattle.consistency.specs.Balances.{AreTotals, AreWithin, HasRoom, receiver}
+use Rattle.consistency.specs.Carriers.{comes_with}
+use Rattle.consistency.proofs.BalancesTotals.{totals-same, within-more, room-from_totals, written}
+use Rattle.consistency.proofs.BalancesDeliveries.{line_share, delivered_is, line_credited, line_passed}
+use Rattle.consistency.proofs.BalancesRows.{totals_none, within_none}
+use Rattle.consistency.proofs.CarriersRules.{comes, comes_more, deliveries_rule}
+use Rattle.consistency.proofs.deliveries.read_deliveries.Goals as goal
+
+pub loop-key-init : goal.loop-key-init
+loop-key-init c =
+    let t = c.args.tables.now in
+    let rows = c.rows-rows.result.now in
+    let all = λ (key : CustomerKey). sum_entries (line_share t key) (map.entries t.lines) in
+    let start = λ (key : CustomerKey). all key -ℤ sum_entries (line_share t key) c.into_iter-key-iterator.result in
+    let long : c.len.result ≡ length rows.customers.items = omega arith in
+    let nothing : replicate (length rows.customers.items) (pos 0) ≡ c.in_ok-totals.totals.items = sym (c.in_ok-totals.ensures ∙ ap (λ n. replicate n (pos 0)) long) in
+    let none = λ (key : CustomerKey). let same : sum_entries (line_share t key) c.into_iter-key-iterator.result ≡ all key = ap (sum_entries (line_share t key)) (c.into_iter-key-iterator.ensures.into_iter_gives ∙ c.lines-key-items.ensures.rows) in
+    let e : start key ≡ pos 0 = omega (arith, ints) in e in record {
+      can_next = tt;
+      finite = tt;
+      totals = subst (λ (scale : Scale). AreTotals scale start c.in_ok-totals.totals.items) (sym c.scale-scale.ensures.value)
+          (subst (λ (totals : List ℤ). AreTotals t.scale start totals) nothing (totals_none t.scale rows c.rows-rows.ensures.fits start none));
+      within = subst (λ (totals : List ℤ). AreWithin 0 totals) nothing (within_none 0 (length rows.customers.items));
+      count = omega (arith, ap length (c.into_iter-key-iterator.ensures.into_iter_gives ∙ c.lines-key-items.ensures.rows));
+      come = ap (list_all (comes t)) (sym (c.into_iter-key-iterator.ensures.into_iter_gives ∙ c.lines-key-items.ensures.rows));
+      orders = c.new-orders.ensures;
+    }
+
+pub credit-requires-clause-room : goal.credit-requires-clause-room
+credit-requires-clause-room c =
+    subst (λ (totals : List ℤ). HasRoom c.scale-scale.result totals) (sym c.deref_mut.ensures.value)
+    (room-from_totals c.scale-scale.result _ c.loop-key.totals.items c.loop-key.invariant.totals)
+
+pub credit-requires-clause-within : goal.credit-requires-clause-within
+credit-requires-clause-within c =
+    let count = length c.loop-key.yielded in
+    let few : count ≤ 2 ^ 63 = omega (arith, c.lines-key-items.ensures.fits, ap length c.lines-key-items.ensures.rows, c.loop-key.invariant.count) in
+    subst (λ (totals : List ℤ). AreWithin (2 ^ 125) totals) (sym c.deref_mut.ensures.value)
+    (within-more (2 ^ 50 * count) (2 ^ 125) c.loop-key.totals.items (omega arith) c.loop-key.invariant.within)
+
+pub loop-key-preserved-in-Some-receiver : goal.loop-key-preserved-in-Some-receiver
+loop-key-preserved-in-Some-receiver c =
+    let t = c.args.tables.now in
+    let scale = c.scale-scale.result in
+    let k = c.in-Some.key in
+    let line = c.in-Some.line.now in
+    let rest = c.next.new.self in
+    let old = c.loop-key.totals.items in
+    let new = c.credit.new.totals in
+    let count = length c.loop-key.yielded in
+    let left : c.loop-key.key-iterator ≡ (k, line) ∷ rest = rest_more entry _ _ _ (c.in-Some.key, c.in-Some.line) c.in-Some.is c.next.ensures.steps in
+    let longer = length_push c.loop-key.yielded (c.in-Some.key, c.in-Some.line) in
+    let same_length : length new ≡ c.loop-key.totals.len = omega (arith, c.credit.auto.totals, c.deref_mut.ensures.len) in
+    let back : take c.loop-key.totals.len (new ++ drop (length new) old) ≡ new = written new old c.loop-key.totals.len same_length in
+    let all = λ (key : CustomerKey). sum_entries (line_share t key) (map.entries t.lines) in
+    let before = λ (key : CustomerKey). all key -ℤ sum_entries (line_share t key) ((k, line) ∷ rest) in
+    let after = λ (key : CustomerKey). all key -ℤ sum_entries (line_share t key) rest in
+    let held : AreTotals scale before c.deref_mut.result.now =
+    subst (λ (totals : List ℤ). AreTotals scale before totals) (sym c.deref_mut.ensures.value)
+    (subst (λ (es : List (OrderLineKey × OrderLine)). AreTotals scale (λ key. all key -ℤ sum_entries (line_share t key) es) old) left c.loop-key.invariant.totals) in
+    let bounded : AreWithin (2 ^ 50 * count) c.deref_mut.result.now = subst (λ (totals : List ℤ). AreWithin (2 ^ 50 * count) totals) (sym c.deref_mut.ensures.value) c.loop-key.invariant.within in
+    let found : option_copied c.of-order.result ≡ map.get t.orders (order_of_line k) = c.of-order.ensures.found ∙ ap (λ (d : Database). map.get d.orders (order_of_line k)) c.loop-key.invariant.orders in
+    let to : receiver k line (map.get t.orders (order_of_line k)) ≡ Some c.in-Some-receiver.customer = ap (receiver k line) (sym found) ∙ sym c.receiver.ensures ∙ c.in-Some-receiver.is in
+    record {
+      can_next = tt;
+      finite = tt;
+      totals = subst (λ (totals : List ℤ). AreTotals scale after totals) (sym back)
+          (totals-same scale _ after new (λ key. line_credited t key k line rest (all key) c.in-Some-receiver.customer _ to (omega (arith, ints))) (c.credit.ensures.added before held));
+      within = subst (λ (totals : List ℤ). AreWithin (2 ^ 50 * length (c.loop-key.yielded ++ (c.in-Some.key, c.in-Some.line) ∷ [])) totals) (sym back)
+          (within-more (2 ^ 50 * count + 2 ^ 50) _ new (omega arith) (c.credit.ensures.within (2 ^ 50 * count) bounded));
+      count = omega (arith, ap length left, c.loop-key.invariant.count);
+      come = c.loop-key.invariant.come ∙ ap (λ es. c.loop-key.come_with_orders && list_all (comes t) es) left
+          ∙ comes_more t k line rest c.loop-key.come_with_orders c.comes_with-comes.result (c.comes_with-comes.ensures ∙ ap (comes_with line) found);
+      orders = c.of-order.ensures.same ∙ c.loop-key.invariant.orders;
+    }
+
+pub loop-key-preserved : goal.loop-key-preserved
+loop-key-preserved c =
+    let t = c.args.tables.now in
+    let scale = c.scale-scale.result in
+    let k = c.in-Some.key in
+    let line = c.in-Some.line.now in
+    let rest = c.next.new.self in
+    let old = c.loop-key.totals.items in
+    let count = length c.loop-key.yielded in
+    let left : c.loop-key.key-iterator ≡ (k, line) ∷ rest = rest_more entry _ _ _ (c.in-Some.key, c.in-Some.line) c.in-Some.is c.next.ensures.steps in
+    let longer = length_push c.loop-key.yielded (c.in-Some.key, c.in-Some.line) in
+    let all = λ (key : CustomerKey). sum_entries (line_share t key) (map.entries t.lines) in
+    let held : AreTotals scale (λ key. all key -ℤ sum_entries (line_share t key) ((k, line) ∷ rest)) old =
+    subst (λ (es : List (OrderLineKey × OrderLine)). AreTotals scale (λ key. all key -ℤ sum_entries (line_share t key) es) old) left c.loop-key.invariant.totals in
+    let found : option_copied c.of-order.result ≡ map.get t.orders (order_of_line k) = c.of-order.ensures.found ∙ ap (λ (d : Database). map.get d.orders (order_of_line k)) c.loop-key.invariant.orders in
+    let to : receiver k line (map.get t.orders (order_of_line k)) ≡ None = ap (receiver k line) (sym found) ∙ sym c.receiver.ensures ∙ c.in_default.is in
+    record {
+      can_next = tt;
+      finite = tt;
+      totals = totals-same scale _ _ old (λ key. line_passed t key k line rest (all key) to) held;
+      within = within-more (2 ^ 50 * count) _ old (omega arith) c.loop-key.invariant.within;
+      count = omega (arith, ap length left, c.loop-key.invariant.count);
+      come = c.loop-key.invariant.come ∙ ap (λ es. c.loop-key.come_with_orders && list_all (comes t) es) left
+          ∙ comes_more t k line rest c.loop-key.come_with_orders c.comes_with-comes.result (c.comes_with-comes.ensures ∙ ap (comes_with line) found);
+      orders = c.of-order.ensures.same ∙ c.loop-key.invariant.orders;
+    }
+
+pub returns-clause-totals : goal.returns-clause-totals
+returns-clause-totals c =
+    let t = c.args.tables.now in
+    let items = c.loop-key.totals.items in
+    let none : c.loop-key.key-iterator ≡ [] = rest_all entry _ _ _ c.in-None.is c.next.ensures.steps in
+    let all = λ (key : CustomerKey). sum_entries (line_share t key) (map.entries t.lines) in
+    let held : AreTotals c.scale-scale.result (λ key. all key -ℤ pos 0) items =
+    subst (λ (es : List (OrderLineKey × OrderLine)). AreTotals c.scale-scale.result (λ key. all key -ℤ sum_entries (line_share t key) es) items) none c.loop-key.invariant.totals in
+    let are : AreTotals c.scale-scale.result (delivered t) items =
+    totals-same c.scale-scale.result _ (delivered t) items
+    (λ key. let whole : (all key -ℤ pos 0) ≡ all key = omega (arith, ints) in whole ∙ delivered_is t key)
+    held in
+    subst (λ (scale : Scale). AreTotals scale (delivered t) items) c.scale-scale.ensures.value are
+
+pub returns-clause-within : goal.returns-clause-within
+returns-clause-within c =
+    let count = length c.loop-key.yielded in
+    let few : count ≤ 2 ^ 63 = omega (arith, c.lines-key-items.ensures.fits, ap length c.lines-key-items.ensures.rows, c.loop-key.invariant.count) in
+    within-more (2 ^ 50 * count) (2 ^ 124) c.loop-key.totals.items (omega arith) c.loop-key.invariant.within
+
+pub returns-clause-come : goal.returns-clause-come
+returns-clause-come c =
+    let t = c.args.tables.now in
+    let come = c.loop-key.come_with_orders in
+    let none : c.loop-key.key-iterator ≡ [] = rest_all entry _ _ _ c.in-None.is c.next.ensures.steps in
+    deliveries_rule t come (sym (c.loop-key.invariant.come ∙ ap (λ es. come && list_all (comes t) es) none ∙ and-true come))

@@ -1,0 +1,70 @@
+ghost use Rattle.std.specs.Prelude.{◌≡◌, ◌↔◌, ◌^◌, IsTrue, IfOk};
+ghost use Rattle.std.specs.Option.{option_copied};
+ghost use Rattle.schema.specs.Consistency.{delivered, LinesComeWithOrders};
+ghost use Rattle.consistency.specs.Balances.{AreTotals, AreWithin, receiver};
+ghost use Rattle.consistency.specs.Carriers.{comes_with};
+
+use crate::balances::{credit, zeros};
+use crate::orders::OrdersOfLines;
+use rows::{CustomerKey, Order, OrderLine, OrderLineKey};
+use schema::{NoMemory, Tables};
+use std::alloc::Global;
+
+/// What the lines say of deliveries.
+#[derive(Drop)]
+pub(crate) struct Deliveries {
+    /// What was delivered to each customer, in the order of the customers' keys.
+    pub(crate) totals: Vec<i128>,
+    /// Condition 7 (clause 3.3.2.7): OL_DELIVERY_D is null exactly where the order's O_CARRIER_ID is.
+    pub(crate) come_with_orders: bool,
+}
+
+/// Reads the lines once.
+pub(crate) fn read_deliveries(tables: &Tables, alloc: Global) -> Result<Deliveries, NoMemory>
+    ensures totals { IfOk result (λ read. AreTotals tables.now.scale (delivered tables.now) read.totals.items) }
+    ensures within { IfOk result (λ read. AreWithin (2 ^ 124) read.totals.items) }
+    ensures come { IfOk result (λ read. IsTrue read.come_with_orders ↔ LinesComeWithOrders tables.now) }
+{
+    let scale = tables.scale();
+    let rows = tables.rows();
+    let mut totals = zeros(rows.customers.len(), alloc)?;
+    let mut come_with_orders = true;
+    let mut orders = OrdersOfLines::new(tables);
+    for (key, line) in tables.lines() {
+        let order = orders.of(key);
+        let comes = comes_with(line, order);
+        come_with_orders &= comes;
+        if let Some(customer) = receiver(key, line, order) {
+            credit(&mut totals, scale, customer, i64::from(line.amount.get()));
+        }
+    }
+    Ok(Deliveries {
+        totals,
+        come_with_orders,
+    })
+}
+
+// A line without an order has nothing to come with.
+fn comes_with(line: &OrderLine, order: Option<&Order>) -> bool
+    ensures { result ≡ comes_with line.now (option_copied order.entry) }
+{
+    match order {
+        Some(order) => line.delivery_d.is_none() == order.carrier_id.is_none(),
+        None => true,
+    }
+}
+
+// To whom the line of the order was delivered, `None` where it was not.
+fn receiver(key: OrderLineKey, line: &OrderLine, order: Option<&Order>) -> Option<CustomerKey>
+    ensures { result ≡ receiver key line.now (option_copied order.entry) }
+{
+    if line.delivery_d.is_none() {
+        return None;
+    }
+    let order = order?;
+    Some(CustomerKey {
+        w_id: key.w_id,
+        d_id: key.d_id,
+        c_id: order.c_id,
+    })
+}
