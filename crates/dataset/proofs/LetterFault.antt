@@ -1,16 +1,14 @@
 -- The fault of a record, by what its first field says that it is.
-use Rattle.std.proofs.Common.{◌≡◌, ◌<◌, ◌^◌, ℕ, suc, List, [], ◌∷◌, ◌++◌, map, length, sum, Bool, true, false, Option, Some, None, codes, IsUtf8, refl, sym, ap, subst, ◌∙◌}
+use Rattle.std.proofs.Common.{◌≡◌, ◌<◌, ◌^◌, ℕ, suc, List, [], ◌∷◌, ◌++◌, map, length, drop, sum, Bool, true, false, Option, Some, None, codes, refl, sym, ap, subst, ◌∙◌}
 use Rattle.std.specs.Str.{bytes_eq, is_utf8}
 use Rattle.std.proofs.lemmas.List.{append-nil}
 use Rattle.std.proofs.lemmas.Str.{is_utf8-from_IsUtf8, IsUtf8-from_is_utf8}
 use Rattle.files.specs.declared.fault.FaultKind.{FaultKind}
 use Rattle.files.specs.declared.fault.FaultKind.TheVariants as fault
 use Rattle.files.specs.declared.fields.Fields.{Fields}
-use Rattle.files.specs.FieldRead.{Taking, taking, field_read, next_read}
+use Rattle.files.specs.FieldRead.{Taking, taking, next_read}
 use Rattle.files.specs.KindsRead.{word_read}
 use Rattle.files.specs.Taken.{Takes, fault_of, fields_left, with_fault}
-use Rattle.rows.proofs.Ascii.{utf8_words}
-use Rattle.files.proofs.Unlike.{other}
 use Rattle.files.proofs.KindsRead.{word_is, no_word}
 use Rattle.dataset.specs.declared.loader.Loader.{Loader}
 use Rattle.dataset.specs.declared.loader.Taken.TheVariants.{Row, End}
@@ -81,12 +79,28 @@ one_letter Orders = refl
 one_letter NewOrders = refl
 one_letter Lines = refl
 
+-- what was taken of a record as the bytes of its first field
+pub record TookBytes (word : List ℕ) (old new : Fields) : Type 0 where
+  pub left : fields_left new ≡ drop 1 (fields_left old)
+  pub none : fields_left old ≡ [] → (word ≡ []) × (fault_of new ≡ Some (with_fault (fault_of old) fault.WrongShape))
+  pub some : (field : List ℕ) (rest : List (List ℕ)) → fields_left old ≡ field ∷ rest → (word ≡ field) × (fault_of new ≡ fault_of old)
+
+some_bytes : (known : List ℕ) (n : ℕ) (word : List ℕ) (old new : Fields) → length known ≡ suc n → word ≡ known → TookBytes word old new
+    → TookWord known (fields_left old) (fault_of old) (taking new)
+some_bytes known n word old new some is took =
+    elim (fields_left old) as (λ left. fields_left old ≡ left → TookWord known (fields_left old) (fault_of old) (taking new)) [
+      | [] ↦ λ e. let clash : suc n ≡ 0 = sym some ∙ ap length (sym is ∙ (took.none e).0) in absurd cc
+      | field ∷ rest ↦ λ e.
+          let read = took.some field rest e in
+          record { left = e ∙ (λ i. (sym read.0 ∙ is) i ∷ sym (took.left ∙ ap (drop 1) e) i); fault = read.1 }
+    ] refl
+
 -- a row's record, behind its letter
 pub row_is : (table : Table) (l m : Loader) (old mid new : Fields) (word : List ℕ) → word ≡ letter table
-    → ◌≡◌ {A = List ℕ × Taking} (word, taking mid) (field_read word_read [] (taking old)) → (fault_of mid ≡ None → IsRowOf table l m mid new)
+    → TookBytes word old mid → (fault_of mid ≡ None → IsRowOf table l m mid new)
     → fault_of old ≡ None → IsTakenAs Row l m old new
-row_is table l m old mid new word is field taken none =
-    let read = some_word (letter table) 0 word (fields_left old) (fault_of old) (taking mid) (one_letter table) is field in
+row_is table l m old mid new word is took taken none =
+    let read = some_bytes (letter table) 0 word old mid (one_letter table) is took in
     let row = taken (read.fault ∙ none) in
     record {
       fault = λ few. row.fault ∙ sym (ap (λ fields. fields_fault (sizes l.scale) (place_numbers l.last) (table_counts l.rows) fields) read.left
@@ -102,12 +116,12 @@ end_none (field ∷ fields) known e = absurd cc
 
 -- the end record
 pub end_is : (l : Loader) (old mid checked new : Fields) (word : List ℕ) → word ≡ codes "END"
-    → ◌≡◌ {A = List ℕ × Taking} (word, taking mid) (field_read word_read [] (taking old))
+    → TookBytes word old mid
     → (sum (map length l.rows.histories.items) < 2 ^ 64 → taking checked ≡ take_columns (map (λ count. Count count) (table_counts l.rows)) (taking mid))
     → Takes mid checked (AreSpelt (row_counts l.rows))
     → fault_of new ≡ at_end (fields_left checked) (fault_of checked) → fault_of old ≡ None → IsTakenAs End l l old new
-end_is l old mid checked new word is field counted takes ended none =
-    let read = some_word (codes "END") 2 word (fields_left old) (fault_of old) (taking mid) refl is field in
+end_is l old mid checked new word is took counted takes ended none =
+    let read = some_bytes (codes "END") 2 word old mid refl is took in
     let start : taking mid ≡ record { left = fields_left mid; fault = None } = ap (λ (f : Option FaultKind). record { left = fields_left mid; fault = f }) (read.fault ∙ none) in
     let columns : List Column = map (λ count. Count count) (table_counts l.rows) in
     record {
@@ -119,60 +133,3 @@ end_is l old mid checked new word is field counted takes ended none =
           let texts : fields_left mid ≡ counts.texts = counts.left ∙ ap (λ l. counts.texts ++ l) whole.0 ∙ append-nil counts.texts in
           subst (IsDone End l l) (sym read.left) (refl, refl, (refl, subst (AreSpelt (row_counts l.rows)) (sym texts) counts.are_said));
     }
-
-no_kind : (word : List ℕ) → (word ≡ codes "I" → ⊥) → (word ≡ codes "W" → ⊥) → (word ≡ codes "D" → ⊥) → (word ≡ codes "S" → ⊥) → (word ≡ codes "C" → ⊥) → (word ≡ codes "H" → ⊥) → (word ≡ codes "O" → ⊥) → (word ≡ codes "N" → ⊥) → (word ≡ codes "L" → ⊥) → (word ≡ codes "END" → ⊥) → kind_of word ≡ None
-no_kind word n0 n1 n2 n3 n4 n5 n6 n7 n8 n9 = rw (
-  other word (codes "I") n0,
-  other word (codes "W") n1,
-  other word (codes "D") n2,
-  other word (codes "S") n3,
-  other word (codes "C") n4,
-  other word (codes "H") n5,
-  other word (codes "O") n6,
-  other word (codes "N") n7,
-  other word (codes "L") n8,
-  other word (codes "END") n9,
-) refl
-
--- bytes that are no text are none of the words
-no_text_kind : (field : List ℕ) → (IsUtf8 field → ⊥) → kind_of field ≡ None
-no_text_kind field none =
-    no_kind field (no (codes "I") (utf8_words (codes "I") refl)) (no (codes "W") (utf8_words (codes "W") refl)) (no (codes "D") (utf8_words (codes "D") refl))
-    (no (codes "S") (utf8_words (codes "S") refl)) (no (codes "C") (utf8_words (codes "C") refl)) (no (codes "H") (utf8_words (codes "H") refl))
-    (no (codes "O") (utf8_words (codes "O") refl)) (no (codes "N") (utf8_words (codes "N") refl)) (no (codes "L") (utf8_words (codes "L") refl)) (no (codes "END") (utf8_words (codes "END") refl))
-  where
-    no : (known : List ℕ) → IsUtf8 known → field ≡ known → ⊥
-    no known utf8 same = none (subst IsUtf8 (sym same) utf8)
-
--- a record that begins with none of the words
-other_fault : (word : List ℕ) (left : List (List ℕ)) (new : Taking) (end : Option FaultKind) → ◌≡◌ {A = List ℕ × Taking} (word, new) (next_read word_read [] left None) → kind_of word ≡ None
-    → end ≡ Some (with_fault new.fault fault.WrongShape) → (l : Loader) → end ≡ fields_fault (sizes l.scale) (place_numbers l.last) (table_counts l.rows) left
-other_fault word [] new end e none is l = is ∙ ap (λ f. Some (with_fault f fault.WrongShape)) (ap (λ (p : List ℕ × Taking). p.1.fault) e)
-other_fault word (field ∷ rest) new end e none is l = by (is_utf8 field) refl
-  where
-    by : (b : Bool) → is_utf8 field ≡ b → end ≡ fields_fault (sizes l.scale) (place_numbers l.last) (table_counts l.rows) (field ∷ rest)
-    by true utf8 =
-        let read = word_is field (IsUtf8-from_is_utf8 field utf8) in
-        let done = rw read at e in
-        let kind : kind_of field ≡ None = ap kind_of (sym (ap (λ (p : List ℕ × Taking). p.0) done)) ∙ none in
-        is ∙ ap (λ f. Some (with_fault f fault.WrongShape)) (ap (λ (p : List ℕ × Taking). p.1.fault) done)
-        ∙ sym (ap (λ k. kind_fault (sizes l.scale) (place_numbers l.last) (table_counts l.rows) k rest) kind)
-    by false not_utf8 =
-        let no_text : IsUtf8 field → ⊥ = λ u. let yes = is_utf8-from_IsUtf8 field u in let no : true ≡ false = sym yes ∙ not_utf8 in cc in
-        let done = rw (no_word field no_text) at e in
-        is ∙ ap (λ f. Some (with_fault f fault.WrongShape)) (ap (λ (p : List ℕ × Taking). p.1.fault) done)
-        ∙ sym (ap (λ k. kind_fault (sizes l.scale) (place_numbers l.last) (table_counts l.rows) k rest) (no_text_kind field no_text))
-
-pub other_is : (l : Loader) (old mid new : Fields) (word : List ℕ)
-    → (word ≡ codes "I" → ⊥) → (word ≡ codes "W" → ⊥) → (word ≡ codes "D" → ⊥) → (word ≡ codes "S" → ⊥) → (word ≡ codes "C" → ⊥) → (word ≡ codes "H" → ⊥) → (word ≡ codes "O" → ⊥) → (word ≡ codes "N" → ⊥) → (word ≡ codes "L" → ⊥) → (word ≡ codes "END" → ⊥)
-    → ◌≡◌ {A = List ℕ × Taking} (word, taking mid) (field_read word_read [] (taking old)) → fault_of new ≡ Some (with_fault (fault_of mid) fault.WrongShape)
-    → fault_of old ≡ None → IsTakenAs Row l l old new
-other_is l old mid new word n0 n1 n2 n3 n4 n5 n6 n7 n8 n9 field is none =
-    let e : ◌≡◌ {A = List ℕ × Taking} (word, taking mid) (next_read word_read [] (fields_left old) None) = field ∙ ap (next_read word_read [] (fields_left old)) none in
-    record {
-      fault = λ few. other_fault word (fields_left old) (taking mid) (fault_of new) e (no_kind word n0 n1 n2 n3 n4 n5 n6 n7 n8 n9) is l;
-      done = λ free. absurd (some free);
-    }
-  where
-    some : fault_of new ≡ None → ⊥
-    some free = let clash : None ≡ Some (with_fault (fault_of mid) fault.WrongShape) = sym free ∙ is in cc

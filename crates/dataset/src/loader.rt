@@ -53,18 +53,17 @@ impl Loader {
     pub fn take(&mut self, fields: &mut Fields) -> Result<Taken, NoMemory>
         ensures { IfOk result (λ taken. fault_of fields.old ≡ None → IsTakenAs taken self.old self.new fields.old fields.new) }
     {
-        // The letters of most records come first.
-        match fields.word() {
-            "L" => lines::take(self, fields)?,
-            "I" => items::take(self, fields)?,
-            "S" => stocks::take(self, fields)?,
-            "C" => customers::take(self, fields)?,
-            "H" => histories::take(self, fields)?,
-            "O" => orders::take(self, fields)?,
-            "N" => new_orders::take(self, fields)?,
-            "W" => warehouses::take(self, fields)?,
-            "D" => districts::take(self, fields)?,
-            "END" => {
+        match fields.bytes() {
+            b"I" => items::take(self, fields)?,
+            b"W" => warehouses::take(self, fields)?,
+            b"D" => districts::take(self, fields)?,
+            b"S" => stocks::take(self, fields)?,
+            b"C" => customers::take(self, fields)?,
+            b"H" => histories::take(self, fields)?,
+            b"O" => orders::take(self, fields)?,
+            b"N" => new_orders::take(self, fields)?,
+            b"L" => lines::take(self, fields)?,
+            b"END" => {
                 end::check(fields, &self.rows);
                 let _ = fields.finish();
                 return Ok(Taken::End);
