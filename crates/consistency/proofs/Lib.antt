@@ -7,6 +7,8 @@ pub mod BalancesPayments
 pub mod BalancesDeliveries
 pub mod BalancesRows
 pub mod CarriersRules
+pub mod OrdersLeft
+pub mod OrdersBesideLines
 pub mod OrderNumbersRules
 pub mod OrderNumbersGreatest
 pub mod LineCountsRules

@@ -5,7 +5,7 @@ ghost use Rattle.consistency.specs.Balances.{AreTotals, AreWithin, receiver};
 ghost use Rattle.consistency.specs.Carriers.{comes_with};
 
 use crate::balances::{credit, zeros};
-use crate::orders::OrdersOfLines;
+use crate::orders::OrdersBesideLines;
 use rows::{CustomerKey, Order, OrderLine, OrderLineKey};
 use schema::{NoMemory, Tables};
 use std::alloc::Global;
@@ -29,11 +29,10 @@ pub(crate) fn read_deliveries(tables: &Tables, alloc: Global) -> Result<Deliveri
     let rows = tables.rows();
     let mut totals = zeros(rows.customers.len(), alloc)?;
     let mut come_with_orders = true;
-    let mut orders = OrdersOfLines::new(tables);
+    let mut orders = OrdersBesideLines::new(tables);
     for (key, line) in tables.lines() {
         let order = orders.of(key);
-        let comes = comes_with(line, order);
-        come_with_orders &= comes;
+        come_with_orders &= comes_with(line, order);
         if let Some(customer) = receiver(key, line, order) {
             credit(&mut totals, scale, customer, i64::from(line.amount.get()));
         }

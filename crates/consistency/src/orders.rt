@@ -1,65 +1,61 @@
 ghost use Rattle.std.specs.Prelude.{◌≡◌};
 ghost use Rattle.std.specs.Option.{option_copied};
 ghost use Rattle.std.specs.FinMap as map;
-ghost use Rattle.rows.specs.Keys.{order_of_line};
+ghost use Rattle.rows.specs.Keys.{order_cmp, order_of_line};
+ghost use Rattle.consistency.specs.OrdersLeft.{SameFrom};
 
 use rows::{Order, OrderKey, OrderLineKey};
-use schema::Tables;
+use schema::{Orders, Tables};
+use std::cmp::Ordering;
 use std::marker::Model;
 
-/// The orders of lines. What was found for the last line is kept, since the lines of an order come
-/// one after another. A clause sees the tables.
+/// The orders beside lines, which both come in the order of their keys: seen as the orders that are left,
+/// with their keys.
 #[derive(Drop)]
-pub(crate) struct OrdersOfLines<'t> {
-    tables: &'t Tables,
-    // The key of the last line's order, and the order.
-    key: OrderKey,
-    order: Option<&'t Order>,
+pub(crate) struct OrdersBesideLines<'t> {
+    // The first that is left, and those behind it.
+    first: Option<(OrderKey, &'t Order)>,
+    others: Orders<'t>,
 }
 
-impl<'t> Model for OrdersOfLines<'t> {
-    ghost use Rattle.std.specs.Prelude.{◌≡◌};
-    ghost use Rattle.std.specs.Option.{option_copied};
+impl<'t> Model for OrdersBesideLines<'t> {
+    ghost use Rattle.std.specs.Prelude.{List, IsTrue};
     ghost use Rattle.std.specs.FinMap as map;
-    ghost use Rattle.schema.specs.Database.{Database};
-    ghost use Rattle.schema.specs.contracts.tables.Tables as tables_kind;
+    ghost use Rattle.rows.specs.declared.keys.OrderKey as order_key;
+    ghost use Rattle.rows.specs.declared.records.Order as order;
+    ghost use Rattle.rows.specs.Keys.{order_cmp};
+    ghost use Rattle.consistency.specs.OrdersLeft.{orders_left};
 
-    ghost Value = { Database };
+    ghost Value = { List (order_key.OrderKey × order.Order) };
 
-    ghost coded = { tables_kind.the_row.coded };
+    ghost view = { λ o. orders_left o.first o.others };
 
-    ghost view = { λ o. o.tables.now };
-
-    ghost invariant = { λ o. option_copied o.order ≡ map.get o.tables.now.orders o.key };
+    ghost invariant = { λ o. IsTrue (map.is_sorted order_cmp (orders_left o.first o.others)) };
 }
 
-impl<'t> OrdersOfLines<'t> {
+impl<'t> OrdersBesideLines<'t> {
+    /// All orders.
     pub(crate) fn new(tables: &'t Tables) -> Self
-        ensures { result ≡ tables.now }
+        ensures { result ≡ map.entries tables.now.orders }
     {
-        // It begins with any key.
-        let key = OrderKey {
-            w_id: 0,
-            d_id: 0,
-            o_id: 0,
-        };
-        OrdersOfLines {
-            tables,
-            key,
-            order: tables.order(key),
-        }
+        let mut others = tables.orders();
+        let first = others.next();
+        OrdersBesideLines { first, others }
     }
 
-    /// The line's order, `None` where there is none.
+    /// The line's order, `None` where it is not left. Orders of lower keys are left no more.
     pub(crate) fn of(&mut self, line: OrderLineKey) -> Option<&'t Order>
-        ensures found { option_copied result ≡ map.get self.old.orders (order_of_line line) }
-        ensures same { self.new ≡ self.old }
+        ensures found { option_copied result ≡ map.find order_cmp (order_of_line line) self.old }
+        ensures left { SameFrom (order_of_line line) self.old self.new }
     {
         let key = line.order();
-        if key != self.key {
-            self.key = key;
-            self.order = self.tables.order(key);
+        while let Some((at, order)) = self.first {
+            match at.cmp(&key) {
+                Ordering::Less => self.first = self.others.next(),
+                Ordering::Equal => return Some(order),
+                Ordering::Greater => return None,
+            }
         }
-        self.order
+        None
     }
 }

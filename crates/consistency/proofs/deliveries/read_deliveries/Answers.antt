@@ -8,11 +8,12 @@ use Rattle.std.specs.List.{list_all}
 use Rattle.std.specs.Option.{option_copied}
 use Rattle.std.specs.Prelude.{ℤ, pos, ◌-ℤ◌}
 use Rattle.rows.specs.declared.keys.CustomerKey.{CustomerKey}
+use Rattle.rows.specs.declared.keys.OrderKey.{OrderKey}
 use Rattle.rows.specs.declared.keys.OrderLineKey.{OrderLineKey}
+use Rattle.rows.specs.declared.records.Order.{Order}
 use Rattle.rows.specs.declared.records.OrderLine.{OrderLine}
 use Rattle.rows.specs.Keys.{order_of_line}
 use Rattle.schema.specs.declared.scale.Scale.{Scale}
-use Rattle.schema.specs.Database.{Database}
 use Rattle.schema.specs.Entries.{entry}
 use Rattle.schema.specs.Sums.{sum_entries}
 use Rattle.schema.specs.Consistency.{delivered}
@@ -22,7 +23,28 @@ use Rattle.consistency.proofs.BalancesTotals.{totals-same, within-more, room-fro
 use Rattle.consistency.proofs.BalancesDeliveries.{line_share, delivered_is, line_credited, line_passed}
 use Rattle.consistency.proofs.BalancesRows.{totals_none, within_none}
 use Rattle.consistency.proofs.CarriersRules.{comes, comes_more, deliveries_rule}
+use Rattle.consistency.proofs.OrdersBesideLines.{AreBeside, beside-all, beside-rest}
 use Rattle.consistency.proofs.deliveries.read_deliveries.Goals as goal
+use Rattle.consistency.proofs.deliveries.read_deliveries.Goals.{After-comes_with-come_with_orders}
+
+-- the line that is read is the first that is left
+first : (c : After-comes_with-come_with_orders) → c.loop-key.key-iterator ≡ (c.in-Some.key, c.in-Some.line.now) ∷ c.next.new.self
+first c = rest_more entry _ _ _ (c.in-Some.key, c.in-Some.line) c.in-Some.is c.next.ensures.steps
+
+beside : (c : After-comes_with-come_with_orders) → AreBeside c.args.tables.now c.loop-key.orders ((c.in-Some.key, c.in-Some.line.now) ∷ c.next.new.self)
+beside c = subst (AreBeside c.args.tables.now c.loop-key.orders) (first c) c.loop-key.invariant.beside
+
+-- and its order is that of the table
+found : (c : After-comes_with-come_with_orders) → option_copied c.of-order.result ≡ map.get c.args.tables.now.orders (order_of_line c.in-Some.key)
+found c = c.of-order.ensures.found ∙ (beside c).finds.0
+
+come : (c : After-comes_with-come_with_orders) → list_all (comes c.args.tables.now) (map.entries c.args.tables.now.lines)
+    ≡ ((c.loop-key.come_with_orders && c.comes_with-come_with_orders.result) && list_all (comes c.args.tables.now) c.next.new.self)
+come c =
+    let t = c.args.tables.now in
+    let before = c.loop-key.come_with_orders in
+    c.loop-key.invariant.come ∙ ap (λ es. before && list_all (comes t) es) (first c)
+    ∙ comes_more t c.in-Some.key c.in-Some.line.now c.next.new.self before c.comes_with-come_with_orders.result (c.comes_with-come_with_orders.ensures ∙ ap (comes_with c.in-Some.line.now) (found c))
 
 pub loop-key-init : goal.loop-key-init
 loop-key-init c =
@@ -32,16 +54,18 @@ loop-key-init c =
     let start = λ (key : CustomerKey). all key -ℤ sum_entries (line_share t key) c.into_iter-key-iterator.result in
     let long : c.len.result ≡ length rows.customers.items = omega arith in
     let nothing : replicate (length rows.customers.items) (pos 0) ≡ c.in_ok-totals.totals.items = sym (c.in_ok-totals.ensures ∙ ap (λ n. replicate n (pos 0)) long) in
-    let none = λ (key : CustomerKey). let same : sum_entries (line_share t key) c.into_iter-key-iterator.result ≡ all key = ap (sum_entries (line_share t key)) (c.into_iter-key-iterator.ensures.into_iter_gives ∙ c.lines-key-items.ensures.rows) in
-    let e : start key ≡ pos 0 = omega (arith, ints) in e in record {
+    let lines : c.into_iter-key-iterator.result ≡ map.entries t.lines = c.into_iter-key-iterator.ensures.into_iter_gives ∙ c.lines-key-items.ensures.rows in
+    let none = λ (key : CustomerKey). let same : sum_entries (line_share t key) c.into_iter-key-iterator.result ≡ all key = ap (sum_entries (line_share t key)) lines in
+    let e : start key ≡ pos 0 = omega (arith, ints) in e in
+    record {
       can_next = tt;
       finite = tt;
       totals = subst (λ (scale : Scale). AreTotals scale start c.in_ok-totals.totals.items) (sym c.scale-scale.ensures.value)
           (subst (λ (totals : List ℤ). AreTotals t.scale start totals) nothing (totals_none t.scale rows c.rows-rows.ensures.fits start none));
       within = subst (λ (totals : List ℤ). AreWithin 0 totals) nothing (within_none 0 (length rows.customers.items));
-      count = omega (arith, ap length (c.into_iter-key-iterator.ensures.into_iter_gives ∙ c.lines-key-items.ensures.rows));
-      come = ap (list_all (comes t)) (sym (c.into_iter-key-iterator.ensures.into_iter_gives ∙ c.lines-key-items.ensures.rows));
-      orders = c.new-orders.ensures;
+      count = omega (arith, ap length lines);
+      come = ap (list_all (comes t)) (sym lines);
+      beside = subst (AreBeside t c.new-orders.result) (sym lines) (subst (λ (orders : List (OrderKey × Order)). AreBeside t orders (map.entries t.lines)) (sym c.new-orders.ensures) (beside-all t));
     }
 
 pub credit-requires-clause-room : goal.credit-requires-clause-room
@@ -66,7 +90,8 @@ loop-key-preserved-in-Some-receiver c =
     let old = c.loop-key.totals.items in
     let new = c.credit.new.totals in
     let count = length c.loop-key.yielded in
-    let left : c.loop-key.key-iterator ≡ (k, line) ∷ rest = rest_more entry _ _ _ (c.in-Some.key, c.in-Some.line) c.in-Some.is c.next.ensures.steps in
+    let here = (goal.at.loop-key-preserved-in-Some-receiver c).After-comes_with-come_with_orders in
+    let left : c.loop-key.key-iterator ≡ (k, line) ∷ rest = first here in
     let longer = length_push c.loop-key.yielded (c.in-Some.key, c.in-Some.line) in
     let same_length : length new ≡ c.loop-key.totals.len = omega (arith, c.credit.auto.totals, c.deref_mut.ensures.len) in
     let back : take c.loop-key.totals.len (new ++ drop (length new) old) ≡ new = written new old c.loop-key.totals.len same_length in
@@ -77,8 +102,7 @@ loop-key-preserved-in-Some-receiver c =
     subst (λ (totals : List ℤ). AreTotals scale before totals) (sym c.deref_mut.ensures.value)
     (subst (λ (es : List (OrderLineKey × OrderLine)). AreTotals scale (λ key. all key -ℤ sum_entries (line_share t key) es) old) left c.loop-key.invariant.totals) in
     let bounded : AreWithin (2 ^ 50 * count) c.deref_mut.result.now = subst (λ (totals : List ℤ). AreWithin (2 ^ 50 * count) totals) (sym c.deref_mut.ensures.value) c.loop-key.invariant.within in
-    let found : option_copied c.of-order.result ≡ map.get t.orders (order_of_line k) = c.of-order.ensures.found ∙ ap (λ (d : Database). map.get d.orders (order_of_line k)) c.loop-key.invariant.orders in
-    let to : receiver k line (map.get t.orders (order_of_line k)) ≡ Some c.in-Some-receiver.customer = ap (receiver k line) (sym found) ∙ sym c.receiver.ensures ∙ c.in-Some-receiver.is in
+    let to : receiver k line (map.get t.orders (order_of_line k)) ≡ Some c.in-Some-receiver.customer = ap (receiver k line) (sym (found here)) ∙ sym c.receiver.ensures ∙ c.in-Some-receiver.is in
     record {
       can_next = tt;
       finite = tt;
@@ -87,9 +111,8 @@ loop-key-preserved-in-Some-receiver c =
       within = subst (λ (totals : List ℤ). AreWithin (2 ^ 50 * length (c.loop-key.yielded ++ (c.in-Some.key, c.in-Some.line) ∷ [])) totals) (sym back)
           (within-more (2 ^ 50 * count + 2 ^ 50) _ new (omega arith) (c.credit.ensures.within (2 ^ 50 * count) bounded));
       count = omega (arith, ap length left, c.loop-key.invariant.count);
-      come = c.loop-key.invariant.come ∙ ap (λ es. c.loop-key.come_with_orders && list_all (comes t) es) left
-          ∙ comes_more t k line rest c.loop-key.come_with_orders c.comes_with-comes.result (c.comes_with-comes.ensures ∙ ap (comes_with line) found);
-      orders = c.of-order.ensures.same ∙ c.loop-key.invariant.orders;
+      come = come here;
+      beside = beside-rest t c.loop-key.orders c.of-order.new.self k line rest (beside here) c.of-order.ensures.left;
     }
 
 pub loop-key-preserved : goal.loop-key-preserved
@@ -101,22 +124,21 @@ loop-key-preserved c =
     let rest = c.next.new.self in
     let old = c.loop-key.totals.items in
     let count = length c.loop-key.yielded in
-    let left : c.loop-key.key-iterator ≡ (k, line) ∷ rest = rest_more entry _ _ _ (c.in-Some.key, c.in-Some.line) c.in-Some.is c.next.ensures.steps in
+    let here = (goal.at.loop-key-preserved c).After-comes_with-come_with_orders in
+    let left : c.loop-key.key-iterator ≡ (k, line) ∷ rest = first here in
     let longer = length_push c.loop-key.yielded (c.in-Some.key, c.in-Some.line) in
     let all = λ (key : CustomerKey). sum_entries (line_share t key) (map.entries t.lines) in
     let held : AreTotals scale (λ key. all key -ℤ sum_entries (line_share t key) ((k, line) ∷ rest)) old =
     subst (λ (es : List (OrderLineKey × OrderLine)). AreTotals scale (λ key. all key -ℤ sum_entries (line_share t key) es) old) left c.loop-key.invariant.totals in
-    let found : option_copied c.of-order.result ≡ map.get t.orders (order_of_line k) = c.of-order.ensures.found ∙ ap (λ (d : Database). map.get d.orders (order_of_line k)) c.loop-key.invariant.orders in
-    let to : receiver k line (map.get t.orders (order_of_line k)) ≡ None = ap (receiver k line) (sym found) ∙ sym c.receiver.ensures ∙ c.in_default.is in
+    let to : receiver k line (map.get t.orders (order_of_line k)) ≡ None = ap (receiver k line) (sym (found here)) ∙ sym c.receiver.ensures ∙ c.in_default.is in
     record {
       can_next = tt;
       finite = tt;
       totals = totals-same scale _ _ old (λ key. line_passed t key k line rest (all key) to) held;
       within = within-more (2 ^ 50 * count) _ old (omega arith) c.loop-key.invariant.within;
       count = omega (arith, ap length left, c.loop-key.invariant.count);
-      come = c.loop-key.invariant.come ∙ ap (λ es. c.loop-key.come_with_orders && list_all (comes t) es) left
-          ∙ comes_more t k line rest c.loop-key.come_with_orders c.comes_with-comes.result (c.comes_with-comes.ensures ∙ ap (comes_with line) found);
-      orders = c.of-order.ensures.same ∙ c.loop-key.invariant.orders;
+      come = come here;
+      beside = beside-rest t c.loop-key.orders c.of-order.new.self k line rest (beside here) c.of-order.ensures.left;
     }
 
 pub returns-clause-totals : goal.returns-clause-totals

@@ -6,9 +6,11 @@ use Rattle.schema.specs.Sums.{sum_entries}
 use Rattle.consistency.specs.Balances.{AreTotals, AreWithin}
 use Rattle.consistency.proofs.BalancesDeliveries.{line_share}
 use Rattle.consistency.proofs.CarriersRules.{comes}
+use Rattle.consistency.proofs.OrdersBesideLines.{AreBeside}
 use Rattle.consistency.proofs.deliveries.read_deliveries.Given as goal
 
--- the totals have all lines but those that are left, and these decide whether all come with their orders
+-- the totals have all lines but those that are left, these decide whether all come with their orders, and their orders
+-- are left too
 abbrev pub invariant-loop-key : goal.invariant-loop-key
 invariant-loop-key l = record {
   can_next : goal.iterator-loop-key.can_next l.key-iterator;
@@ -17,5 +19,5 @@ invariant-loop-key l = record {
   within : AreWithin (2 ^ 50 * length l.yielded) l.totals.items;
   count : length l.yielded + length l.key-iterator ≡ length (map.entries l.tables.lines);
   come : list_all (comes l.tables) (map.entries l.tables.lines) ≡ (l.come_with_orders && list_all (comes l.tables) l.key-iterator);
-  orders : l.orders ≡ l.tables;
+  beside : AreBeside l.tables l.orders l.key-iterator;
 }
