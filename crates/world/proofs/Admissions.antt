@@ -14,7 +14,7 @@ use Rattle.world.specs.declared.desk.Active.TheVariants.{Acting}
 use Rattle.world.specs.declared.desk.SessionDesk.{SessionDesk}
 use Rattle.world.specs.declared.flight.Message.TheVariants.{Start}
 use Rattle.world.specs.declared.flight.Report.{Report}
-use Rattle.world.specs.declared.flight.Flow.{Flow}
+use Rattle.world.specs.declared.flight.Journey.{Journey}
 use Rattle.world.specs.declared.world.Parts.{Parts}
 use Rattle.world.specs.Sound.{IsPassOf, IsSessionOf}
 use Rattle.world.specs.Happening.{Admits, CanAsk}
@@ -59,22 +59,22 @@ module _ {J : Type 0} where
       ap seated seat ∙ ap with_pass away
 
   -- what is true of a world to which a request was admitted
-  pub admits : (session number : ℕ) (asked : Request) (desk left : SessionDesk J) (old new : Parts J) (flow : Flow J) (works : Vec Work Global) (meeting : List (Option (Report J)))
+  pub admits : (session number : ℕ) (asked : Request) (desk left : SessionDesk J) (old new : Parts J) (journey : Journey J) (works : Vec Work Global) (meeting : List (Option (Report J)))
       → is_some desk.pass ≡ true
-      → flow.transaction.age ≡ old.desk.admitted → flow.transaction.number ≡ number → flow.transaction.request ≡ asked → flow.transaction.held ≡ []
-      → slice_get old.desk.active flow.transaction.slot ≡ Some None
-      → ((shared : Shared) → IsAccepted shared.scale asked → IsReached shared asked flow.progress [])
-      → IfSome desk.pass (λ was. flow.transaction.pass ≡ with_asks was (asking number asked was.seen was.mine))
-      → works.items ≡ works_of flow.progress → meeting ≡ replicate (length works.items) None
-      → left.seat ≡ seating desk.seat.session flow.transaction.pass.asks → left.pass ≡ None
-      → new.catalog ≡ old.catalog → new.stations ≡ old.stations → new.inbox ≡ old.inbox ++ Start flow works ∷ []
+      → journey.transaction.age ≡ old.desk.admitted → journey.transaction.number ≡ number → journey.transaction.request ≡ asked → journey.transaction.held ≡ []
+      → slice_get old.desk.active journey.transaction.slot ≡ Some None
+      → ((shared : Shared) → IsAccepted shared.scale asked → IsReached shared asked journey.progress [])
+      → IfSome desk.pass (λ was. journey.transaction.pass ≡ with_asks was (asking number asked was.seen was.mine))
+      → works.items ≡ works_of journey.progress → meeting ≡ replicate (length works.items) None
+      → left.seat ≡ seating desk.seat.session journey.transaction.pass.asks → left.pass ≡ None
+      → new.catalog ≡ old.catalog → new.stations ≡ old.stations → new.inbox ≡ old.inbox ++ Start journey works ∷ []
       → new.outbox ≡ old.outbox → new.log ≡ old.log → new.desk.admitted ≡ old.desk.admitted + 1
-      → new.desk.active ≡ slice_set old.desk.active flow.transaction.slot (Some (Acting 0 meeting)) → new.desk.sessions.items ≡ slice_set old.desk.sessions.items session left
+      → new.desk.active ≡ slice_set old.desk.active journey.transaction.slot (Some (Acting 0 meeting)) → new.desk.sessions.items ≡ slice_set old.desk.sessions.items session left
       → Admits session number asked desk old new
-  admits session number asked desk left old new flow works meeting there age same request held free begins told works_are first seat away catalog stations inbox outbox log admitted active sessions =
-      let with_pass = asked_with desk.pass (λ was. with_asks was (asking number asked was.seen was.mine)) flow.transaction.pass there told in
+  admits session number asked desk left old new journey works meeting there age same request held free begins told works_are first seat away catalog stations inbox outbox log admitted active sessions =
+      let with_pass = asked_with desk.pass (λ was. with_asks was (asking number asked was.seen was.mine)) journey.transaction.pass there told in
       record {
-        flow = flow;
+        journey = journey;
         works = works;
         pass = with_pass.0;
         age = age;
@@ -92,6 +92,6 @@ module _ {J : Type 0} where
         outbox = outbox;
         log = log;
         admitted = admitted;
-        active = active ∙ ap (λ (slots : List (Option (Report J))). slice_set old.desk.active flow.transaction.slot (Some (Acting 0 slots))) first;
-        sessions = sessions ∙ ap (slice_set old.desk.sessions.items session) (left_at left desk.seat.session flow.transaction.pass seat away);
+        active = active ∙ ap (λ (slots : List (Option (Report J))). slice_set old.desk.active journey.transaction.slot (Some (Acting 0 slots))) first;
+        sessions = sessions ∙ ap (slice_set old.desk.sessions.items session) (left_at left desk.seat.session journey.transaction.pass seat away);
       }

@@ -37,13 +37,12 @@ use Rattle.transactions.proofs.Held.{HoldsWished, dies_of_holder}
 use Rattle.transactions.proofs.Reached.{some_actions}
 use Rattle.rendezvous.specs.Awaited.{awaited_from, reported}
 use Rattle.slices.specs.Sliced.{Sliced, held_at}
-use Rattle.commit_log.specs.declared.entry.Entry.{Entry}
 use Rattle.world.specs.declared.desk.Active.{Active}
 use Rattle.world.specs.declared.desk.Active.TheVariants as active
-use Rattle.world.specs.declared.flight.Act.{Act as AnyAct}
-use Rattle.world.specs.declared.flight.Flow.{Flow}
+use Rattle.world.specs.declared.flight.Errand.{Errand as AnyErrand}
+use Rattle.world.specs.declared.flight.Journey.{Journey}
 use Rattle.world.specs.declared.flight.Message.{Message}
-use Rattle.world.specs.declared.flight.Message.TheVariants.{Start, Act, Settle, Undo}
+use Rattle.world.specs.declared.flight.Message.TheVariants.{Start, Errand, Settle, Undo}
 use Rattle.world.specs.declared.flight.Report.{Report}
 use Rattle.world.specs.declared.flight.Item.{Item}
 use Rattle.world.specs.declared.flight.Item.TheVariants as item
@@ -52,11 +51,11 @@ use Rattle.world.specs.declared.world.Core.{Core}
 use Rattle.world.specs.Parted.{joined_in}
 use Rattle.world.specs.Slots.{count_active}
 use Rattle.world.specs.Flights.{Token, Acting, Committing, Ending, InFlight, nothing, parts, part_carried, part_message, part_item, part_met, acting_from, claims_reported}
-use Rattle.world.specs.Sound.{IsSoundWith, IsSoundAct, IsSoundItem, IsSoundMessage, IsSoundPhase, IsSoundRan, IsCarriedAt, IsPlaceOf, UnderWay, awaited_by_all, flight, reported_to_all}
+use Rattle.world.specs.Sound.{IsSoundWith, IsSoundErrand, IsSoundItem, IsSoundMessage, IsSoundPhase, IsSoundRan, IsCarriedAt, IsPlaceOf, UnderWay, awaited_by_all, flight, reported_to_all}
 use Rattle.world.specs.declared.flight.Carried.{Carried}
 use Rattle.world.specs.Events.{AllTurns, AtStation, TakesMessage, TurnsFollow, carried_by, holder_of, put_for, report_of}
-use Rattle.world.specs.Following.{acts_from, acts_of}
-use Rattle.world.specs.Stations.{HaveToWait, IsStationOf, act_of, message_of, waiting_at, waiting_in}
+use Rattle.world.specs.Following.{errands_from, errands_of}
+use Rattle.world.specs.Stations.{HaveToWait, IsStationOf, errand_of, message_of, waiting_at, waiting_in}
 use Rattle.world.specs.Together.{IsSound, together}
 use Rattle.world.specs.Queues.{all_of, queue_of}
 use Rattle.world.specs.Letters.{items_in, letter, messages_in, messages_of, posted_by}
@@ -122,13 +121,13 @@ module _ (u : UnderWay) (group : Group) where
   module _ {J : Type 0} (shared : Shared) where
     -- ---- what each part of what is under way has on the group
 
-    carried_few : (slot number : ℕ) (o : Option (Flow J))
+    carried_few : (slot number : ℕ) (o : Option (Journey J))
         → IsCarriedAt slot u number o → claims_on group (part_carried o).claims ≤ carried_on number
     carried_few slot zero None h = absurd h
-    carried_few slot zero (Some flow) h =
+    carried_few slot zero (Some journey) h =
         omega (arith, ap {B = ℕ} (λ (held : List (List Claiming)). claims_on group (all_claims held)) h.held)
     carried_few slot (suc number) None h = omega arith
-    carried_few slot (suc number) (Some flow) h = absurd h
+    carried_few slot (suc number) (Some journey) h = absurd h
 
     ran_few : (number : ℕ) (one : Ran J) → IsSoundRan shared u number one
         → claims_on group (claims_of_ran one) ≤ work_on (slice_get (works_of u.progress) number)
@@ -138,29 +137,29 @@ module _ (u : UnderWay) (group : Group) where
     ran_few number ran.NoMemory h = omega arith
 
     report_few : (number : ℕ) (r : Report J)
-        → IsCarriedAt r.slot u number r.flow → IsSoundRan shared u number r.ran → claims_on group (claims_reported r) ≤ own number
+        → IsCarriedAt r.slot u number r.journey → IsSoundRan shared u number r.ran → claims_on group (claims_reported r) ≤ own number
     report_few number r carried sound =
         omega (
           arith,
-          carried_few r.slot number r.flow carried,
+          carried_few r.slot number r.journey carried,
           ran_few number r.ran sound,
-          sum_by-append (one_claim_on group) (part_carried r.flow).claims (claims_of_ran r.ran),
+          sum_by-append (one_claim_on group) (part_carried r.journey).claims (claims_of_ran r.ran),
         )
 
     message_few : (message : Message J)
         → IsSoundMessage shared (λ slot. u) message → sum_by weigh_other (part_message message).tokens ≡ 0
         → claims_on group (part_message message).claims ≤ sum_by weight (part_message message).tokens
-    message_few (Start flow works) h none =
-        let place = length flow.transaction.held in
+    message_few (Start journey works) h none =
+        let place = length journey.transaction.held in
         let some : 1 ≤ length works.items =
         omega (arith, ap (λ (ws : List Work). length ws) h.works_are, some_actions u.progress) in
         omega (
           arith,
-          ap {B = ℕ} (λ (held : List (List Claiming)). claims_on group (all_claims held)) h.flow_is.held,
-          first_weighs flow.transaction.slot place works.items some,
-          at_place flow.transaction.slot 0 place (omega (arith, ap (λ (held : List (List Claiming)). length held) h.flow_is.held)),
+          ap {B = ℕ} (λ (held : List (List Claiming)). claims_on group (all_claims held)) h.journey_is.held,
+          first_weighs journey.transaction.slot place works.items some,
+          at_place journey.transaction.slot 0 place (omega (arith, ap (λ (held : List (List Claiming)). length held) h.journey_is.held)),
         )
-    message_few (Act act) h none = omega (arith, carried_few act.slot h.number act.flow h.flow, at_place act.slot h.number act.place h.place)
+    message_few (Errand errand) h none = omega (arith, carried_few errand.slot h.number errand.journey h.journey, at_place errand.slot h.number errand.place h.place)
     message_few (Settle slot claims) h none = absurd (omega (arith, none))
     message_few (Undo slot claims) h none = absurd (omega (arith, none))
 
@@ -183,7 +182,7 @@ module _ (u : UnderWay) (group : Group) where
     item_few : (i : Item J) → IsSoundItem shared (λ slot. u) i → sum_by weigh_other (part_item i).tokens ≡ 0
         → claims_on group (part_item i).claims ≤ sum_by weight (part_item i).tokens
     item_few (item.Push message) h none = message_few message h none
-    item_few (item.Report r) h none = omega (arith, report_few h.number r h.flow h.ran, at_place r.slot h.number r.place h.place)
+    item_few (item.Report r) h none = omega (arith, report_few h.number r h.journey h.ran, at_place r.slot h.number r.place h.place)
     item_few (item.Ended slot) h none = omega arith
     item_few (item.Commit commit) h none = absurd (omega (arith, none))
     item_few (item.Reply told) h none = omega arith
@@ -283,32 +282,32 @@ abbrev elsewhere : ℕ → ℕ → ℕ
 elsewhere slot n = cond (slot == n) 0 1
 
 module _ {J : Type 0} (once : TransactionsClaimEachGroupOnce) (shared : Shared) (w : Parts J)
-    (act : AnyAct J) (rest : List (Message J)) (is : w.inbox ≡ Act act ∷ rest) (h : IsSoundWith shared nothing w) (alone : count_active w.desk.active ≡ 1) where
+    (errand : AnyErrand J) (rest : List (Message J)) (is : w.inbox ≡ Errand errand ∷ rest) (h : IsSoundWith shared nothing w) (alone : count_active w.desk.active ≡ 1) where
   -- of the claims that are out, and of its wishes, one at most is for a group
-  few_on : (group : Group) → claims_on group (flight w).claims + wishes_on group (wishes_of act.work) ≤ 1
+  few_on : (group : Group) → claims_on group (flight w).claims + wishes_on group (wishes_of errand.work) ≤ 1
   few_on group =
       let mid : Parts J = record w { inbox = rest } in
-      let hand = message_in_hand shared w (Act act) rest is h in
-      let slot = act.slot in
+      let hand = message_in_hand shared w (Errand errand) rest is h in
+      let slot = errand.slot in
       let all_at = hand.0.under_way in
       let u = all_at slot in
-      let sound : IsSoundAct shared u act = hand.1 in
+      let sound : IsSoundErrand shared u errand = hand.1 in
       let tokens = hand.0.balance.tokens in
-      let weigh = weigh_acting slot act.place in
-      let waits = is_awaited weigh (Acting slot act.place) (flight mid).tokens (awaited_by_all 0 w.desk.active) (acting_weighs slot act.place) tokens in
-      let at = acting_under_way slot act.place w.desk.active waits in
+      let weigh = weigh_acting slot errand.place in
+      let waits = is_awaited weigh (Acting slot errand.place) (flight mid).tokens (awaited_by_all 0 w.desk.active) (acting_weighs slot errand.place) tokens in
+      let at = acting_under_way slot errand.place w.desk.active waits in
       let acting = at.1.1.0 in
       let active_is : Option (Active J) = Some (active.Acting at.0 at.1.0) in
       let phase : IsSoundPhase shared slot u at.0 at.1.0 = sound_in shared all_at slot w.desk.active active_is hand.0.active acting in
       let idle : count_active (without slot w.desk.active) ≡ 0 = omega (arith, alone, taken_counts w.desk.active slot (active.Acting at.0 at.1.0) acting) in
       let none_else : awaited_by_all 0 (without slot w.desk.active) ≡ [] = idle_awaits 0 (without slot w.desk.active) idle in
       let weighed : (f : Token → ℕ)
-      → f (Acting slot act.place) + (sum_by f (in_inbox mid).tokens + sum_by f (in_outbox mid).tokens)
+      → f (Acting slot errand.place) + (sum_by f (in_inbox mid).tokens + sum_by f (in_outbox mid).tokens)
       ≡ sum_by f (map (Acting slot) (awaited_from at.0 at.1.0)) = λ f.
       omega (
         arith,
         tokens f,
-        sum_by-cons f (Acting slot act.place) (flight mid).tokens,
+        sum_by-cons f (Acting slot errand.place) (flight mid).tokens,
         tokens_weigh f mid,
         awaited_of f slot w.desk.active active_is acting,
         ap (λ (ts : List Token). sum_by f ts) none_else,
@@ -329,7 +328,7 @@ module _ {J : Type 0} (once : TransactionsClaimEachGroupOnce) (shared : Shared) 
       let fine = report.1.1 in
       let number : fine.number ≡ 0 + i = omega (arith, report.0, fine.place, phase.first_is) in
       subst (λ n. claims_on group (claims_reported r) ≤ own u group n) number
-      (report_few u group shared fine.number r fine.flow fine.ran) in
+      (report_few u group shared fine.number r fine.journey fine.ran) in
       let from_zero : (i : ℕ) → slice_get (works_of u.progress) (0 + i) ≡ slice_get (works_of u.progress) i = λ i.
       let same : 0 + i ≡ i = omega arith in
       ap (λ n. slice_get (works_of u.progress) n) same in
@@ -340,8 +339,8 @@ module _ {J : Type 0} (once : TransactionsClaimEachGroupOnce) (shared : Shared) 
       let none_met : met_else.claims ≡ [] = ap (λ (rs : List (Report J)). (parts part_met rs).claims) (idle_met (without slot w.desk.active) idle) in
       omega (
         arith,
-        ap {B = ℕ} (λ (p : InFlight). claims_on group p.claims) (message_taken w (Act act) rest is),
-        sum_by-append (one_claim_on group) (part_carried act.flow).claims (flight mid).claims,
+        ap {B = ℕ} (λ (p : InFlight). claims_on group p.claims) (message_taken w (Errand errand) rest is),
+        sum_by-append (one_claim_on group) (part_carried errand.journey).claims (flight mid).claims,
         claims_count group mid,
         claimed_once shared u.request u.progress u.held phase.reached group once,
         phase_few u group shared slot at.0 0 at.1.0 (works_of u.progress) (omega (arith, phase.first_is)) phase.many from_zero told,
@@ -351,20 +350,20 @@ module _ {J : Type 0} (once : TransactionsClaimEachGroupOnce) (shared : Shared) 
         sum_by-IsPermutation (one_claim_on group) met_all.claims (met_own.claims ++ met_else.claims) met_apart_is.claims,
         sum_by-append (one_claim_on group) met_own.claims met_else.claims,
         ap {B = ℕ} (λ (cs : List Claiming). claims_on group cs) none_met,
-        at_place u group slot sound.number act.place sound.place,
-        carried_few u group shared slot sound.number act.flow sound.flow,
+        at_place u group slot sound.number errand.place sound.place,
+        carried_few u group shared slot sound.number errand.journey sound.journey,
         ap {B = ℕ} (work_on u group) sound.work,
       )
 
   -- so nobody has a claim on a group that it wishes for
-  none_holds : (opening : Database) (history : List Step) (w_id : ℕ) → Fits opening history w → HoldsWished ((joined_in w).holdings w_id) (wishes_of act.work) → ⊥
+  none_holds : (opening : Database) (history : List Step) (w_id : ℕ) → Fits opening history w → HoldsWished ((joined_in w).holdings w_id) (wishes_of errand.work) → ⊥
   none_holds opening history w_id fits of =
       let claims = (flight w).claims in
       let out = Contains-permutation ((joined_in w).holdings w_id) (held_at w_id claims) of.holding (fits.held w_id) of.held in
       omega (
         arith,
         few_on of.wish.group,
-        wished (wishes_of act.work) of.wish of.wished,
+        wished (wishes_of errand.work) of.wish of.wished,
         claimed w_id claims of.holding out,
         ap {B = ℕ} (λ (group : Group). claims_on group claims) of.on,
       )
@@ -395,24 +394,24 @@ module _ {J : Type 0} (shared : Shared) (old : Core J) (h : IsSound shared old) 
       holder.1.1.1 ∙ ap (λ n. (h.all.under_way n).age) same
 
   -- so it waits for nobody
-  waits_for_none : (act : AnyAct J) → Contains all.inbox (Act act) → (w_id : ℕ) → MustWait ((joined_in old.parts).holdings w_id) act.age (wants_of act.work) → ⊥
-  waits_for_none act is w_id must =
+  waits_for_none : (errand : AnyErrand J) → Contains all.inbox (Errand errand) → (w_id : ℕ) → MustWait ((joined_in old.parts).holdings w_id) errand.age (wants_of errand.work) → ⊥
+  waits_for_none errand is w_id must =
       let at = h.all.under_way in
-      let fine : IsSoundAct shared (at act.slot) act = All-contains (IsSoundMessage shared at) all.inbox (Act act) h.all.inbox is in
-      let weight = weigh_acting act.slot act.place in
+      let fine : IsSoundErrand shared (at errand.slot) errand = All-contains (IsSoundMessage shared at) all.inbox (Errand errand) h.all.inbox is in
+      let weight = weigh_acting errand.slot errand.place in
       let some : 1 ≤ sum_by weight (awaited_by_all 0 all.desk.active) =
       omega (
         arith,
         h.all.balance.tokens weight,
-        sum_by-cons weight (Acting act.slot act.place) [],
-        acting_weighs act.slot act.place,
-        one_of_all part_message weight all.inbox (Act act) is,
+        sum_by-cons weight (Acting errand.slot errand.place) [],
+        acting_weighs errand.slot errand.place,
+        one_of_all part_message weight all.inbox (Errand errand) is,
         sum_by-append weight (parts part_message all.inbox).tokens ((parts part_item all.outbox).tokens ++ (parts part_met (reported_to_all all.desk.active)).tokens),
       ) in
       let holding = must.some.0 in
       let out = Contains-permutation ((joined_in old.parts).holdings w_id) (held_at w_id (flight all).claims) holding (h.all.held w_id) must.some.1.0 in
       let claim = claim_of w_id (flight all).claims holding out in
-      omega (arith, must.younger holding must.some.1, own_age act.slot act.place claim.0 some claim.1.0, ap (λ (x : Holding). x.by.age) claim.1.1, fine.age)
+      omega (arith, must.younger holding must.some.1, own_age errand.slot errand.place claim.0 some claim.1.0, ap (λ (x : Holding). x.by.age) claim.1.1, fine.age)
 
   -- and nobody waits
   none_parked : (s : Stationed (Carried J)) → Contains old.parts.stations.items s → s.parked ≡ []
@@ -428,7 +427,7 @@ module _ {J : Type 0} (shared : Shared) (old : Core J) (h : IsSound shared old) 
           let must = All-contains (StillWaits s.slice.holdings) s.slice.waiters (waiting_of p) have (subst (λ (ws : List Waiting). Contains ws (waiting_of p)) (sym station.waiters) parked) in
           let seen : Contains all.inbox (message_of p) = Contains-append_left (waiting_in old.parts) (messages_in (all_of old.inboxes) ++ old.parked) (message_of p)
           (contains_joined (λ queue. queue) (map waiting_at old.parts.stations.items) (waiting_at s) (message_of p) (contains_mapped waiting_at old.parts.stations.items s is) (contains_mapped message_of s.parked p there)) in
-          absurd (waits_for_none (act_of p) seen s.slice.home
+          absurd (waits_for_none (errand_of p) seen s.slice.home
           (subst (λ (hs : List Holding). MustWait hs p.by.age (wants_of p.work)) (sym (stands_among old.parts h.all.slices s is)) must))
 
 module _ {J : Type 0} where
@@ -439,9 +438,9 @@ module _ {J : Type 0} where
       let at = follow.1.0 in
       absurd (omega (arith, at.happened.inside, ap (λ (ps : List (Parked (Carried J))). length ps) (none at.was at.there)))
 
-  pub pushes_tell_none : (place age slot : ℕ) (carried : Option (Flow J)) (works : List Work) → All TellsNoDeath (acts_from {J = J} place age slot carried works)
+  pub pushes_tell_none : (place age slot : ℕ) (carried : Option (Journey J)) (works : List Work) → All TellsNoDeath (errands_from {J = J} place age slot carried works)
   pushes_tell_none place age slot carried [] = All-nil TellsNoDeath
-  pushes_tell_none place age slot carried (work ∷ works) = All-cons TellsNoDeath _ (acts_from (place + 1) age slot None works) tt (pushes_tell_none (place + 1) age slot None works)
+  pushes_tell_none place age slot carried (work ∷ works) = All-cons TellsNoDeath _ (errands_from (place + 1) age slot None works) tt (pushes_tell_none (place + 1) age slot None works)
 
   one_tells : (i : Item J) → TellsNoDeath i → All TellsNoDeath (i ∷ [])
   one_tells i none = All-cons TellsNoDeath i [] none (All-nil TellsNoDeath)
@@ -474,45 +473,45 @@ module _ {J : Type 0} where
         (items, (over ∙ ap (λ (w : Parts J). w.outbox) at.rest ∙ ap (λ (o : List (Item J)). o ++ items) outbox_is, tells))
 
     puts_for : (m : Message J) (rest : List (Letter J)) → queue_of executor old.inboxes ≡ letter executor (load.Work m) ∷ rest → (new : Parts J) → TakesMessage m old.parts new → Puts new
-    puts_for (Start flow works) rest is new takes =
-        (acts_of flow works.items, (ap (λ (w : Parts J). w.outbox) takes ∙ ap (λ (o : List (Item J)). o ++ acts_of flow works.items) h.no_outbox, pushes_tell_none _ _ _ _ works.items))
+    puts_for (Start journey works) rest is new takes =
+        (errands_of journey works.items, (ap (λ (w : Parts J). w.outbox) takes ∙ ap (λ (o : List (Item J)). o ++ errands_of journey works.items) h.no_outbox, pushes_tell_none _ _ _ _ works.items))
     puts_for (Settle slot claims) rest is new takes =
         and_no_turns (home_of_claims claims) (item.Ended slot ∷ []) _ old.parts takes.0 new refl h.no_outbox takes.1.0 takes.1.0.happened.1 (one_tells (item.Ended slot) tt) takes.1.1
     puts_for (Undo slot claims) rest is new takes =
         and_no_turns (home_of_claims claims) (item.Ended slot ∷ []) _ old.parts takes.0 new refl h.no_outbox takes.1.0 takes.1.0.happened.1 (one_tells (item.Ended slot) tt) takes.1.1
-    puts_for (Act act) rest is new takes = by takes.1.0.0 takes.1.0.1
+    puts_for (Errand errand) rest is new takes = by takes.1.0.0 takes.1.0.1
       where
         left : Parts J
         left = old.parts
 
         from : Parts J
-        from = holding (Act act ∷ []) [] (record old { inboxes = slice_set old.inboxes executor rest })
+        from = holding (Errand errand ∷ []) [] (record old { inboxes = slice_set old.inboxes executor rest })
 
-        none : (holdings : List Holding) → (joined_in old.parts).holdings (home_of act.work) ≡ holdings → HoldsWished holdings (wishes_of act.work) → ⊥
+        none : (holdings : List Holding) → (joined_in old.parts).holdings (home_of errand.work) ≡ holdings → HoldsWished holdings (wishes_of errand.work) → ⊥
         none holdings same =
-            subst (λ (hs : List Holding). HoldsWished hs (wishes_of act.work) → ⊥) same
-            (none_holds once shared from act (waiting_in old.parts ++ beside shared old h executor rest (Act act) is) refl (message_sound shared old h executor rest (Act act) is) alone opening history
-            (home_of act.work) (message_fits shared old h executor rest (Act act) is opening history fits))
+            subst (λ (hs : List Holding). HoldsWished hs (wishes_of errand.work) → ⊥) same
+            (none_holds once shared from errand (waiting_in old.parts ++ beside shared old h executor rest (Errand errand) is) refl (message_sound shared old h executor rest (Errand errand) is) alone opening history
+            (home_of errand.work) (message_fits shared old h executor rest (Errand errand) is opening history fits))
 
-        there : Contains (together old).inbox (Act act)
+        there : Contains (together old).inbox (Errand errand)
         there =
             let some : 1 ≤ length (queue_of executor old.inboxes) = omega (arith, ap (λ (letters : List (Letter J)). length letters) is) in
-            let own : Contains (queue_of executor old.inboxes) (letter executor (load.Work (Act act))) = subst (λ (q : List (Letter J)). Contains q (letter executor (load.Work (Act act)))) (sym is) (contains_here (letter executor (load.Work (Act act))) rest) in
+            let own : Contains (queue_of executor old.inboxes) (letter executor (load.Work (Errand errand))) = subst (λ (q : List (Letter J)). Contains q (letter executor (load.Work (Errand errand)))) (sym is) (contains_here (letter executor (load.Work (Errand errand))) rest) in
             let queue : Contains old.inboxes (queue_of executor old.inboxes) = Contains-get_or old.inboxes executor [] (has_queue old.inboxes executor some) in
-            let stands : Contains (all_of old.inboxes) (letter executor (load.Work (Act act))) = contains_joined (λ q. q) old.inboxes (queue_of executor old.inboxes) (letter executor (load.Work (Act act))) queue own in
-            Contains-append_right (waiting_in old.parts) (messages_in (all_of old.inboxes) ++ old.parked) (Act act)
-            (Contains-append_left (messages_in (all_of old.inboxes)) old.parked (Act act) (contains_joined (λ (l : Letter J). messages_of l.load) (all_of old.inboxes) (letter executor (load.Work (Act act))) (Act act) stands (contains_here (Act act) [])))
+            let stands : Contains (all_of old.inboxes) (letter executor (load.Work (Errand errand))) = contains_joined (λ q. q) old.inboxes (queue_of executor old.inboxes) (letter executor (load.Work (Errand errand))) queue own in
+            Contains-append_right (waiting_in old.parts) (messages_in (all_of old.inboxes) ++ old.parked) (Errand errand)
+            (Contains-append_left (messages_in (all_of old.inboxes)) old.parked (Errand errand) (contains_joined (λ (l : Letter J). messages_of l.load) (all_of old.inboxes) (letter executor (load.Work (Errand errand))) (Errand errand) stands (contains_here (Errand errand) [])))
 
-        by : (a : Acted J (Carried J)) → AtStation (home_of act.work) (put_for act.place a) (λ was now. ActsAs (holder_of act) act.work (carried_by act) was a now) left takes.0 → Puts new
+        by : (a : Acted J (Carried J)) → AtStation (home_of errand.work) (put_for errand.place a) (λ was now. ActsAs (holder_of errand) errand.work (carried_by errand) was a now) left takes.0 → Puts new
         by (acted.Ran one told) at =
-            let Of : Stationed (Carried J) → Stationed (Carried J) → Type 0 = λ was now. ActsAs (holder_of act) act.work (carried_by act) was (acted.Ran one told) now in
-            let holds_here = holds left takes.0 h.all.slices (home_of act.work) (put_for act.place (acted.Ran one told)) Of at in
-            let lives : HasNotDied one = not_died (holder_of act) at.was.slice at.now.slice act.work one (none at.was.slice.holdings holds_here) at.happened.1 in
-            and_no_turns (home_of act.work) (put_for act.place (acted.Ran one told)) Of left takes.0 new refl h.no_outbox at at.happened.3 (one_tells (report_of act.place told one) lives) takes.1.1
+            let Of : Stationed (Carried J) → Stationed (Carried J) → Type 0 = λ was now. ActsAs (holder_of errand) errand.work (carried_by errand) was (acted.Ran one told) now in
+            let holds_here = holds left takes.0 h.all.slices (home_of errand.work) (put_for errand.place (acted.Ran one told)) Of at in
+            let lives : HasNotDied one = not_died (holder_of errand) at.was.slice at.now.slice errand.work one (none at.was.slice.holdings holds_here) at.happened.1 in
+            and_no_turns (home_of errand.work) (put_for errand.place (acted.Ran one told)) Of left takes.0 new refl h.no_outbox at at.happened.3 (one_tells (report_of errand.place told one) lives) takes.1.1
         by acted.Waits at =
-            let Of : Stationed (Carried J) → Stationed (Carried J) → Type 0 = λ was now. ActsAs {J = J} (holder_of act) act.work (carried_by act) was acted.Waits now in
-            let holds_here = holds left takes.0 h.all.slices (home_of act.work) [] Of at in
-            absurd (waits_for_none shared old h alone act there (home_of act.work) (subst (λ (hs : List Holding). MustWait hs act.age (wants_of act.work)) (sym holds_here) at.happened.0))
+            let Of : Stationed (Carried J) → Stationed (Carried J) → Type 0 = λ was now. ActsAs {J = J} (holder_of errand) errand.work (carried_by errand) was acted.Waits now in
+            let holds_here = holds left takes.0 h.all.slices (home_of errand.work) [] Of at in
+            absurd (waits_for_none shared old h alone errand there (home_of errand.work) (subst (λ (hs : List Holding). MustWait hs errand.age (wants_of errand.work)) (sym holds_here) at.happened.0))
 
   pub none_dies : TransactionsClaimEachGroupOnce → (shared : Shared) (event : Event) (old new : Core J) (answer : EventAnswer)
       → IsSound shared old → Happens event old answer new

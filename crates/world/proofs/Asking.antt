@@ -31,7 +31,7 @@ use Rattle.world.specs.declared.desk.Active.{Active}
 use Rattle.world.specs.declared.desk.Active.TheVariants as active
 use Rattle.world.specs.declared.desk.SessionDesk.{SessionDesk}
 use Rattle.world.specs.declared.flight.Message.{Message}
-use Rattle.world.specs.declared.flight.Message.TheVariants.{Start, Act, Settle, Undo}
+use Rattle.world.specs.declared.flight.Message.TheVariants.{Start, Errand, Settle, Undo}
 use Rattle.world.specs.declared.flight.Report.{Report}
 use Rattle.world.specs.declared.world.Parts.{Parts}
 use Rattle.world.specs.Parted.{joined_in}
@@ -97,14 +97,14 @@ module _ {J : Type 0} where
   -- ---- messages
 
   pub some_token : (shared : Shared) (at : Courses) (message : Message J) → IsSoundMessage shared at message → 1 ≤ sum_by one_each (part_message message).tokens
-  some_token shared at (Start flow works) h =
+  some_token shared at (Start journey works) h =
       omega (
         arith,
-        acting_tokens flow.transaction.slot (length flow.transaction.held) works.items,
+        acting_tokens journey.transaction.slot (length journey.transaction.held) works.items,
         ap (λ (ws : List Work). length ws) h.works_are,
-        some_actions (at flow.transaction.slot).progress,
+        some_actions (at journey.transaction.slot).progress,
       )
-  some_token shared at (Act act) h = omega arith
+  some_token shared at (Errand errand) h = omega arith
   some_token shared at (Settle slot claims) h = omega arith
   some_token shared at (Undo slot claims) h = omega arith
 
@@ -124,7 +124,7 @@ module _ {J : Type 0} where
   module _ (shared : Shared) (w : Parts J) (h : IsSoundWith shared nothing w) (place number : ℕ) (asked : Request) (desk : SessionDesk J)
       (is : slice_get w.desk.sessions.items place ≡ Some desk) (accepted : check_of shared.scale asked ≡ Ok tt)
       (new : Parts J) (a : Admits place number asked desk w new) where
-    whose : a.flow.transaction.pass.session ≡ place
+    whose : a.journey.transaction.pass.session ≡ place
     whose = ap (λ (x : Passing). x.session) a.pass_is ∙ subst (λ (o : Option Passing). IsPassOf place o) a.here (h.sessions place desk is).1
 
     here : is_here desk ≡ true
@@ -133,10 +133,10 @@ module _ {J : Type 0} where
     -- ---- the slot
 
     abbrev slot : ℕ
-    slot = a.flow.transaction.slot
+    slot = a.journey.transaction.slot
 
     abbrev u : UnderWay
-    u = record { request = asked; progress = a.flow.progress; held = []; age = a.flow.transaction.age }
+    u = record { request = asked; progress = a.journey.progress; held = []; age = a.journey.transaction.age }
 
     abbrev at : Courses
     at = course_on h.under_way slot u
@@ -162,15 +162,15 @@ module _ {J : Type 0} where
     abbrev slots : List (Option (Report J))
     slots = replicate (length a.works.items) None
 
-    reached : IsReached shared asked a.flow.progress []
+    reached : IsReached shared asked a.journey.progress []
     reached = a.begins shared accepted
 
-    no_held : length a.flow.transaction.held ≡ 0
+    no_held : length a.journey.transaction.held ≡ 0
     no_held = ap (λ (hs : List (List Claiming)). length hs) a.held
 
-    sound_start : IsSoundStart shared u a.flow a.works.items
+    sound_start : IsSoundStart shared u a.journey a.works.items
     sound_start = record {
-      flow_is = record {
+      journey_is = record {
         asked = record {
           session = subst (λ n. n < 64) (sym whose) (subst (λ n. place < n) h.seats (slice_get_within w.desk.sessions.items place desk is));
           slot = rests.below;
@@ -184,11 +184,11 @@ module _ {J : Type 0} where
         age = refl;
       };
       works_are = a.works_are;
-      can = subst (λ ws. All (CanDo shared) ws) (sym a.works_are) (can_all shared asked a.flow.progress [] reached);
+      can = subst (λ ws. All (CanDo shared) ws) (sym a.works_are) (can_all shared asked a.journey.progress [] reached);
       few = omega (
         arith,
         ap (λ (ws : List Work). length ws) a.works_are,
-        few_actions shared asked a.flow.progress [] reached,
+        few_actions shared asked a.journey.progress [] reached,
         no_held,
       );
     }
@@ -197,14 +197,14 @@ module _ {J : Type 0} where
     sound_phase = record {
       first_is = refl;
       reached = reached;
-      undo = All-nil (AreUndoneBy a.flow.transaction.age);
+      undo = All-nil (AreUndoneBy a.journey.transaction.age);
       many = length-replicate (length a.works.items) None ∙ ap (λ (ws : List Work). length ws) a.works_are;
       reports = λ at r is. absurd (no_report_at (Report J) (length a.works.items) at r is);
       awaits = omega (
         arith,
         as_many_awaited (Report J) 0 (length a.works.items),
         ap (λ (ws : List Work). length ws) a.works_are,
-        some_actions a.flow.progress,
+        some_actions a.journey.progress,
       );
     }
 
@@ -216,7 +216,7 @@ module _ {J : Type 0} where
     abbrev with_desk : Parts J
     with_desk = record w { desk = record { admitted = new.desk.admitted; sessions = new.desk.sessions; active = slice_set w.desk.active slot begun } }
 
-    new_is : new ≡ record with_desk { inbox = w.inbox ++ Start a.flow a.works ∷ [] }
+    new_is : new ≡ record with_desk { inbox = w.inbox ++ Start a.journey a.works ∷ [] }
     new_is = λ i. record {
       catalog = a.catalog i;
       stations = a.stations i;
@@ -227,12 +227,12 @@ module _ {J : Type 0} where
     }
 
     abbrev next : Parts J
-    next = record with_desk { inbox = with_desk.inbox ++ Start a.flow a.works ∷ [] }
+    next = record with_desk { inbox = with_desk.inbox ++ Start a.journey a.works ∷ [] }
 
     -- the message is what is under way more
-    one_more : IsSame (join (part_message (Start a.flow a.works)) (lots slot w)) (flight next)
+    one_more : IsSame (join (part_message (Start a.journey a.works)) (lots slot w)) (flight next)
     one_more =
-        let message : Message J = Start a.flow a.works in
+        let message : Message J = Start a.journey a.works in
         let nothing_met : IsSame (flight with_desk) (lots slot w) =
         subst (λ (rs : List (Report J)). IsSame (flight with_desk) (join (parts part_met rs) (lots slot w))) (none_reported (Report J) (length a.works.items)) (flight_with w slot begun below) in
         same-sym (flight next) (join (part_message message) (lots slot w))
@@ -242,9 +242,9 @@ module _ {J : Type 0} where
 
     pub admits_sound : IsSoundWith shared nothing new
     admits_sound =
-        let message : Message J = Start a.flow a.works in
-        let t = unanswered_transaction a.flow.transaction in
-        let session : SessionDesk J = record { seat = seating desk.seat.session a.flow.transaction.pass.asks; pass = None } in
+        let message : Message J = Start a.journey a.works in
+        let t = unanswered_transaction a.journey.transaction in
+        let session : SessionDesk J = record { seat = seating desk.seat.session a.journey.transaction.pass.asks; pass = None } in
         let all = slice_set w.desk.sessions.items place session in
         let rest = lots slot w in
         let alone : AreAlone all (t ∷ rest.pending) = asked_alone w.desk.sessions.items t rest.pending desk session place is whose here refl bare.alone bare.many in
@@ -254,7 +254,7 @@ module _ {J : Type 0} where
           tokens = λ weight. omega (
             arith,
             rests.tokens weight,
-            sum_by-append weight (acting_from slot (length a.flow.transaction.held) a.works.items) rest.tokens,
+            sum_by-append weight (acting_from slot (length a.journey.transaction.held) a.works.items) rest.tokens,
             ap (λ n. sum_by weight (acting_from slot n a.works.items)) no_held,
             ap (λ (ts : List Token). sum_by weight ts) (all_acting (Report J) slot 0 a.works.items),
             awaited_then weight slot w.desk.active begun below,
@@ -262,14 +262,14 @@ module _ {J : Type 0} where
           alone = subst (λ l. AreAlone l (t ∷ rest.pending)) (sym a.sessions) alone;
           many = subst (λ l. AreMany l (t ∷ rest.pending)) (sym a.sessions) many;
         } in
-        let none_held : all_claims a.flow.transaction.held ≡ [] = ap all_claims a.held in
-        let held : AreAllHeld (joined_in w).holdings (all_claims a.flow.transaction.held ++ rest.claims) =
+        let none_held : all_claims a.journey.transaction.held ≡ [] = ap all_claims a.held in
+        let held : AreAllHeld (joined_in w).holdings (all_claims a.journey.transaction.held ++ rest.claims) =
         subst (λ (cs : List Claiming). AreAllHeld (joined_in w).holdings (cs ++ rest.claims)) (sym none_held) (held_same (joined_in w) (flight w) rest same h.held) in
         let sound : IsSoundWith shared nothing next = record {
           shared_is = h.shared_is;
           slices = h.slices;
           under_way = at;
-          inbox = All-push (IsSoundMessage shared at) w.inbox message rests.inbox (subst (λ x. IsSoundStart shared x a.flow a.works.items) (sym now) sound_start);
+          inbox = All-push (IsSoundMessage shared at) w.inbox message rests.inbox (subst (λ x. IsSoundStart shared x a.journey a.works.items) (sym now) sound_start);
           outbox = rests.outbox;
           slots = length-set w.desk.active slot begun ∙ h.slots;
           active = subst (λ (l : List (Option (Active J))). AreSoundActive shared at 0 l) (set-set w.desk.active slot None begun)
@@ -286,11 +286,11 @@ module _ {J : Type 0} where
     pub admits_fits : (opening : Database) (history : List Step) → Fits opening history w
         → Fits opening (history ++ step (Submit place number asked) (Accepted w.desk.admitted) ∷ []) new
     admits_fits opening history f =
-        let message : Message J = Start a.flow a.works in
-        let t = unanswered_transaction a.flow.transaction in
+        let message : Message J = Start a.journey a.works in
+        let t = unanswered_transaction a.journey.transaction in
         let rest = lots slot w in
         let first = fits_same opening history w.log (joined_in w) w.desk.admitted (flight w) rest same f in
-        let free = asks_first w.desk.sessions.items t rest.pending desk (record { seat = seating desk.seat.session a.flow.transaction.pass.asks; pass = None }) place is whose here refl bare.alone bare.many in
+        let free = asks_first w.desk.sessions.items t rest.pending desk (record { seat = seating desk.seat.session a.journey.transaction.pass.asks; pass = None }) place is whose here refl bare.alone bare.many in
         let after = fits_admission opening history w.log (joined_in w) w.desk.admitted rest place number asked free first in
         let is_t : t ≡ new_one w.desk.admitted place number asked = λ i. record {
           age = a.age i;
@@ -300,7 +300,7 @@ module _ {J : Type 0} where
           entry = None;
         } in
         let steps = history ++ step (Submit place number asked) (Accepted w.desk.admitted) ∷ [] in
-        let none_held : all_claims a.flow.transaction.held ≡ [] = ap all_claims a.held in
+        let none_held : all_claims a.journey.transaction.held ≡ [] = ap all_claims a.held in
         let with_t : FitsPart opening steps w.log (joined_in w) (w.desk.admitted + 1) (join (part_message message) rest) = record {
           told = subst (λ (x : Unanswered). HistoryFits opening steps w.log (tables_now opening w.log) (w.desk.admitted + 1) (x ∷ rest.pending)) (sym is_t) after.told;
           committed = subst (λ (cs : List Claiming). AreCommitted everywhere (content (tables_now opening w.log)) (all_standing (joined_in w)) (cs ++ rest.claims)) (sym none_held) after.committed;

@@ -12,10 +12,9 @@ use Rattle.history.specs.declared.event.EventAnswer.{EventAnswer}
 use Rattle.history.specs.declared.event.EventAnswer.TheVariants.{Ordered, Nothing}
 use Rattle.range_moves.specs.declared.house.Found.{Found}
 use Rattle.range_moves.specs.declared.house.Found.TheVariants.{Here, Went, Unknown}
-use Rattle.range_moves.specs.declared.order.MoveOrder.{MoveOrder}
 use Rattle.range_moves.specs.declared.order.Moving.{Moving}
 use Rattle.range_moves.specs.declared.order.Moving.TheVariants as moving
-use Rattle.range_moves.specs.Housing.{AreKept, Housing, found_by, house_installed, house_moved, house_of, house_taken, route_of, with_house}
+use Rattle.range_moves.specs.Housing.{AreKept, Housing, found_by, house_moved, house_of, with_house}
 use Rattle.range_moves.specs.Orders.{size_of}
 use Rattle.range_moves.specs.Traffic.{Dispatch, IsRight, IsSentRight}
 use Rattle.range_moves.proofs.Knowing.{house_other}
@@ -32,15 +31,14 @@ use Rattle.world.specs.declared.flight.Posted.TheVariants as posted
 use Rattle.world.specs.declared.world.Core.{Core}
 use Rattle.world.specs.declared.world.Parts.{Parts}
 use Rattle.world.specs.Changes.{ChangesOnly, HasMore, IsAbout, IsAsBefore, IsStationAsBefore, OrderChanges, OthersStay, SendChanges, SubmitChanges, TakeChanges}
-use Rattle.world.specs.Events.{TakesMessage}
-use Rattle.world.specs.Happening.{CanOrder, CannotSubmit, Delivers, FindsSlice, Happens, Opens, Orders, SendsFirst, SendsPosted, SubmitsAt, Submits, TakesFirst, WorksIfHere, WorksOn, begins_at, beginning_at, bringing, has_room, houses_begun, moves, ordering, posting, posts_begun}
-use Rattle.world.specs.Letters.{IsPosted, home_of_message, is_for_slice, letter, parked_for, posted_by, sent_in, sent_of, to_itself}
+use Rattle.world.specs.Happening.{CanOrder, CannotSubmit, Delivers, FindsSlice, Happens, Opens, SendsFirst, SendsPosted, SubmitsAt, TakesFirst, WorksIfHere, WorksOn, begins_at, beginning_at, bringing, has_room, houses_begun, moves, ordering, posting, posts_begun}
+use Rattle.world.specs.Letters.{home_of_message, is_for_slice, letter, parked_for, posted_by, sent_in, sent_of, to_itself}
 use Rattle.world.specs.Queues.{put_into, queue_of}
 use Rattle.world.specs.Stations.{slices_in}
 use Rattle.world.specs.Together.{IsSound, letters_of_all}
 use Rattle.world.proofs.Answered.{nothing_exactly, posted_something}
-use Rattle.world.proofs.Changing.{all_stay, item_changes, left_there, more_put, none_more, others_set, parked_less, parked_more, takes_one, takes_others, turned_more, turned_none}
-use Rattle.world.proofs.Posting.{is_posted, left_in, takes_letter, there_in, there_out}
+use Rattle.world.proofs.Changing.{item_changes, left_there, more_put, none_more, others_set, parked_less, parked_more, takes_one, takes_others, turned_more, turned_none}
+use Rattle.world.proofs.Posting.{is_posted, takes_letter, there_in, there_out}
 use Rattle.world.proofs.Sent.{none_begins, submit_cases}
 use Rattle.world.proofs.Steps.{routes_below}
 
@@ -69,7 +67,7 @@ module _ {J : Type 0} where
       (record { more = []; one = omega arith; inbox = none_more to old.inboxes; rest = refl }))
       (λ admitted.
       let a = admitted.1.1 in
-      let one : length parts.inbox ≡ 1 = ap (λ (ms : List (Message J)). length ms) (a.inbox ∙ ap (λ (ms : List (Message J)). ms ++ message.Start a.flow a.works ∷ []) none) in
+      let one : length parts.inbox ≡ 1 = ap (λ (ms : List (Message J)). length ms) (a.inbox ∙ ap (λ (ms : List (Message J)). ms ++ message.Start a.journey a.works ∷ []) none) in
       record {
         more = letters;
         one = omega (arith, one, length-map parts.inbox (λ (m : Message J). letter to (Work m)));
@@ -170,9 +168,9 @@ module _ {J : Type 0} where
     found_changes m new Unknown is said = parked_changes m new said
 
     work_changes : (m : Message J) (new : Core J) → WorksIfHere (is_for_slice m) executor m old new → OpenChanges executor (Work m) old new
-    work_changes (message.Start flow works) new said =
-        works_changes (message.Start flow works) new said (λ w_id some away. ap (λ (v : Parts J). slice_get v.stations.items (w_id - 1)) said.1.0)
-    work_changes (message.Act act) new said = found_changes (message.Act act) new _ refl said
+    work_changes (message.Start journey works) new said =
+        works_changes (message.Start journey works) new said (λ w_id some away. ap (λ (v : Parts J). slice_get v.stations.items (w_id - 1)) said.1.0)
+    work_changes (message.Errand errand) new said = found_changes (message.Errand errand) new _ refl said
     work_changes (message.Settle slot claims) new said = found_changes (message.Settle slot claims) new _ refl said
     work_changes (message.Undo slot claims) new said = found_changes (message.Undo slot claims) new _ refl said
 

@@ -1,5 +1,5 @@
 -- What one event may change: of queues, and of what an event works with.
-use Rattle.std.proofs.Common.{◌≡◌, ◌≢◌, inl, inr, ℕ, ◌-◌, ◌<◌, ◌≤◌, ◌==◌, Bool, true, false, cond, List, [], ◌∷◌, ◌++◌, length, map, Option, Some, None, refl, sym, ◌∙◌, ap, subst, ⊎_elim, append_assoc, append-nil, arith}
+use Rattle.std.proofs.Common.{◌≡◌, ◌≢◌, inl, inr, ℕ, ◌-◌, ◌<◌, ◌≤◌, Bool, true, false, cond, List, [], ◌∷◌, ◌++◌, length, Option, Some, None, refl, sym, ◌∙◌, ap, subst, ⊎_elim, append-nil, arith}
 use Rattle.std.specs.Prelude.{slice_index_or, slice_set}
 use Rattle.std.specs.List.{slice_get}
 use Rattle.std.proofs.lemmas.List.{get_or-map, get_or-set_other, get_or-set_same, length-map, length-set}
@@ -18,17 +18,17 @@ use Rattle.transactions.specs.Logged.{Logs}
 use Rattle.transactions.specs.Stations.{Stationed}
 use Rattle.world.specs.declared.desk.Active.{Active}
 use Rattle.world.specs.declared.flight.Carried.{Carried}
-use Rattle.world.specs.declared.flight.CommitItem.{CommitItem}
-use Rattle.world.specs.declared.flight.Flow.{Flow}
+use Rattle.world.specs.declared.flight.Commit.{Commit}
+use Rattle.world.specs.declared.flight.Journey.{Journey}
 use Rattle.world.specs.declared.flight.Item.{Item}
 use Rattle.world.specs.declared.flight.Item.TheVariants as item
 use Rattle.world.specs.declared.flight.Message.{Message}
-use Rattle.world.specs.declared.flight.Message.TheVariants.{Start, Act, Settle, Undo}
+use Rattle.world.specs.declared.flight.Message.TheVariants.{Start, Errand, Settle, Undo}
 use Rattle.world.specs.declared.flight.Report.{Report}
 use Rattle.world.specs.declared.flight.Transaction.{Transaction}
 use Rattle.world.specs.declared.world.Parts.{Parts}
 use Rattle.world.specs.Changes.{HasMore, HasTurned, MayLog, OthersStay}
-use Rattle.world.specs.Events.{AllTurns, AtStation, Commits, MeetsAs, MeetsUnless, ReportsInto, SendsItem, Stays, TakesMessage, TurnsFollow, goes_on}
+use Rattle.world.specs.Events.{AllTurns, AtStation, Commits, MeetsAs, MeetsUnless, ReportsInto, SendsItem, TakesMessage, TurnsFollow, goes_on}
 use Rattle.world.specs.Following.{entry_of, putting, refusal_of, with_active}
 use Rattle.world.specs.Letters.{IsNoPush, home_of_message, is_at_home, parked_else, parked_for}
 use Rattle.world.specs.Queues.{put_into, queue_of}
@@ -92,14 +92,14 @@ module _ {J : Type 0} where
   goes_desk t (Next progress) old new said = puts_desk _ _ _ old new said
   goes_desk t (Finish shown) old new said = puts_desk _ _ _ old new said
 
-  unless_desk : (why : Option Refusal) (reports : List (Report J)) (flow : Flow J) (old new : Parts J) → MeetsUnless why reports flow old new → ChangesDesk old new
-  unless_desk (Some why) reports flow old new said = puts_desk _ _ _ old new said
-  unless_desk None reports flow old new said = ⊎_elim (λ no_memory. puts_desk _ _ _ old new no_memory) (λ gathered. goes_desk _ gathered.0 old new gathered.1.1) said
+  unless_desk : (why : Option Refusal) (reports : List (Report J)) (journey : Journey J) (old new : Parts J) → MeetsUnless why reports journey old new → ChangesDesk old new
+  unless_desk (Some why) reports journey old new said = puts_desk _ _ _ old new said
+  unless_desk None reports journey old new said = ⊎_elim (λ no_memory. puts_desk _ _ _ old new no_memory) (λ gathered. goes_desk _ gathered.0 old new gathered.1.1) said
 
   meets_desk : (reports : List (Report J)) (old new : Parts J) → MeetsAs reports old new → ChangesDesk old new
   meets_desk reports old new said =
-      let P : Flow J → Type 0 = λ flow. MeetsUnless (refusal_of None reports) reports flow old new in
-      carried_both reports P P (ChangesDesk old new) (λ flow one same. unless_desk (refusal_of None reports) reports flow old new one) said said
+      let P : Journey J → Type 0 = λ journey. MeetsUnless (refusal_of None reports) reports journey old new in
+      carried_both reports P P (ChangesDesk old new) (λ journey one same. unless_desk (refusal_of None reports) reports journey old new one) said said
 
   active_desk : (slot : ℕ) (active : Option (Active J)) (old new : Parts J) → new ≡ with_active slot active old → ChangesDesk old new
   active_desk slot active old new said = subst (λ (w : Parts J). ChangesDesk old w) (sym said) refl
@@ -126,7 +126,7 @@ module _ {J : Type 0} where
     rest = λ k. record (said k) { log = new.log };
   }
 
-  commits_log : (commit : CommitItem J) (old new : Parts J) (answer : EventAnswer) → Commits commit old answer new → ItemChanges (item.Commit commit) old new
+  commits_log : (commit : Commit J) (old new : Parts J) (answer : EventAnswer) → Commits commit old answer new → ItemChanges (item.Commit commit) old new
   commits_log commit old new answer said = record { log = by said.logs; rest = subst (λ (w : Parts J). ChangesLog old w) (sym said.over) refl }
     where
       by : Logs (entry_of commit) commit.transaction.pass old.log commit.transaction.held said.logged said.log said.held → MayLog (item.Commit commit) old.log new.log
@@ -177,12 +177,12 @@ module _ {J : Type 0} where
   then_turns home items of old mid new at turns = one_then home old mid new (at_station home items of old mid at) (follow_one home turns.turned mid new turns.follow)
 
   pub takes_one : (m : Message J) (old new : Parts J) → TakesMessage m old new → AtOne (home_of_message m) old new
-  takes_one (Start flow works) old new said = record {
+  takes_one (Start journey works) old new said = record {
     others = λ place is. ap (λ (w : Parts J). slice_get w.stations.items place) said;
     many = ap (λ (w : Parts J). length w.stations.items) said;
     rest = subst (λ (w : Parts J). w ≡ record old { stations = w.stations; outbox = w.outbox }) (sym said) refl;
   }
-  takes_one (Act act) old new said = then_turns _ _ _ old said.0 new said.1.0.1 said.1.1
+  takes_one (Errand errand) old new said = then_turns _ _ _ old said.0 new said.1.0.1 said.1.1
   takes_one (Settle slot claims) old new said = then_turns _ _ _ old said.0 new said.1.0 said.1.1
   takes_one (Undo slot claims) old new said = then_turns _ _ _ old said.0 new said.1.0 said.1.1
 
@@ -199,10 +199,10 @@ module _ {J : Type 0} where
   -- the stations of all other warehouses are as they were
   pub takes_others : (m : Message J) (old new : Parts J) → AreSlicesOf old.catalog (slices_in old) → TakesMessage m old new
       → (w_id : ℕ) → 1 ≤ w_id → w_id ≢ home_of_message m → slice_get new.stations.items (w_id - 1) ≡ slice_get old.stations.items (w_id - 1)
-  takes_others (Start flow works) old new are said w_id one other = ap (λ (w : Parts J). slice_get w.stations.items (w_id - 1)) said
-  takes_others (Act act) old new are said w_id one other =
+  takes_others (Start journey works) old new are said w_id one other = ap (λ (w : Parts J). slice_get w.stations.items (w_id - 1)) said
+  takes_others (Errand errand) old new are said w_id one other =
       let some = above _ _ _ old said.0 are said.1.0.1 in
-      (takes_one (Act act) old new said).others (w_id - 1) (λ same. other (omega (arith, same, one, some)))
+      (takes_one (Errand errand) old new said).others (w_id - 1) (λ same. other (omega (arith, same, one, some)))
   takes_others (Settle slot claims) old new are said w_id one other =
       let some = above _ _ _ old said.0 are said.1.0 in
       (takes_one (Settle slot claims) old new said).others (w_id - 1) (λ same. other (omega (arith, same, one, some)))

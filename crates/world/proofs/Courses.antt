@@ -8,13 +8,12 @@ use Rattle.partitions.specs.Parts.{Shared}
 use Rattle.transactions.specs.declared.work.Work.{Work}
 use Rattle.transactions.proofs.Reached.{some_actions}
 use Rattle.transactions.specs.Acting.{AreSettledBy, AreUndoneBy}
-use Rattle.commit_log.specs.declared.entry.Entry.{Entry}
 use Rattle.world.specs.declared.flight.Message.{Message}
-use Rattle.world.specs.declared.flight.Message.TheVariants.{Start, Act, Settle, Undo}
+use Rattle.world.specs.declared.flight.Message.TheVariants.{Start, Errand, Settle, Undo}
 use Rattle.world.specs.declared.flight.Item.{Item}
 use Rattle.world.specs.declared.flight.Item.TheVariants as item
 use Rattle.world.specs.Flights.{Acting, Committing, Ending, acting_from, parts, part_message, part_item}
-use Rattle.world.specs.Sound.{Courses, UnderWay, IsSoundMessage, IsSoundItem, IsSoundStart, IsSoundAct, IsSoundCommit, IsSoundReport}
+use Rattle.world.specs.Sound.{Courses, UnderWay, IsSoundMessage, IsSoundItem, IsSoundStart, IsSoundErrand, IsSoundCommit, IsSoundReport}
 use Rattle.world.proofs.Tokens.{is_itself, is_other}
 use Rattle.world.proofs.OneSlot.{weigh_slots}
 
@@ -39,14 +38,14 @@ first_weighs g slot place (work ∷ works) some = omega (arith, sum_by-cons (wei
 
 module _ {J : Type 0} (shared : Shared) (g : ℕ → ℕ) (at bt : Courses) (same : (m : ℕ) → g m ≡ 0 → at m ≡ bt m) where
   pub message_stays : (message : Message J) → sum_by (weigh_slots g) (part_message message).tokens ≡ 0 → IsSoundMessage shared at message → IsSoundMessage shared bt message
-  message_stays (Start flow works) none h =
-      let slot = flow.transaction.slot in
+  message_stays (Start journey works) none h =
+      let slot = journey.transaction.slot in
       let some : 1 ≤ length works.items = omega (arith, ap (λ (ws : List Work). length ws) h.works_are, some_actions (at slot).progress) in
-      let weightless : g slot ≡ 0 = omega (arith, none, first_weighs g slot (length flow.transaction.held) works.items some) in
-      subst (λ u. IsSoundStart shared u flow works.items) (same slot weightless) h
-  message_stays (Act act) none h =
-      let weightless : g act.slot ≡ 0 = omega (arith, none, sum_by-cons (weigh_slots g) (Acting act.slot act.place) []) in
-      subst (λ u. IsSoundAct shared u act) (same act.slot weightless) h
+      let weightless : g slot ≡ 0 = omega (arith, none, first_weighs g slot (length journey.transaction.held) works.items some) in
+      subst (λ u. IsSoundStart shared u journey works.items) (same slot weightless) h
+  message_stays (Errand errand) none h =
+      let weightless : g errand.slot ≡ 0 = omega (arith, none, sum_by-cons (weigh_slots g) (Acting errand.slot errand.place) []) in
+      subst (λ u. IsSoundErrand shared u errand) (same errand.slot weightless) h
   message_stays (Settle slot claims) none h =
       let weightless : g slot ≡ 0 = omega (arith, none, sum_by-cons (weigh_slots g) (Ending slot) []) in
       subst (λ (u : UnderWay). AreSettledBy u.age claims) (same slot weightless) h

@@ -13,7 +13,6 @@ use Rattle.requests.specs.Check.{check_of}
 use Rattle.requests.proofs.Checked.{refused_by_itself}
 use Rattle.groups.specs.Footprint.{footprint, groups_of}
 use Rattle.commit_log.specs.Passing.{Passing}
-use Rattle.commit_log.specs.declared.entry.Entry.{Entry}
 use Rattle.history.specs.declared.event.Event.{Event}
 use Rattle.history.specs.declared.event.Event.TheVariants.{Submit, Order, Take, Send}
 use Rattle.history.specs.declared.event.EventAnswer.{EventAnswer}

@@ -28,12 +28,12 @@ use Rattle.transactions.specs.Laws.{TransactionsClaimEachGroupOnce}
 use Rattle.transactions.specs.Stations.{ActsAs, OneTurn, Stationed}
 use Rattle.transactions.specs.Works.{home_of, wishes_of, home_of_claims}
 use Rattle.wait_die.specs.declared.deciding.Holder.{Holder}
-use Rattle.world.specs.declared.flight.Act.{Act as AnyAct}
+use Rattle.world.specs.declared.flight.Errand.{Errand as AnyErrand}
 use Rattle.world.specs.declared.flight.Carried.{Carried}
 use Rattle.world.specs.declared.flight.Item.{Item}
 use Rattle.world.specs.declared.flight.Item.TheVariants as item
 use Rattle.world.specs.declared.flight.Message.{Message}
-use Rattle.world.specs.declared.flight.Message.TheVariants.{Start, Act, Settle, Undo}
+use Rattle.world.specs.declared.flight.Message.TheVariants.{Start, Errand, Settle, Undo}
 use Rattle.world.specs.declared.world.Core.{Core}
 use Rattle.world.specs.declared.world.Parts.{Parts}
 use Rattle.world.specs.Flights.{join, nothing, part_message}
@@ -41,7 +41,7 @@ use Rattle.world.specs.Parted.{joined_in}
 use Rattle.world.specs.Sound.{IsSoundMessage, IsSoundWith, flight}
 use Rattle.world.specs.Stations.{slices_in}
 use Rattle.world.specs.Events.{AtStation, TakesMessage, TurnsFollow, carried_by, holder_of, put_for, report_of}
-use Rattle.world.specs.Following.{acts_of}
+use Rattle.world.specs.Following.{errands_of}
 use Rattle.world.specs.Together.{IsSound, together}
 use Rattle.world.specs.Letters.{items_in, letter, posted_by}
 use Rattle.world.specs.Worlds.{DieOfOlder, Fits, HasNotDied, TellsNoDeath, DiedOfOlder, TellsWhom}
@@ -200,33 +200,33 @@ module _ {J : Type 0} where
           ),
         )
 
-    asks_tell : (old new : Parts J) (act : AnyAct J) (a : Acted J (Carried J)) → IsSoundWith shared (part_message (Act act)) (seen old ms is)
-        → AtStation (home_of act.work) (put_for act.place a) (λ was now. ActsAs (holder_of act) act.work (carried_by act) was a now) old new → PutsTelling old new
-    asks_tell old new act (acted.Ran one told) h at =
-        let home = home_of act.work in
-        let items = put_for act.place (acted.Ran one told) in
-        let Of : Stationed (Carried J) → Stationed (Carried J) → Type 0 = λ was now. ActsAs (holder_of act) act.work (carried_by act) was (acted.Ran one told) now in
+    asks_tell : (old new : Parts J) (errand : AnyErrand J) (a : Acted J (Carried J)) → IsSoundWith shared (part_message (Errand errand)) (seen old ms is)
+        → AtStation (home_of errand.work) (put_for errand.place a) (λ was now. ActsAs (holder_of errand) errand.work (carried_by errand) was a now) old new → PutsTelling old new
+    asks_tell old new errand (acted.Ran one told) h at =
+        let home = home_of errand.work in
+        let items = put_for errand.place (acted.Ran one told) in
+        let Of : Stationed (Carried J) → Stationed (Carried J) → Type 0 = λ was now. ActsAs (holder_of errand) errand.work (carried_by errand) was (acted.Ran one told) now in
         let of = at.happened.1 in
-        let both = keeps_on old new h.slices home items Of at at.was.slice.waiters [] (claims_of_ran one) (All-nil (IsClaimAt home)) (ran_at_home (holder_of act) at.was.slice at.now.slice act.work one of) at.happened.2 in
+        let both = keeps_on old new h.slices home items Of at at.was.slice.waiters [] (claims_of_ran one) (All-nil (IsClaimAt home)) (ran_at_home (holder_of errand) at.was.slice at.now.slice errand.work one of) at.happened.2 in
         let stays : StaysHeld (joined_in old) (joined_in new) =
         subst (λ (j : Joined). StaysHeld (joined_in old) j) (joined_now home items Of old new at)
-        (kept_stays (joined_in old) (joined old.catalog (slices_in new)) (claims_of_ran one) (join (part_message (Act act)) (flight (seen old ms is))).claims both.1 h.held) in
-        let died = died_there (holder_of act) at.was.slice at.now.slice act.work one (joined_in old) home (holds old new h.slices home items Of at) of in
-        (items, (ap (λ (w : Parts J). w.outbox) at.rest, one_tells (joined_in new) (report_of act.place told one) (died_then (joined_in old) (joined_in new) stays one died)))
-    asks_tell old new act acted.Waits h at = ([], (ap (λ (w : Parts J). w.outbox) at.rest, All-nil (TellsOfHolder (joined_in new))))
+        (kept_stays (joined_in old) (joined old.catalog (slices_in new)) (claims_of_ran one) (join (part_message (Errand errand)) (flight (seen old ms is))).claims both.1 h.held) in
+        let died = died_there (holder_of errand) at.was.slice at.now.slice errand.work one (joined_in old) home (holds old new h.slices home items Of at) of in
+        (items, (ap (λ (w : Parts J). w.outbox) at.rest, one_tells (joined_in new) (report_of errand.place told one) (died_then (joined_in old) (joined_in new) stays one died)))
+    asks_tell old new errand acted.Waits h at = ([], (ap (λ (w : Parts J). w.outbox) at.rest, All-nil (TellsOfHolder (joined_in new))))
 
     takes_tell : (message : Message J) (old new : Parts J) → (h : IsSoundWith shared (part_message message) (seen old ms is)) → IsSoundMessage shared h.under_way message → TakesMessage message old new → PutsTelling old new
-    takes_tell (Start flow works) old new h fine takes = (
-      acts_of flow works.items,
+    takes_tell (Start journey works) old new h fine takes = (
+      errands_of journey works.items,
       (
         ap (λ (w : Parts J). w.outbox) takes,
-        All-weaker TellsNoDeath (TellsOfHolder (joined_in new)) (none_tells (joined_in new)) (acts_of flow works.items) (pushes_tell_none _ _ _ _ works.items),
+        All-weaker TellsNoDeath (TellsOfHolder (joined_in new)) (none_tells (joined_in new)) (errands_of journey works.items) (pushes_tell_none _ _ _ _ works.items),
       ),
     )
-    takes_tell (Act act) old new h fine takes =
+    takes_tell (Errand errand) old new h fine takes =
         let mid = takes.0 in
-        let first = asks_on once shared ms is old mid act takes.1.0.0 h fine takes.1.0.1 in
-        and_turns_tell (home_of act.work) takes.1.1.turned old mid new first.sound (asks_tell old mid act takes.1.0.0 h takes.1.0.1) takes.1.1.follow
+        let first = asks_on once shared ms is old mid errand takes.1.0.0 h fine takes.1.0.1 in
+        and_turns_tell (home_of errand.work) takes.1.1.turned old mid new first.sound (asks_tell old mid errand takes.1.0.0 h takes.1.0.1) takes.1.1.follow
     takes_tell (Settle slot claims) old new h fine takes =
         let mid = takes.0 in
         let first = gives_on once shared ms is old mid (Settle slot claims) slot claims fine.0.1 (λ was now kept. settles shared slot claims was now kept) h fine takes.1.0 in

@@ -54,8 +54,8 @@ use Rattle.world.proofs.Taking.{message_in_hand, seen, takes_wait}
 
 module _ {J : Type 0} where
   pub has_home : (shared : Shared) (u : Courses) (m : Message J) → IsSoundMessage shared u m → HasHome m
-  has_home shared u (message.Start flow works) h = tt
-  has_home shared u (message.Act act) h = tt
+  has_home shared u (message.Start journey works) h = tt
+  has_home shared u (message.Errand errand) h = tt
   has_home shared u (message.Settle slot claims) h = some_claims claims h.0.1
   has_home shared u (message.Undo slot claims) h = some_claims claims h.0.1
 
@@ -133,8 +133,8 @@ module _ {J : Type 0} where
 
   -- a message that is sent where its warehouse's messages go, goes to one who knows of the slice
   goes_knows : (h : Housing) (m : Message J) → All (KnowsOf h) (goes (route_of h (home_of_message m)) m)
-  goes_knows h (message.Start flow works) = All-nil (KnowsOf h)
-  goes_knows h (message.Act act) = All-cons (KnowsOf h) _ [] (routed_knows h (home_of_message {J = J} (message.Act act))) (All-nil (KnowsOf h))
+  goes_knows h (message.Start journey works) = All-nil (KnowsOf h)
+  goes_knows h (message.Errand errand) = All-cons (KnowsOf h) _ [] (routed_knows h (home_of_message {J = J} (message.Errand errand))) (All-nil (KnowsOf h))
   goes_knows h (message.Settle slot claims) = All-cons (KnowsOf h) _ [] (routed_knows h (home_of_claims claims)) (All-nil (KnowsOf h))
   goes_knows h (message.Undo slot claims) = All-cons (KnowsOf h) _ [] (routed_knows h (home_of_claims claims)) (All-nil (KnowsOf h))
 
@@ -210,8 +210,8 @@ module _ {J : Type 0} where
     where
       less : (m : Message J) → IsHousedWith 0 w.houses (goes executor m ++ going_in (letters_of_all w)) (sent_in (letters_of_all w)) (arrived_in w) (map home_of_message w.parked)
           → IsHousedWith 0 w.houses (going_in (letters_of_all w)) (sent_in (letters_of_all w)) (arrived_in w) (map home_of_message w.parked)
-      less (message.Start flow works) h = h
-      less (message.Act act) h = housed.going_less 0 w.houses (going_in (letters_of_all w)) (sent_in (letters_of_all w)) (arrived_in w) (map home_of_message w.parked) _ h
+      less (message.Start journey works) h = h
+      less (message.Errand errand) h = housed.going_less 0 w.houses (going_in (letters_of_all w)) (sent_in (letters_of_all w)) (arrived_in w) (map home_of_message w.parked) _ h
       less (message.Settle slot claims) h = housed.going_less 0 w.houses (going_in (letters_of_all w)) (sent_in (letters_of_all w)) (arrived_in w) (map home_of_message w.parked) _ h
       less (message.Undo slot claims) h = housed.going_less 0 w.houses (going_in (letters_of_all w)) (sent_in (letters_of_all w)) (arrived_in w) (map home_of_message w.parked) _ h
 
@@ -292,8 +292,8 @@ module _ {J : Type 0} where
       goes_slice to is = by m is
         where
           by : (m : Message J) → is_for_slice m ≡ true → goes to m ≡ record { to = to; w_id = home_of_message m } ∷ []
-          by (message.Start flow works) is = absurd (cc)
-          by (message.Act act) is = refl
+          by (message.Start journey works) is = absurd (cc)
+          by (message.Errand errand) is = refl
           by (message.Settle slot claims) is = refl
           by (message.Undo slot claims) is = refl
 

@@ -14,8 +14,8 @@ use Rattle.transactions.specs.declared.progress.Progress.{Progress}
 use Rattle.transactions.specs.declared.work.Found.{Found}
 use Rattle.world.specs.declared.desk.Active.{Active}
 use Rattle.world.specs.declared.desk.SessionDesk.{SessionDesk}
-use Rattle.world.specs.declared.flight.CommitItem.{CommitItem}
-use Rattle.world.specs.declared.flight.Flow.{Flow}
+use Rattle.world.specs.declared.flight.Commit.{Commit}
+use Rattle.world.specs.declared.flight.Journey.{Journey}
 use Rattle.world.specs.declared.flight.Transaction.{Transaction}
 use Rattle.world.specs.declared.flight.Message.{Message}
 use Rattle.world.specs.declared.flight.Message.TheVariants as message
@@ -52,14 +52,14 @@ module _ {J : Type 0} (messages : List (Message J)) (items : List (Item J)) wher
   gathers_framed progress found t old new (inl said) = inl (ap framed said ∙ puts_framed _ _ _ old)
   gathers_framed progress found t old new (inr said) = inr (said.0, (said.1.0, ap framed said.1.1 ∙ goes_framed t said.0 old))
 
-  unless_framed : (why : Option Refusal) (reports : List (Report J)) (flow : Flow J) (old new : Parts J) → MeetsUnless why reports flow old new → MeetsUnless why reports flow (framed old) (framed new)
-  unless_framed (Some why) reports flow old new said = ap framed said ∙ puts_framed _ _ _ old
-  unless_framed None reports flow old new said = gathers_framed flow.progress _ _ old new said
+  unless_framed : (why : Option Refusal) (reports : List (Report J)) (journey : Journey J) (old new : Parts J) → MeetsUnless why reports journey old new → MeetsUnless why reports journey (framed old) (framed new)
+  unless_framed (Some why) reports journey old new said = ap framed said ∙ puts_framed _ _ _ old
+  unless_framed None reports journey old new said = gathers_framed journey.progress _ _ old new said
 
   meets_framed : (reports : List (Report J)) (old new : Parts J) → MeetsAs reports old new → MeetsAs reports (framed old) (framed new)
   meets_framed reports old new said =
-      carried_there reports (λ flow. MeetsUnless (refusal_of None reports) reports flow old new) (λ flow. MeetsUnless (refusal_of None reports) reports flow (framed old) (framed new))
-      (λ flow one. unless_framed (refusal_of None reports) reports flow old new one) said
+      carried_there reports (λ journey. MeetsUnless (refusal_of None reports) reports journey old new) (λ journey. MeetsUnless (refusal_of None reports) reports journey (framed old) (framed new))
+      (λ journey one. unless_framed (refusal_of None reports) reports journey old new one) said
 
   into_framed : (slot first : ℕ) (slots : List (Option (Report J))) (old new : Parts J) → ReportsInto slot first slots old new → ReportsInto slot first slots (framed old) (framed new)
   into_framed slot first slots old new (inl said) = inl (said.0, ap framed said.1)
@@ -68,7 +68,7 @@ module _ {J : Type 0} (messages : List (Message J)) (items : List (Item J)) wher
   reports_framed : (r : Report J) (old new : Parts J) → Reports r old new → Reports r (framed old) (framed new)
   reports_framed r old new said = (said.0, (said.1.0, (said.1.1.0, into_framed r.slot said.0 _ old new said.1.1.1)))
 
-  commits_framed : (commit : CommitItem J) (old new : Parts J) (answer : EventAnswer) → Commits commit old answer new → Commits commit (framed old) answer (framed new)
+  commits_framed : (commit : Commit J) (old new : Parts J) (answer : EventAnswer) → Commits commit old answer new → Commits commit (framed old) answer (framed new)
   commits_framed commit old new answer said = record {
     logged = said.logged;
     log = said.log;
@@ -111,7 +111,7 @@ module _ {J : Type 0} (messages : List (Message J)) (items : List (Item J)) wher
 
   admits_framed : (session number : ℕ) (asked : Request) (desk : SessionDesk J) (old new : Parts J) → Admits session number asked desk old new → Admits session number asked desk (framed old) (framed new)
   admits_framed session number asked desk old new a = record {
-    flow = a.flow;
+    journey = a.journey;
     works = a.works;
     pass = a.pass;
     age = a.age;
@@ -125,7 +125,7 @@ module _ {J : Type 0} (messages : List (Message J)) (items : List (Item J)) wher
     works_are = a.works_are;
     catalog = a.catalog;
     stations = a.stations;
-    inbox = ap (λ (ms : List (Message J)). messages ++ ms) a.inbox ∙ sym (append_assoc messages old.inbox (message.Start a.flow a.works ∷ []));
+    inbox = ap (λ (ms : List (Message J)). messages ++ ms) a.inbox ∙ sym (append_assoc messages old.inbox (message.Start a.journey a.works ∷ []));
     outbox = ap (λ (is : List (Item J)). items ++ is) a.outbox;
     log = a.log;
     admitted = a.admitted;

@@ -18,14 +18,13 @@ use Rattle.transactions.specs.declared.acting.Ran.TheVariants as ran
 use Rattle.transactions.specs.declared.work.Work.{Work}
 use Rattle.transactions.specs.Acting.{claims_of_ran, AreUndoneBy, IsAged}
 use Rattle.transactions.proofs.Reached.{some_actions}
-use Rattle.commit_log.specs.declared.entry.Entry.{Entry}
 use Rattle.world.specs.declared.desk.Active.{Active}
 use Rattle.world.specs.declared.desk.Active.TheVariants as active
-use Rattle.world.specs.declared.flight.Flow.{Flow}
+use Rattle.world.specs.declared.flight.Journey.{Journey}
 use Rattle.world.specs.declared.flight.Item.{Item}
 use Rattle.world.specs.declared.flight.Item.TheVariants as item
 use Rattle.world.specs.declared.flight.Message.{Message}
-use Rattle.world.specs.declared.flight.Message.TheVariants.{Start, Act, Settle, Undo}
+use Rattle.world.specs.declared.flight.Message.TheVariants.{Start, Errand, Settle, Undo}
 use Rattle.world.specs.declared.flight.Report.{Report}
 use Rattle.world.specs.declared.world.Parts.{Parts}
 use Rattle.world.specs.Flights.{InFlight, Token, Acting, Committing, Ending, acting_from, nothing, parts, part_carried, part_item, part_message, part_met}
@@ -144,10 +143,10 @@ ending_all slot zero = refl
 ending_all slot (suc left) = omega (arith, sum_by-cons (weigh_slots (of_slot slot)) (Ending slot) (replicate left (Ending slot)), one_weighs slot, ending_all slot left)
 
 module _ {J : Type 0} where
-  carried_aged : (slot : ℕ) (u : UnderWay) (number : ℕ) (o : Option (Flow J)) → IsCarriedAt slot u number o → All (AreUndoneBy u.age) u.held → All (IsAged u.age) (part_carried o).claims
+  carried_aged : (slot : ℕ) (u : UnderWay) (number : ℕ) (o : Option (Journey J)) → IsCarriedAt slot u number o → All (AreUndoneBy u.age) u.held → All (IsAged u.age) (part_carried o).claims
   carried_aged slot u number None h undo = All-nil (IsAged u.age)
-  carried_aged slot u zero (Some flow) h undo = subst (λ (held : List (List Claiming)). All (IsAged u.age) (all_claims held)) (sym h.held) (all_aged u.age u.held undo)
-  carried_aged slot u (suc number) (Some flow) h undo = absurd h
+  carried_aged slot u zero (Some journey) h undo = subst (λ (held : List (List Claiming)). All (IsAged u.age) (all_claims held)) (sym h.held) (all_aged u.age u.held undo)
+  carried_aged slot u (suc number) (Some journey) h undo = absurd h
 
   ran_aged : (shared : Shared) (u : UnderWay) (number : ℕ) (one : Ran J) → IsSoundRan shared u number one → All (IsAged u.age) (claims_of_ran one)
   ran_aged shared u number (ran.Done claims found) h = h.1.1.1.1
@@ -202,10 +201,10 @@ module _ {J : Type 0} where
           let phase = sound slot (Some (active.Acting there.0 there.1.0)) there.1.1.0 in
           (slot, (active.Acting there.0 there.1.0, (there.1.1.0, All-contains (IsAged (at slot).age) (all_claims (at slot).held) c (all_aged (at slot).age (at slot).held phase.undo) is)))
 
-      carried_active : (slot number place : ℕ) (o : Option (Flow J)) → IsCarriedAt slot (at slot) number o → 1 ≤ sum_by (weigh_acting slot place) (awaited_by_all 0 slots) → Contains (part_carried o).claims c → IsActiveAt at slots c.by.age
+      carried_active : (slot number place : ℕ) (o : Option (Journey J)) → IsCarriedAt slot (at slot) number o → 1 ≤ sum_by (weigh_acting slot place) (awaited_by_all 0 slots) → Contains (part_carried o).claims c → IsActiveAt at slots c.by.age
       carried_active slot number place None h some is = contains_none c is
-      carried_active slot zero place (Some flow) h some is = held_active slot place some (subst (λ (held : List (List Claiming)). Contains (all_claims held) c) h.held is)
-      carried_active slot (suc number) place (Some flow) h some is = absurd h
+      carried_active slot zero place (Some journey) h some is = held_active slot place some (subst (λ (held : List (List Claiming)). Contains (all_claims held) c) h.held is)
+      carried_active slot (suc number) place (Some journey) h some is = absurd h
 
       acting_active : (slot place : ℕ) → 1 ≤ sum_by (weigh_acting slot place) (awaited_by_all 0 slots) → c.by.age ≡ (at slot).age → IsActiveAt at slots c.by.age
       acting_active slot place some aged =
@@ -226,25 +225,25 @@ module _ {J : Type 0} where
           omega (arith, awaits (weigh_acting slot place), sum_by-cons (weigh_acting slot place) (Acting slot place) (acting_from slot (place + 1) works), acting_weighs slot place)
 
       message_active : (m : Message J) → IsSoundMessage shared at m → AreAwaited (part_message m).tokens → Contains (part_message m).claims c → IsActiveAt at slots c.by.age
-      message_active (Start flow works) h awaits is =
-          let slot = flow.transaction.slot in
+      message_active (Start journey works) h awaits is =
+          let slot = journey.transaction.slot in
           let some : 1 ≤ length works.items = omega (arith, ap (λ (ws : List Work). length ws) h.works_are, some_actions (at slot).progress) in
-          held_active slot (length flow.transaction.held) (first_acting slot (length flow.transaction.held) works.items some awaits) (subst (λ (held : List (List Claiming)). Contains (all_claims held) c) h.flow_is.held is)
-      message_active (Act act) h awaits is = carried_active act.slot h.number act.place act.flow h.flow (one_acting act.slot act.place awaits) is
+          held_active slot (length journey.transaction.held) (first_acting slot (length journey.transaction.held) works.items some awaits) (subst (λ (held : List (List Claiming)). Contains (all_claims held) c) h.journey_is.held is)
+      message_active (Errand errand) h awaits is = carried_active errand.slot h.number errand.place errand.journey h.journey (one_acting errand.slot errand.place awaits) is
       message_active (Settle slot claims) h awaits is = ending_active slot awaits (All-contains (IsAged (at slot).age) claims c h.1 is)
       message_active (Undo slot claims) h awaits is = ending_active slot awaits (All-contains (IsAged (at slot).age) claims c h.1 is)
 
-      reported_active : (slot place number : ℕ) (r : Report J) → 1 ≤ sum_by (weigh_acting slot place) (awaited_by_all 0 slots) → IsCarriedAt slot (at slot) number r.flow → IsSoundRan shared (at slot) number r.ran
-          → Contains ((part_carried r.flow).claims ++ claims_of_ran r.ran) c → IsActiveAt at slots c.by.age
+      reported_active : (slot place number : ℕ) (r : Report J) → 1 ≤ sum_by (weigh_acting slot place) (awaited_by_all 0 slots) → IsCarriedAt slot (at slot) number r.journey → IsSoundRan shared (at slot) number r.ran
+          → Contains ((part_carried r.journey).claims ++ claims_of_ran r.ran) c → IsActiveAt at slots c.by.age
       reported_active slot place number r some carried ran is =
           ⊎_elim
-          (λ (own : Contains (part_carried r.flow).claims c). carried_active slot number place r.flow carried some own)
+          (λ (own : Contains (part_carried r.journey).claims c). carried_active slot number place r.journey carried some own)
           (λ (done : Contains (claims_of_ran r.ran) c). acting_active slot place some (All-contains (IsAged (at slot).age) (claims_of_ran r.ran) c (ran_aged shared (at slot) number r.ran ran) done))
-          (Contains-append_cases (part_carried r.flow).claims (claims_of_ran r.ran) c is)
+          (Contains-append_cases (part_carried r.journey).claims (claims_of_ran r.ran) c is)
 
       item_active : (i : Item J) → IsSoundItem shared at i → AreAwaited (part_item i).tokens → Contains (part_item i).claims c → IsActiveAt at slots c.by.age
       item_active (item.Push m) h awaits is = message_active m h awaits is
-      item_active (item.Report r) h awaits is = reported_active r.slot r.place h.number r (one_acting r.slot r.place awaits) h.flow h.ran is
+      item_active (item.Report r) h awaits is = reported_active r.slot r.place h.number r (one_acting r.slot r.place awaits) h.journey h.ran is
       item_active (item.Ended slot) h awaits is = contains_none c is
       item_active (item.Commit commit) h awaits is =
           let slot = commit.transaction.slot in
@@ -298,7 +297,7 @@ module _ {J : Type 0} where
           let fine = (phase.reports place.0 r place.1).1.1 in
           let aged : c.by.age ≡ u.age =
           ⊎_elim
-          (λ (carried : Contains (part_carried r.flow).claims c). All-contains (IsAged u.age) (part_carried r.flow).claims c (carried_aged r.slot u fine.number r.flow fine.flow phase.undo) carried)
+          (λ (carried : Contains (part_carried r.journey).claims c). All-contains (IsAged u.age) (part_carried r.journey).claims c (carried_aged r.slot u fine.number r.journey fine.journey phase.undo) carried)
           (λ (done : Contains (claims_of_ran r.ran) c). All-contains (IsAged u.age) (claims_of_ran r.ran) c (ran_aged shared u fine.number r.ran fine.ran) done)
-          (Contains-append_cases (part_carried r.flow).claims (claims_of_ran r.ran) c one.1.1) in
+          (Contains-append_cases (part_carried r.journey).claims (claims_of_ran r.ran) c one.1.1) in
           (slot, (active.Acting there.1.0 there.1.1.0, (there.1.1.1.0, aged)))

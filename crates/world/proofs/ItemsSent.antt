@@ -10,7 +10,7 @@ use Rattle.history.specs.History.{Step, step}
 use Rattle.transactions.specs.Logged.{Logs}
 use Rattle.transactions.specs.declared.logging.Logged.{Logged as AnyLogged}
 use Rattle.world.specs.declared.desk.Active.TheVariants as active
-use Rattle.world.specs.declared.flight.CommitItem.{CommitItem}
+use Rattle.world.specs.declared.flight.Commit.{Commit}
 use Rattle.world.specs.declared.flight.Message.{Message}
 use Rattle.world.specs.declared.flight.Item.{Item}
 use Rattle.world.specs.declared.flight.Item.TheVariants as item
@@ -64,7 +64,7 @@ module _ {J : Type 0} where
             (fits_quiet opening history next.log (joined_in next) next.desk.admitted (flight next) (Send executor) Full tt (put_back_fits opening history w (item.Push message) f)));
       }
 
-  sends_commit : (shared : Shared) (w new : Parts J) (commit : CommitItem J) (answer : EventAnswer) (h : IsSoundWith shared (part_item (item.Commit commit)) w) (s : IsSoundCommit shared (h.under_way commit.transaction.slot) commit)
+  sends_commit : (shared : Shared) (w new : Parts J) (commit : Commit J) (answer : EventAnswer) (h : IsSoundWith shared (part_item (item.Commit commit)) w) (s : IsSoundCommit shared (h.under_way commit.transaction.slot) commit)
       → Commits commit w answer new → SendsOn shared (part_item (item.Commit commit)) w answer new
   sends_commit shared w new commit answer h s said = by said.logs
     where

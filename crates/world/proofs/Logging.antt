@@ -3,7 +3,7 @@ use Rattle.std.proofs.Common.{◌≡◌, ℕ, ◌<◌, ◌≤◌, false, List, [
 use Rattle.std.specs.Prelude.{All, map}
 use Rattle.std.specs.List.{slice_get}
 use Rattle.std.proofs.lemmas.List.{length-map, map-append}
-use Rattle.std.proofs.lemmas.List.Elements.{All-cons, All-nil, All-head, All-tail, All-append, All-weaker}
+use Rattle.std.proofs.lemmas.List.Elements.{All-cons, All-nil, All-head, All-tail, All-append}
 use Rattle.partitions.specs.Parts.{Shared}
 use Rattle.schema.specs.Database.{Database}
 use Rattle.requests.specs.declared.reply.Reply.{Reply}
@@ -29,12 +29,12 @@ use Rattle.transactions.proofs.Settling.{all_logged_given}
 use Rattle.transactions.specs.declared.logging.Logged.{Logged as AnyLogged}
 use Rattle.world.specs.declared.desk.Active.TheVariants as active
 use Rattle.world.specs.declared.flight.Item.TheVariants as item
-use Rattle.world.specs.declared.flight.CommitItem.{CommitItem}
+use Rattle.world.specs.declared.flight.Commit.{Commit}
 use Rattle.world.specs.declared.sending.Release.{Release}
 use Rattle.world.specs.declared.world.Parts.{Parts}
 use Rattle.world.specs.Parted.{joined_in}
 use Rattle.world.specs.Flights.{Committing, InFlight, part, nothing, join, part_item, unanswered_transaction}
-use Rattle.world.specs.Sound.{NamesOlder, IsSoundWith, IsSoundCommit, awaited_by_all, flight, Courses}
+use Rattle.world.specs.Sound.{NamesOlder, IsSoundWith, IsSoundCommit, awaited_by_all, flight}
 use Rattle.world.specs.Following.{entry_of, release, releasing}
 use Rattle.world.specs.Worlds.{FitsPart, Fits, IsAcceptedIn, IsClaimOf}
 use Rattle.world.proofs.Fitting.{fits_entry, fits_same, logged_held, All-behind, all_accepted, all_claimed}
@@ -45,7 +45,6 @@ use Rattle.world.proofs.OneSlot.{lots, flight_apart}
 use Rattle.world.proofs.Puts.{AreServed, GoesOn, Rests, rests_of}
 use Rattle.world.proofs.Releases.{unanswered_release, releases_fits, releases_sound}
 use Rattle.world.proofs.Reporting.{served_same}
-use Rattle.world.specs.declared.flight.Item.{Item}
 use Rattle.tickets.proofs.Committed.{All-front}
 
 -- ---- the claims of what is logged
@@ -87,14 +86,14 @@ module _ {J : Type 0} where
   -- ---- the commit
 
   -- the log has the entry more, and the transaction's claims are given back
-  abbrev pub logging : CommitItem J → Parts J → Parts J
+  abbrev pub logging : Commit J → Parts J → Parts J
   logging commit w =
       let t = commit.transaction in
       let pass = after_item t.pass (item_of (length w.log) t.number t.request commit.reply) in
       record (releasing (is_settled commit.reply) (release t pass (Ok (length w.log)) (map (claims_logged commit.reply) t.held)) w) { log = w.log ++ entry_of commit ∷ [] }
 
   -- the log refused the entry, and what the transaction did is taken back
-  abbrev pub refusing : CommitItem J → AppendFault → Parts J → Parts J
+  abbrev pub refusing : Commit J → AppendFault → Parts J → Parts J
   refusing commit why w =
       let t = commit.transaction in
       releasing false (release t (after_refusal why (length w.log) t.pass) (Err (why_refused why)) t.held) w
@@ -104,7 +103,7 @@ module _ {J : Type 0} where
   as_many_hold entry pass old new held after logged (inl logs) = ap (λ (hs : List (List Claiming)). length hs) logs.4 ∙ length-map held (claims_logged entry.reply)
   as_many_hold entry pass old new held after logged (inr refused) = ap (λ (hs : List (List Claiming)). length hs) refused.4
 
-  module _ (shared : Shared) (w : Parts J) (commit : CommitItem J) (h : IsSoundWith shared (part_item (item.Commit commit)) w) (s : IsSoundCommit shared (h.under_way commit.transaction.slot) commit) where
+  module _ (shared : Shared) (w : Parts J) (commit : Commit J) (h : IsSoundWith shared (part_item (item.Commit commit)) w) (s : IsSoundCommit shared (h.under_way commit.transaction.slot) commit) where
     abbrev slot : ℕ
     slot = commit.transaction.slot
 

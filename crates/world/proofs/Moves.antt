@@ -186,8 +186,8 @@ module _ {J : Type 0} where
   -- they go to one who knows of the slice
   module _ (h : Housing) (executor w_id : ℕ) (knows : Knows h executor w_id) where
     one_knows : (m : Message J) → home_of_message m ≡ w_id → All (KnowsOf h) (goes executor m)
-    one_knows (message.Start flow works) is = All-nil (KnowsOf h)
-    one_knows (message.Act act) is = All-cons (KnowsOf h) _ [] (subst (Knows h executor) (sym is) knows) (All-nil (KnowsOf h))
+    one_knows (message.Start journey works) is = All-nil (KnowsOf h)
+    one_knows (message.Errand errand) is = All-cons (KnowsOf h) _ [] (subst (Knows h executor) (sym is) knows) (All-nil (KnowsOf h))
     one_knows (message.Settle slot claims) is = All-cons (KnowsOf h) _ [] (subst (Knows h executor) (sym is) knows) (All-nil (KnowsOf h))
     one_knows (message.Undo slot claims) is = All-cons (KnowsOf h) _ [] (subst (Knows h executor) (sym is) knows) (All-nil (KnowsOf h))
 

@@ -28,8 +28,8 @@ use Rattle.range_moves.specs.Traffic.{IsHousedWith}
 use Rattle.range_moves.proofs.Housed.{at_rest as housed_at_rest}
 use Rattle.world.specs.declared.flight.Letter.{Letter}
 use Rattle.world.specs.declared.flight.Posted.{Posted}
-use Rattle.world.specs.Sound.{Courses, IsSoundAct, IsSoundMessage, awaited_by_all, flight, reported_to_all}
-use Rattle.world.specs.Stations.{HaveToWait, IsStationOf, act_of, message_of, waiting_at, waiting_in}
+use Rattle.world.specs.Sound.{Courses, IsSoundErrand, IsSoundMessage, awaited_by_all, flight, reported_to_all}
+use Rattle.world.specs.Stations.{HaveToWait, IsStationOf, errand_of, message_of, waiting_at, waiting_in}
 use Rattle.world.specs.Together.{IsSound, arrived_in, letters_of_all, together}
 use Rattle.world.specs.Queues.{all_of}
 use Rattle.range_moves.proofs.Parcels.{owned}
@@ -126,7 +126,7 @@ module _ {J : Type 0} where
         let who = who_waits w.parts one.0 one.1.0 in
         let p = who.1.1.0 in
         let weighs : 1 ≤ sum_by (weigh_slots (of_slot slot)) (part_message (message_of p)).tokens = subst (λ (m : Message J). 1 ≤ sum_by (weigh_slots (of_slot slot)) (part_message m).tokens) (sym who.1.1.1.1) one.1.1 in
-        let fine : IsSoundAct shared (at p.carried.slot) (act_of p) = subst (λ (m : Message J). IsSoundMessage shared at m) (sym who.1.1.1.1) (sound_waiting one.0 one.1.0) in
+        let fine : IsSoundErrand shared (at p.carried.slot) (errand_of p) = subst (λ (m : Message J). IsSoundMessage shared at m) (sym who.1.1.1.1) (sound_waiting one.0 one.1.0) in
         let same : slot ≡ p.carried.slot =
         by_bool (slot == p.carried.slot)
         (λ is. exact_unsigned_eq slot p.carried.slot is)

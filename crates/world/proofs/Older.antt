@@ -26,17 +26,17 @@ use Rattle.transactions.proofs.Reached.{some_actions, within}
 use Rattle.transactions.proofs.Wished.{works_have_a_claim_for_each_wish}
 use Rattle.world.specs.declared.desk.Active.{Active}
 use Rattle.world.specs.declared.desk.Active.TheVariants as active
-use Rattle.world.specs.declared.flight.Act.{Act as AnyAct}
-use Rattle.world.specs.declared.flight.Flow.{Flow}
+use Rattle.world.specs.declared.flight.Errand.{Errand as AnyErrand}
+use Rattle.world.specs.declared.flight.Journey.{Journey}
 use Rattle.world.specs.declared.flight.Item.{Item}
 use Rattle.world.specs.declared.flight.Item.TheVariants as item
 use Rattle.world.specs.declared.flight.Message.{Message}
-use Rattle.world.specs.declared.flight.Message.TheVariants.{Start, Act, Settle, Undo}
+use Rattle.world.specs.declared.flight.Message.TheVariants.{Start, Errand, Settle, Undo}
 use Rattle.world.specs.declared.flight.Report.{Report}
 use Rattle.world.specs.declared.world.Parts.{Parts}
 use Rattle.world.specs.Flights.{Token, Acting, Committing, Ending, claims_reported, nothing, parts, part_carried, part_item, part_message, part_met, acting_from, unanswered_transaction}
 use Rattle.world.specs.Parted.{joined_in}
-use Rattle.world.specs.Sound.{Courses, IsCarriedAt, IsSoundAct, IsSoundActive, IsSoundItem, IsSoundMessage, IsSoundPhase, IsSoundRan, IsSoundReport, IsSoundWith, IsWorkAt, UnderWay, awaited_by_all, flight, reported_to_all, IsActiveAt, IsSoundFlow, reported_to}
+use Rattle.world.specs.Sound.{Courses, IsCarriedAt, IsSoundErrand, IsSoundActive, IsSoundItem, IsSoundMessage, IsSoundPhase, IsSoundRan, IsSoundReport, IsSoundWith, IsWorkAt, UnderWay, awaited_by_all, flight, reported_to_all, IsActiveAt, IsSoundJourney, reported_to}
 use Rattle.world.proofs.Holders.{all_aged, claim_of, contains_mapped, first_acting, met_at, one_acting, one_of_all, reported_at, whose_claim, holder_active, whose_token, in_parts}
 use Rattle.transactions.proofs.OnGroups.{claim_counts, claimed_once, dies_on, group_counts, one_of_works, two_of_works, counted_there, of_footprint}
 use Rattle.world.proofs.OneSlot.{awaited_of, none_of_slot, of_slot, sound_in, weigh_slots, without}
@@ -183,10 +183,10 @@ module _ {J : Type 0} (shared : Shared) (w : Parts J) (h : IsSoundWith shared no
         let phase : IsSoundPhase shared slot (at slot) acting.0 acting.1.0 = sound slot (Some (active.Acting acting.0 acting.1.0)) acting.1.1 in
         (slot, (All-contains (IsAged (at slot).age) (all_claims (at slot).held) c (all_aged (at slot).age (at slot).held phase.undo) is, inl (acting, inl is)))
 
-    of_carried : (slot number : ℕ) (o : Option (Flow J)) → IsCarriedAt slot (at slot) number o → IsActing slot → Contains (part_carried o).claims c → Whose c
+    of_carried : (slot number : ℕ) (o : Option (Journey J)) → IsCarriedAt slot (at slot) number o → IsActing slot → Contains (part_carried o).claims c → Whose c
     of_carried slot number None k acting is = contains_none c is
-    of_carried slot zero (Some flow) k acting is = of_held slot acting (subst (λ (held : List (List Claiming)). Contains (all_claims held) c) k.held is)
-    of_carried slot (suc number) (Some flow) k acting is = absurd k
+    of_carried slot zero (Some journey) k acting is = of_held slot acting (subst (λ (held : List (List Claiming)). Contains (all_claims held) c) k.held is)
+    of_carried slot (suc number) (Some journey) k acting is = absurd k
 
     of_ran : (slot number : ℕ) (one : Ran J) → IsSoundRan shared (at slot) number one → IsActing slot
         → sum_by (weigh_acting slot (length (at slot).held + number)) (parts part_message w.inbox).tokens ≡ 0 → Contains (claims_of_ran one) c → Whose c
@@ -201,9 +201,9 @@ module _ {J : Type 0} (shared : Shared) (w : Parts J) (h : IsSoundWith shared no
         → sum_by (weigh_acting r.slot (length (at r.slot).held + k.number)) (parts part_message w.inbox).tokens ≡ 0 → Contains (claims_reported r) c → Whose c
     of_report r k acting over is =
         ⊎_elim
-        (λ (own : Contains (part_carried r.flow).claims c). of_carried r.slot k.number r.flow k.flow acting own)
+        (λ (own : Contains (part_carried r.journey).claims c). of_carried r.slot k.number r.journey k.journey acting own)
         (λ (done : Contains (claims_of_ran r.ran) c). of_ran r.slot k.number r.ran k.ran acting over done)
-        (Contains-append_cases (part_carried r.flow).claims (claims_of_ran r.ran) c is)
+        (Contains-append_cases (part_carried r.journey).claims (claims_of_ran r.ran) c is)
 
     of_ending : (slot : ℕ) → ((weight : Token → ℕ) → sum_by weight (Ending slot ∷ []) ≤ sum_by weight (awaited_by_all 0 slots)) → c.by.age ≡ (at slot).age → Whose c
     of_ending slot awaits aged =
@@ -211,13 +211,13 @@ module _ {J : Type 0} (shared : Shared) (w : Parts J) (h : IsSoundWith shared no
         (slot, (aged, inr (inr (there.0, there.1.0))))
 
     of_message : (m : Message J) → IsSoundMessage shared at m → ((weight : Token → ℕ) → sum_by weight (part_message m).tokens ≤ sum_by weight (awaited_by_all 0 slots)) → Contains (part_message m).claims c → Whose c
-    of_message (Start flow works) k awaits is =
-        let slot = flow.transaction.slot in
-        let place = length flow.transaction.held in
+    of_message (Start journey works) k awaits is =
+        let slot = journey.transaction.slot in
+        let place = length journey.transaction.held in
         let some : 1 ≤ length works.items = omega (arith, ap (λ (ws : List Work). length ws) k.works_are, some_actions (at slot).progress) in
         of_held slot (acting_at slot place (first_acting shared at slots c sound slot place works.items some awaits))
-        (subst (λ (held : List (List Claiming)). Contains (all_claims held) c) k.flow_is.held is)
-    of_message (Act act) k awaits is = of_carried act.slot k.number act.flow k.flow (acting_at act.slot act.place (one_acting shared at slots c sound act.slot act.place awaits)) is
+        (subst (λ (held : List (List Claiming)). Contains (all_claims held) c) k.journey_is.held is)
+    of_message (Errand errand) k awaits is = of_carried errand.slot k.number errand.journey k.journey (acting_at errand.slot errand.place (one_acting shared at slots c sound errand.slot errand.place awaits)) is
     of_message (Settle slot claims) k awaits is = of_ending slot awaits (All-contains (IsAged (at slot).age) claims c k.1 is)
     of_message (Undo slot claims) k awaits is = of_ending slot awaits (All-contains (IsAged (at slot).age) claims c k.1 is)
 
@@ -327,7 +327,7 @@ module _ {J : Type 0} (shared : Shared) (w : Parts J) (h : IsSoundWith shared no
 
   -- in a slot whose transaction has come so far
   abbrev pub Leads : ℕ → Type 0
-  Leads slot = (flow : Flow J) × (IsSoundFlow slot (at slot) flow × Contains (flight w).pending (unanswered_transaction flow.transaction))
+  Leads slot = (journey : Journey J) × (IsSoundJourney slot (at slot) journey × Contains (flight w).pending (unanswered_transaction journey.transaction))
 
   in_first : (m : Message J) (x : Unanswered) → Contains w.inbox m → Contains (part_message m).pending x → Contains (flight w).pending x
   in_first m x there has =
@@ -350,12 +350,12 @@ module _ {J : Type 0} (shared : Shared) (w : Parts J) (h : IsSoundWith shared no
     own = at slot
 
     -- what is carried with the first action
-    carried_leads : (s number : ℕ) (o : Option (Flow J)) → s ≡ slot → number ≡ 0 → IsCarriedAt s (at s) number o
+    carried_leads : (s number : ℕ) (o : Option (Journey J)) → s ≡ slot → number ≡ 0 → IsCarriedAt s (at s) number o
         → ((x : Unanswered) → Contains (part_carried o).pending x → Contains (flight w).pending x) → Leads slot
     carried_leads s number None same first k there = absurd (subst (λ n. IsCarriedAt {J = J} s (at s) n None) first k)
-    carried_leads s number (Some flow) same first k there =
-        let sound_flow : IsSoundFlow s (at s) flow = subst (λ n. IsCarriedAt s (at s) n (Some flow)) first k in
-        (flow, (subst (λ n. IsSoundFlow n (at n) flow) same sound_flow, there (unanswered_transaction flow.transaction) (contains_here (unanswered_transaction flow.transaction) [])))
+    carried_leads s number (Some journey) same first k there =
+        let sound_journey : IsSoundJourney s (at s) journey = subst (λ n. IsCarriedAt s (at s) n (Some journey)) first k in
+        (journey, (subst (λ n. IsSoundJourney n (at n) journey) same sound_journey, there (unanswered_transaction journey.transaction) (contains_here (unanswered_transaction journey.transaction) [])))
 
     -- the token of an action of this slot and place
     token_of : (s place p : ℕ) → 1 ≤ weigh_acting slot place (Acting s p) → (s ≡ slot) × (p ≡ place)
@@ -378,11 +378,11 @@ module _ {J : Type 0} (shared : Shared) (w : Parts J) (h : IsSoundWith shared no
     -- the first action of the phase is in a message
     message_leads : (place : ℕ) → place ≡ length own.held → (m : Message J) → IsSoundMessage shared at m → 1 ≤ sum_by (weigh_acting slot place) (part_message m).tokens
         → ((x : Unanswered) → Contains (part_message m).pending x → Contains (flight w).pending x) → Leads slot
-    message_leads place first (Start flow works) k some there =
-        carried_leads flow.transaction.slot 0 (Some flow) (token_from flow.transaction.slot place (length flow.transaction.held) works.items some) refl k.flow_is there
-    message_leads place first (Act act) k some there =
-        let token = token_of act.slot place act.place (omega (arith, some, sum_by-cons (weigh_acting slot place) (Acting act.slot act.place) [])) in
-        carried_leads act.slot k.number act.flow token.0 (omega (arith, k.place, token.1, first, ap (λ n. length (at n).held) token.0)) k.flow there
+    message_leads place first (Start journey works) k some there =
+        carried_leads journey.transaction.slot 0 (Some journey) (token_from journey.transaction.slot place (length journey.transaction.held) works.items some) refl k.journey_is there
+    message_leads place first (Errand errand) k some there =
+        let token = token_of errand.slot place errand.place (omega (arith, some, sum_by-cons (weigh_acting slot place) (Acting errand.slot errand.place) [])) in
+        carried_leads errand.slot k.number errand.journey token.0 (omega (arith, k.place, token.1, first, ap (λ n. length (at n).held) token.0)) k.journey there
     message_leads place first (Settle s claims) k some there = absurd (omega (arith, some))
     message_leads place first (Undo s claims) k some there = absurd (omega (arith, some))
 
@@ -392,7 +392,7 @@ module _ {J : Type 0} (shared : Shared) (w : Parts J) (h : IsSoundWith shared no
     item_leads place first (item.Push m) k some there = message_leads place first m k some there
     item_leads place first (item.Report r) k some there =
         let token = token_of r.slot place r.place (omega (arith, some, sum_by-cons (weigh_acting slot place) (Acting r.slot r.place) [])) in
-        carried_leads r.slot k.number r.flow token.0 (omega (arith, k.place, token.1, first, ap (λ n. length (at n).held) token.0)) k.flow there
+        carried_leads r.slot k.number r.journey token.0 (omega (arith, k.place, token.1, first, ap (λ n. length (at n).held) token.0)) k.journey there
     item_leads place first (item.Ended s) k some there = absurd (omega (arith, some))
     item_leads place first (item.Commit commit) k some there = absurd (omega (arith, some))
     item_leads place first (item.Reply told) k some there = absurd (omega (arith, some))
@@ -417,7 +417,7 @@ module _ {J : Type 0} (shared : Shared) (w : Parts J) (h : IsSoundWith shared no
             let k : IsSoundReport shared (at r.slot) r = subst (λ n. IsSoundReport shared (at n) r) (sym told.1.0) told.1.1 in
             let among : Contains (reported places) r = subst (λ (l : List (Option (Report J))). Contains (reported l) r) (sym is) (contains_here r (reported ps)) in
             let all = reported_among slot slots first places r acting.1.1 among in
-            carried_leads r.slot k.number r.flow told.1.0 (omega (arith, k.place, told.0, phase.first_is, ap (λ n. length (at n).held) told.1.0)) k.flow (λ x has. in_third r x all has)
+            carried_leads r.slot k.number r.journey told.1.0 (omega (arith, k.place, told.0, phase.first_is, ap (λ n. length (at n).held) told.1.0)) k.journey (λ x has. in_third r x all has)
         by (None ∷ ps) is = of_inbox (sum_by weight (parts part_message w.inbox).tokens) refl
           where
             weight : Token → ℕ
@@ -451,97 +451,97 @@ module _ {J : Type 0} (shared : Shared) (w : Parts J) (h : IsSoundWith shared no
 
   -- ---- an action that is to run
 
-  module _ (once : TransactionsClaimEachGroupOnce) (act : AnyAct J) (there : Contains w.inbox (Act act)) where
+  module _ (once : TransactionsClaimEachGroupOnce) (errand : AnyErrand J) (there : Contains w.inbox (Errand errand)) where
     abbrev u : UnderWay
-    u = at act.slot
+    u = at errand.slot
 
-    fine : IsSoundAct shared u act
-    fine = All-contains (IsSoundMessage shared at) w.inbox (Act act) h.inbox there
+    fine : IsSoundErrand shared u errand
+    fine = All-contains (IsSoundMessage shared at) w.inbox (Errand errand) h.inbox there
 
-    to_run : 1 ≤ sum_by (weigh_acting act.slot act.place) (parts part_message w.inbox).tokens
+    to_run : 1 ≤ sum_by (weigh_acting errand.slot errand.place) (parts part_message w.inbox).tokens
     to_run =
-        let weight = weigh_acting act.slot act.place in
-        omega (arith, one_of_all part_message weight w.inbox (Act act) there, sum_by-cons weight (Acting act.slot act.place) [], acting_weighs act.slot act.place)
+        let weight = weigh_acting errand.slot errand.place in
+        omega (arith, one_of_all part_message weight w.inbox (Errand errand) there, sum_by-cons weight (Acting errand.slot errand.place) [], acting_weighs errand.slot errand.place)
 
-    pub acts_now : IsActing act.slot
-    acts_now = acting_at act.slot act.place (omega (arith, to_run, tokens (weigh_acting act.slot act.place)))
+    pub errands_now : IsActing errand.slot
+    errands_now = acting_at errand.slot errand.place (omega (arith, to_run, tokens (weigh_acting errand.slot errand.place)))
 
-    pub phase_now : IsSoundPhase shared act.slot u acts_now.0 acts_now.1.0
-    phase_now = sound act.slot (Some (active.Acting acts_now.0 acts_now.1.0)) acts_now.1.1
+    pub phase_now : IsSoundPhase shared errand.slot u errands_now.0 errands_now.1.0
+    phase_now = sound errand.slot (Some (active.Acting errands_now.0 errands_now.1.0)) errands_now.1.1
 
     -- its transaction has no claim on a group that it wishes for
-    not_own : (c : Claiming) → Contains (flight w).claims c → c.by.age ≡ act.age → Contains (groups_of (wishes_of act.work)) c.group → ⊥
+    not_own : (c : Claiming) → Contains (flight w).claims c → c.by.age ≡ errand.age → Contains (groups_of (wishes_of errand.work)) c.group → ⊥
     not_own c is aged wished =
         let whose = whose_is c is in
         let a = active_of whose.0 c whose.1.1 in
-        let same : whose.0 ≡ act.slot = h.ages.apart whose.0 act.slot a.0 (active.Acting acts_now.0 acts_now.1.0) a.1 acts_now.1.1 (sym whose.1.0 ∙ aged ∙ fine.age) in
+        let same : whose.0 ≡ errand.slot = h.ages.apart whose.0 errand.slot a.0 (active.Acting errands_now.0 errands_now.1.0) a.1 errands_now.1.1 (sym whose.1.0 ∙ aged ∙ fine.age) in
         by (subst (λ n. Has n c) same whose.1.1)
       where
         works : List Work
         works = works_of u.progress
 
-        of_phase : (Contains (all_claims u.held) c ⊎ HasRun act.slot c) → ⊥
+        of_phase : (Contains (all_claims u.held) c ⊎ HasRun errand.slot c) → ⊥
         of_phase (inl held) =
             omega (
               arith,
               claimed_once shared u.request u.progress u.held phase_now.reached c.group once,
               claim_counts (all_claims u.held) c held,
-              one_of_works c.group works fine.number act.work fine.work,
-              group_counts c.group (wishes_of act.work) wished,
+              one_of_works c.group works fine.number errand.work fine.work,
+              group_counts c.group (wishes_of errand.work) wished,
             )
         of_phase (inr run) =
             by_bool (run.0 == fine.number)
             (λ alike.
-            let place_is : length u.held + run.0 ≡ act.place = omega (arith, fine.place, exact_unsigned_eq run.0 fine.number alike) in
-            let none : sum_by (weigh_acting act.slot act.place) (parts part_message w.inbox).tokens ≡ 0 =
-            subst (λ n. sum_by (weigh_acting act.slot n) (parts part_message w.inbox).tokens ≡ 0) place_is run.1.1.1.1 in
+            let place_is : length u.held + run.0 ≡ errand.place = omega (arith, fine.place, exact_unsigned_eq run.0 fine.number alike) in
+            let none : sum_by (weigh_acting errand.slot errand.place) (parts part_message w.inbox).tokens ≡ 0 =
+            subst (λ n. sum_by (weigh_acting errand.slot n) (parts part_message w.inbox).tokens ≡ 0) place_is run.1.1.1.1 in
             omega (arith, none, to_run))
             (λ differs.
             omega (
               arith,
               claimed_once shared u.request u.progress u.held phase_now.reached c.group once,
-              two_of_works c.group works run.0 fine.number run.1.0 act.work run.1.1.0 fine.work (λ same. subst (λ b. IsFalse b) (sym differs ∙ eq-eqb run.0 fine.number same) tt),
+              two_of_works c.group works run.0 fine.number run.1.0 errand.work run.1.1.0 fine.work (λ same. subst (λ b. IsFalse b) (sym differs ∙ eq-eqb run.0 fine.number same) tt),
               group_counts c.group (wishes_of run.1.0) run.1.1.1.0,
-              group_counts c.group (wishes_of act.work) wished,
+              group_counts c.group (wishes_of errand.work) wished,
             ))
 
-        by : Has act.slot c → ⊥
+        by : Has errand.slot c → ⊥
         by (inl has) = of_phase has.1
-        by (inr (inl committing)) = let acting = acts_now.1.1 in absurd (cc)
-        by (inr (inr ending)) = let acting = acts_now.1.1 in let over = ending.1 in absurd (cc)
+        by (inr (inl committing)) = let acting = errands_now.1.1 in absurd (cc)
+        by (inr (inr ending)) = let acting = errands_now.1.1 in let over = ending.1 in absurd (cc)
 
     -- so who is in its way, and isn't younger, is older
-    pub dies_of_older : (w_id : ℕ) (holdings : List Holding) → (joined_in w).holdings w_id ≡ holdings → (group : Group) (holder : ℕ) → MustDie holdings act.age (wants_of act.work) group holder → holder < act.age
+    pub dies_of_older : (w_id : ℕ) (holdings : List Holding) → (joined_in w).holdings w_id ≡ holdings → (group : Group) (holder : ℕ) → MustDie holdings errand.age (wants_of errand.work) group holder → holder < errand.age
     dies_of_older w_id holdings is group holder death =
-        let on = dies_on holdings act.age (wishes_of act.work) group holder death in
+        let on = dies_on holdings errand.age (wishes_of errand.work) group holder death in
         let held : Contains ((joined_in w).holdings w_id) on.holding = subst (λ (hs : List Holding). Contains hs on.holding) (sym is) on.held in
         let out = Contains-permutation ((joined_in w).holdings w_id) (held_at w_id (flight w).claims) on.holding (h.held w_id) held in
         let claim = claim_of w_id (flight w).claims on.holding out in
-        lesser holder act.age death.older
+        lesser holder errand.age death.older
         (λ same.
         not_own claim.0 claim.1.0 (ap (λ (x : Holding). x.by.age) claim.1.1 ∙ on.by ∙ same)
-        (subst (λ (g : Group). Contains (groups_of (wishes_of act.work)) g) (sym (ap (λ (x : Holding). x.group) claim.1.1 ∙ on.on)) on.wished))
+        (subst (λ (g : Group). Contains (groups_of (wishes_of errand.work)) g) (sym (ap (λ (x : Holding). x.group) claim.1.1 ∙ on.on)) on.wished))
 
     -- what an action holds once it has run is of its request's footprint, as the history tells
-    pub ran_claimed : (opening : Database) (history : List Step) → Fits opening history w → (was now : Sliced) (one : Ran J) → IsRan (holder_of act) was act.work one now → All (IsClaimOf history) (claims_of_ran one)
+    pub ran_claimed : (opening : Database) (history : List Step) → Fits opening history w → (was now : Sliced) (one : Ran J) → IsRan (holder_of errand) was errand.work one now → All (IsClaimOf history) (claims_of_ran one)
     ran_claimed opening history f was now (ran.Died group holder) of = All-nil (IsClaimOf history)
     ran_claimed opening history f was now ran.NoMemory of = All-nil (IsClaimOf history)
     ran_claimed opening history f was now (ran.Done claims found) of =
         All-weaker (Contains claims) (IsClaimOf history) (λ c is. (u.request, (subst (λ n. WasAccepted history n u.request) (sym (aged c is)) accepted, claims_group c is))) claims (All-contains_itself claims)
       where
         accepted : WasAccepted history u.age u.request
-        accepted = accepted_as opening history f act.slot acts_now
+        accepted = accepted_as opening history f errand.slot errands_now
 
         aged : (c : Claiming) → Contains claims c → c.by.age ≡ u.age
-        aged c is = ap (λ (x : Holder). x.age) (All-contains (IsBy (holder_of act)) claims c of.own is) ∙ fine.age
+        aged c is = ap (λ (x : Holder). x.age) (All-contains (IsBy (holder_of errand)) claims c of.own is) ∙ fine.age
 
         claims_group : (c : Claiming) → Contains claims c → Contains (groups_of (footprint u.request)) c.group
         claims_group c is =
             let works = works_of u.progress in
-            let on = works_have_a_claim_for_each_wish (shared_of was.tables) act.work found claims of.done in
+            let on = works_have_a_claim_for_each_wish (shared_of was.tables) errand.work found claims of.done in
             let wished = subst (λ (gs : List Group). Contains gs c.group) on (contains_mapped (λ (claim : Claiming). claim.group) claims c is) in
             of_footprint shared u.request u.progress u.held phase_now.reached c.group within
-            (counted_there c.group (all_wishes works) (omega (arith, group_counts c.group (wishes_of act.work) wished, one_of_works c.group works fine.number act.work fine.work)))
+            (counted_there c.group (all_wishes works) (omega (arith, group_counts c.group (wishes_of errand.work) wished, one_of_works c.group works fine.number errand.work fine.work)))
 
   -- ---- a death that is reported
 

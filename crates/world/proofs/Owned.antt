@@ -8,8 +8,8 @@ use Rattle.requests.specs.declared.refusal.Refusal.{Refusal}
 use Rattle.history.specs.declared.event.EventAnswer.{EventAnswer}
 use Rattle.transactions.specs.declared.progress.Gathered.{Gathered}
 use Rattle.transactions.specs.declared.progress.Gathered.TheVariants.{Next, Finish}
-use Rattle.world.specs.declared.flight.CommitItem.{CommitItem}
-use Rattle.world.specs.declared.flight.Flow.{Flow}
+use Rattle.world.specs.declared.flight.Commit.{Commit}
+use Rattle.world.specs.declared.flight.Journey.{Journey}
 use Rattle.world.specs.declared.flight.Transaction.{Transaction}
 use Rattle.world.specs.declared.flight.Report.{Report}
 use Rattle.world.specs.declared.flight.Item.{Item}
@@ -45,17 +45,17 @@ module _ {J : Type 0} where
   goes_inbox t (Next progress) w = refl
   goes_inbox t (Finish shown) w = refl
 
-  unless_inbox : (why : Option Refusal) (reports : List (Report J)) (flow : Flow J) (old new : Parts J) → MeetsUnless why reports flow old new → new.inbox ≡ old.inbox
-  unless_inbox (Some why) reports flow old new said = ap (λ (w : Parts J). w.inbox) said
-  unless_inbox None reports flow old new said =
+  unless_inbox : (why : Option Refusal) (reports : List (Report J)) (journey : Journey J) (old new : Parts J) → MeetsUnless why reports journey old new → new.inbox ≡ old.inbox
+  unless_inbox (Some why) reports journey old new said = ap (λ (w : Parts J). w.inbox) said
+  unless_inbox None reports journey old new said =
       ⊎_elim (λ no_memory. ap (λ (w : Parts J). w.inbox) no_memory) (λ gathered. ap (λ (w : Parts J). w.inbox) gathered.1.1 ∙ goes_inbox _ gathered.0 old) said
 
   meets_inbox : (reports : List (Report J)) (old new : Parts J) → MeetsAs reports old new → new.inbox ≡ old.inbox
   meets_inbox reports old new said =
-      let P : Flow J → Type 0 = λ flow. MeetsUnless (refusal_of None reports) reports flow old new in
-      carried_both reports P P (new.inbox ≡ old.inbox) (λ flow one same. unless_inbox (refusal_of None reports) reports flow old new one) said said
+      let P : Journey J → Type 0 = λ journey. MeetsUnless (refusal_of None reports) reports journey old new in
+      carried_both reports P P (new.inbox ≡ old.inbox) (λ journey one same. unless_inbox (refusal_of None reports) reports journey old new one) said said
 
-  commits_inbox : (commit : CommitItem J) (old new : Parts J) (answer : EventAnswer) → Commits commit old answer new → new.inbox ≡ old.inbox
+  commits_inbox : (commit : Commit J) (old new : Parts J) (answer : EventAnswer) → Commits commit old answer new → new.inbox ≡ old.inbox
   commits_inbox commit old new answer said = ap (λ (w : Parts J). w.inbox) said.over
 
   into_inbox : (slot first : ℕ) (slots : List (Option (Report J))) (old new : Parts J) → ReportsInto slot first slots old new → new.inbox ≡ old.inbox

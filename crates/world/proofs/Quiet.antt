@@ -13,7 +13,6 @@ use Rattle.tickets.proofs.Committed as kept
 use Rattle.groups.proofs.RowsInGroups.{contents_make_tables}
 use Rattle.machine.proofs.RequestLaws.{tables_after-scale, tables_after-items}
 use Rattle.commit_log.specs.Log.{requests_of}
-use Rattle.commit_log.specs.declared.entry.Entry.{Entry}
 use Rattle.history.specs.declared.event.EventAnswer.{EventAnswer}
 use Rattle.history.specs.declared.event.EventAnswer.TheVariants.{Nothing}
 use Rattle.history.specs.History.{Step}

@@ -12,9 +12,9 @@ use Rattle.transactions.specs.declared.work.Work.{Work}
 use Rattle.transactions.specs.Progresses.{IsReached, works_of}
 use Rattle.transactions.specs.declared.laws.TheConstants.{MOST_ACTIONS}
 use Rattle.transactions.proofs.Reached.{few_actions, some_actions}
-use Rattle.world.specs.declared.flight.Flow.{Flow}
+use Rattle.world.specs.declared.flight.Journey.{Journey}
 use Rattle.world.specs.declared.flight.Message.{Message}
-use Rattle.world.specs.declared.flight.Message.TheVariants.{Start, Act, Settle, Undo}
+use Rattle.world.specs.declared.flight.Message.TheVariants.{Start, Errand, Settle, Undo}
 use Rattle.world.specs.declared.flight.Report.{Report}
 use Rattle.world.specs.declared.flight.Item.{Item}
 use Rattle.world.specs.declared.flight.Item.TheVariants as item
@@ -38,9 +38,9 @@ module _ {J : Type 0} where
   -- ---- a message
 
   pub can_work : (shared : Shared) (at : Courses) (message : Message J) → IsSoundMessage shared at message → CanWork shared message
-  can_work shared at (Start flow works) h =
-      (omega (arith, ap (λ (ws : List Work). length ws) h.works_are, some_actions (at flow.transaction.slot).progress), (h.few, h.can))
-  can_work shared at (Act act) h = h.can
+  can_work shared at (Start journey works) h =
+      (omega (arith, ap (λ (ws : List Work). length ws) h.works_are, some_actions (at journey.transaction.slot).progress), (h.few, h.can))
+  can_work shared at (Errand errand) h = h.can
   can_work shared at (Settle slot claims) h = h.0
   can_work shared at (Undo slot claims) h = h.0
 
@@ -48,12 +48,12 @@ module _ {J : Type 0} where
 
   -- where all actions of a phase have reported, the first has the transaction with it
   can_meet : (shared : Shared) (slot : ℕ) (u : UnderWay) (works : List Work) (reports : List (Report J)) → works ≡ works_of u.progress → IsReached shared u.request u.progress u.held → 1 ≤ length works → length u.held + length works ≤ MOST_ACTIONS
-      → length reports ≡ length works → HaveReported shared slot u 0 works reports → CanMeet reports × CarriesFirst reports (λ flow. flow.transaction.slot ≡ slot)
+      → length reports ≡ length works → HaveReported shared slot u 0 works reports → CanMeet reports × CarriesFirst reports (λ journey. journey.transaction.slot ≡ slot)
   can_meet shared slot u works [] are reached some few many h = absurd (omega (arith, some, many))
   can_meet shared slot u [] (r ∷ reports) are reached some few many h = absurd h
   can_meet shared slot u (work ∷ works) (r ∷ reports) are reached some few many h =
       let all = r ∷ reports in
-      let carried = is_carried shared slot u r.flow h.0.0 in
+      let carried = is_carried shared slot u r.journey h.0.0 in
       let same = carried.1.1 in
       let goes : CanMeetFor all carried.0 = record {
         slot = same.asked.slot;
@@ -67,9 +67,9 @@ module _ {J : Type 0} where
           subst (λ ws. HaveAllDone shared ws (found_in all) (held_in all)) (are ∙ ap works_of (sym same.progress)) (all_done shared slot u 0 (work ∷ works) all h none),
         );
       } in
-      let Both : Flow J → Type 0 = λ flow. flow.transaction.slot ≡ slot in (
-        subst (λ (o : Option (Flow J)). IfCarried o (CanMeetFor all)) (sym carried.1.0) goes,
-        subst (λ (o : Option (Flow J)). IfCarried o Both) (sym carried.1.0) same.slot_is,
+      let Both : Journey J → Type 0 = λ journey. journey.transaction.slot ≡ slot in (
+        subst (λ (o : Option (Journey J)). IfCarried o (CanMeetFor all)) (sym carried.1.0) goes,
+        subst (λ (o : Option (Journey J)). IfCarried o Both) (sym carried.1.0) same.slot_is,
       )
 
   can_report : (opening : Database) (w : Parts J) (r : Report J) (h : IsSoundWith (shared_of opening) (part_item (item.Report r)) w) → IsSoundReport (shared_of opening) (h.under_way r.slot) r → CanSend opening (item.Report r) w
@@ -82,7 +82,7 @@ module _ {J : Type 0} where
       let slots = at.1.0 in
       let phase : IsSoundPhase shared r.slot u first slots = sound_in shared h.under_way r.slot w.desk.active (Some (active.Acting first slots)) h.active at.1.1.0 in
       let place : r.place ≡ first + (r.place - first) = omega (arith, at.1.1.1.0) in
-      let meets : (reports : List (Report J)) → map Some reports ≡ slice_set slots (r.place - first) (Some r) → CanMeet reports × CarriesFirst reports (λ flow. flow.transaction.slot ≡ r.slot) = λ reports all.
+      let meets : (reports : List (Report J)) → map Some reports ≡ slice_set slots (r.place - first) (Some r) → CanMeet reports × CarriesFirst reports (λ journey. journey.transaction.slot ≡ r.slot) = λ reports all.
       let many : length reports ≡ length (works_of u.progress) =
       sym (length-map reports Some) ∙ ap (λ (l : List (Option (Report J))). length l) all ∙ length-set slots (r.place - first) (Some r) ∙ phase.many in
       can_meet shared r.slot u (works_of u.progress) reports refl phase.reached (some_actions u.progress) (few_actions shared u.request u.progress u.held phase.reached) many

@@ -13,7 +13,6 @@ use Rattle.history.specs.History.{Step, Unanswered}
 use Rattle.slices.specs.Sliced.{AreAllHeld}
 use Rattle.transactions.specs.declared.laws.TheConstants.{MOST_ACTIONS}
 use Rattle.transactions.specs.Acting.{AreGivenBy}
-use Rattle.commit_log.specs.declared.entry.Entry.{Entry}
 use Rattle.world.specs.declared.desk.Active.{Active}
 use Rattle.world.specs.declared.sending.Release.{Release}
 use Rattle.world.specs.declared.world.Parts.{Parts}

@@ -6,14 +6,13 @@ use Rattle.std.proofs.lemmas.List.{length-set}
 use Rattle.partitions.specs.Parts.{Shared}
 use Rattle.schema.specs.Database.{Database}
 use Rattle.requests.specs.declared.refusal.Refusal.{Refusal}
-use Rattle.commit_log.specs.declared.entry.Entry.{Entry}
 use Rattle.history.specs.declared.event.Event.TheVariants.{Send}
 use Rattle.history.specs.declared.event.EventAnswer.TheVariants.{Answered}
 use Rattle.history.specs.History.{Step, step, Unanswered}
 use Rattle.history.specs.Laws.{IsAnswerTo}
 use Rattle.world.specs.declared.desk.SessionDesk.{SessionDesk}
 use Rattle.world.specs.declared.flight.Item.TheVariants as item
-use Rattle.world.specs.declared.flight.ReplyItem.{ReplyItem}
+use Rattle.world.specs.declared.flight.Told.{Told}
 use Rattle.world.specs.declared.world.Parts.{Parts}
 use Rattle.world.specs.Parted.{joined_in}
 use Rattle.world.specs.Flights.{nothing, join, part_item, unanswered_reply, place_answered}
@@ -42,7 +41,7 @@ module _ {J : Type 0} where
     log = h.1.1.1.1.0 i;
   }
 
-  module _ (shared : Shared) (w : Parts J) (told : ReplyItem J) (h : IsSoundWith shared (part_item (item.Reply told)) w) (s : IsSoundReply told)
+  module _ (shared : Shared) (w : Parts J) (told : Told J) (h : IsSoundWith shared (part_item (item.Reply told)) w) (s : IsSoundReply told)
       (desk : SessionDesk J) (is : slice_get w.desk.sessions.items told.pass.session ≡ Some desk)
       (new : Parts J) (same : with_sessions w (slice_set w.desk.sessions.items told.pass.session (record desk { pass = Some told.pass })) new) where
     pub replies_sound : IsSoundWith shared nothing new

@@ -18,13 +18,13 @@ use Rattle.transactions.specs.declared.acting.Ran.TheVariants as ran
 use Rattle.transactions.specs.Acting.{claims_of_ran, AreUndoneBy}
 use Rattle.transactions.specs.Progresses.{works_of}
 use Rattle.rendezvous.specs.Awaited.{reported}
-use Rattle.world.specs.declared.flight.Flow.{Flow}
+use Rattle.world.specs.declared.flight.Journey.{Journey}
 use Rattle.world.specs.declared.flight.Report.{Report}
 use Rattle.world.specs.Flights.{part, join, parts, part_carried, part_met, unanswered_transaction}
 use Rattle.transactions.specs.SortedOut.{found_by, held_by, refused_by}
 use Rattle.transactions.proofs.SortedOut.{one_holds, stays_refused, IfDied}
 use Rattle.world.specs.Following.{found_in, held_in, rans_of, refusal_of}
-use Rattle.world.specs.Sound.{NamesOlder, UnderWay, IsPlaceOf, IsWorkAt, IsSoundFlow, IsCarriedAt, IsSoundRan, IsSoundReport, IsSoundPhase}
+use Rattle.world.specs.Sound.{NamesOlder, UnderWay, IsPlaceOf, IsWorkAt, IsSoundJourney, IsCarriedAt, IsSoundRan, IsSoundReport, IsSoundPhase}
 use Rattle.world.proofs.Joins.{IsSame, same-refl, same-trans, same-join, same-middle}
 use Rattle.transactions.proofs.OnGroups.{first_wish, later_wish}
 
@@ -91,7 +91,7 @@ module _ {J : Type 0} where
     -- From this place on each action has reported of its own work.
     abbrev pub HaveReported : ℕ → List Work → List (Report J) → Type 0
     HaveReported place [] [] = Unit {0}
-    HaveReported place (work ∷ works) (r ∷ reports) = (IsCarriedAt slot u place r.flow × HasRan work r.ran) × HaveReported (suc place) works reports
+    HaveReported place (work ∷ works) (r ∷ reports) = (IsCarriedAt slot u place r.journey × HasRan work r.ran) × HaveReported (suc place) works reports
     HaveReported place works reports = ⊥
 
     ran_at : (place : ℕ) (work : Work) (r : Ran J) → IsWorkAt u place work → IsSoundRan shared u place r → HasRan work r
@@ -117,7 +117,7 @@ module _ {J : Type 0} where
         let zero_more : place + 0 ≡ place = omega arith in
         let one = first.1.1 in
         let here : one.number ≡ place = omega (arith, first.0, one.place) in
-        let carried : IsCarriedAt slot u place r.flow = subst (λ s. IsCarriedAt s u place r.flow) first.1.0 (subst (λ n. IsCarriedAt r.slot u n r.flow) here one.flow) in
+        let carried : IsCarriedAt slot u place r.journey = subst (λ s. IsCarriedAt s u place r.journey) first.1.0 (subst (λ n. IsCarriedAt r.slot u n r.journey) here one.journey) in
         let own : IsWorkAt u place work = subst (λ n. slice_get (works_of u.progress) n ≡ Some work) zero_more (at 0) in (
           (carried, ran_at place work r.ran own (subst (λ n. IsSoundRan shared u n r.ran) here one.ran)),
           have_reported (suc place) works reports (omega (arith, many))
@@ -147,17 +147,17 @@ module _ {J : Type 0} where
 
     -- ---- who carries the transaction
 
-    pub is_carried : (o : Option (Flow J)) → IsCarriedAt slot u 0 o → (flow : Flow J) × ((o ≡ Some flow) × IsSoundFlow slot u flow)
+    pub is_carried : (o : Option (Journey J)) → IsCarriedAt slot u 0 o → (journey : Journey J) × ((o ≡ Some journey) × IsSoundJourney slot u journey)
     is_carried None h = absurd h
-    is_carried (Some flow) h = (flow, (refl, h))
+    is_carried (Some journey) h = (journey, (refl, h))
 
-    carries_none : (place : ℕ) (o : Option (Flow J)) → IsCarriedAt slot u (suc place) o → o ≡ None
+    carries_none : (place : ℕ) (o : Option (Journey J)) → IsCarriedAt slot u (suc place) o → o ≡ None
     carries_none place None h = refl
-    carries_none place (Some flow) h = absurd h
+    carries_none place (Some journey) h = absurd h
 
-    part_later : (place : ℕ) (r : Report J) → IsCarriedAt slot u (suc place) r.flow → part_met r ≡ part (all_claims (held_by r.ran)) [] []
+    part_later : (place : ℕ) (r : Report J) → IsCarriedAt slot u (suc place) r.journey → part_met r ≡ part (all_claims (held_by r.ran)) [] []
     part_later place r h =
-        ap (λ (o : Option (Flow J)). part ((part_carried o).claims ++ claims_of_ran r.ran) (part_carried o).pending []) (carries_none place r.flow h)
+        ap (λ (o : Option (Journey J)). part ((part_carried o).claims ++ claims_of_ran r.ran) (part_carried o).pending []) (carries_none place r.journey h)
         ∙ ap (λ cs. part cs [] []) (held_by_ran r.ran)
 
     parts_later : (place : ℕ) (works : List Work) (reports : List (Report J)) → HaveReported (suc place) works reports
@@ -170,14 +170,14 @@ module _ {J : Type 0} where
         ∙ ap (λ cs. part cs [] []) (sym (all_claims-append (held_by r.ran) (held_in reports)))
 
     -- all that the reports have: the transaction with what it held, and what the actions hold
-    pub parts_all : (works : List Work) (r : Report J) (reports : List (Report J)) (flow : Flow J) → HaveReported 0 works (r ∷ reports) → r.flow ≡ Some flow
-        → parts part_met (r ∷ reports) ≡ part (all_claims (flow.transaction.held ++ held_in (r ∷ reports))) (unanswered_transaction flow.transaction ∷ []) []
-    parts_all [] r reports flow h is = absurd h
-    parts_all (work ∷ works) r reports flow h is =
-        let t = flow.transaction in
+    pub parts_all : (works : List Work) (r : Report J) (reports : List (Report J)) (journey : Journey J) → HaveReported 0 works (r ∷ reports) → r.journey ≡ Some journey
+        → parts part_met (r ∷ reports) ≡ part (all_claims (journey.transaction.held ++ held_in (r ∷ reports))) (unanswered_transaction journey.transaction ∷ []) []
+    parts_all [] r reports journey h is = absurd h
+    parts_all (work ∷ works) r reports journey h is =
+        let t = journey.transaction in
         let own = all_claims (held_by r.ran) in
         let first : part_met r ≡ part (all_claims t.held ++ own) (unanswered_transaction t ∷ []) [] =
-        ap (λ (o : Option (Flow J)). part ((part_carried o).claims ++ claims_of_ran r.ran) (part_carried o).pending []) is
+        ap (λ (o : Option (Journey J)). part ((part_carried o).claims ++ claims_of_ran r.ran) (part_carried o).pending []) is
         ∙ ap (λ cs. part (all_claims t.held ++ cs) (unanswered_transaction t ∷ []) []) (held_by_ran r.ran) in
         (λ i. join (first i) (parts_later 0 works reports h.1 i))
         ∙ ap (λ cs. part cs (unanswered_transaction t ∷ []) []) (

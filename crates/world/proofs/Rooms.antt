@@ -14,7 +14,7 @@ use Rattle.transactions.specs.declared.laws.TheConstants.{MOST_ACTIONS}
 use Rattle.transactions.proofs.Reached.{few_actions}
 use Rattle.world.specs.declared.desk.Active.{Active}
 use Rattle.world.specs.declared.desk.Active.TheVariants as active
-use Rattle.world.specs.declared.flight.Message.TheVariants.{Start, Act, Settle, Undo}
+use Rattle.world.specs.declared.flight.Message.TheVariants.{Start, Errand, Settle, Undo}
 use Rattle.world.specs.declared.flight.Item.{Item}
 use Rattle.world.specs.declared.flight.Item.TheVariants as item
 use Rattle.range_moves.specs.Traffic.{Dispatch}
@@ -57,8 +57,8 @@ few_in_one queues place below =
 module _ {J : Type 0} where
   -- an item has a token, or it has a transaction
   item_weighs : (i : Item J) → 1 ≤ sum_by one_each (part_item i).tokens + length (part_item i).pending
-  item_weighs (item.Push (Start flow works)) = omega arith
-  item_weighs (item.Push (Act act)) = omega arith
+  item_weighs (item.Push (Start journey works)) = omega arith
+  item_weighs (item.Push (Errand errand)) = omega arith
   item_weighs (item.Push (Settle slot claims)) = omega arith
   item_weighs (item.Push (Undo slot claims)) = omega arith
   item_weighs (item.Report r) = omega arith

@@ -215,7 +215,7 @@ module _ {J : Type 0} where
       let nothing_put : length new.inbox ≡ 0 = ap (λ (w : Parts J). length w.inbox) same ∙ ap (λ (ms : List (Message J)). length ms) none in
       (omega (arith, nothing_put), λ some. absurd (omega (arith, some, nothing_put))))
       (λ admitted.
-      let one : length new.inbox ≡ 1 = ap (λ (ms : List (Message J)). length ms) (admitted.1.1.inbox ∙ ap (λ (ms : List (Message J)). ms ++ message.Start admitted.1.1.flow admitted.1.1.works ∷ []) none) in
+      let one : length new.inbox ≡ 1 = ap (λ (ms : List (Message J)). length ms) (admitted.1.1.inbox ∙ ap (λ (ms : List (Message J)). ms ++ message.Start admitted.1.1.journey admitted.1.1.works ∷ []) none) in
       (omega (arith, one), λ some. admitted_room room old admitted.0))
       (submit_cases room found session number asked old new answer said)
 
@@ -258,7 +258,7 @@ module _ {J : Type 0} where
         ))
         (λ admitted.
         let a = admitted.1.1 in
-        let m : Message J = message.Start a.flow a.works in
+        let m : Message J = message.Start a.journey a.works in
         let l : Letter J = letter to (Work m) in
         let inbox : parts.inbox ≡ m ∷ [] = a.inbox ∙ ap (λ (ms : List (Message J)). ms ++ m ∷ []) h.no_inbox in
         let outbox : parts.outbox ≡ [] = a.outbox ∙ h.no_outbox in

@@ -8,11 +8,11 @@ use Rattle.transactions.specs.declared.progress.Gathered.TheVariants.{Next, Fini
 use Rattle.transactions.specs.declared.station.Turned.{Turned}
 use Rattle.world.specs.declared.desk.SessionDesk.{SessionDesk}
 use Rattle.world.specs.declared.flight.Carried.{Carried}
-use Rattle.world.specs.declared.flight.CommitItem.{CommitItem}
-use Rattle.world.specs.declared.flight.Flow.{Flow}
+use Rattle.world.specs.declared.flight.Commit.{Commit}
+use Rattle.world.specs.declared.flight.Journey.{Journey}
 use Rattle.world.specs.declared.flight.Transaction.{Transaction}
 use Rattle.world.specs.declared.flight.Message.{Message}
-use Rattle.world.specs.declared.flight.Message.TheVariants.{Start, Act, Settle, Undo}
+use Rattle.world.specs.declared.flight.Message.TheVariants.{Start, Errand, Settle, Undo}
 use Rattle.world.specs.declared.flight.Report.{Report}
 use Rattle.world.specs.declared.flight.Item.{Item}
 use Rattle.world.specs.declared.flight.Item.TheVariants as item
@@ -29,17 +29,17 @@ module _ {J : Type 0} where
   goes_stations t (Next progress) w = refl
   goes_stations t (Finish shown) w = refl
 
-  unless_stations : (why : Option Refusal) (reports : List (Report J)) (flow : Flow J) (old new : Parts J) → MeetsUnless why reports flow old new → new.stations ≡ old.stations
-  unless_stations (Some why) reports flow old new said = ap (λ (w : Parts J). w.stations) said
-  unless_stations None reports flow old new said =
+  unless_stations : (why : Option Refusal) (reports : List (Report J)) (journey : Journey J) (old new : Parts J) → MeetsUnless why reports journey old new → new.stations ≡ old.stations
+  unless_stations (Some why) reports journey old new said = ap (λ (w : Parts J). w.stations) said
+  unless_stations None reports journey old new said =
       ⊎_elim (λ no_memory. ap (λ (w : Parts J). w.stations) no_memory) (λ gathered. ap (λ (w : Parts J). w.stations) gathered.1.1 ∙ goes_stations _ gathered.0 old) said
 
   meets_stations : (reports : List (Report J)) (old new : Parts J) → MeetsAs reports old new → new.stations ≡ old.stations
   meets_stations reports old new said =
-      let P : Flow J → Type 0 = λ flow. MeetsUnless (refusal_of None reports) reports flow old new in
-      carried_both reports P P (new.stations ≡ old.stations) (λ flow one same. unless_stations (refusal_of None reports) reports flow old new one) said said
+      let P : Journey J → Type 0 = λ journey. MeetsUnless (refusal_of None reports) reports journey old new in
+      carried_both reports P P (new.stations ≡ old.stations) (λ journey one same. unless_stations (refusal_of None reports) reports journey old new one) said said
 
-  commits_stations : (commit : CommitItem J) (old new : Parts J) (answer : EventAnswer) → Commits commit old answer new → new.stations ≡ old.stations
+  commits_stations : (commit : Commit J) (old new : Parts J) (answer : EventAnswer) → Commits commit old answer new → new.stations ≡ old.stations
   commits_stations commit old new answer said = ap (λ (w : Parts J). w.stations) said.over
 
   into_stations : (slot first : ℕ) (slots : List (Option (Report J))) (old new : Parts J) → ReportsInto slot first slots old new → new.stations ≡ old.stations
@@ -82,7 +82,7 @@ module _ {J : Type 0} where
   turns_inbox home old new turns = follow_inbox home turns.turned old new turns.follow
 
   pub takes_inbox : (m : Message J) (old new : Parts J) → TakesMessage m old new → new.inbox ≡ old.inbox
-  takes_inbox (Start flow works) old new said = ap (λ (w : Parts J). w.inbox) said
-  takes_inbox (Act act) old new said = turns_inbox _ said.0 new said.1.1 ∙ ap (λ (w : Parts J). w.inbox) said.1.0.1.rest
+  takes_inbox (Start journey works) old new said = ap (λ (w : Parts J). w.inbox) said
+  takes_inbox (Errand errand) old new said = turns_inbox _ said.0 new said.1.1 ∙ ap (λ (w : Parts J). w.inbox) said.1.0.1.rest
   takes_inbox (Settle slot claims) old new said = turns_inbox _ said.0 new said.1.1 ∙ ap (λ (w : Parts J). w.inbox) said.1.0.rest
   takes_inbox (Undo slot claims) old new said = turns_inbox _ said.0 new said.1.1 ∙ ap (λ (w : Parts J). w.inbox) said.1.0.rest

@@ -25,18 +25,18 @@ use Rattle.transactions.specs.Laws.{TransactionsClaimEachGroupOnce}
 use Rattle.transactions.specs.Stations.{ActsAs, OneTurn, Stationed, parked}
 use Rattle.transactions.specs.Works.{home_of, home_of_claims}
 use Rattle.transactions.proofs.Reached.{some_actions}
-use Rattle.world.specs.declared.flight.Act.{Act as AnyAct}
+use Rattle.world.specs.declared.flight.Errand.{Errand as AnyErrand}
 use Rattle.world.specs.declared.flight.Carried.{Carried}
 use Rattle.world.specs.declared.flight.Message.{Message}
-use Rattle.world.specs.declared.flight.Message.TheVariants.{Start, Act, Settle, Undo}
+use Rattle.world.specs.declared.flight.Message.TheVariants.{Start, Errand, Settle, Undo}
 use Rattle.world.specs.declared.flight.Item.{Item}
 use Rattle.world.specs.declared.flight.Item.TheVariants as item
 use Rattle.world.specs.declared.world.Parts.{Parts}
 use Rattle.world.specs.Parted.{joined_in}
 use Rattle.world.specs.Flights.{nothing, join, parts, part_message, part_item, InFlight}
-use Rattle.world.specs.Following.{acts_of}
+use Rattle.world.specs.Following.{errands_of}
 use Rattle.world.specs.Sound.{IsSoundWith, IsSoundMessage, IsSoundItem, IsBalanced, flight}
-use Rattle.world.specs.Stations.{HaveToWait, act_of, message_of, slice_of, slices_in, waiting_at, waiting_in}
+use Rattle.world.specs.Stations.{HaveToWait, errand_of, message_of, slice_of, slices_in, waiting_at, waiting_in}
 use Rattle.world.specs.Events.{AllTurns, AtStation, GivesBack, TakesMessage, TakesTurn, TurnsFollow, carried_by, holder_of, put_for, report_of}
 use Rattle.world.specs.Worlds.{FitsPart, Fits, IsClaimOf}
 use Rattle.world.proofs.Apart.{others}
@@ -49,7 +49,7 @@ use Rattle.world.proofs.Reordered.{Reordered, fits_in_order, queued, reordered-b
 use Rattle.world.proofs.Reporting.{pushes_fits, pushes_sound}
 use Rattle.world.proofs.Older.{dies_of_older, ran_claimed}
 use Rattle.world.proofs.Stationed.{holds, keeps_on, shares, stays_on}
-use Rattle.world.proofs.Works.{Works, acts, settles, starts, undoes, part_acts}
+use Rattle.world.proofs.Works.{Works, errands, settles, starts, undoes, part_errands}
 use Rattle.tickets.proofs.Committed.{All-front}
 
 -- what stands at a place, put there again
@@ -212,44 +212,44 @@ module _ {J : Type 0} where
     -- ---- an action asks
 
     -- it has run, or died
-    ran_on : (old new : Parts J) (act : AnyAct J) (one : Ran J) (told : Carried J)
-        → (h : IsSoundWith shared (part_message (Act act)) (seen old ms is)) → IsSoundMessage shared h.under_way (Act act)
-        → AtStation (home_of act.work) (put_for act.place (acted.Ran one told)) (λ was now. ActsAs (holder_of act) act.work (carried_by act) was (acted.Ran one told) now) old new
-        → GoesOn shared (part_message (Act act)) (seen old ms is) (seen new ms is)
-    ran_on old new act one told h fine at =
-        let home = home_of act.work in
-        let items = put_for act.place (acted.Ran one told) in
-        let Of : Stationed (Carried J) → Stationed (Carried J) → Type 0 = λ was now. ActsAs (holder_of act) act.work (carried_by act) was (acted.Ran one told) now in
+    ran_on : (old new : Parts J) (errand : AnyErrand J) (one : Ran J) (told : Carried J)
+        → (h : IsSoundWith shared (part_message (Errand errand)) (seen old ms is)) → IsSoundMessage shared h.under_way (Errand errand)
+        → AtStation (home_of errand.work) (put_for errand.place (acted.Ran one told)) (λ was now. ActsAs (holder_of errand) errand.work (carried_by errand) was (acted.Ran one told) now) old new
+        → GoesOn shared (part_message (Errand errand)) (seen old ms is) (seen new ms is)
+    ran_on old new errand one told h fine at =
+        let home = home_of errand.work in
+        let items = put_for errand.place (acted.Ran one told) in
+        let Of : Stationed (Carried J) → Stationed (Carried J) → Type 0 = λ was now. ActsAs (holder_of errand) errand.work (carried_by errand) was (acted.Ran one told) now in
         let is_told = at.happened.0 in
         let of = at.happened.1 in
         let kept = at.happened.2 in
         let same = at.happened.3 in
-        let both = keeps_on old new h.slices home items Of at at.was.slice.waiters [] (claims_of_ran one) (All-nil (IsClaimAt home)) (ran_at_home (holder_of act) at.was.slice at.now.slice act.work one of) kept in
-        let asks : Parts J = record (seen old ms is) { inbox = (seen old ms is).inbox ++ Act act ∷ [] } in
-        let asks_there : Contains asks.inbox (Act act) = Contains-append_right (seen old ms is).inbox (Act act ∷ []) (Act act) (contains_itself (Act act)) in
-        let older = dies_of_older shared asks (pushes_sound shared (seen old ms is) (Act act) h fine) once act asks_there home at.was.slice.holdings (holds old new h.slices home items Of at) in
-        let works = acts shared act one at.was.slice at.now.slice (joined_in old) (joined old.catalog (slices_in new)) (shares old new h.slices home items Of at ∙ h.shared_is) older of both.1 in
-        let told_works : Works shared (Act act) (joined_in old) items (joined old.catalog (slices_in new)) =
-        subst (λ (c : Carried J). Works shared (Act act) (joined_in old) (report_of act.place c one ∷ []) (joined old.catalog (slices_in new))) (sym is_told) works in
-        let claimed : AreClaimed old (waiting_in old ++ ms) (Act act) items = λ opening history f.
+        let both = keeps_on old new h.slices home items Of at at.was.slice.waiters [] (claims_of_ran one) (All-nil (IsClaimAt home)) (ran_at_home (holder_of errand) at.was.slice at.now.slice errand.work one of) kept in
+        let asks : Parts J = record (seen old ms is) { inbox = (seen old ms is).inbox ++ Errand errand ∷ [] } in
+        let asks_there : Contains asks.inbox (Errand errand) = Contains-append_right (seen old ms is).inbox (Errand errand ∷ []) (Errand errand) (contains_itself (Errand errand)) in
+        let older = dies_of_older shared asks (pushes_sound shared (seen old ms is) (Errand errand) h fine) once errand asks_there home at.was.slice.holdings (holds old new h.slices home items Of at) in
+        let works = errands shared errand one at.was.slice at.now.slice (joined_in old) (joined old.catalog (slices_in new)) (shares old new h.slices home items Of at ∙ h.shared_is) older of both.1 in
+        let told_works : Works shared (Errand errand) (joined_in old) items (joined old.catalog (slices_in new)) =
+        subst (λ (c : Carried J). Works shared (Errand errand) (joined_in old) (report_of errand.place c one ∷ []) (joined old.catalog (slices_in new))) (sym is_told) works in
+        let claimed : AreClaimed old (waiting_in old ++ ms) (Errand errand) items = λ opening history f.
         let P : Claiming → Type 0 = IsClaimOf history in
-        let carried = (part_message (Act act)).claims in
+        let carried = (part_message (Errand errand)).claims in
         let put = claims_of_ran one in
-        let of_ran = ran_claimed shared asks (pushes_sound shared (seen old ms is) (Act act) h fine) once act asks_there opening history (pushes_fits opening history (seen old ms is) (Act act) f) at.was.slice at.now.slice one of in
+        let of_ran = ran_claimed shared asks (pushes_sound shared (seen old ms is) (Errand errand) h fine) once errand asks_there opening history (pushes_fits opening history (seen old ms is) (Errand errand) f) at.was.slice at.now.slice one of in
         let all = All-append P (carried ++ put) [] (All-append P carried put (All-front P carried (flight (seen old ms is)).claims f.claimed) of_ran) (All-nil P) in
-        subst (λ (c : Carried J). All P (parts part_item (report_of act.place c one ∷ [])).claims) (sym is_told) all in
-        at_once old new home items Of at (Act act) same h fine both.0 told_works claimed
+        subst (λ (c : Carried J). All P (parts part_item (report_of errand.place c one ∷ [])).claims) (sym is_told) all in
+        at_once old new home items Of at (Errand errand) same h fine both.0 told_works claimed
 
     -- it waits
-    waits_on : (old new : Parts J) (act : AnyAct J)
-        → (h : IsSoundWith shared (part_message (Act act)) (seen old ms is)) → IsSoundMessage shared h.under_way (Act act)
-        → AtStation (home_of act.work) [] (λ was now. ActsAs {J = J} (holder_of act) act.work (carried_by act) was acted.Waits now) old new
-        → GoesOn shared (part_message (Act act)) (seen old ms is) (seen new ms is)
-    waits_on old new act h fine at =
-        let home = home_of act.work in
-        let Of : Stationed (Carried J) → Stationed (Carried J) → Type 0 = λ was now. ActsAs {J = J} (holder_of act) act.work (carried_by act) was acted.Waits now in
-        let message : Message J = Act act in
-        let p : Parked (Carried J) = parked (holder_of act) act.work (carried_by act) in
+    waits_on : (old new : Parts J) (errand : AnyErrand J)
+        → (h : IsSoundWith shared (part_message (Errand errand)) (seen old ms is)) → IsSoundMessage shared h.under_way (Errand errand)
+        → AtStation (home_of errand.work) [] (λ was now. ActsAs {J = J} (holder_of errand) errand.work (carried_by errand) was acted.Waits now) old new
+        → GoesOn shared (part_message (Errand errand)) (seen old ms is) (seen new ms is)
+    waits_on old new errand h fine at =
+        let home = home_of errand.work in
+        let Of : Stationed (Carried J) → Stationed (Carried J) → Type 0 = λ was now. ActsAs {J = J} (holder_of errand) errand.work (carried_by errand) was acted.Waits now in
+        let message : Message J = Errand errand in
+        let p : Parked (Carried J) = parked (holder_of errand) errand.work (carried_by errand) in
         let now_is = at.happened.1 in
         let both = stays_on old new h.slices home [] Of at _ (ap (λ (s : Stationed (Carried J)). s.slice) now_is) in
         let own : waiting_at at.now ≡ waiting_at at.was ++ message ∷ [] = ap waiting_at now_is ∙ map-append message_of at.was.parked (p ∷ []) in
@@ -283,12 +283,12 @@ module _ {J : Type 0} where
               (fits_in_order old (before.inbox ++ message ∷ []) (waiting_in new ++ ms) before.outbox before.outbox all items opening history (pushes_fits opening history before message f)));
         }
 
-    pub asks_on : (old new : Parts J) (act : AnyAct J) (a : Acted J (Carried J))
-        → (h : IsSoundWith shared (part_message (Act act)) (seen old ms is)) → IsSoundMessage shared h.under_way (Act act)
-        → AtStation (home_of act.work) (put_for act.place a) (λ was now. ActsAs (holder_of act) act.work (carried_by act) was a now) old new
-        → GoesOn shared (part_message (Act act)) (seen old ms is) (seen new ms is)
-    asks_on old new act (acted.Ran one told) h fine at = ran_on old new act one told h fine at
-    asks_on old new act acted.Waits h fine at = waits_on old new act h fine at
+    pub asks_on : (old new : Parts J) (errand : AnyErrand J) (a : Acted J (Carried J))
+        → (h : IsSoundWith shared (part_message (Errand errand)) (seen old ms is)) → IsSoundMessage shared h.under_way (Errand errand)
+        → AtStation (home_of errand.work) (put_for errand.place a) (λ was now. ActsAs (holder_of errand) errand.work (carried_by errand) was a now) old new
+        → GoesOn shared (part_message (Errand errand)) (seen old ms is) (seen new ms is)
+    asks_on old new errand (acted.Ran one told) h fine at = ran_on old new errand one told h fine at
+    asks_on old new errand acted.Waits h fine at = waits_on old new errand h fine at
 
     -- ---- claims are given back
 
@@ -333,15 +333,15 @@ module _ {J : Type 0} where
         subst (λ n. All (IsClaimAt n) (claims_of_ran turned.ran)) (one.here ∙ at.home_is)
         (ran_at_home turned.by (with_waiters at.now.slice.waiters at.was.slice) at.now.slice one.work turned.ran one.ran) in
         let both = keeps_on old new h.slices home items Of at at.now.slice.waiters [] (claims_of_ran turned.ran) (All-nil (IsClaimAt home)) at_home one.kept in
-        let older = dies_of_older shared first sound once (act_of p) (contains_here message (waiting_in new ++ ms)) home at.was.slice.holdings (holds old new h.slices home items Of at) in
-        let works = acts shared (act_of p) turned.ran (with_waiters at.now.slice.waiters at.was.slice) at.now.slice (joined_in old) (joined old.catalog (slices_in new))
+        let older = dies_of_older shared first sound once (errand_of p) (contains_here message (waiting_in new ++ ms)) home at.was.slice.holdings (holds old new h.slices home items Of at) in
+        let works = errands shared (errand_of p) turned.ran (with_waiters at.now.slice.waiters at.was.slice) at.now.slice (joined_in old) (joined old.catalog (slices_in new))
         (shares old new h.slices home items Of at ∙ h.shared_is) older one.ran both.1 in
         let claimed : AreClaimed old (waiting_in new ++ ms) message items = λ opening history f.
         let P : Claiming → Type 0 = IsClaimOf history in
         let carried = (part_message message).claims in
         let put = claims_of_ran turned.ran in
         let whole = subst (λ (q : InFlight). FitsPart opening history old.log (joined_in old) old.desk.admitted q) (sym (message_taken first message (waiting_in new ++ ms) refl)) f in
-        let of_ran = ran_claimed shared first sound once (act_of p) (contains_here message (waiting_in new ++ ms)) opening history whole (with_waiters at.now.slice.waiters at.was.slice) at.now.slice turned.ran one.ran in
+        let of_ran = ran_claimed shared first sound once (errand_of p) (contains_here message (waiting_in new ++ ms)) opening history whole (with_waiters at.now.slice.waiters at.was.slice) at.now.slice turned.ran one.ran in
         All-append P (carried ++ put) [] (All-append P carried put (All-front P carried (flight (queued old (waiting_in new ++ ms) (is ++ old.outbox))).claims f.claimed) of_ran) (All-nil P) in
         let goes = worked_on old new (waiting_in new ++ ms) message items hand.0 hand.1 at.rest both.0 works claimed in
         record {
@@ -377,17 +377,17 @@ module _ {J : Type 0} where
 
     pub takes_on : (message : Message J) (old new : Parts J) → (h : IsSoundWith shared (part_message message) (seen old ms is)) → IsSoundMessage shared h.under_way message
         → TakesMessage message old new → GoesOn shared (part_message message) (seen old ms is) (seen new ms is)
-    takes_on (Start flow works) old new h fine takes =
-        let items = acts_of flow works.items in
+    takes_on (Start journey works) old new h fine takes =
+        let items = errands_of journey works.items in
         let next : Parts J = record old { outbox = old.outbox ++ items } in
-        let some : 1 ≤ length works.items = omega (arith, ap (λ (ws : List Work). length ws) fine.works_are, some_actions (h.under_way flow.transaction.slot).progress) in
-        subst (λ w. GoesOn shared (part_message (Start flow works)) (seen old ms is) (seen w ms is)) (sym takes)
-        (worked_on old next (waiting_in old ++ ms) (Start flow works) items h fine refl h.slices (starts shared flow works (joined_in old) some)
+        let some : 1 ≤ length works.items = omega (arith, ap (λ (ws : List Work). length ws) fine.works_are, some_actions (h.under_way journey.transaction.slot).progress) in
+        subst (λ w. GoesOn shared (part_message (Start journey works)) (seen old ms is) (seen w ms is)) (sym takes)
+        (worked_on old next (waiting_in old ++ ms) (Start journey works) items h fine refl h.slices (starts shared journey works (joined_in old) some)
         (λ opening history f.
-        let held = all_claims flow.transaction.held in
-        subst (λ (p : InFlight). All (IsClaimOf history) p.claims) (sym (part_acts flow works.items some)) (All-front (IsClaimOf history) held (flight (seen old ms is)).claims f.claimed)))
-    takes_on (Act act) old new h fine takes =
-        and_turns (home_of act.work) (Act act) old takes.0 new (asks_on old takes.0 act takes.1.0.0 h fine takes.1.0.1) takes.1.1
+        let held = all_claims journey.transaction.held in
+        subst (λ (p : InFlight). All (IsClaimOf history) p.claims) (sym (part_errands journey works.items some)) (All-front (IsClaimOf history) held (flight (seen old ms is)).claims f.claimed)))
+    takes_on (Errand errand) old new h fine takes =
+        and_turns (home_of errand.work) (Errand errand) old takes.0 new (asks_on old takes.0 errand takes.1.0.0 h fine takes.1.0.1) takes.1.1
     takes_on (Settle slot claims) old new h fine takes =
         and_turns (home_of_claims claims) (Settle slot claims) old takes.0 new
         (gives_on old takes.0 (Settle slot claims) slot claims fine.0.1 (λ was now kept. settles shared slot claims was now kept) h fine takes.1.0) takes.1.1
@@ -425,9 +425,9 @@ module _ {J : Type 0} where
       subst (All HaveToWait) (sym last.1.1) (All-set HaveToWait old.stations.items (home - 1) last.0 (turns.over last.0 last.1.0) wait)
 
   pub takes_wait : (message : Message J) (old new : Parts J) → TakesMessage message old new → All HaveToWait old.stations.items → All HaveToWait new.stations.items
-  takes_wait (Start flow works) old new takes wait = subst (λ (w : Parts J). All HaveToWait w.stations.items) (sym takes) wait
-  takes_wait (Act act) old new takes wait =
-      over_waits (home_of act.work) old takes.0 new (changes_at (home_of act.work) (put_for act.place takes.1.0.0) (λ was now. ActsAs (holder_of act) act.work (carried_by act) was takes.1.0.0 now) old takes.0 takes.1.0.1) takes.1.1 wait
+  takes_wait (Start journey works) old new takes wait = subst (λ (w : Parts J). All HaveToWait w.stations.items) (sym takes) wait
+  takes_wait (Errand errand) old new takes wait =
+      over_waits (home_of errand.work) old takes.0 new (changes_at (home_of errand.work) (put_for errand.place takes.1.0.0) (λ was now. ActsAs (holder_of errand) errand.work (carried_by errand) was takes.1.0.0 now) old takes.0 takes.1.0.1) takes.1.1 wait
   takes_wait (Settle slot claims) old new takes wait =
       over_waits (home_of_claims claims) old takes.0 new (changes_at (home_of_claims claims) (item.Ended slot ∷ []) (λ was now. SliceKeeps claims was.slice [] now.slice × (now.parked ≡ was.parked)) old takes.0 takes.1.0) takes.1.1 wait
   takes_wait (Undo slot claims) old new takes wait =

@@ -2,7 +2,7 @@
 use Rattle.transactions.specs.Works.{home_of, home_of_claims}
 use Rattle.transactions.specs.declared.station.Parked.{Parked}
 use Rattle.transactions.specs.declared.station.Acted.{Acted}
-use Rattle.world.specs.declared.flight.Act.{Act as AnyAct}
+use Rattle.world.specs.declared.flight.Errand.{Errand as AnyErrand}
 use Rattle.std.proofs.lemmas.Option.{slice_get_within}
 use Rattle.transactions.specs.declared.laws.TheConstants.{MOST_ACTIONS}
 use Rattle.std.proofs.Common.{◌≡◌, ℕ, ◌+◌, ◌-◌, ◌<◌, ◌≤◌, List, [], ◌∷◌, ◌++◌, Some, length, refl, sym, ap, subst, ◌∙◌, length-append, arith}
@@ -148,28 +148,28 @@ module _ {J : Type 0} where
         ap (λ (t : Stationed (Carried J)). length t.parked) same,
       )
 
-  asks_few : (act : AnyAct J) (a : Acted J (Carried J)) (was now : Stationed (Carried J)) → ActsAs (holder_of act) act.work (carried_by act) was a now → length (put_for act.place a) + length now.parked ≤ length was.parked + 1
-  asks_few act (acted.Ran one told) was now happened = omega (arith, ap (λ (ps : List (Parked (Carried J))). length ps) happened.3)
-  asks_few act acted.Waits was now happened =
-      omega (arith, ap (λ (s : Stationed (Carried J)). length s.parked) happened.1, length-append was.parked (parked (holder_of act) act.work (carried_by act) ∷ []))
+  asks_few : (errand : AnyErrand J) (a : Acted J (Carried J)) (was now : Stationed (Carried J)) → ActsAs (holder_of errand) errand.work (carried_by errand) was a now → length (put_for errand.place a) + length now.parked ≤ length was.parked + 1
+  asks_few errand (acted.Ran one told) was now happened = omega (arith, ap (λ (ps : List (Parked (Carried J))). length ps) happened.3)
+  asks_few errand acted.Waits was now happened =
+      omega (arith, ap (λ (s : Stationed (Carried J)). length s.parked) happened.1, length-append was.parked (parked (holder_of errand) errand.work (carried_by errand) ∷ []))
 
-  module _ (old new : Parts J) (are : AreSlicesOf old.catalog (slices_in old)) (act : AnyAct J) where
-    pub asks_room : Asks act old new → length old.outbox + MOST_ACTIONS + length (waiting_in old) < 4096 → HasRoomFor (home_of act.work) new
+  module _ (old new : Parts J) (are : AreSlicesOf old.catalog (slices_in old)) (errand : AnyErrand J) where
+    pub asks_room : Asks errand old new → length old.outbox + MOST_ACTIONS + length (waiting_in old) < 4096 → HasRoomFor (home_of errand.work) new
     asks_room asks room =
-        room_then (home_of act.work) (put_for act.place asks.0) (λ was now. ActsAs (holder_of act) act.work (carried_by act) was asks.0 now) old new asks.1 (asks_few act asks.0 asks.1.was asks.1.now asks.1.happened) room
+        room_then (home_of errand.work) (put_for errand.place asks.0) (λ was now. ActsAs (holder_of errand) errand.work (carried_by errand) was asks.0 now) old new asks.1 (asks_few errand asks.0 asks.1.was asks.1.now asks.1.happened) room
 
-    asks_slices_at : (a : Acted J (Carried J)) → AtStation (home_of act.work) (put_for act.place a) (λ was now. ActsAs (holder_of act) act.work (carried_by act) was a now) old new → AreSlicesOf old.catalog (slices_in new)
+    asks_slices_at : (a : Acted J (Carried J)) → AtStation (home_of errand.work) (put_for errand.place a) (λ was now. ActsAs (holder_of errand) errand.work (carried_by errand) was a now) old new → AreSlicesOf old.catalog (slices_in new)
     asks_slices_at (acted.Ran one told) at =
-        let home = home_of act.work in
-        (keeps_on old new are home (put_for act.place (acted.Ran one told)) (λ was now. ActsAs (holder_of act) act.work (carried_by act) was (acted.Ran one told) now) at at.was.slice.waiters [] (claims_of_ran one)
-        (All-nil (IsClaimAt home)) (ran_at_home (holder_of act) at.was.slice at.now.slice act.work one at.happened.1) at.happened.2).0
+        let home = home_of errand.work in
+        (keeps_on old new are home (put_for errand.place (acted.Ran one told)) (λ was now. ActsAs (holder_of errand) errand.work (carried_by errand) was (acted.Ran one told) now) at at.was.slice.waiters [] (claims_of_ran one)
+        (All-nil (IsClaimAt home)) (ran_at_home (holder_of errand) at.was.slice at.now.slice errand.work one at.happened.1) at.happened.2).0
     asks_slices_at acted.Waits at =
-        (stays_on old new are (home_of act.work) [] (λ was now. ActsAs {J = J} (holder_of act) act.work (carried_by act) was acted.Waits now) at _ (ap (λ (s : Stationed (Carried J)). s.slice) at.happened.1)).0
+        (stays_on old new are (home_of errand.work) [] (λ was now. ActsAs {J = J} (holder_of errand) errand.work (carried_by errand) was acted.Waits now) at _ (ap (λ (s : Stationed (Carried J)). s.slice) at.happened.1)).0
 
-    pub asks_catalog : Asks act old new → new.catalog ≡ old.catalog
+    pub asks_catalog : Asks errand old new → new.catalog ≡ old.catalog
     asks_catalog asks = ap (λ (w : Parts J). w.catalog) asks.1.rest
 
-    pub asks_slices : Asks act old new → AreSlicesOf new.catalog (slices_in new)
+    pub asks_slices : Asks errand old new → AreSlicesOf new.catalog (slices_in new)
     asks_slices asks = subst (λ c. AreSlicesOf c (slices_in new)) (sym (asks_catalog asks)) (asks_slices_at asks.0 asks.1)
 
   -- claims were given back

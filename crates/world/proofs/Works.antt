@@ -14,16 +14,15 @@ use Rattle.transactions.specs.declared.acting.Ran.{Ran}
 use Rattle.transactions.specs.declared.acting.Ran.TheVariants as ran
 use Rattle.transactions.specs.Acting.{IsBy, IsRan, claims_of_ran, IsAged}
 use Rattle.transactions.specs.Works.{CanDo, HasDone, wants_of, wishes_of}
-use Rattle.commit_log.specs.declared.entry.Entry.{Entry}
-use Rattle.world.specs.declared.flight.Act.{Act as AnyAct}
-use Rattle.world.specs.declared.flight.Flow.{Flow}
+use Rattle.world.specs.declared.flight.Errand.{Errand as AnyErrand}
+use Rattle.world.specs.declared.flight.Journey.{Journey}
 use Rattle.world.specs.declared.flight.Item.{Item}
 use Rattle.world.specs.declared.flight.Item.TheVariants as item
 use Rattle.world.specs.declared.flight.Message.{Message}
-use Rattle.world.specs.declared.flight.Message.TheVariants.{Start, Act, Settle, Undo}
+use Rattle.world.specs.declared.flight.Message.TheVariants.{Start, Errand, Settle, Undo}
 use Rattle.world.specs.Flights.{Acting, InFlight, part, join, parts, part_carried, part_item, part_message, acting_from, unanswered_transaction}
-use Rattle.world.specs.Following.{acts_from, acts_of}
-use Rattle.world.specs.Sound.{IsCarriedAt, IsSoundAct, IsSoundItem, IsSoundMessage, IsSoundRan, IsSoundStart, IsPlaceOf, IsWorkAt, UnderWay, Courses}
+use Rattle.world.specs.Following.{errands_from, errands_of}
+use Rattle.world.specs.Sound.{IsCarriedAt, IsSoundErrand, IsSoundItem, IsSoundMessage, IsSoundRan, IsSoundStart, IsPlaceOf, IsWorkAt, UnderWay, Courses}
 use Rattle.transactions.proofs.Wished.{works_are_done_at_home}
 use Rattle.wait_die.specs.declared.deciding.Holder.{Holder}
 use Rattle.world.specs.Events.{carried_by, holder_of, report_of}
@@ -31,9 +30,9 @@ use Rattle.world.proofs.Keeping.{more, stays}
 use Rattle.transactions.proofs.OnGroups.{dies_on}
 
 -- actions that carry nothing have their tokens alone
-part_acts_from : (J : Type 0) (place age slot : ℕ) (works : List Work) → parts part_item (acts_from {J = J} place age slot None works) ≡ part [] [] (acting_from slot place works)
-part_acts_from J place age slot [] = refl
-part_acts_from J place age slot (work ∷ works) = ap (λ (p : InFlight). join (part [] [] (Acting slot place ∷ [])) p) (part_acts_from J (place + 1) age slot works)
+part_errands_from : (J : Type 0) (place age slot : ℕ) (works : List Work) → parts part_item (errands_from {J = J} place age slot None works) ≡ part [] [] (acting_from slot place works)
+part_errands_from J place age slot [] = refl
+part_errands_from J place age slot (work ∷ works) = ap (λ (p : InFlight). join (part [] [] (Acting slot place ∷ [])) p) (part_errands_from J (place + 1) age slot works)
 
 -- where nothing is carried but with the first action
 carried_later : (J : Type 0) (slot : ℕ) (u : UnderWay) (number : ℕ) → 1 ≤ number → IsCarriedAt {J = J} slot u number None
@@ -51,42 +50,42 @@ module _ {J : Type 0} where
   -- ---- the actions of a phase
 
   -- all of them have the transaction, and their tokens
-  pub part_acts : (flow : Flow J) (works : List Work) → 1 ≤ length works
-      → parts part_item (acts_of flow works) ≡ part (all_claims flow.transaction.held) (unanswered_transaction flow.transaction ∷ []) (acting_from flow.transaction.slot (length flow.transaction.held) works)
-  part_acts flow [] some = absurd (omega (arith, some))
-  part_acts flow (work ∷ works) some =
-      let t = flow.transaction in
+  pub part_errands : (journey : Journey J) (works : List Work) → 1 ≤ length works
+      → parts part_item (errands_of journey works) ≡ part (all_claims journey.transaction.held) (unanswered_transaction journey.transaction ∷ []) (acting_from journey.transaction.slot (length journey.transaction.held) works)
+  part_errands journey [] some = absurd (omega (arith, some))
+  part_errands journey (work ∷ works) some =
+      let t = journey.transaction in
       let first = part (all_claims t.held) (unanswered_transaction t ∷ []) (Acting t.slot (length t.held) ∷ []) in
-      ap (λ (p : InFlight). join first p) (part_acts_from J (length t.held + 1) t.age t.slot works)
+      ap (λ (p : InFlight). join first p) (part_errands_from J (length t.held + 1) t.age t.slot works)
       ∙ ap (λ (claims : List Claiming). part claims (unanswered_transaction t ∷ []) (acting_from t.slot (length t.held) (work ∷ works))) (append-nil (all_claims t.held))
 
   -- those from a number on are sound
-  acts_fine_from : (shared : Shared) (at : Courses) (number place age slot : ℕ) (carried : Option (Flow J)) (works : List Work)
+  errands_fine_from : (shared : Shared) (at : Courses) (number place age slot : ℕ) (carried : Option (Journey J)) (works : List Work)
       → (let u = at slot in IsPlaceOf u number place → age ≡ u.age → IsCarriedAt slot u number carried → ((k : ℕ) (work : Work) → slice_get works k ≡ Some work → IsWorkAt u (number + k) work) → All (CanDo shared) works
-      → All (IsSoundItem shared at) (acts_from place age slot carried works))
-  acts_fine_from shared at number place age slot carried [] is aged here does can = All-nil (IsSoundItem shared at)
-  acts_fine_from shared at number place age slot carried (work ∷ works) is aged here does can =
+      → All (IsSoundItem shared at) (errands_from place age slot carried works))
+  errands_fine_from shared at number place age slot carried [] is aged here does can = All-nil (IsSoundItem shared at)
+  errands_fine_from shared at number place age slot carried (work ∷ works) is aged here does can =
       let u = at slot in
-      let act : AnyAct J = record { place = place; age = age; slot = slot; work = work; flow = carried } in
+      let errand : AnyErrand J = record { place = place; age = age; slot = slot; work = work; journey = carried } in
       let first : number + 0 ≡ number = omega arith in
       let later : (k : ℕ) → number + suc k ≡ (number + 1) + k = λ k. omega arith in
-      let sound : IsSoundAct shared u act = record {
+      let sound : IsSoundErrand shared u errand = record {
         number = number;
         place = is;
-        flow = here;
+        journey = here;
         work = subst (λ n. IsWorkAt u n work) first (does 0 work refl);
         can = All-head (CanDo shared) work works can;
         age = aged;
       } in
-      All-cons (IsSoundItem shared at) (item.Push (Act act)) (acts_from (place + 1) age slot None works) sound
-      (acts_fine_from shared at (number + 1) (place + 1) age slot None works (omega (arith, is)) aged (carried_later J slot u (number + 1) (omega arith))
+      All-cons (IsSoundItem shared at) (item.Push (Errand errand)) (errands_from (place + 1) age slot None works) sound
+      (errands_fine_from shared at (number + 1) (place + 1) age slot None works (omega (arith, is)) aged (carried_later J slot u (number + 1) (omega arith))
       (λ k other is. subst (λ n. IsWorkAt u n other) (later k) (does (suc k) other is)) (All-tail (CanDo shared) work works can))
 
-  pub acts_fine : (shared : Shared) (at : Courses) (flow : Flow J) (works : List Work) → IsSoundStart shared (at flow.transaction.slot) flow works → All (IsSoundItem shared at) (acts_of flow works)
-  acts_fine shared at flow works h =
-      let u = at flow.transaction.slot in
+  pub errands_fine : (shared : Shared) (at : Courses) (journey : Journey J) (works : List Work) → IsSoundStart shared (at journey.transaction.slot) journey works → All (IsSoundItem shared at) (errands_of journey works)
+  errands_fine shared at journey works h =
+      let u = at journey.transaction.slot in
       let from_zero : (k : ℕ) → k ≡ 0 + k = λ k. omega arith in
-      acts_fine_from shared at 0 (length flow.transaction.held) flow.transaction.age flow.transaction.slot (Some flow) works (omega (arith, ap (λ (hs : List (List Claiming)). length hs) h.flow_is.held)) h.flow_is.age h.flow_is
+      errands_fine_from shared at 0 (length journey.transaction.held) journey.transaction.age journey.transaction.slot (Some journey) works (omega (arith, ap (λ (hs : List (List Claiming)). length hs) h.journey_is.held)) h.journey_is.age h.journey_is
       (λ k work is. subst (λ n. IsWorkAt u n work) (from_zero k) (subst (λ (ws : List Work). slice_get ws k ≡ Some work) h.works_are is)) h.can
 
   -- ---- each message
@@ -100,15 +99,15 @@ module _ {J : Type 0} where
     pub fine : (at : Courses) → IsSoundMessage shared at message → All (IsSoundItem shared at) items
 
   -- a transaction that starts puts the actions of its first phase
-  pub starts : (shared : Shared) (flow : Flow J) (works : Vec Work Global) (slices : Joined) → 1 ≤ length works.items → Works shared (Start flow works) slices (acts_of flow works.items) slices
-  starts shared flow works slices some =
-      let held = all_claims flow.transaction.held in
-      let are = part_acts flow works.items some in
+  pub starts : (shared : Shared) (journey : Journey J) (works : Vec Work Global) (slices : Joined) → 1 ≤ length works.items → Works shared (Start journey works) slices (errands_of journey works.items) slices
+  starts shared journey works slices some =
+      let held = all_claims journey.transaction.held in
+      let are = part_errands journey works.items some in
       record {
         kept = subst (λ (p : InFlight). SlicesKeep held slices p.claims slices) (sym are) (stays held slices);
         pending = ap (λ (p : InFlight). p.pending) are;
         tokens = ap (λ (p : InFlight). p.tokens) are;
-        fine = λ at sound. acts_fine shared at flow works.items sound;
+        fine = λ at sound. errands_fine shared at journey works.items sound;
       }
 
   ran_soundly : (shared : Shared) (u : UnderWay) (number : ℕ) (work : Work) (one : Ran J) (by : Holder) (old new : Sliced) → shared_of old.tables ≡ shared → IsWorkAt u number work → by.age ≡ u.age → DiesOfOlder old by.age work
@@ -121,18 +120,18 @@ module _ {J : Type 0} where
   ran_soundly shared u number work ran.NoMemory by old new same here aged older of = tt
 
   -- an action that runs puts its report
-  pub acts : (shared : Shared) (act : AnyAct J) (one : Ran J) (was now : Sliced) (old new : Joined) → shared_of was.tables ≡ shared → DiesOfOlder was act.age act.work → IsRan (holder_of act) was act.work one now → SlicesKeep [] old (claims_of_ran one) new
-      → Works shared (Act act) old (report_of act.place (carried_by act) one ∷ []) new
-  acts shared act one was now old new same older of kept =
-      let carried = part_carried act.flow in
+  pub errands : (shared : Shared) (errand : AnyErrand J) (one : Ran J) (was now : Sliced) (old new : Joined) → shared_of was.tables ≡ shared → DiesOfOlder was errand.age errand.work → IsRan (holder_of errand) was errand.work one now → SlicesKeep [] old (claims_of_ran one) new
+      → Works shared (Errand errand) old (report_of errand.place (carried_by errand) one ∷ []) new
+  errands shared errand one was now old new same older of kept =
+      let carried = part_carried errand.journey in
       record {
         kept = subst (λ (claims : List Claiming). SlicesKeep carried.claims old claims new) (sym (append-nil (carried.claims ++ claims_of_ran one)))
             (more carried.claims (claims_of_ran one) old new kept);
         pending = append-nil carried.pending;
         tokens = refl;
         fine = λ at fine.
-            one_fine shared at (report_of act.place (carried_by act) one)
-            (record { number = fine.number; place = fine.place; flow = fine.flow; ran = ran_soundly shared (at act.slot) fine.number act.work one (holder_of act) was now same fine.work fine.age older of });
+            one_fine shared at (report_of errand.place (carried_by errand) one)
+            (record { number = fine.number; place = fine.place; journey = fine.journey; ran = ran_soundly shared (at errand.slot) fine.number errand.work one (holder_of errand) was now same fine.work fine.age older of });
       }
 
   -- claims whose work is committed are given back

@@ -33,19 +33,19 @@ use Rattle.rendezvous.specs.Awaited.{awaited_from}
 use Rattle.world.specs.declared.desk.Active.TheVariants.{Acting, Ending}
 use Rattle.world.specs.declared.desk.SessionDesk.{SessionDesk}
 use Rattle.world.specs.declared.flight.Transaction.{Transaction}
-use Rattle.world.specs.declared.flight.Flow.{Flow}
-use Rattle.world.specs.declared.flight.Act.{Act as AnyAct}
+use Rattle.world.specs.declared.flight.Journey.{Journey}
+use Rattle.world.specs.declared.flight.Errand.{Errand as AnyErrand}
 use Rattle.world.specs.declared.flight.Carried.{Carried}
 use Rattle.world.specs.declared.flight.Message.{Message}
-use Rattle.world.specs.declared.flight.Message.TheVariants.{Start, Act, Settle, Undo}
+use Rattle.world.specs.declared.flight.Message.TheVariants.{Start, Errand, Settle, Undo}
 use Rattle.world.specs.declared.flight.Report.{Report}
-use Rattle.world.specs.declared.flight.CommitItem.{CommitItem}
-use Rattle.world.specs.declared.flight.ReplyItem.{ReplyItem}
+use Rattle.world.specs.declared.flight.Commit.{Commit}
+use Rattle.world.specs.declared.flight.Told.{Told}
 use Rattle.world.specs.declared.flight.Item.{Item}
 use Rattle.world.specs.declared.flight.Item.TheVariants as item
 use Rattle.world.specs.declared.world.Parts.{Parts}
 use Rattle.world.specs.Stations.{HaveToWait}
-use Rattle.world.specs.Following.{CarriesFirst, acts_of, committing, ending, entry_of, found_in, held_in, holding, refusal_of, refused, release, releasing, putting, with_active}
+use Rattle.world.specs.Following.{CarriesFirst, errands_of, committing, ending, entry_of, found_in, held_in, holding, refusal_of, refused, release, releasing, putting, with_active}
 
 -- a commit is answered by the place of its entry, or, where the log refused it, as any item that was sent
 abbrev pub told_of : Result ℕ Refusal → EventAnswer
@@ -73,16 +73,16 @@ module _ {J : Type 0} where
     pub happened : of was now
 
   -- who an action is to the lock tables: its transaction, by its age, and its place in it
-  abbrev pub holder_of : AnyAct J → Holder
-  holder_of act = record { age = act.age; place = act.place }
+  abbrev pub holder_of : AnyErrand J → Holder
+  holder_of errand = record { age = errand.age; place = errand.place }
 
   -- what an action keeps with it beside its work
-  abbrev pub carried_by : AnyAct J → Carried J
-  carried_by act = record { slot = act.slot; flow = act.flow }
+  abbrev pub carried_by : AnyErrand J → Carried J
+  carried_by errand = record { slot = errand.slot; journey = errand.journey }
 
   -- the report of an action of this place, which carries this, with what came of it
   abbrev pub report_of : ℕ → Carried J → Ran J → Item J
-  report_of place carried ran = item.Report (record { place = place; slot = carried.slot; flow = carried.flow; ran = ran })
+  report_of place carried ran = item.Report (record { place = place; slot = carried.slot; journey = carried.journey; ran = ran })
 
   -- what is put for an action that asked: its report, or nothing while it waits
   abbrev pub put_for : ℕ → Acted J (Carried J) → List (Item J)
@@ -91,8 +91,8 @@ module _ {J : Type 0} where
 
   -- An action asks at the station of its warehouse. It reports that it has done its work, or that it died of somebody who is not
   -- younger, or that there was no memory; or it waits there, since all who are in its way are younger (`ActsAs` of transactions).
-  abbrev pub Asks : AnyAct J → Parts J → Parts J → Type 0
-  Asks act old new = (acted : Acted J (Carried J)) × AtStation (home_of act.work) (put_for act.place acted) (λ was now. ActsAs (holder_of act) act.work (carried_by act) was acted now) old new
+  abbrev pub Asks : AnyErrand J → Parts J → Parts J → Type 0
+  Asks errand old new = (acted : Acted J (Carried J)) × AtStation (home_of errand.work) (put_for errand.place acted) (λ was now. ActsAs (holder_of errand) errand.work (carried_by errand) was acted now) old new
 
   -- The claims of an action are given back to the slice of their warehouse, which keeps what is committed; nobody's waiting changes.
   abbrev pub GivesBack : ℕ → List Claiming → Parts J → Parts J → Type 0
@@ -122,15 +122,15 @@ module _ {J : Type 0} where
   -- What a message does: the actions of a first phase are put, in the order of their places; an action asks, or claims are given
   -- back, at the station of their warehouse, and then come the turns of those who waited there.
   abbrev pub TakesMessage : Message J → Parts J → Parts J → Type 0
-  TakesMessage (Start flow works) old new = new ≡ record old { outbox = old.outbox ++ acts_of flow works.items }
-  TakesMessage (Act act) old new = (mid : Parts J) × (Asks act old mid × AllTurns (home_of act.work) mid new)
+  TakesMessage (Start journey works) old new = new ≡ record old { outbox = old.outbox ++ errands_of journey works.items }
+  TakesMessage (Errand errand) old new = (mid : Parts J) × (Asks errand old mid × AllTurns (home_of errand.work) mid new)
   TakesMessage (Settle slot claims) old new = (mid : Parts J) × (GivesBack slot claims old mid × AllTurns (home_of_claims claims) mid new)
   TakesMessage (Undo slot claims) old new = (mid : Parts J) × (GivesBack slot claims old mid × AllTurns (home_of_claims claims) mid new)
 
   -- what is asked of a message that is worked on
   abbrev pub CanWork : Shared → Message J → Type 0
-  CanWork shared (Start flow works) = (1 ≤ length works.items) × ((length flow.transaction.held + length works.items ≤ MOST_ACTIONS) × All (CanDo shared) works.items)
-  CanWork shared (Act act) = CanDo shared act.work
+  CanWork shared (Start journey works) = (1 ≤ length works.items) × ((length journey.transaction.held + length works.items ≤ MOST_ACTIONS) × All (CanDo shared) works.items)
+  CanWork shared (Errand errand) = CanDo shared errand.work
   CanWork shared (Settle slot claims) = CanAllBeSettled claims
   CanWork shared (Undo slot claims) = CanAllBeUndone claims
 
@@ -146,7 +146,7 @@ module _ {J : Type 0} where
   -- The actions of the next phase are put, and nothing is reported yet; or the transaction is to be logged.
   abbrev pub goes_on : Transaction J → Gathered → Parts J → Parts J
   goes_on t (Next progress) old =
-      putting (acts_of (record { transaction = t; progress = progress }) (works_of progress)) t.slot (Some (Acting (length t.held) (replicate (length (works_of progress)) None))) old
+      putting (errands_of (record { transaction = t; progress = progress }) (works_of progress)) t.slot (Some (Acting (length t.held) (replicate (length (works_of progress)) None))) old
   goes_on t (Finish shown) old = committing t shown old
 
   -- What follows of what was found is done, unless there is no memory for it: then the transaction is refused.
@@ -155,20 +155,20 @@ module _ {J : Type 0} where
       (new ≡ releasing false (refused t refusal.NoMemory) old) ⊎ ((g : Gathered) × (FollowsFrom progress found g × (new ≡ goes_on t g old)))
 
   -- One action has died or found no memory, and the transaction is refused; or all have done their work.
-  abbrev pub MeetsUnless : Option Refusal → List (Report J) → Flow J → Parts J → Parts J → Type 0
-  MeetsUnless (Some why) reports flow old new = new ≡ releasing false (refused (holding flow.transaction (held_in reports)) why) old
-  MeetsUnless None reports flow old new =
-      GathersInto flow.progress (found_in reports) (holding flow.transaction (held_in reports)) old new
+  abbrev pub MeetsUnless : Option Refusal → List (Report J) → Journey J → Parts J → Parts J → Type 0
+  MeetsUnless (Some why) reports journey old new = new ≡ releasing false (refused (holding journey.transaction (held_in reports)) why) old
+  MeetsUnless None reports journey old new =
+      GathersInto journey.progress (found_in reports) (holding journey.transaction (held_in reports)) old new
 
   -- All actions of a phase have reported this, by place.
   abbrev pub MeetsAs : List (Report J) → Parts J → Parts J → Type 0
-  MeetsAs reports old new = CarriesFirst reports (λ flow. MeetsUnless (refusal_of None reports) reports flow old new)
+  MeetsAs reports old new = CarriesFirst reports (λ journey. MeetsUnless (refusal_of None reports) reports journey old new)
 
   -- what is asked of them
-  pub record CanMeetFor (reports : List (Report J)) (flow : Flow J) : Type 0 where
-    pub slot : flow.transaction.slot < 64
-    pub room : length flow.transaction.held + length reports ≤ MOST_ACTIONS
-    pub done : refusal_of None reports ≡ None → HasMet flow.progress (found_in reports)
+  pub record CanMeetFor (reports : List (Report J)) (journey : Journey J) : Type 0 where
+    pub slot : journey.transaction.slot < 64
+    pub room : length journey.transaction.held + length reports ≤ MOST_ACTIONS
+    pub done : refusal_of None reports ≡ None → HasMet journey.progress (found_in reports)
 
   -- what is asked of the reports of a phase, by the transaction that the first of them carries
   abbrev pub CanMeet : List (Report J) → Type 0
@@ -192,7 +192,7 @@ module _ {J : Type 0} where
 
   -- The log has the transaction's entry more, or refuses it (`Logs` of transactions). Then the transaction is over, with the pass and the
   -- answer that came of it, and its claims, as they are then, are given back.
-  pub record Commits (commit : CommitItem J) (old : Parts J) (answer : EventAnswer) (new : Parts J) : Type 0 where
+  pub record Commits (commit : Commit J) (old : Parts J) (answer : EventAnswer) (new : Parts J) : Type 0 where
     pub logged : AnyLogged J
     pub log : List Entry
     pub held : List (List Claiming)
@@ -201,7 +201,7 @@ module _ {J : Type 0} where
     pub over : new ≡ releasing logged.is_settled (release commit.transaction logged.pass logged.answer held) (record old { log = log })
 
   -- What is asked of a commit: the request was carried out under the transaction's claims with this reply.
-  pub record CanCommit (opening : Database) (commit : CommitItem J) : Type 0 where
+  pub record CanCommit (opening : Database) (commit : Commit J) : Type 0 where
     pub accepted : IsAccepted opening.scale commit.transaction.request
     pub number : commit.transaction.pass.asks.number ≡ commit.transaction.number
     pub asks : commit.transaction.pass.asks.request ≡ commit.transaction.request
@@ -218,7 +218,7 @@ module _ {J : Type 0} where
       × ((new.desk.admitted ≡ old.desk.admitted) × ((new.desk.active ≡ old.desk.active) × (new.desk.sessions.items ≡ sessions)))))))
 
   -- the session's pass is at the desk again
-  abbrev pub Replies : ReplyItem J → Parts J → EventAnswer → Parts J → Type 0
+  abbrev pub Replies : Told J → Parts J → EventAnswer → Parts J → Type 0
   Replies told old answer new =
       (answer ≡ Answered told.pass.session told.number told.answer)
       × ((desk : SessionDesk J) × ((slice_get old.desk.sessions.items told.pass.session ≡ Some desk)
@@ -235,7 +235,7 @@ module _ {J : Type 0} where
   CanSend opening (item.Push message) w = Unit {0}
   CanSend opening (item.Report r) w =
       (r.slot < 64) × OfPhase r.slot w (λ first slots. (first ≤ r.place) × ((slice_get slots (r.place - first) ≡ Some None)
-      × ((reports : List (Report J)) → map Some reports ≡ slice_set slots (r.place - first) (Some r) → CanMeet reports × CarriesFirst reports (λ flow. flow.transaction.slot ≡ r.slot))))
+      × ((reports : List (Report J)) → map Some reports ≡ slice_set slots (r.place - first) (Some r) → CanMeet reports × CarriesFirst reports (λ journey. journey.transaction.slot ≡ r.slot))))
   CanSend opening (item.Ended slot) w = (slot < 64) × OfEnding slot w (λ left. 1 ≤ left)
   CanSend opening (item.Commit commit) w = CanCommit opening commit
   CanSend opening (item.Reply told) w = (desk : SessionDesk J) × (slice_get w.desk.sessions.items told.pass.session ≡ Some desk)

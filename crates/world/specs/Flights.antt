@@ -6,11 +6,11 @@ use Rattle.history.specs.History.{Unanswered}
 use Rattle.transactions.specs.declared.work.Work.{Work}
 use Rattle.transactions.specs.Acting.{claims_of_ran}
 use Rattle.world.specs.declared.flight.Transaction.{Transaction}
-use Rattle.world.specs.declared.flight.Flow.{Flow}
+use Rattle.world.specs.declared.flight.Journey.{Journey}
 use Rattle.world.specs.declared.flight.Message.{Message}
-use Rattle.world.specs.declared.flight.Message.TheVariants.{Start, Act, Settle, Undo}
+use Rattle.world.specs.declared.flight.Message.TheVariants.{Start, Errand, Settle, Undo}
 use Rattle.world.specs.declared.flight.Report.{Report}
-use Rattle.world.specs.declared.flight.ReplyItem.{ReplyItem}
+use Rattle.world.specs.declared.flight.Told.{Told}
 use Rattle.world.specs.declared.flight.Item.{Item}
 use Rattle.world.specs.declared.flight.Item.TheVariants as item
 
@@ -74,7 +74,7 @@ module _ {J : Type 0} where
   }
 
   -- the transaction of an answer on its way
-  abbrev pub unanswered_reply : ReplyItem J → Unanswered
+  abbrev pub unanswered_reply : Told J → Unanswered
   unanswered_reply told = record {
     age = told.age;
     session = told.pass.session;
@@ -90,28 +90,28 @@ module _ {J : Type 0} where
   part_transaction t tokens = part (all_claims t.held) (unanswered_transaction t ∷ []) tokens
 
   -- what is carried, if it is
-  abbrev pub part_carried : Option (Flow J) → InFlight
+  abbrev pub part_carried : Option (Journey J) → InFlight
   part_carried None = nothing
-  part_carried (Some flow) = part_transaction flow.transaction []
+  part_carried (Some journey) = part_transaction journey.transaction []
 
   -- what a message has with it
   abbrev pub part_message : Message J → InFlight
-  part_message (Start flow works) = part_transaction flow.transaction (acting_from flow.transaction.slot (length flow.transaction.held) works.items)
-  part_message (Act act) = part (part_carried act.flow).claims (part_carried act.flow).pending (Acting act.slot act.place ∷ [])
+  part_message (Start journey works) = part_transaction journey.transaction (acting_from journey.transaction.slot (length journey.transaction.held) works.items)
+  part_message (Errand errand) = part (part_carried errand.journey).claims (part_carried errand.journey).pending (Acting errand.slot errand.place ∷ [])
   part_message (Settle slot claims) = part_held slot claims
   part_message (Undo slot claims) = part_held slot claims
 
   -- what is carried comes before what the action holds
   abbrev pub claims_reported : Report J → List Claiming
-  claims_reported r = (part_carried r.flow).claims ++ claims_of_ran r.ran
+  claims_reported r = (part_carried r.journey).claims ++ claims_of_ran r.ran
 
   -- a report on its way to where its phase meets, and there: no token is left of it then
   abbrev pub part_report : Report J → InFlight
-  part_report r = part (claims_reported r) (part_carried r.flow).pending (Acting r.slot r.place ∷ [])
+  part_report r = part (claims_reported r) (part_carried r.journey).pending (Acting r.slot r.place ∷ [])
 
   -- what a report that has met has with it: its token has come back
   abbrev pub part_met : Report J → InFlight
-  part_met r = part (claims_reported r) (part_carried r.flow).pending []
+  part_met r = part (claims_reported r) (part_carried r.journey).pending []
 
   -- what an item has with it
   abbrev pub part_item : Item J → InFlight

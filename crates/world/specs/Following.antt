@@ -12,10 +12,10 @@ use Rattle.transactions.specs.SortedOut as sorted
 use Rattle.world.specs.declared.desk.Active.{Active}
 use Rattle.world.specs.declared.desk.Active.TheVariants.{Acting, Committing, Ending}
 use Rattle.world.specs.declared.flight.Transaction.{Transaction}
-use Rattle.world.specs.declared.flight.Flow.{Flow}
-use Rattle.world.specs.declared.flight.Message.TheVariants.{Act, Settle, Undo}
+use Rattle.world.specs.declared.flight.Journey.{Journey}
+use Rattle.world.specs.declared.flight.Message.TheVariants.{Errand, Settle, Undo}
 use Rattle.world.specs.declared.flight.Report.{Report}
-use Rattle.world.specs.declared.flight.CommitItem.{CommitItem}
+use Rattle.world.specs.declared.flight.Commit.{Commit}
 use Rattle.world.specs.declared.flight.Item.{Item}
 use Rattle.world.specs.declared.flight.Item.TheVariants as item
 use Rattle.world.specs.declared.sending.Release.{Release}
@@ -25,14 +25,14 @@ module _ {J : Type 0} where
   -- ---- the actions of a phase
 
   -- the actions from this place on; the first of them carries this
-  abbrev pub acts_from : ℕ → ℕ → ℕ → Option (Flow J) → List Work → List (Item J)
-  acts_from place age slot carried [] = []
-  acts_from place age slot carried (work ∷ works) =
-      item.Push (Act (record { place = place; age = age; slot = slot; work = work; flow = carried })) ∷ acts_from (place + 1) age slot None works
+  abbrev pub errands_from : ℕ → ℕ → ℕ → Option (Journey J) → List Work → List (Item J)
+  errands_from place age slot carried [] = []
+  errands_from place age slot carried (work ∷ works) =
+      item.Push (Errand (record { place = place; age = age; slot = slot; work = work; journey = carried })) ∷ errands_from (place + 1) age slot None works
 
   -- all actions of a phase, whose places come after those of the phases before: the first carries the transaction
-  abbrev pub acts_of : Flow J → List Work → List (Item J)
-  acts_of flow works = acts_from (length flow.transaction.held) flow.transaction.age flow.transaction.slot (Some flow) works
+  abbrev pub errands_of : Journey J → List Work → List (Item J)
+  errands_of journey works = errands_from (length journey.transaction.held) journey.transaction.age journey.transaction.slot (Some journey) works
 
   -- ---- what they report
 
@@ -53,14 +53,14 @@ module _ {J : Type 0} where
   refusal_of why reports = sorted.refusal_of why (rans_of reports)
 
   -- what is carried is there, and this is so of it
-  abbrev pub IfCarried : Option (Flow J) → (Flow J → Type 0) → Type 0
+  abbrev pub IfCarried : Option (Journey J) → (Journey J → Type 0) → Type 0
   IfCarried None P = ⊥
-  IfCarried (Some flow) P = P flow
+  IfCarried (Some journey) P = P journey
 
   -- the first of them carries a transaction, of which this is so
-  abbrev pub CarriesFirst : List (Report J) → (Flow J → Type 0) → Type 0
+  abbrev pub CarriesFirst : List (Report J) → (Journey J → Type 0) → Type 0
   CarriesFirst [] P = ⊥
-  CarriesFirst (r ∷ reports) P = IfCarried r.flow P
+  CarriesFirst (r ∷ reports) P = IfCarried r.journey P
 
   -- the transaction with these claims more
   abbrev pub holding : Transaction J → List (List Claiming) → Transaction J
@@ -119,7 +119,7 @@ module _ {J : Type 0} where
   releasing settle r w = putting (items_released settle r) r.slot (ending (length r.held)) w
 
   -- the entry of a commit
-  abbrev pub entry_of : CommitItem J → Entry
+  abbrev pub entry_of : Commit J → Entry
   entry_of commit = record {
     session = commit.transaction.pass.session;
     number = commit.transaction.number;

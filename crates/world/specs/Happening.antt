@@ -25,7 +25,7 @@ use Rattle.transactions.specs.Progresses.{IsReached, works_of}
 use Rattle.transactions.specs.Works.{home_of_request}
 use Rattle.world.specs.declared.desk.Active.TheVariants.{Acting}
 use Rattle.world.specs.declared.desk.SessionDesk.{SessionDesk}
-use Rattle.world.specs.declared.flight.Flow.{Flow}
+use Rattle.world.specs.declared.flight.Journey.{Journey}
 use Rattle.world.specs.declared.flight.Letter.{Letter}
 use Rattle.world.specs.declared.flight.Load.{Load}
 use Rattle.world.specs.declared.flight.Load.TheVariants.{Work, Move}
@@ -81,27 +81,27 @@ module _ {J : Type 0} where
   -- A transaction more is admitted, and active, in a slot that was free: the actions of its first phase stand at the inbox's
   -- end, and the session's pass goes with them.
   pub record Admits (session number : ℕ) (asked : Request) (desk : SessionDesk J) (old new : Parts J) : Type 0 where
-    pub flow : Flow J
+    pub journey : Journey J
     pub works : Vec AnyWork Global
     pub pass : Passing
-    pub age : flow.transaction.age ≡ old.desk.admitted
-    pub number_is : flow.transaction.number ≡ number
-    pub request : flow.transaction.request ≡ asked
-    pub held : flow.transaction.held ≡ []
-    pub free : slice_get old.desk.active flow.transaction.slot ≡ Some None
-    pub begins : (shared : Shared) → IsAccepted shared.scale asked → IsReached shared asked flow.progress []
+    pub age : journey.transaction.age ≡ old.desk.admitted
+    pub number_is : journey.transaction.number ≡ number
+    pub request : journey.transaction.request ≡ asked
+    pub held : journey.transaction.held ≡ []
+    pub free : slice_get old.desk.active journey.transaction.slot ≡ Some None
+    pub begins : (shared : Shared) → IsAccepted shared.scale asked → IsReached shared asked journey.progress []
     pub here : desk.pass ≡ Some pass
-    pub pass_is : flow.transaction.pass ≡ with_asks pass (asking number asked pass.seen pass.mine)
-    pub works_are : works.items ≡ works_of flow.progress
+    pub pass_is : journey.transaction.pass ≡ with_asks pass (asking number asked pass.seen pass.mine)
+    pub works_are : works.items ≡ works_of journey.progress
     pub catalog : new.catalog ≡ old.catalog
     pub stations : new.stations ≡ old.stations
-    pub inbox : new.inbox ≡ old.inbox ++ message.Start flow works ∷ []
+    pub inbox : new.inbox ≡ old.inbox ++ message.Start journey works ∷ []
     pub outbox : new.outbox ≡ old.outbox
     pub log : new.log ≡ old.log
     pub admitted : new.desk.admitted ≡ old.desk.admitted + 1
-    pub active : new.desk.active ≡ slice_set old.desk.active flow.transaction.slot (Some (Acting 0 (replicate (length works.items) None)))
+    pub active : new.desk.active ≡ slice_set old.desk.active journey.transaction.slot (Some (Acting 0 (replicate (length works.items) None)))
     pub sessions : new.desk.sessions.items
-        ≡ slice_set old.desk.sessions.items session (record { seat = seating desk.seat.session flow.transaction.pass.asks; pass = None })
+        ≡ slice_set old.desk.sessions.items session (record { seat = seating desk.seat.session journey.transaction.pass.asks; pass = None })
 
   -- what is asked of a world to which a request is submitted: each session stands at its place
   abbrev pub CanSubmit : Parts J → Type 0

@@ -10,7 +10,7 @@ use Rattle.world.specs.declared.flight.Letter.{Letter}
 use Rattle.world.specs.declared.flight.Load.{Load}
 use Rattle.world.specs.declared.flight.Load.TheVariants.{Work, Move}
 use Rattle.world.specs.declared.flight.Message.{Message}
-use Rattle.world.specs.declared.flight.Message.TheVariants.{Start, Act, Settle, Undo}
+use Rattle.world.specs.declared.flight.Message.TheVariants.{Start, Errand, Settle, Undo}
 use Rattle.world.specs.declared.flight.Posted.{Posted}
 use Rattle.world.specs.declared.flight.Posted.TheVariants as posted
 
@@ -19,15 +19,15 @@ use Rattle.world.specs.declared.flight.Posted.TheVariants as posted
 module _ {J : Type 0} where
   -- The warehouse by which a message finds its executor. A transaction starts at its request's.
   abbrev pub home_of_message : Message J → ℕ
-  home_of_message (Start flow works) = home_of_request flow.transaction.request
-  home_of_message (Act act) = home_of act.work
+  home_of_message (Start journey works) = home_of_request journey.transaction.request
+  home_of_message (Errand errand) = home_of errand.work
   home_of_message (Settle slot claims) = home_of_claims claims
   home_of_message (Undo slot claims) = home_of_claims claims
 
   -- a message of claims has some
   abbrev pub HasHome : Message J → Type 0
-  HasHome (Start flow works) = Unit {0}
-  HasHome (Act act) = Unit {0}
+  HasHome (Start journey works) = Unit {0}
+  HasHome (Errand errand) = Unit {0}
   HasHome (Settle slot claims) = 1 ≤ length claims
   HasHome (Undo slot claims) = 1 ≤ length claims
 
@@ -41,8 +41,8 @@ module _ {J : Type 0} where
 
   -- it is worked on in the warehouse's slice, as all are but the start of a transaction
   abbrev pub is_for_slice : Message J → Bool
-  is_for_slice (Start flow works) = false
-  is_for_slice (Act act) = true
+  is_for_slice (Start journey works) = false
+  is_for_slice (Errand errand) = true
   is_for_slice (Settle slot claims) = true
   is_for_slice (Undo slot claims) = true
 
@@ -65,8 +65,8 @@ module _ {J : Type 0} where
 
   -- a message for a slice, on its way to an executor
   abbrev pub goes : ℕ → Message J → List Going
-  goes to (Start flow works) = []
-  goes to (Act act) = record { to = to; w_id = home_of act.work } ∷ []
+  goes to (Start journey works) = []
+  goes to (Errand errand) = record { to = to; w_id = home_of errand.work } ∷ []
   goes to (Settle slot claims) = record { to = to; w_id = home_of_claims claims } ∷ []
   goes to (Undo slot claims) = record { to = to; w_id = home_of_claims claims } ∷ []
 

@@ -28,13 +28,13 @@ use Rattle.world.specs.declared.desk.Active.TheVariants as active
 use Rattle.world.specs.declared.desk.Desk.{Desk}
 use Rattle.world.specs.declared.desk.SessionDesk.{SessionDesk}
 use Rattle.world.specs.declared.flight.Transaction.{Transaction}
-use Rattle.world.specs.declared.flight.Flow.{Flow}
-use Rattle.world.specs.declared.flight.Act.{Act}
+use Rattle.world.specs.declared.flight.Journey.{Journey}
+use Rattle.world.specs.declared.flight.Errand.{Errand}
 use Rattle.world.specs.declared.flight.Message.{Message}
 use Rattle.world.specs.declared.flight.Message.TheVariants as message
 use Rattle.world.specs.declared.flight.Report.{Report}
-use Rattle.world.specs.declared.flight.CommitItem.{CommitItem}
-use Rattle.world.specs.declared.flight.ReplyItem.{ReplyItem}
+use Rattle.world.specs.declared.flight.Commit.{Commit}
+use Rattle.world.specs.declared.flight.Told.{Told}
 use Rattle.world.specs.declared.flight.Item.{Item}
 use Rattle.world.specs.declared.flight.Item.TheVariants as item
 use Rattle.world.specs.declared.world.Parts.{Parts}
@@ -91,43 +91,43 @@ module _ {J : Type 0} where
     pub request : t.pass.asks.request ≡ t.request
 
   -- the transaction is the one in this slot, and has come so far
-  pub record IsSoundFlow (slot : ℕ) (u : UnderWay) (flow : Flow J) : Type 0 where
-    pub asked : IsAskedBy flow.transaction
-    pub slot_is : flow.transaction.slot ≡ slot
-    pub request : flow.transaction.request ≡ u.request
-    pub held : flow.transaction.held ≡ u.held
-    pub progress : flow.progress ≡ u.progress
-    pub age : flow.transaction.age ≡ u.age
+  pub record IsSoundJourney (slot : ℕ) (u : UnderWay) (journey : Journey J) : Type 0 where
+    pub asked : IsAskedBy journey.transaction
+    pub slot_is : journey.transaction.slot ≡ slot
+    pub request : journey.transaction.request ≡ u.request
+    pub held : journey.transaction.held ≡ u.held
+    pub progress : journey.progress ≡ u.progress
+    pub age : journey.transaction.age ≡ u.age
 
   -- the transaction goes with the first action of its phase, and with no other
-  abbrev pub IsCarriedAt : ℕ → UnderWay → ℕ → Option (Flow J) → Type 0
+  abbrev pub IsCarriedAt : ℕ → UnderWay → ℕ → Option (Journey J) → Type 0
   IsCarriedAt slot u zero None = ⊥
-  IsCarriedAt slot u zero (Some flow) = IsSoundFlow slot u flow
+  IsCarriedAt slot u zero (Some journey) = IsSoundJourney slot u journey
   IsCarriedAt slot u (suc number) None = Unit {0}
-  IsCarriedAt slot u (suc number) (Some flow) = ⊥
+  IsCarriedAt slot u (suc number) (Some journey) = ⊥
 
   -- ---- one thing that is under way
 
   -- a beginning has the works of the first phase, which are few and can all be done
-  pub record IsSoundStart (shared : Shared) (u : UnderWay) (flow : Flow J) (works : List Work) : Type 0 where
-    pub flow_is : IsSoundFlow flow.transaction.slot u flow
+  pub record IsSoundStart (shared : Shared) (u : UnderWay) (journey : Journey J) (works : List Work) : Type 0 where
+    pub journey_is : IsSoundJourney journey.transaction.slot u journey
     pub works_are : works ≡ works_of u.progress
     pub can : All (CanDo shared) works
-    pub few : length flow.transaction.held + length works ≤ MOST_ACTIONS
+    pub few : length journey.transaction.held + length works ≤ MOST_ACTIONS
 
   -- an action does the work of its place, which can be done, and is of its transaction's age
-  pub record IsSoundAct (shared : Shared) (u : UnderWay) (act : Act J) : Type 0 where
+  pub record IsSoundErrand (shared : Shared) (u : UnderWay) (errand : Errand J) : Type 0 where
     pub number : ℕ
-    pub place : IsPlaceOf u number act.place
-    pub flow : IsCarriedAt act.slot u number act.flow
-    pub work : IsWorkAt u number act.work
-    pub can : CanDo shared act.work
-    pub age : act.age ≡ u.age
+    pub place : IsPlaceOf u number errand.place
+    pub journey : IsCarriedAt errand.slot u number errand.journey
+    pub work : IsWorkAt u number errand.work
+    pub can : CanDo shared errand.work
+    pub age : errand.age ≡ u.age
 
   -- a message is sound, by its kind, with how far its transaction has come
   abbrev pub IsSoundMessage : Shared → Courses → Message J → Type 0
-  IsSoundMessage shared at (message.Start flow works) = IsSoundStart shared (at flow.transaction.slot) flow works.items
-  IsSoundMessage shared at (message.Act act) = IsSoundAct shared (at act.slot) act
+  IsSoundMessage shared at (message.Start journey works) = IsSoundStart shared (at journey.transaction.slot) journey works.items
+  IsSoundMessage shared at (message.Errand errand) = IsSoundErrand shared (at errand.slot) errand
   IsSoundMessage shared at (message.Settle slot claims) = AreSettledBy (at slot).age claims
   IsSoundMessage shared at (message.Undo slot claims) = AreUndoneBy (at slot).age claims
 
@@ -142,12 +142,12 @@ module _ {J : Type 0} where
   pub record IsSoundReport (shared : Shared) (u : UnderWay) (r : Report J) : Type 0 where
     pub number : ℕ
     pub place : IsPlaceOf u number r.place
-    pub flow : IsCarriedAt r.slot u number r.flow
+    pub journey : IsCarriedAt r.slot u number r.journey
     pub ran : IsSoundRan shared u number r.ran
 
   -- A commit is of a request that its check accepts, and that was carried out under the transaction's claims with this
   -- reply, from any opening; and all can be undone.
-  pub record IsSoundCommit (shared : Shared) (u : UnderWay) (commit : CommitItem J) : Type 0 where
+  pub record IsSoundCommit (shared : Shared) (u : UnderWay) (commit : Commit J) : Type 0 where
     pub asked : IsAskedBy commit.transaction
     pub accepted : IsAccepted shared.scale commit.transaction.request
     pub carried_out : (opening : Database) → shared_of opening ≡ shared → IsCarriedOut opening commit.transaction.request (all_claims commit.transaction.held) commit.reply
@@ -155,7 +155,7 @@ module _ {J : Type 0} where
     pub few : length commit.transaction.held ≤ MOST_ACTIONS
 
   -- An answer is for one of 64 sessions, which asks its number; and a death is of somebody older, on a group of what was asked.
-  abbrev pub IsSoundReply : ReplyItem J → Type 0
+  abbrev pub IsSoundReply : Told J → Type 0
   IsSoundReply told = (told.pass.session < 64) × ((told.pass.asks.number ≡ told.number) × AnswersOlder (groups_of (footprint told.pass.asks.request)) told.age told.answer)
 
   -- an item is sound, by its kind

@@ -6,20 +6,20 @@ use Rattle.partitions.specs.Parts.{Part}
 use Rattle.slices.specs.Sliced.{Sliced, part_in}
 use Rattle.transactions.specs.declared.station.Parked.{Parked}
 use Rattle.transactions.specs.Stations.{IsStation, Stationed, stationed}
-use Rattle.world.specs.declared.flight.Act.{Act as AnyAct}
+use Rattle.world.specs.declared.flight.Errand.{Errand as AnyErrand}
 use Rattle.world.specs.declared.flight.Carried.{Carried}
 use Rattle.world.specs.declared.flight.Message.{Message}
-use Rattle.world.specs.declared.flight.Message.TheVariants.{Act}
+use Rattle.world.specs.declared.flight.Message.TheVariants.{Errand}
 use Rattle.world.specs.declared.world.Parts.{Parts}
 
 module _ {J : Type 0} where
   -- an action that waits, as it was when it asked
-  abbrev pub act_of : Parked (Carried J) → AnyAct J
-  act_of p = record { place = p.by.place; age = p.by.age; slot = p.carried.slot; work = p.work; flow = p.carried.flow }
+  abbrev pub errand_of : Parked (Carried J) → AnyErrand J
+  errand_of p = record { place = p.by.place; age = p.by.age; slot = p.carried.slot; work = p.work; journey = p.carried.journey }
 
   -- the message that it was
   abbrev pub message_of : Parked (Carried J) → Message J
-  message_of p = Act (act_of p)
+  message_of p = Errand (errand_of p)
 
   -- those that wait at a station, in the order in which they asked
   abbrev pub waiting_at : Stationed (Carried J) → List (Message J)

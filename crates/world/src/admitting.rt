@@ -7,7 +7,7 @@ ghost use Rattle.world.specs.Happening.{Admits, CanAsk, CanSubmit, SubmitsAt};
 
 use crate::beginning::Phase;
 use crate::desk::{Active, SessionDesk};
-use crate::flight::{Flow, Message, Transaction};
+use crate::flight::{Journey, Message, Transaction};
 use crate::world::Parts;
 use commit_log::{Names, Pass};
 use history::EventAnswer;
@@ -84,11 +84,11 @@ impl<J: Names> Parts<J> {
             pass,
             held,
         };
-        let flow = Flow {
+        let journey = Journey {
             transaction,
             progress,
         };
-        self.inbox.put(Message::Start(flow, works));
+        self.inbox.put(Message::Start(journey, works));
         self.desk.admitted = age + 1;
         let acting = Active::Acting { first: 0, meeting };
         self.desk.active.put(slot, Some(acting));

@@ -3,7 +3,7 @@ ghost use Rattle.std.specs.Prelude.{◌≡◌, ◌≤◌, ◌+◌, length};
 ghost use Rattle.world.specs.Events as spec;
 ghost use Rattle.world.specs.Events.{CanCommit, Commits};
 
-use crate::flight::{CommitItem, Transaction};
+use crate::flight::{Commit, Transaction};
 use crate::sending::Release;
 use crate::world::Parts;
 use commit_log::{Entry, Names};
@@ -13,12 +13,12 @@ use transactions::{Logged, MOST_ACTIONS};
 
 impl<J: Names> Parts<J> {
     // The transaction is logged, or refused where there is no memory for an entry, or the log is full.
-    pub(crate) fn commit(&mut self, commit: CommitItem<J>) -> EventAnswer
+    pub(crate) fn commit(&mut self, commit: Commit<J>) -> EventAnswer
         requires room { length self.old.outbox + (MOST_ACTIONS + 1) ≤ 4096 }
         requires can { CanCommit J.opening commit }
         ensures { Commits commit self.old result self.new }
     {
-        let CommitItem { transaction, reply } = commit;
+        let Commit { transaction, reply } = commit;
         let Transaction {
             age,
             slot,

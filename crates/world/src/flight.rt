@@ -22,14 +22,14 @@ pub struct Transaction<J: Names> {
 
 /// A transaction, and how far it has come. It goes with the action of its phase's least place.
 #[derive(Drop)]
-pub struct Flow<J: Names> {
+pub struct Journey<J: Names> {
     pub transaction: Transaction<J>,
     pub progress: Progress,
 }
 
 /// An action of a phase.
 #[derive(Drop)]
-pub struct Act<J: Names> {
+pub struct Errand<J: Names> {
     /// Its place among all actions of its transaction, those of earlier phases before it, from 0.
     pub place: usize,
     /// Those of its transaction.
@@ -37,7 +37,7 @@ pub struct Act<J: Names> {
     pub slot: usize,
     pub work: Work,
     /// With the least place of its phase, and no other.
-    pub flow: Option<Flow<J>>,
+    pub journey: Option<Journey<J>>,
 }
 
 /// What an action that waits keeps with it beside its work.
@@ -45,15 +45,15 @@ pub struct Act<J: Names> {
 pub struct Carried<J: Names> {
     /// The slot of its transaction.
     pub slot: usize,
-    pub flow: Option<Flow<J>>,
+    pub journey: Option<Journey<J>>,
 }
 
 /// A message in the executor's inbox.
 #[derive(Drop)]
 pub enum Message<J: Names> {
     /// The first phase of a transaction, with what its actions do, by place.
-    Start(Flow<J>, Vec<Work>),
-    Act(Act<J>),
+    Start(Journey<J>, Vec<Work>),
+    Errand(Errand<J>),
     /// Give the claims of an action back: what they left is committed. The transaction has this slot.
     Settle(usize, Claims<J>),
     /// Take back what an action did, and give its claims back.
@@ -66,13 +66,13 @@ pub struct Report<J: Names> {
     /// Those of the action.
     pub place: usize,
     pub slot: usize,
-    pub flow: Option<Flow<J>>,
+    pub journey: Option<Journey<J>>,
     pub ran: Ran<J>,
 }
 
 /// A transaction that was carried out, and is to be logged.
 #[derive(Drop)]
-pub struct CommitItem<J: Names> {
+pub struct Commit<J: Names> {
     pub transaction: Transaction<J>,
     pub reply: Reply,
 }
@@ -80,7 +80,7 @@ pub struct CommitItem<J: Names> {
 /// An answer on its way to its session, with the session's pass: the place of the entry in the log, or why the request was
 /// refused.
 #[derive(Drop)]
-pub struct ReplyItem<J: Names> {
+pub struct Told<J: Names> {
     pub age: u64,
     pub number: u32,
     pub pass: Pass<J>,
@@ -97,9 +97,9 @@ pub enum Item<J: Names> {
     /// An action of the transaction in this slot has given its claims back.
     Ended(usize),
     /// To the log.
-    Commit(CommitItem<J>),
+    Commit(Commit<J>),
     /// To the session.
-    Reply(ReplyItem<J>),
+    Reply(Told<J>),
 }
 
 /// What comes into an executor's inbox.

@@ -31,7 +31,7 @@ mod world;
 
 pub use desk::{Active, Desk, SessionDesk};
 pub use flight::{
-    Act, Carried, CommitItem, Flow, Item, Letter, Load, Message, Posted, ReplyItem, Report,
+    Carried, Commit, Errand, Item, Journey, Letter, Load, Message, Posted, Report, Told,
     Transaction,
 };
 pub use opening::{OpenFault, Opening};

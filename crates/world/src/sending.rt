@@ -6,7 +6,7 @@ ghost use Rattle.world.specs.Following.{releasing};
 ghost use Rattle.world.specs.Letters.{IsNoPush};
 
 use crate::desk::Active;
-use crate::flight::{Item, Message, ReplyItem, Report, Transaction};
+use crate::flight::{Item, Message, Report, Told, Transaction};
 use crate::world::Parts;
 use commit_log::{Names, Pass};
 use history::EventAnswer;
@@ -112,7 +112,7 @@ impl<J: Names> Parts<J> {
         } = over;
         let count = held.len();
         self.desk.active.put(slot, ending(count));
-        self.outbox.put(Item::Reply(ReplyItem {
+        self.outbox.put(Item::Reply(Told {
             age,
             number,
             pass,
@@ -129,11 +129,11 @@ impl<J: Names> Parts<J> {
     }
 
     // The session is answered, and has its pass again.
-    fn reply(&mut self, told: ReplyItem<J>) -> EventAnswer
+    fn reply(&mut self, told: Told<J>) -> EventAnswer
         requires { CanSend J.opening (Item.Reply told) self.old }
         ensures { SendsItem (Item.Reply told) self.old result self.new }
     {
-        let ReplyItem {
+        let Told {
             age: _,
             number,
             pass,

@@ -5,7 +5,7 @@ ghost use Rattle.transactions.specs.Works.{CanDo};
 ghost use Rattle.world.specs.Events.{AllTurns, Asks, CanWork, TakesMessage, report_of};
 ghost use Rattle.world.specs.Stations.{HasRoomFor, IsStationOf, slices_in, waiting_in};
 
-use crate::flight::{Act, Carried, Item, Message, Report};
+use crate::flight::{Carried, Errand, Item, Message, Report};
 use crate::world::Parts;
 use commit_log::Names;
 use std::alloc::Global;
@@ -24,10 +24,10 @@ impl<J: Names> Parts<J> {
         ensures stations { All (IsStationOf J.warehouses) self.new.stations.items }
     {
         match message {
-            Message::Start(flow, works) => self.put_acts(flow, works),
-            Message::Act(act) => {
-                let home = act.work.home() as usize;
-                self.ask(alloc, act);
+            Message::Start(journey, works) => self.put_errands(journey, works),
+            Message::Errand(errand) => {
+                let home = errand.work.home() as usize;
+                self.ask(alloc, errand);
                 self.take_turns(alloc, home);
             }
             Message::Settle(slot, claims) => {
@@ -48,25 +48,25 @@ impl<J: Names> Parts<J> {
     }
 
     // An action asks for what its work needs, at the station of its warehouse. It reports, unless it waits there.
-    fn ask(&mut self, alloc: Global, act: Act<J>)
+    fn ask(&mut self, alloc: Global, errand: Errand<J>)
         requires warehouses { J.warehouses ≡ self.old.catalog.scale.warehouses }
         requires slices { AreSlicesOf self.old.catalog (slices_in self.old) }
         requires stations { All (IsStationOf J.warehouses) self.old.stations.items }
         requires room { length self.old.outbox < 4096 }
-        requires can { CanDo self.old.catalog act.work }
-        ensures asks { Asks act self.old self.new }
+        requires can { CanDo self.old.catalog errand.work }
+        ensures asks { Asks errand self.old self.new }
         ensures stations { All (IsStationOf J.warehouses) self.new.stations.items }
     {
-        let Act {
+        let Errand {
             place,
             age,
             slot,
             work,
-            flow,
-        } = act;
+            journey,
+        } = errand;
         let home = work.home() as usize;
         let by = Holder { age, place };
-        let carried = Carried { slot, flow };
+        let carried = Carried { slot, journey };
         let acted = self.stations[home - 1].act(alloc, by, work, carried);
         let _ = self.stations[home - 1].slice();
         match acted {
@@ -97,11 +97,11 @@ impl<J: Names> Parts<J> {
         requires room { length self.old.outbox < 4096 }
         ensures { self.new ≡ record self.old { outbox = self.old.outbox ++ report_of place carried ran ∷ [] } }
     {
-        let Carried { slot, flow } = carried;
+        let Carried { slot, journey } = carried;
         self.outbox.put(Item::Report(Report {
             place,
             slot,
-            flow,
+            journey,
             ran,
         }));
     }

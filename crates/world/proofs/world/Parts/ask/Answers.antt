@@ -16,7 +16,7 @@ use Rattle.world.proofs.world.Parts.ask.Goals.{After-home-home}
 
 -- the warehouse is one of the scale
 within : (g : given.Over) (c : After-home-home g) → (1 ≤ c.home-home.result) × (c.home-home.result ≤ c.args.self.now.catalog.scale.warehouses)
-within g c = work_within c.args.self.now.catalog c.args.act.work c.home-home.result c.home-home.ensures c.requires.can
+within g c = work_within c.args.self.now.catalog c.args.errand.work c.home-home.result c.home-home.ensures c.requires.can
 
 pub overflow_sub-home : goal.overflow_sub-home
 overflow_sub-home g c = (within g (goal.at.overflow_sub-home g c).After-home-home).0
@@ -37,7 +37,7 @@ index-requires g c =
 pub act-acted-requires-clause-can : goal.act-acted-requires-clause-can
 act-acted-requires-clause-can g c =
     let own = within g (goal.at.act-acted-requires-clause-can g c).After-home-home in
-    subst (λ s. CanDo s c.args.act.work) (sym (shared_there c.args.self.now c.requires.slices c.home-home.result own.0 own.1 c.index_mut.result.now c.index_mut.ensures.value)) c.requires.can
+    subst (λ s. CanDo s c.args.errand.work) (sym (shared_there c.args.self.now c.requires.slices c.home-home.result own.0 own.1 c.index_mut.result.now c.index_mut.ensures.value)) c.requires.can
 
 pub act-acted-requires-clause-home : goal.act-acted-requires-clause-home
 act-acted-requires-clause-home g c =
@@ -48,22 +48,22 @@ pub returns-in-Ran-clause-asks : goal.returns-in-Ran-clause-asks
 returns-in-Ran-clause-asks g c =
     let own = within g (goal.at.returns-in-Ran-clause-asks g c).After-home-home in
     let old = c.args.self.now in
-    let act = c.args.act in
+    let errand = c.args.errand in
     let told = acted.Ran c.in-Ran.ran c.in-Ran.carried in
-    let Of : Stationed (Carried g.row.J.Denot) → Stationed (Carried g.row.J.Denot) → Type 0 = λ was now. ActsAs (holder_of act) act.work (carried_by act) was told now in
+    let Of : Stationed (Carried g.row.J.Denot) → Stationed (Carried g.row.J.Denot) → Type 0 = λ was now. ActsAs (holder_of errand) errand.work (carried_by errand) was told now in
     let happened : Of c.index_mut.result.now c.act-acted.new.self =
-    subst (λ (a : Acted g.row.J.Denot (Carried g.row.J.Denot)). ActsAs (holder_of act) act.work (carried_by act) c.index_mut.result.now a c.act-acted.new.self) c.in-Ran.is c.act-acted.ensures in
-    (told, placed old c.requires.slices c.home-home.result own.0 own.1 c.index_mut.result.now c.index_mut.ensures.value (home_of act.work) c.home-home.ensures c.act-acted.new.self _ (put_for act.place told) Of c.put_report.new.self refl c.put_report.ensures happened)
+    subst (λ (a : Acted g.row.J.Denot (Carried g.row.J.Denot)). ActsAs (holder_of errand) errand.work (carried_by errand) c.index_mut.result.now a c.act-acted.new.self) c.in-Ran.is c.act-acted.ensures in
+    (told, placed old c.requires.slices c.home-home.result own.0 own.1 c.index_mut.result.now c.index_mut.ensures.value (home_of errand.work) c.home-home.ensures c.act-acted.new.self _ (put_for errand.place told) Of c.put_report.new.self refl c.put_report.ensures happened)
 
 pub returns-in-Waits-clause-asks : goal.returns-in-Waits-clause-asks
 returns-in-Waits-clause-asks g c =
     let own = within g (goal.at.returns-in-Waits-clause-asks g c).After-home-home in
     let old = c.args.self.now in
-    let act = c.args.act in
-    let Of : Stationed (Carried g.row.J.Denot) → Stationed (Carried g.row.J.Denot) → Type 0 = λ was now. ActsAs {J = g.row.J.Denot} (holder_of act) act.work (carried_by act) was acted.Waits now in
+    let errand = c.args.errand in
+    let Of : Stationed (Carried g.row.J.Denot) → Stationed (Carried g.row.J.Denot) → Type 0 = λ was now. ActsAs {J = g.row.J.Denot} (holder_of errand) errand.work (carried_by errand) was acted.Waits now in
     let happened : Of c.index_mut.result.now c.act-acted.new.self =
-    subst (λ (a : Acted g.row.J.Denot (Carried g.row.J.Denot)). ActsAs (holder_of act) act.work (carried_by act) c.index_mut.result.now a c.act-acted.new.self) c.in-Waits.is c.act-acted.ensures in
-    (acted.Waits, placed_alone old c.requires.slices c.home-home.result own.0 own.1 c.index_mut.result.now c.index_mut.ensures.value (home_of act.work) c.home-home.ensures c.act-acted.new.self _ Of refl happened)
+    subst (λ (a : Acted g.row.J.Denot (Carried g.row.J.Denot)). ActsAs (holder_of errand) errand.work (carried_by errand) c.index_mut.result.now a c.act-acted.new.self) c.in-Waits.is c.act-acted.ensures in
+    (acted.Waits, placed_alone old c.requires.slices c.home-home.result own.0 own.1 c.index_mut.result.now c.index_mut.ensures.value (home_of errand.work) c.home-home.ensures c.act-acted.new.self _ Of refl happened)
 
 pub returns-in-Ran-clause-stations : goal.returns-in-Ran-clause-stations
 returns-in-Ran-clause-stations g c =

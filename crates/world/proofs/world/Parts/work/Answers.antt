@@ -18,29 +18,29 @@ use Rattle.world.proofs.world.Parts.work.Goals.{After-ask}
 
 -- ---- an action
 
-can_do : (g : given.Over) (c : After-ask g) → CanDo c.args.self.now.catalog c.in-Act.act.work
-can_do g c = subst (λ (m : Message g.row.J.Denot). CanWork c.args.self.now.catalog m) c.in-Act.is c.requires.can
+can_do : (g : given.Over) (c : After-ask g) → CanDo c.args.self.now.catalog c.in-Errand.errand.work
+can_do g c = subst (λ (m : Message g.row.J.Denot). CanWork c.args.self.now.catalog m) c.in-Errand.is c.requires.can
 
 within : (g : given.Over) (c : After-ask g) → (1 ≤ c.home-home.result) × (c.home-home.result ≤ c.args.self.now.catalog.scale.warehouses)
-within g c = work_within c.args.self.now.catalog c.in-Act.act.work c.home-home.result c.home-home.ensures (can_do g c)
+within g c = work_within c.args.self.now.catalog c.in-Errand.errand.work c.home-home.result c.home-home.ensures (can_do g c)
 
 pub take_turns-requires-clause-home : goal.take_turns-requires-clause-home
 take_turns-requires-clause-home g c = (within g (goal.at.take_turns-requires-clause-home g c).After-ask).0
 
 pub take_turns-requires-clause-warehouses : goal.take_turns-requires-clause-warehouses
 take_turns-requires-clause-warehouses g c =
-    omega (arith, (within g (goal.at.take_turns-requires-clause-warehouses g c).After-ask).1, ap (λ s. s.scale.warehouses) (asks_catalog c.args.self.now c.ask.new.self c.requires.slices c.in-Act.act c.ask.ensures.asks))
+    omega (arith, (within g (goal.at.take_turns-requires-clause-warehouses g c).After-ask).1, ap (λ s. s.scale.warehouses) (asks_catalog c.args.self.now c.ask.new.self c.requires.slices c.in-Errand.errand c.ask.ensures.asks))
 
 pub take_turns-requires-clause-slices : goal.take_turns-requires-clause-slices
-take_turns-requires-clause-slices g c = asks_slices c.args.self.now c.ask.new.self c.requires.slices c.in-Act.act c.ask.ensures.asks
+take_turns-requires-clause-slices g c = asks_slices c.args.self.now c.ask.new.self c.requires.slices c.in-Errand.errand c.ask.ensures.asks
 
 pub take_turns-requires-clause-room : goal.take_turns-requires-clause-room
 take_turns-requires-clause-room g c =
-    subst (λ n. HasRoomFor n c.ask.new.self) (sym c.home-home.ensures) (asks_room c.args.self.now c.ask.new.self c.requires.slices c.in-Act.act c.ask.ensures.asks c.requires.room)
+    subst (λ n. HasRoomFor n c.ask.new.self) (sym c.home-home.ensures) (asks_room c.args.self.now c.ask.new.self c.requires.slices c.in-Errand.errand c.ask.ensures.asks c.requires.room)
 
-pub returns-in-Act-clause-takes : goal.returns-in-Act-clause-takes
-returns-in-Act-clause-takes g c =
-    subst (λ (m : Message g.row.J.Denot). TakesMessage m c.args.self.now c.take_turns.new.self) (sym c.in-Act.is)
+pub returns-in-Errand-clause-takes : goal.returns-in-Errand-clause-takes
+returns-in-Errand-clause-takes g c =
+    subst (λ (m : Message g.row.J.Denot). TakesMessage m c.args.self.now c.take_turns.new.self) (sym c.in-Errand.is)
     (c.ask.new.self, (c.ask.ensures.asks, subst (λ n. AllTurns n c.ask.new.self c.take_turns.new.self) c.home-home.ensures c.take_turns.ensures.turns))
 
 -- ---- claims that are settled
