@@ -10,6 +10,7 @@ use command_line::{PopulateSettings, Status};
 use population::populate;
 use std::alloc::Global;
 use std::io::Write;
+use std::mem;
 
 /// Makes the dataset that the benchmark begins with, writes it to `file`, which gets its name on `shelf`,
 /// and gives the exit status. Why it ended early is told to `errors`: a fault of the file, or no memory.
@@ -46,5 +47,7 @@ fn make<'a, T: Write + Drop, N: Shelf<T>, E: Report>(
     errors.begin("making", customers, "customers, and what belongs to them");
     let tables = populate(alloc, settings.scale, settings.seed, settings.now)?;
     name_tables(alloc, settings.file, file, &tables, shelf)?;
+    // The end of the process gives all rows back at once.
+    mem::forget(tables);
     Ok(())
 }

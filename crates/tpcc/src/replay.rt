@@ -20,9 +20,9 @@ use command_line::{ReplaySettings, Status};
 use commit_log::{Entry, Replay, replay};
 use files::Input;
 use std::alloc::Global;
-use std::fmt;
 use std::io::Write;
 use std::rt::Clock;
+use std::{fmt, mem};
 use terminals::read_log;
 
 /// Carries out the requests of a log one at a time, in log order, from the dataset, compares the replies,
@@ -139,6 +139,8 @@ fn tell<'a, A: Write, T: Write + Drop, N: Shelf<T>>(
         Replay::Equal(last) => {
             print_lines(alloc, found, &[Found::Equal(entries.len())])?;
             write_tables(alloc, settings.tables, tables, &last, shelf)?;
+            // The end of the process gives all rows back at once.
+            mem::forget(last);
             Ok(Status::Success)
         }
         Replay::Differs(place) => {

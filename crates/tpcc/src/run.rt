@@ -26,6 +26,7 @@ use requests::Script;
 use schema::NoMemory;
 use std::alloc::Global;
 use std::io::Write;
+use std::mem;
 use std::rt::Clock;
 use std::sync::Wait;
 use std::thread::Threads;
@@ -132,6 +133,8 @@ fn run<
     watch.end();
     hand_out(alloc, settings, &outcome, answers, log, tables, shelf)?;
     sum_up(alloc, &watch, scripts.as_slice(), &outcome, errors);
+    // The end of the process gives all rows, entries and answers back at once.
+    mem::forget(outcome);
     Ok(())
 }
 
