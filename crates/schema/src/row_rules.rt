@@ -53,30 +53,35 @@ pub fn have_new_orders_orders(
     new_orders.iter().all(|(key, _)| orders.contains_key(key))
 }
 
-/// Whether every OL_NUMBER is in its range.
-pub fn are_lines_numbered(lines: &OrderLines) -> bool
-    ensures each { result ≡ list_all (λ e. is_line_number e.0.number) lines.now }
-    ensures ordered { IsStrictlySortedBy line_cmp (keys_of lines.now) }
-{
-    lines
-        .entries()
-        .all(|(key, _)| (1..=15).contains(&key.number))
+/// Which rules all lines keep.
+#[derive(Clone, Copy, Debug)]
+pub struct LineRules {
+    /// Every OL_NUMBER is in its range.
+    pub are_numbered: bool,
+    /// Every line orders an item of the scale.
+    pub have_items: bool,
+    /// A warehouse of the scale supplies every line.
+    pub have_suppliers: bool,
 }
 
-/// Whether every line orders an item of the scale.
-pub fn have_lines_items(lines: &OrderLines, scale: Scale) -> bool
-    ensures each { result ≡ list_all (λ e. has_item scale e.1.i_id) lines.now }
+/// Reads the lines once, for all rules but that on their orders.
+pub fn line_rules(lines: &OrderLines, scale: Scale) -> LineRules
+    ensures numbered { result.are_numbered ≡ list_all (λ e. is_line_number e.0.number) lines.now }
+    ensures items { result.have_items ≡ list_all (λ e. has_item scale e.1.i_id) lines.now }
+    ensures suppliers { result.have_suppliers ≡ list_all (λ e. has_warehouse scale e.1.supply_w_id) lines.now }
     ensures ordered { IsStrictlySortedBy line_cmp (keys_of lines.now) }
 {
-    lines.entries().all(|(_, row)| scale.has_item(row.i_id))
-}
-
-/// Whether a warehouse of the scale supplies every line.
-pub fn have_lines_suppliers(lines: &OrderLines, scale: Scale) -> bool
-    ensures each { result ≡ list_all (λ e. has_warehouse scale e.1.supply_w_id) lines.now }
-    ensures ordered { IsStrictlySortedBy line_cmp (keys_of lines.now) }
-{
-    lines
-        .entries()
-        .all(|(_, row)| scale.has_warehouse(row.supply_w_id))
+    let mut are_numbered = true;
+    let mut have_items = true;
+    let mut have_suppliers = true;
+    for (key, row) in lines.entries() {
+        are_numbered &= (1..=15).contains(&key.number);
+        have_items &= scale.has_item(row.i_id);
+        have_suppliers &= scale.has_warehouse(row.supply_w_id);
+    }
+    LineRules {
+        are_numbered,
+        have_items,
+        have_suppliers,
+    }
 }

@@ -2,8 +2,8 @@ ghost use Rattle.std.specs.Prelude.{MatchOption, IfOk};
 ghost use Rattle.schema.specs.Rows.{HasCounts, FitsScale, Breaks, AreNoRows, AreSameRows};
 
 use crate::row_rules::{
-    are_lines_numbered, are_orders_numbered, have_lines_items, have_lines_suppliers,
-    have_new_orders_orders, have_orders_customers, name_payers_customers,
+    LineRules, are_orders_numbered, have_new_orders_orders, have_orders_customers, line_rules,
+    name_payers_customers,
 };
 use crate::{HistoryList, NoMemory, OrderLines, Scale, ScaleFault};
 use rows::{Customer, District, Item, NewOrder, Order, OrderKey, Stock, Warehouse};
@@ -124,13 +124,18 @@ impl TableRows {
         if !self.lines.have_orders(&self.orders) {
             return Some(ScaleFault::LineOrder);
         }
-        if !are_lines_numbered(&self.lines) {
+        let LineRules {
+            are_numbered,
+            have_items,
+            have_suppliers,
+        } = line_rules(&self.lines, scale);
+        if !are_numbered {
             return Some(ScaleFault::LineNumber);
         }
-        if !have_lines_items(&self.lines, scale) {
+        if !have_items {
             return Some(ScaleFault::LineItem);
         }
-        if !have_lines_suppliers(&self.lines, scale) {
+        if !have_suppliers {
             return Some(ScaleFault::LineSupplier);
         }
         None

@@ -32,28 +32,29 @@ returns-then-not-have_orders c =
     let r = c.have_orders in
     fails r.result c.if-not-have_orders.true (line_order_rule c.args.scale c.args.self.now r.result r.ensures.ordered r.ensures.each)
 
-pub returns-then-not-are_lines_numbered : goal.returns-then-not-are_lines_numbered
-returns-then-not-are_lines_numbered c =
-    let r = c.are_lines_numbered in
-    fails r.result c.if-not-are_lines_numbered.true
-    (line_rule c.args.scale c.args.self.now (λ key _. is_line_number key.number) r.result r.ensures.ordered r.ensures.each)
+pub returns-then-not-are_numbered : goal.returns-then-not-are_numbered
+returns-then-not-are_numbered c =
+    let r = c.line_rules-are_numbered in
+    fails r.result.are_numbered c.if-not-are_numbered.true
+    (line_rule c.args.scale c.args.self.now (λ key _. is_line_number key.number) r.result.are_numbered r.ensures.ordered r.ensures.numbered)
 
-pub returns-then-not-have_lines_items : goal.returns-then-not-have_lines_items
-returns-then-not-have_lines_items c =
-    let r = c.have_lines_items in
-    fails r.result c.if-not-have_lines_items.true
-    (line_rule c.args.scale c.args.self.now (λ _ row. has_item c.args.scale row.i_id) r.result r.ensures.ordered r.ensures.each)
+pub returns-then-not-have_items : goal.returns-then-not-have_items
+returns-then-not-have_items c =
+    let r = c.line_rules-are_numbered in
+    fails r.result.have_items c.if-not-have_items.true
+    (line_rule c.args.scale c.args.self.now (λ _ row. has_item c.args.scale row.i_id) r.result.have_items r.ensures.ordered r.ensures.items)
 
-pub returns-then-not-have_lines_suppliers : goal.returns-then-not-have_lines_suppliers
-returns-then-not-have_lines_suppliers c =
-    let r = c.have_lines_suppliers in
-    fails r.result c.if-not-have_lines_suppliers.true
-    (line_rule c.args.scale c.args.self.now (λ _ row. has_warehouse c.args.scale row.supply_w_id) r.result r.ensures.ordered r.ensures.each)
+pub returns-then-not-have_suppliers : goal.returns-then-not-have_suppliers
+returns-then-not-have_suppliers c =
+    let r = c.line_rules-are_numbered in
+    fails r.result.have_suppliers c.if-not-have_suppliers.true
+    (line_rule c.args.scale c.args.self.now (λ _ row. has_warehouse c.args.scale row.supply_w_id) r.result.have_suppliers r.ensures.ordered r.ensures.suppliers)
 
 pub returns : goal.returns
 returns c =
     let scale = c.args.scale in
     let rows = c.args.self.now in
+    let lines = c.line_rules-are_numbered in
     record {
       counts = c.requires;
       within = record {
@@ -68,8 +69,8 @@ returns c =
         orders_have_customers = (order_rule scale rows (λ key row. has_customer scale (customer_of_order key row)) c.have_orders_customers.result c.have_orders_customers.ensures.ordered c.have_orders_customers.ensures.each).0 c.if-not-have_orders_customers.false;
         new_orders_have_orders = (new_order_rule scale rows c.have_new_orders_orders.result c.have_new_orders_orders.ensures.ordered c.have_new_orders_orders.ensures.each).0 c.if-not-have_new_orders_orders.false;
         lines_have_orders = (line_order_rule scale rows c.have_orders.result c.have_orders.ensures.ordered c.have_orders.ensures.each).0 c.if-not-have_orders.false;
-        lines_numbered = (line_rule scale rows (λ key _. is_line_number key.number) c.are_lines_numbered.result c.are_lines_numbered.ensures.ordered c.are_lines_numbered.ensures.each).0 c.if-not-are_lines_numbered.false;
-        lines_have_items = (line_rule scale rows (λ _ row. has_item scale row.i_id) c.have_lines_items.result c.have_lines_items.ensures.ordered c.have_lines_items.ensures.each).0 c.if-not-have_lines_items.false;
-        lines_have_suppliers = (line_rule scale rows (λ _ row. has_warehouse scale row.supply_w_id) c.have_lines_suppliers.result c.have_lines_suppliers.ensures.ordered c.have_lines_suppliers.ensures.each).0 c.if-not-have_lines_suppliers.false;
+        lines_numbered = (line_rule scale rows (λ key _. is_line_number key.number) lines.result.are_numbered lines.ensures.ordered lines.ensures.numbered).0 c.if-not-are_numbered.false;
+        lines_have_items = (line_rule scale rows (λ _ row. has_item scale row.i_id) lines.result.have_items lines.ensures.ordered lines.ensures.items).0 c.if-not-have_items.false;
+        lines_have_suppliers = (line_rule scale rows (λ _ row. has_warehouse scale row.supply_w_id) lines.result.have_suppliers lines.ensures.ordered lines.ensures.suppliers).0 c.if-not-have_suppliers.false;
       };
     }
