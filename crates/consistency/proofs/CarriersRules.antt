@@ -5,12 +5,18 @@ use Rattle.std.specs.List.{list_all}
 use Rattle.std.specs.FinMap as map
 use Rattle.rows.specs.Keys.{order_of_line}
 use Rattle.schema.specs.Database.{Database}
+use Rattle.rows.specs.declared.keys.OrderKey.{OrderKey}
 use Rattle.rows.specs.declared.keys.OrderLineKey.{OrderLineKey}
+use Rattle.rows.specs.declared.records.Order.{Order}
 use Rattle.rows.specs.declared.records.OrderLine.{OrderLine}
 use Rattle.schema.specs.Consistency.{NewOrdersHaveNoCarrier, LinesComeWithOrders}
 use Rattle.schema.proofs.KeyOrders.{orders_total, orders_exact, lines_total, lines_exact}
 use Rattle.schema.proofs.EachRows.{EachRow-table}
 use Rattle.consistency.specs.Carriers.{comes_with}
+
+-- whether the order has no carrier just where it is a new order
+abbrev pub has_no_carrier : Database → OrderKey × Order → Bool
+has_no_carrier t e = beq (is_none e.1.carrier_id) (map.contains_key t.new_orders e.0)
 
 -- whether the line comes with its order
 abbrev pub comes : Database → OrderLineKey × OrderLine → Bool
@@ -39,7 +45,7 @@ null_both o (Some y) =
     (λ h. (λ e. absurd (let clash : IsTrue false = (both.0 h).0 e in cc), λ e. absurd cc), λ h. both.1 (λ e. absurd (let clash : Some y ≡ None = h.0 e in cc), λ e. absurd cc))
 
 module _ (t : Database) (r : Bool) where
-  pub carriers_rule : r ≡ list_all (λ e. beq (is_none e.1.carrier_id) (map.contains_key t.new_orders e.0)) (map.entries t.orders)
+  pub carriers_rule : r ≡ list_all (has_no_carrier t) (map.entries t.orders)
       → IsTrue r ↔ NewOrdersHaveNoCarrier t
   carriers_rule is =
       let each = EachRow-table orders_total orders_exact (λ key row. beq (is_none row.carrier_id) (map.contains_key t.new_orders key)) t.orders in (

@@ -7,8 +7,7 @@ pub mod BalancesPayments
 pub mod BalancesDeliveries
 pub mod BalancesRows
 pub mod CarriersRules
-pub mod OrdersLeft
-pub mod OrdersBesideLines
+pub mod OrdersOfLines
 pub mod OrderNumbersRules
 pub mod OrderNumbersGreatest
 pub mod LineCountsRules

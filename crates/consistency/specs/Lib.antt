@@ -1,7 +1,6 @@
 pub mod Totals
 pub mod Balances
 pub mod Carriers
-pub mod OrdersLeft
 pub mod OrderNumbers
 pub mod Conditions
 pub mod Broken

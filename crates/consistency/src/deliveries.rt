@@ -5,9 +5,8 @@ ghost use Rattle.consistency.specs.Balances.{AreTotals, AreWithin, receiver};
 ghost use Rattle.consistency.specs.Carriers.{comes_with};
 
 use crate::balances::{credit, zeros};
-use crate::orders::OrdersBesideLines;
 use rows::{CustomerKey, Order, OrderLine, OrderLineKey};
-use schema::{NoMemory, Tables};
+use schema::{Beside, NoMemory, Tables};
 use std::alloc::Global;
 
 /// What the lines say of deliveries.
@@ -29,9 +28,9 @@ pub(crate) fn read_deliveries(tables: &Tables, alloc: Global) -> Result<Deliveri
     let rows = tables.rows();
     let mut totals = zeros(rows.customers.len(), alloc)?;
     let mut come_with_orders = true;
-    let mut orders = OrdersBesideLines::new(tables);
+    let mut orders = Beside::new(tables.orders());
     for (key, line) in tables.lines() {
-        let order = orders.of(key);
+        let order = orders.of(key.order());
         come_with_orders &= comes_with(line, order);
         if let Some(customer) = receiver(key, line, order) {
             credit(&mut totals, scale, customer, i64::from(line.amount.get()));

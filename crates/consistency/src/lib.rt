@@ -8,7 +8,6 @@ mod checks;
 mod deliveries;
 mod line_counts;
 mod order_numbers;
-mod orders;
 mod payments;
 mod totals;
 

@@ -25,7 +25,7 @@ pub(crate) fn districts_count_lines(tables: &Tables) -> bool
 fn order_counts_lines(tables: &Tables, key: OrderKey, order: &Order) -> bool
     ensures { result ≡ (order.now.ol_cnt == length (lines_of tables.now key)) }
 {
-    order.ol_cnt.get() as usize == tables.lines_of(key).count()
+    order.ol_cnt.get() as usize == tables.line_count(key)
 }
 
 fn district_counts_lines(tables: &Tables, home: DistrictKey) -> bool

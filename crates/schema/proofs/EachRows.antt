@@ -24,7 +24,8 @@ second : (b c : Bool) → IsTrue (b && c) → IsTrue c
 second true c h = h
 second false c h = absurd cc
 
-is_equal : (r : Ordering) → is_eq r ≡ true → r ≡ Equal
+-- a comparison that passes the test is of equals
+pub is_equal : (r : Ordering) → is_eq r ≡ true → r ≡ Equal
 is_equal Less h = cc
 is_equal Equal h = refl
 is_equal Greater h = cc
@@ -47,6 +48,9 @@ strictly R (e ∷ es) h = (all_below R e.0 es (first _ _ h), strictly R es (seco
 from_T : (b : Bool) → T b → IsTrue b
 from_T true h = refl
 from_T false h = absurd h
+
+pub keys_ascend : {K X : Type 0} (R : K → K → Ordering) (m : map.FinMap R X) → IsStrictlySortedBy R (keys_of (map.entries m))
+keys_ascend R m = strictly R (map.entries m) (from_T _ (map.entries_sorted m))
 
 later_is_other : {K : Type 0} {R : K → K → Ordering} → IsTotalOrder R → (k q : K) → R k q ≡ Less → eq_by_cmp R q k ≡ false
 later_is_other o k q h = ap is_eq (o.antisymm q k ∙ ap ordering_reverse h)
@@ -101,7 +105,7 @@ module _ {K X : Type 0} {R : K → K → Ordering} (o : IsTotalOrder R) (a : IsA
   pub EachRow-table : (test : K → X → Bool) (m : map.FinMap R X) → IsTrue (list_all (λ e. test e.0 e.1) (map.entries m)) ↔ EachRow test m
   EachRow-table test m =
       let same = λ (key : K). map.get-entries m key ∙ sym (get-from_entries o (map.entries m) key) in
-      let each = EachRow-entries test (map.entries m) (strictly R (map.entries m) (from_T _ (map.entries_sorted m))) in
+      let each = EachRow-entries test (map.entries m) (keys_ascend R m) in
       (λ h key row found. each.0 h key row (sym (same key) ∙ found), λ h. each.1 (λ key row found. h key row (same key ∙ found)))
 
 passes-at : {X : Type 0} (test : X → Bool) (xs : List X) (n : ℕ) (x : X) → IsTrue (list_all test xs) → slice_get xs n ≡ Some x → IsTrue (test x)

@@ -16,6 +16,8 @@ pub mod EntriesAdded
 pub mod LinesPut
 pub mod LinesDelivered
 pub mod Deliveries
+pub mod RowsLeft
+pub mod AllBeside
 pub mod OrderSpans
 pub mod OrdersKept
 pub mod Sendable

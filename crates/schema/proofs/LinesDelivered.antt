@@ -19,7 +19,8 @@ use Rattle.schema.specs.MapRows.{mapped, map_rows}
 use Rattle.schema.specs.OrderRows.{line_table, line_key, is_order, delivered_at, with_moment}
 use Rattle.schema.specs.PackedLines.{with_keys, all_lines}
 use Rattle.schema.proofs.KeyOrders.{orders_total, orders_exact, lines_total, lines_exact}
-use Rattle.schema.proofs.TableWrites.{is_equal, find-mapped, get-map_rows}
+use Rattle.schema.proofs.EachRows.{is_equal}
+use Rattle.schema.proofs.TableWrites.{find-mapped, get-map_rows}
 use Rattle.schema.proofs.Deliveries.{order_test}
 
 -- the table that changed rows make

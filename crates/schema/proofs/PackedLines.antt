@@ -7,6 +7,7 @@ use Rattle.std.specs.BTreeMap.{BTreeMap, is_at, insert_entry}
 use Rattle.std.specs.BTreeMap as tree
 use Rattle.std.specs.BTreeMap.Range.{range_contains, entries_between}
 use Rattle.std.specs.declared.ops.Bound.{Bound}
+use Rattle.std.specs.declared.ops.Bound.TheVariants.{Included}
 use Rattle.std.specs.Option.{option_and_then, option_map, option_or, unwrap_or}
 use Rattle.std.specs.declared.cmp.Ordering.{Ordering}
 use Rattle.std.specs.declared.cmp.Ordering.TheVariants.{Less, Equal, Greater}
@@ -551,6 +552,30 @@ pub few_between : (low high : Bound OrderKey) (orders : List (OrderKey × List (
 few_between low high orders =
     let test = λ (e : OrderLineKey × OrderLine). range_contains order_cmp low high (order_of_line e.0) in
     omega (arith, ap length (lines_where (range_contains order_cmp low high) orders), length-filter_both test (λ e. not (test e)) (λ e. refl) (all_lines orders))
+
+-- ---- the lines of one order
+
+-- behind an order it stands no more
+not_behind : (order : OrderKey) (orders : List (OrderKey × List (ℕ × OrderLine))) → AllByRecursion (λ later. order_cmp order later ≡ Less) (keys_of orders)
+    → entries_between order_cmp (Included order) (Included order) orders ≡ []
+not_behind order [] behind = refl
+not_behind order (other ∷ others) behind = rw behind.0 (not_behind order others behind.1)
+
+pub own_between : (order : OrderKey) (orders : List (OrderKey × List (ℕ × OrderLine))) → IsStrictlySortedBy order_cmp (keys_of orders)
+    → length (all_lines (entries_between order_cmp (Included order) (Included order) orders)) ≡ length (own orders order)
+own_between order [] sorted = refl
+own_between order (other ∷ others) sorted =
+    by (order_cmp order other.0) refl (own_between order others (sorted_tail order_cmp other.0 (keys_of others) sorted))
+  where
+    by : (r : Ordering) → order_cmp order other.0 ≡ r → length (all_lines (entries_between order_cmp (Included order) (Included order) others)) ≡ length (own others order)
+        → length (all_lines (entries_between order_cmp (Included order) (Included order) (other ∷ others))) ≡ length (own (other ∷ others) order)
+    by Less is rest = rw is rest
+    by Greater is rest = rw is rest
+    by Equal is rest =
+        let same : order ≡ other.0 = orders_exact order other.0 is in
+        let behind = subst (λ key. AllByRecursion (λ later. order_cmp key later ≡ Less) (keys_of others)) (sym same) (sorted_head order_cmp other.0 (keys_of others) sorted) in
+        let none : length (all_lines (entries_between order_cmp (Included order) (Included order) others)) ≡ 0 = ap (λ es. length (all_lines es)) (not_behind order others behind) in
+        rw is (length-append (with_keys other.0 other.1) _ ∙ ap (λ n. length (with_keys other.0 other.1) + n) none ∙ omega (arith, length-with_keys other.0 other.1))
 
 -- ---- how many lines are kept
 

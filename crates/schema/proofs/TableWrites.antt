@@ -11,13 +11,8 @@ use Rattle.std.specs.BTreeMap as tree
 use Rattle.std.specs.FinMap.{FinMap, get, contains_key, insert, entries, entries_sorted, get-from_sorted, get-entries, get-insert, get-remove, same_map, IsAntisymmetric}
 use Rattle.std.specs.FinMap.Entries.{find, is_sorted, below_all}
 use Rattle.schema.specs.MapRows.{table_of, mapped, map_rows, put_row}
+use Rattle.schema.proofs.EachRows.{is_equal}
 use Rattle.schema.proofs.RowReads.{read_entry}
-
--- a comparison that passes the test is of equals
-pub is_equal : (r : Ordering) → is_eq r ≡ true → r ≡ Equal
-is_equal Less h = cc
-is_equal Equal h = refl
-is_equal Greater h = cc
 
 module _ {K X : Type 0} {R : K → K → Ordering} (o : IsTotalOrder R) (a : IsAntisymmetric R) where
   -- the table of an ordered map has what the map has

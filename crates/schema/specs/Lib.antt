@@ -2,6 +2,7 @@ pub mod Limits
 pub mod Dense
 pub mod EachRow
 pub mod Entries
+pub mod RowsLeft
 pub mod MapRows
 pub mod Scale
 pub mod Database

@@ -35,11 +35,11 @@ all_lines (order ∷ orders) = with_keys order.0 order.1 ++ all_lines orders
 abbrev pub AreNumbered : List (OrderKey × List (ℕ × OrderLine)) → Type 0
 AreNumbered orders = AllByRecursion (λ order. IsStrictlySortedBy nat_cmp (keys_of order.1)) orders
 
--- this order is the last that has lines
+-- this order is the last of these; one whose lines were all taken back is still one of them
 abbrev pub IsLast : OrderKey → BTreeMap OrderKey (List (ℕ × OrderLine)) → Type 0
 IsLast order orders = slice_get (keys_of orders.entries) (length orders.entries - 1) ≡ Some order
 
--- this order has no lines
+-- this order is none of these
 abbrev pub HasNone : OrderKey → BTreeMap OrderKey (List (ℕ × OrderLine)) → Type 0
 HasNone order orders = get order_cmp orders order ≡ None
 

@@ -1,6 +1,7 @@
 //! The nine tables of the order-entry database, within their scale.
 #![tactic(auto)]
 
+mod beside;
 mod entries;
 mod history_list;
 mod numbered;
@@ -13,6 +14,7 @@ mod scale_fault;
 mod table_rows;
 mod tables;
 
+pub use beside::Beside;
 pub use entries::{Entries, NewOrders, Orders};
 pub use history_list::HistoryList;
 pub use order_lines::{Lines, OrderLines};

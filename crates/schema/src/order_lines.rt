@@ -16,8 +16,8 @@ ghost use Rattle.schema.specs.PackedLines.{all_lines, with_keys, AreNumbered, Ar
 ghost use Rattle.schema.specs.Database.{is_order_id, rows_where, is_of_district, is_of_order};
 ghost use Rattle.schema.specs.OrderRows.{line_table, line_key, put_lines, lines_at, with_moment, is_in_span};
 
-use crate::NoMemory;
 use crate::numbered::Numbered;
+use crate::{Beside, Entries, NoMemory};
 use rows::{DistrictKey, Moment, Order, OrderKey, OrderLine, OrderLineKey};
 use std::alloc::Global;
 use std::cmp::Ordering;
@@ -153,6 +153,7 @@ impl OrderLines {
     }
 
     /// Puts a line at the key. An error changes nothing.
+    #[inline]
     pub fn insert(&mut self, key: OrderLineKey, row: OrderLine) -> Result<(), NoMemory>
         ensures ok { OnOk result (self.new ≡ insert_entry line_cmp self.old key row) }
         ensures err { OnErr result (self.new ≡ self.old) }
@@ -166,6 +167,7 @@ impl OrderLines {
     }
 
     // Puts a line at the key, and gives the one that it replaces. An error changes nothing.
+    #[inline]
     fn put(&mut self, key: OrderLineKey, row: OrderLine) -> Result<Option<OrderLine>, NoMemory>
         ensures was { IfOk result (λ was. was ≡ table.get (line_table self.old) key) }
         ensures ok { OnOk result (line_table self.new ≡ table.insert (line_table self.old) key row) }
@@ -212,6 +214,16 @@ impl OrderLines {
         Lines::of(self.orders.range(order..=order))
     }
 
+    /// How many lines the order has.
+    pub fn count_of(&self, order: OrderKey) -> usize
+        ensures { result ≡ length (rows_where (is_of_order order) (line_table self.now)) }
+    {
+        match self.orders.get(&order) {
+            Some(lines) => lines.as_slice().len(),
+            None => 0,
+        }
+    }
+
     /// The lines of the district's orders, by O_ID and then by OL_NUMBER.
     pub fn of_district(&self, home: DistrictKey) -> Lines<'_>
         requires { EachRow (λ key _. is_order_id key.o_id) (line_table self.now) }
@@ -241,10 +253,14 @@ impl OrderLines {
         ensures each { result ≡ list_all (λ e. is_some (get order_cmp orders.now (order_of_line e.0))) self.now }
         ensures ordered { IsStrictlySortedBy line_cmp (keys_of self.now) }
     {
-        self.orders.iter().all(|(order, lines)| {
-            let lines = lines.as_slice();
-            lines.is_empty() || orders.contains_key(order)
-        })
+        let mut beside = Beside::new(Entries::of_map(orders.range(..)));
+        for (order, lines) in self.orders.iter() {
+            let found = beside.of(*order);
+            if found.is_none() && !lines.as_slice().is_empty() {
+                return false;
+            }
+        }
+        true
     }
 
     /// The line's row, if it is there, gets this moment of its delivery, or none. It takes no memory.
@@ -415,7 +431,7 @@ fn put(
     }
 }
 
-// Where the order stands against the last that has lines; greater where none has.
+// Where the order stands against the last of these; greater where there is none.
 fn against_last(orders: &BTreeMap<OrderKey, Numbered>, order: OrderKey) -> Ordering
     ensures last { result ≡ Ordering.Equal → IsLast order orders.now }
     ensures behind { result ≡ Ordering.Greater → HasNone order orders.now }
@@ -426,7 +442,7 @@ fn against_last(orders: &BTreeMap<OrderKey, Numbered>, order: OrderKey) -> Order
     }
 }
 
-// Puts a line under its order, which is the last that has lines, as `put` does.
+// Puts a line under its order, which is the last of these, as `put` does.
 fn put_in_last(
     orders: &mut BTreeMap<OrderKey, Numbered>,
     key: OrderLineKey,
@@ -447,7 +463,7 @@ fn put_in_last(
     }
 }
 
-// Puts the first line of an order that has none, as `put` does.
+// Puts the first line of an order that is none of these, as `put` does.
 fn put_first(
     alloc: Global,
     orders: &mut BTreeMap<OrderKey, Numbered>,

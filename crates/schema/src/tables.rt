@@ -209,6 +209,14 @@ impl Tables {
         Entries::of_map(self.rows.orders.range(..))
     }
 
+    /// All new orders, by their keys.
+    pub fn new_orders(&self) -> NewOrders<'_>
+        ensures rows { result ≡ map.entries self.now.new_orders }
+        ensures fits { length result < 2 ^ 63 }
+    {
+        Entries::of_map(self.rows.new_orders.range(..))
+    }
+
     /// All lines, by their keys.
     pub fn lines(&self) -> Lines<'_>
         ensures rows { result ≡ map.entries self.now.lines }
@@ -243,6 +251,13 @@ impl Tables {
         ensures fits { length result < 2 ^ 63 }
     {
         self.rows.lines.of_order(order)
+    }
+
+    /// How many lines the order has.
+    pub fn line_count(&self, order: OrderKey) -> usize
+        ensures { result ≡ length (rows_where (is_of_order order) self.now.lines) }
+    {
+        self.rows.lines.count_of(order)
     }
 
     /// The lines of the district's orders, by O_ID and then by OL_NUMBER.

@@ -5,25 +5,28 @@ use Rattle.std.proofs.lemmas.List.{length_push}
 use Rattle.std.proofs.lemmas.Map.Iter.{rest_more, rest_all}
 use Rattle.std.specs.FinMap as map
 use Rattle.std.specs.List.{list_all}
+use Rattle.std.specs.List.Sorted.{IsStrictlySortedBy}
+use Rattle.std.specs.Map.{keys_of}
 use Rattle.std.specs.Option.{option_copied}
 use Rattle.std.specs.Prelude.{ℤ, pos, ◌-ℤ◌}
 use Rattle.rows.specs.declared.keys.CustomerKey.{CustomerKey}
-use Rattle.rows.specs.declared.keys.OrderKey.{OrderKey}
 use Rattle.rows.specs.declared.keys.OrderLineKey.{OrderLineKey}
-use Rattle.rows.specs.declared.records.Order.{Order}
 use Rattle.rows.specs.declared.records.OrderLine.{OrderLine}
-use Rattle.rows.specs.Keys.{order_of_line}
+use Rattle.rows.specs.Keys.{line_cmp, order_cmp, order_of_line}
 use Rattle.schema.specs.declared.scale.Scale.{Scale}
 use Rattle.schema.specs.Entries.{entry}
 use Rattle.schema.specs.Sums.{sum_entries}
 use Rattle.schema.specs.Consistency.{delivered}
+use Rattle.schema.specs.RowsLeft.{SameFrom}
+use Rattle.schema.proofs.AllBeside.{AreBeside, DoAscend, beside-all, beside-rest}
+use Rattle.schema.proofs.EachRows.{keys_ascend}
 use Rattle.consistency.specs.Balances.{AreTotals, AreWithin, HasRoom, receiver}
 use Rattle.consistency.specs.Carriers.{comes_with}
 use Rattle.consistency.proofs.BalancesTotals.{totals-same, within-more, room-from_totals, written}
 use Rattle.consistency.proofs.BalancesDeliveries.{line_share, delivered_is, line_credited, line_passed}
 use Rattle.consistency.proofs.BalancesRows.{totals_none, within_none}
 use Rattle.consistency.proofs.CarriersRules.{comes, comes_more, deliveries_rule}
-use Rattle.consistency.proofs.OrdersBesideLines.{AreBeside, beside-all, beside-rest}
+use Rattle.consistency.proofs.OrdersOfLines.{orders_of, orders-ascend}
 use Rattle.consistency.proofs.deliveries.read_deliveries.Goals as goal
 use Rattle.consistency.proofs.deliveries.read_deliveries.Goals.{After-comes_with-come_with_orders}
 
@@ -31,12 +34,20 @@ use Rattle.consistency.proofs.deliveries.read_deliveries.Goals.{After-comes_with
 first : (c : After-comes_with-come_with_orders) → c.loop-key.key-iterator ≡ (c.in-Some.key, c.in-Some.line.now) ∷ c.next.new.self
 first c = rest_more entry _ _ _ (c.in-Some.key, c.in-Some.line) c.in-Some.is c.next.ensures.steps
 
-beside : (c : After-comes_with-come_with_orders) → AreBeside c.args.tables.now c.loop-key.orders ((c.in-Some.key, c.in-Some.line.now) ∷ c.next.new.self)
-beside c = subst (AreBeside c.args.tables.now c.loop-key.orders) (first c) c.loop-key.invariant.beside
+beside : (c : After-comes_with-come_with_orders) → AreBeside (map.entries c.args.tables.now.orders) c.loop-key.orders (order_of_line c.in-Some.key ∷ orders_of c.next.new.self)
+beside c = subst (λ lines. AreBeside (map.entries c.args.tables.now.orders) c.loop-key.orders (orders_of lines)) (first c) c.loop-key.invariant.beside
 
 -- and its order is that of the table
 found : (c : After-comes_with-come_with_orders) → option_copied c.of-order.result ≡ map.get c.args.tables.now.orders (order_of_line c.in-Some.key)
-found c = c.of-order.ensures.found ∙ (beside c).finds.0
+found c =
+    c.of-order.ensures.found ∙ ap (λ key. map.find order_cmp key c.loop-key.orders) c.order.ensures ∙ (beside c).finds.0
+    ∙ sym (map.get-entries c.args.tables.now.orders (order_of_line c.in-Some.key))
+
+-- and those behind it are left
+rest_beside : (c : After-comes_with-come_with_orders) → AreBeside (map.entries c.args.tables.now.orders) c.of-order.new.self (orders_of c.next.new.self)
+rest_beside c =
+    beside-rest _ c.loop-key.orders c.of-order.new.self (order_of_line c.in-Some.key) (orders_of c.next.new.self) (beside c)
+    (subst (λ key. SameFrom key c.loop-key.orders c.of-order.new.self) c.order.ensures c.of-order.ensures.left)
 
 come : (c : After-comes_with-come_with_orders) → list_all (comes c.args.tables.now) (map.entries c.args.tables.now.lines)
     ≡ ((c.loop-key.come_with_orders && c.comes_with-come_with_orders.result) && list_all (comes c.args.tables.now) c.next.new.self)
@@ -45,6 +56,10 @@ come c =
     let before = c.loop-key.come_with_orders in
     c.loop-key.invariant.come ∙ ap (λ es. before && list_all (comes t) es) (first c)
     ∙ comes_more t c.in-Some.key c.in-Some.line.now c.next.new.self before c.comes_with-come_with_orders.result (c.comes_with-come_with_orders.ensures ∙ ap (comes_with c.in-Some.line.now) (found c))
+
+pub new-orders-requires : goal.new-orders-requires
+new-orders-requires c =
+    subst (λ rows. IsStrictlySortedBy order_cmp (keys_of rows)) (sym c.orders.ensures.rows) (keys_ascend order_cmp c.args.tables.now.orders)
 
 pub loop-key-init : goal.loop-key-init
 loop-key-init c =
@@ -55,6 +70,7 @@ loop-key-init c =
     let long : c.len.result ≡ length rows.customers.items = omega arith in
     let nothing : replicate (length rows.customers.items) (pos 0) ≡ c.in_ok-totals.totals.items = sym (c.in_ok-totals.ensures ∙ ap (λ n. replicate n (pos 0)) long) in
     let lines : c.into_iter-key-iterator.result ≡ map.entries t.lines = c.into_iter-key-iterator.ensures.into_iter_gives ∙ c.lines-key-items.ensures.rows in
+    let all_orders = map.entries t.orders in
     let none = λ (key : CustomerKey). let same : sum_entries (line_share t key) c.into_iter-key-iterator.result ≡ all key = ap (sum_entries (line_share t key)) lines in
     let e : start key ≡ pos 0 = omega (arith, ints) in e in
     record {
@@ -65,7 +81,8 @@ loop-key-init c =
       within = subst (λ (totals : List ℤ). AreWithin 0 totals) nothing (within_none 0 (length rows.customers.items));
       count = omega (arith, ap length lines);
       come = ap (list_all (comes t)) (sym lines);
-      beside = subst (AreBeside t c.new-orders.result) (sym lines) (subst (λ (orders : List (OrderKey × Order)). AreBeside t orders (map.entries t.lines)) (sym c.new-orders.ensures) (beside-all t));
+      beside = subst (λ orders. AreBeside all_orders orders (orders_of c.into_iter-key-iterator.result)) (sym (c.new-orders.ensures ∙ c.orders.ensures.rows))
+          (beside-all all_orders (orders_of c.into_iter-key-iterator.result) (subst (λ l. DoAscend (orders_of l)) (sym lines) (orders-ascend (map.entries t.lines) (keys_ascend line_cmp t.lines))));
     }
 
 pub credit-requires-clause-room : goal.credit-requires-clause-room
@@ -112,7 +129,7 @@ loop-key-preserved-in-Some-receiver c =
           (within-more (2 ^ 50 * count + 2 ^ 50) _ new (omega arith) (c.credit.ensures.within (2 ^ 50 * count) bounded));
       count = omega (arith, ap length left, c.loop-key.invariant.count);
       come = come here;
-      beside = beside-rest t c.loop-key.orders c.of-order.new.self k line rest (beside here) c.of-order.ensures.left;
+      beside = rest_beside here;
     }
 
 pub loop-key-preserved : goal.loop-key-preserved
@@ -138,7 +155,7 @@ loop-key-preserved c =
       within = within-more (2 ^ 50 * count) _ old (omega arith) c.loop-key.invariant.within;
       count = omega (arith, ap length left, c.loop-key.invariant.count);
       come = come here;
-      beside = beside-rest t c.loop-key.orders c.of-order.new.self k line rest (beside here) c.of-order.ensures.left;
+      beside = rest_beside here;
     }
 
 pub returns-clause-totals : goal.returns-clause-totals

@@ -3,10 +3,11 @@ use Rattle.std.specs.Prelude.{◌-ℤ◌}
 use Rattle.std.specs.FinMap as map
 use Rattle.std.specs.List.{list_all}
 use Rattle.schema.specs.Sums.{sum_entries}
+use Rattle.schema.proofs.AllBeside.{AreBeside}
 use Rattle.consistency.specs.Balances.{AreTotals, AreWithin}
 use Rattle.consistency.proofs.BalancesDeliveries.{line_share}
 use Rattle.consistency.proofs.CarriersRules.{comes}
-use Rattle.consistency.proofs.OrdersBesideLines.{AreBeside}
+use Rattle.consistency.proofs.OrdersOfLines.{orders_of}
 use Rattle.consistency.proofs.deliveries.read_deliveries.Given as goal
 
 -- the totals have all lines but those that are left, these decide whether all come with their orders, and their orders
@@ -19,5 +20,5 @@ invariant-loop-key l = record {
   within : AreWithin (2 ^ 50 * length l.yielded) l.totals.items;
   count : length l.yielded + length l.key-iterator ≡ length (map.entries l.tables.lines);
   come : list_all (comes l.tables) (map.entries l.tables.lines) ≡ (l.come_with_orders && list_all (comes l.tables) l.key-iterator);
-  beside : AreBeside l.tables l.orders l.key-iterator;
+  beside : AreBeside (map.entries l.tables.orders) l.orders (orders_of l.key-iterator);
 }
