@@ -145,7 +145,7 @@ impl<'r> Fields<'r> {
     }
 
     /// The next field as a number from `low` to `high`; `low` after a fault.
-    #[inline]
+    #[inline(always)]
     pub fn whole(&mut self, low: u32, high: u32) -> u32
         ensures range { low ≤ high → (low ≤ result) × (result ≤ high) }
         ensures field { (result, taking self.new) ≡ field_read (whole_read low high) low (taking self.old) }
@@ -180,6 +180,7 @@ impl<'r> Fields<'r> {
     }
 
     /// The next field as a text; the empty one after a fault.
+    #[inline(always)]
     pub fn text<const WIDTH: usize>(&mut self) -> Text<WIDTH>
         ensures field { (result, taking self.new) ≡ field_read (text_read WIDTH) [] (taking self.old) }
         ensures taken { TakesWell self.old self.new result }

@@ -18,6 +18,7 @@ pub enum Line {
 
 /// Finds the fields of the line that the bytes begin with, by its commas, up to its end or to a
 /// quotation mark.
+#[inline(always)]
 pub fn cut_line(bytes: &[u8], spans: &mut Vec<Span>) -> Result<Line, AllocError>
     requires { BeginsRecord bytes.now }
     ensures { IfOk result (λ line. IsCut bytes.now spans.new.items line) }
