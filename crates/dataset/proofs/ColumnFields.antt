@@ -45,14 +45,10 @@ fields_of (column ∷ columns) values = field_of column values.0 ∷ fields_of c
 -- std prints a number whole below 2^64; of counts and words nothing is said here
 abbrev pub IsSmall : Column → Type 0
 IsSmall (Whole low high) = high < 2 ^ 64
-IsSmall (Texts width) = Unit {0}
-IsSmall Cents = Unit {0}
-IsSmall Moment = Unit {0}
-IsSmall Credit = Unit {0}
 IsSmall (MaybeWhole low high) = high < 2 ^ 64
-IsSmall MaybeMoment = Unit {0}
 IsSmall (Count count) = ⊥
 IsSmall (Spelt fault) = ⊥
+IsSmall column = Unit {0}
 
 abbrev pub AreSmall : List Column → Type 0
 AreSmall [] = Unit {0}
@@ -158,14 +154,7 @@ spelt_are_read (column ∷ columns) values (text ∷ texts) small inside spelt =
 -- of a number, that it is from the least to the greatest one
 abbrev pub IsBetween : (column : Column) → Value column → Type 0
 IsBetween (Whole low high) n = IsFrom low high n
-IsBetween (Texts width) words = Unit {0}
-IsBetween Cents cents = Unit {0}
-IsBetween Moment seconds = Unit {0}
-IsBetween Credit credit = Unit {0}
-IsBetween (MaybeWhole low high) number = Unit {0}
-IsBetween MaybeMoment moment = Unit {0}
-IsBetween (Count count) n = Unit {0}
-IsBetween (Spelt fault) words = Unit {0}
+IsBetween column value = Unit {0}
 
 abbrev pub AreBetween : (columns : List Column) → Values columns → Type 0
 AreBetween [] values = Unit {0}
@@ -186,14 +175,7 @@ whole_between low high n text e = by (is_number text) refl (is_within low high t
 
 read_is_between : (column : Column) (value : Value column) (text : List ℕ) → column_read column text ≡ Ok value → IsBetween column value
 read_is_between (Whole low high) n text e = whole_between low high n text e
-read_is_between (Texts width) words text e = tt
-read_is_between Cents cents text e = tt
-read_is_between Moment seconds text e = tt
-read_is_between Credit credit text e = tt
-read_is_between (MaybeWhole low high) number text e = tt
-read_is_between MaybeMoment moment text e = tt
-read_is_between (Count count) n text e = tt
-read_is_between (Spelt fault) words text e = tt
+read_is_between column value text e = tt
 
 pub read_are_between : (columns : List Column) (values : Values columns) (texts : List (List ℕ)) → AreRead columns values texts → AreBetween columns values
 unfolding AreRead

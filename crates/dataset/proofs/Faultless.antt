@@ -3,7 +3,6 @@ use Rattle.std.proofs.Common.{◌≡◌, ◌≤◌, ◌<◌, ◌^◌, ◌-◌, �
 use Rattle.std.specs.Prelude.{IfErr, IsOk, MatchOption, MatchResult, Result, Err}
 use Rattle.std.specs.Result.{is_ok}
 use Rattle.std.specs.List.{AllByRecursion, AllZip}
-use Rattle.std.specs.FinMap.{entries}
 use Rattle.std.specs.Str.{bytes_eq}
 use Rattle.std.proofs.lemmas.Bool.Decides.{nat_tests}
 use Rattle.std.proofs.lemmas.Fmt.{decimal_digit}
@@ -24,25 +23,25 @@ use Rattle.files.proofs.KindsRead.{count_complete}
 use Rattle.files.proofs.RecordsLeft.{short_record}
 use Rattle.dataset.specs.declared.place.Place.{Place}
 use Rattle.dataset.specs.declared.place.Place.TheVariants as at
-use Rattle.dataset.specs.Columns.{Sizes, Table, Items, Warehouses, Districts, Stocks, Customers, Histories, Orders, NewOrders, Lines, Of, comes_after, fields_fault, kind_fault, kind_of, letter, or_order, place_in, record_columns, record_fault, sizes, table_number}
+use Rattle.dataset.specs.Columns.{Sizes, Table, Items, Warehouses, Districts, Stocks, Customers, Histories, Orders, NewOrders, Lines, Of, comes_after, fields_fault, kind_fault, kind_of, letter, or_order, place_in, record_columns, record_fault, sizes}
 use Rattle.dataset.specs.FirstFault.{HasNoTables, IsFault, Tells, counts, first_fault, header_columns, header_fault, header_first, header_sizes, is_end, kind_place, last_place, number_of, record_place, rows_fault, told_header}
 use Rattle.dataset.specs.Loading.{AreInOrder}
 use Rattle.dataset.specs.Order.{follows, place_numbers}
 use Rattle.dataset.specs.Ranges.{InRange}
-use Rattle.dataset.specs.Records.{Field, Words, Number, IsSpelt, AreSpelt, AreRecords, end_fields, header_fields, item_fields, warehouse_fields, district_fields, stock_fields, customer_fields, history_fields, order_fields, new_order_fields, line_fields, records, records_by_table, row_records}
-use Rattle.dataset.specs.TableRow.{TableRow, OfItem, OfWarehouse, OfDistrict, OfStock, OfCustomer, OfHistory, OfOrder, OfNewOrder, OfLine, RowFits, row_fields, row_place}
-use Rattle.dataset.proofs.AllRows.{after_header, all_records, all_rows, records_of_rows, rows_fit, rows_in_order}
+use Rattle.dataset.specs.Records.{Field, Words, Number, IsSpelt, AreSpelt, AreRecords, end_fields, header_fields, records, records_by_table}
+use Rattle.dataset.specs.TableRow.{TableRow, RowFits, row_fields, row_place}
+use Rattle.dataset.proofs.AllRows.{after_header, all_records, all_rows, entries_at, entry_records, records_of_rows, rows_fit, rows_in_order}
 use Rattle.dataset.proofs.ColumnFields.{spelt_are_read}
-use Rattle.dataset.proofs.Contents.{IsTable, entries_in, get_item, get_warehouse, get_district, get_stock, get_customer, get_history, get_order, get_new_order, get_line, is_item, is_warehouse, is_district, is_stock, is_customer, is_history, is_order, is_new_order, is_line}
+use Rattle.dataset.proofs.EachTable.{all_tables, make}
 use Rattle.dataset.proofs.HeaderFault.{sizes_spelt}
 use Rattle.dataset.proofs.LetterFault.{kind_of_letter, letter_is_not_end}
 use Rattle.dataset.proofs.Loading.{header_place, last-push}
-use Rattle.dataset.proofs.Payments.{payments_of, payments_recorded}
+use Rattle.dataset.proofs.Payments.{payments_recorded}
 use Rattle.dataset.proofs.RowFields.{row_reads}
 use Rattle.dataset.proofs.RowTaken.{follows_told, is_read}
 use Rattle.dataset.proofs.RowsFault.{entries_counted, header_uncounted, number_le, rows_counted}
 use Rattle.dataset.proofs.Short.{longer, short_number}
-use Rattle.dataset.proofs.Told.{all_customers, all_districts, all_histories, all_items, all_lines, all_new_orders, all_orders, all_stocks, all_warehouses}
+use Rattle.dataset.proofs.Told.{entries_in_all}
 use Rattle.files.proofs.ColumnValues.{read-take}
 use Rattle.files.specs.Columns.{Values, read_columns}
 
@@ -191,25 +190,15 @@ ends R (w ∷ xs) x (y ∷ ys) h =
     record { front = y ∷ rest.front; last = rest.last; are = ap (λ l. y ∷ l) rest.are; firsts = (h.0, rest.firsts); is_last = rest.is_last }
 
 module _ (t : Database) (header : List (List ℕ)) (texts : List (List (List ℕ))) (is_header : AreSpelt (header_fields t.scale) header) (spelt : AllZip AreSpelt (map row_fields (all_rows t)) texts) where
-  table_counted : {K X : Type 0} (make : K → X → TableRow) (get : TableRow → Option (K × X)) (table : Table) → IsTable make get (table_number table) → (fields : K → X → List Field) (es : List (K × X)) → entries_in get (all_rows t) ≡ es
-      → number_of table (header ∷ texts) ≡ length (row_records fields es)
-  table_counted make get table is fields es are =
-      header_uncounted table t.scale header texts is_header ∙ rows_counted table (all_rows t) texts spelt ∙ entries_counted make get (table_number table) is (all_rows t)
-      ∙ ap length are ∙ sym (length-map es (λ e. fields e.0 e.1))
+  table_counted : (table : Table) → number_of table (header ∷ texts) ≡ length (entry_records table (entries_at table t))
+  table_counted table =
+      header_uncounted table t.scale header texts is_header ∙ rows_counted table (all_rows t) texts spelt ∙ entries_counted table (all_rows t)
+      ∙ ap length (entries_in_all t table) ∙ sym (length-map (entries_at table t) (λ e. row_fields (make table e)))
 
   -- as many of each table as the tables have
   counts_are : counts (header ∷ texts) ≡ map length (records_by_table t)
   unfolding records_by_table
-  counts_are =
-      λ i. table_counted OfItem get_item Items is_item item_fields (entries t.items) (all_items t) i
-      ∷ table_counted OfWarehouse get_warehouse Warehouses is_warehouse warehouse_fields (entries t.warehouses) (all_warehouses t) i
-      ∷ table_counted OfDistrict get_district Districts is_district district_fields (entries t.districts) (all_districts t) i
-      ∷ table_counted OfStock get_stock Stocks is_stock stock_fields (entries t.stocks) (all_stocks t) i
-      ∷ table_counted OfCustomer get_customer Customers is_customer customer_fields (entries t.customers) (all_customers t) i
-      ∷ (table_counted OfHistory get_history Histories is_history history_fields (payments_of (entries t.histories)) (all_histories t) ∙ ap length (payments_recorded (entries t.histories))) i
-      ∷ table_counted OfOrder get_order Orders is_order order_fields (entries t.orders) (all_orders t) i
-      ∷ table_counted OfNewOrder get_new_order NewOrders is_new_order new_order_fields (entries t.new_orders) (all_new_orders t) i
-      ∷ table_counted OfLine get_line Lines is_line line_fields (entries t.lines) (all_lines t) i ∷ []
+  counts_are = (λ i. map (λ table. table_counted table i) all_tables) ∙ rw payments_recorded refl
 
 small_counts : (rows : List (List (List ℕ))) → length rows < 2 ^ 64 → AllByRecursion (λ n. n < 2 ^ 64) (counts rows)
 small_counts rows few = (small Items, (small Warehouses, (small Districts, (small Stocks, (small Customers, (small Histories, (small Orders, (small NewOrders, (small Lines, tt)))))))))

@@ -1,44 +1,45 @@
 -- The tables of what was loaded in the end, and that they are those whose records were read.
-use Rattle.std.proofs.Common.{◌≡◌, ℕ, suc, ◌≤◌, ◌*◌, ◌⊎◌, inl, inr, Bool, true, false, cond, List, [], ◌∷◌, ◌++◌, map, sum, length, Option, None, Some, IsTrue, is_some, codes, Result, Ok, Err, IfOk, refl, sym, ap, subst, ◌∙◌, arith}
-use Rattle.std.specs.Prelude.{◌↔◌, IsOk, if◌then◌else◌}
+use Rattle.std.proofs.Common.{◌≡◌, ℕ, suc, ◌≤◌, ◌*◌, ◌⊎◌, inl, inr, Bool, true, false, cond, List, [], ◌∷◌, ◌++◌, map, sum, length, Option, None, Some, IsTrue, is_some, Result, Ok, Err, IfOk, refl, sym, ap, subst, ◌∙◌, arith}
+use Rattle.std.specs.Prelude.{◌↔◌, IsOk}
 use Rattle.std.specs.List.{AllByRecursion, AllZip, flat_map, zip}
 use Rattle.std.specs.List.Sorted.{IsStrictlySortedBy}
 use Rattle.std.specs.Map.{keys_of, values_of}
 use Rattle.std.specs.Option.{option_map}
-use Rattle.std.specs.Ordering.{nat_cmp, eq_by_cmp}
+use Rattle.std.specs.Ordering.{eq_by_cmp}
 use Rattle.std.specs.declared.cmp.Ordering.{Ordering}
 use Rattle.std.specs.declared.cmp.Ordering.TheVariants.{Less, Equal}
-use Rattle.std.specs.Cmp.{IsTotalOrder, Equal-is, nat_cmp_total}
+use Rattle.std.specs.Cmp.{IsTotalOrder, Equal-is}
 use Rattle.std.specs.FinMap.{IsAntisymmetric}
 use Rattle.std.proofs.lemmas.Cmp.{tied_itself}
-use Rattle.std.proofs.lemmas.List.{append-nil, length-map, map-append}
-use Rattle.std.proofs.lemmas.Map.Lookups.{exact_unsigned}
+use Rattle.std.proofs.lemmas.List.{length-map}
 use Rattle.rows.specs.declared.keys.DistrictKey.{DistrictKey}
 use Rattle.rows.specs.declared.records.History.{History}
-use Rattle.rows.specs.Keys.{district_cmp, stock_cmp, customer_cmp, order_cmp, line_cmp}
+use Rattle.rows.specs.Keys.{order_cmp, line_cmp}
 use Rattle.schema.specs.declared.scale.Scale.{Scale}
 use Rattle.schema.specs.declared.scale_fault.ScaleFault.{ScaleFault}
 use Rattle.schema.specs.declared.table_rows.TableRows.{TableRows}
 use Rattle.schema.specs.Database.{Database}
 use Rattle.schema.specs.Dense.{place}
-use Rattle.schema.specs.Scale.{item_ids, warehouse_ids, district_keys, stock_keys, customer_keys, has_item, has_warehouse, has_district, has_stock, has_customer}
+use Rattle.schema.specs.Scale.{district_keys}
 use Rattle.schema.specs.Rows.{database, HasCounts}
-use Rattle.schema.proofs.KeyOrders.{districts_total, districts_exact, stocks_total, stocks_exact, customers_total, customers_exact, orders_total, lines_total}
-use Rattle.schema.proofs.ScalePlaces.{item_place, warehouse_place, district_place, stock_place, customer_place, length-item_ids, length-warehouse_ids, length-district_keys, length-stock_keys, length-customer_keys}
+use Rattle.schema.proofs.KeyOrders.{orders_total, lines_total}
 use Rattle.dataset.specs.declared.place.Place.{Place}
 use Rattle.dataset.specs.declared.place.Place.TheVariants as at
+use Rattle.dataset.specs.Columns.{Table, Items, Warehouses, Districts, Stocks, Customers, Histories, Orders, NewOrders, Lines, table_number}
 use Rattle.dataset.specs.Payments.{Opens}
-use Rattle.dataset.specs.Records.{Field, Words, Number, AreSpelt, AreRecords, row_records, payment_records, header_fields, history_fields, item_fields, warehouse_fields, district_fields, stock_fields, customer_fields, order_fields, new_order_fields, line_fields}
+use Rattle.dataset.specs.Records.{AreSpelt, AreRecords, row_records, payment_records, header_fields, history_fields}
 use Rattle.dataset.specs.Writing.{count_fields}
-use Rattle.dataset.specs.Loading.{AreKeyed, HasKey, HasRows}
-use Rattle.dataset.specs.TableRow.{TableRow, OfItem, OfWarehouse, OfDistrict, OfStock, OfCustomer, OfHistory, OfOrder, OfNewOrder, OfLine, AddsRow, row_fields, row_place}
-use Rattle.dataset.proofs.AllRows.{fields_of_rows}
-use Rattle.dataset.proofs.Contents.{Inserted, IsTable, PaysAll, Rises, all_entries, all_keys, by_tables, entries_in, get_item, get_warehouse, get_district, get_stock, get_customer, get_history, get_order, get_new_order, get_line, inserted, is_item, is_warehouse, is_district, is_stock, is_customer, is_history, is_order, is_new_order, is_line, items_rise, warehouses_rise, districts_rise, stocks_rise, customers_rise, orders_rise, new_orders_rise, lines_rise, keys_ascend, of_entries, of_table, paid_all, pushed, tables, told}
-use Rattle.dataset.proofs.Keys.{all-weaker, sorted-item_ids, sorted-warehouse_ids, sorted-district_keys, sorted-stock_keys, sorted-customer_keys}
+use Rattle.dataset.specs.Loading.{HasKey, HasRows}
+use Rattle.dataset.specs.TableRow.{TableRow, AddsRow, row_fields, row_place}
+use Rattle.dataset.proofs.AllRows.{after_header, entry_records, fields_of_rows, map-flat_map}
+use Rattle.dataset.proofs.Contents.{Inserted, Kept, PaysAll, Pushed, PutSome, all_entries, by_tables, entries_of, inserted, kept, keys_ascend, of_entries, of_table, paid_all, pushed, row_put}
+use Rattle.dataset.proofs.EachTable.{EntryOf, KeyOf, RowOf, all_tables, cmp_of, get, is_keyed, make}
+use Rattle.dataset.proofs.Keys.{AreScaleKeys, all-each, all-map, all-weaker, customers_of_scale, districts_of_scale, items_of_scale, stocks_of_scale, warehouses_of_scale}
+use Rattle.dataset.proofs.Order.{follows_le}
 use Rattle.std.specs.Ordering.{is_le}
 use Rattle.dataset.specs.Order.{place_cmp}
 use Rattle.dataset.proofs.Payments.{places, payments_of, payments_recorded, payments-opened, counts-opened}
-use Rattle.dataset.proofs.Tables.{rows_by_table, are-records}
+use Rattle.dataset.proofs.Tables.{are-records, customer_count, district_count, item_count, rows_by_table, stock_count, warehouse_count}
 use Rattle.dataset.proofs.Texts.{all_zip-append}
 
 -- ---- as many keys of the scale as it has are all of them
@@ -111,70 +112,15 @@ pub zip-split : {K X : Type 0} (es : List (K × X)) → es ≡ zip (keys_of es) 
 zip-split [] = refl
 zip-split (e ∷ es) = ap (λ l. e ∷ l) (zip-split es)
 
--- the entries of a table of which no row is missing
-dense_entries : {K X : Type 0} {c : K → K → Ordering} → IsTotalOrder c → IsAntisymmetric c → (has : K → Bool) (slot : K → Option ℕ) (ks : List K) (rows : List X) (es : List (K × X))
-    → IsStrictlySortedBy c ks → ((k : K) → place (eq_by_cmp c k) ks ≡ slot k) → ((k : K) → IsTrue (has k) → IsTrue (is_some (slot k))) → AreKeyed c has rows es → length rows ≡ length ks → es ≡ zip ks rows
-dense_entries {c = c} o exact has slot ks rows es sorted at_slot slots keyed even =
-    let have = all-weaker _ _ (λ k known. place_has o ks k exact (ap is_some (at_slot k) ∙ slots k known)) (keys_of es) keyed.known in
-    let many : length (keys_of es) ≡ length ks = length-map es (λ e. e.0) ∙ sym (length-map es (λ e. e.1)) ∙ ap length keyed.are_rows ∙ even in
-    zip-split es ∙ ap (λ l. zip l (values_of es)) (same_keys o ks (keys_of es) sorted keyed.ascend have many) ∙ ap (zip ks) keyed.are_rows
-
-some_slot : (b : Bool) (n : ℕ) → IsTrue b → IsTrue (is_some (if b then Some n else None))
-some_slot true n h = refl
-some_slot false n h = absurd cc
-
 -- ---- what each table has
 
-item_step : (scale : Scale) (row : TableRow) (old mid : TableRows) → AddsRow scale row old mid → mid.items.items ≡ old.items.items ++ told (get_item row)
-item_step scale (OfItem key x) old mid add = add.1
-item_step scale row old mid add = ap (λ (r : TableRows). r.items.items) add.0 ∙ sym (append-nil old.items.items)
-
-warehouse_step : (scale : Scale) (row : TableRow) (old mid : TableRows) → AddsRow scale row old mid → mid.warehouses.items ≡ old.warehouses.items ++ told (get_warehouse row)
-warehouse_step scale (OfWarehouse key x) old mid add = add.1
-warehouse_step scale row old mid add = ap (λ (r : TableRows). r.warehouses.items) add.0 ∙ sym (append-nil old.warehouses.items)
-
-district_step : (scale : Scale) (row : TableRow) (old mid : TableRows) → AddsRow scale row old mid → mid.districts.items ≡ old.districts.items ++ told (get_district row)
-district_step scale (OfDistrict key x) old mid add = add.1
-district_step scale row old mid add = ap (λ (r : TableRows). r.districts.items) add.0 ∙ sym (append-nil old.districts.items)
-
-stock_step : (scale : Scale) (row : TableRow) (old mid : TableRows) → AddsRow scale row old mid → mid.stocks.items ≡ old.stocks.items ++ told (get_stock row)
-stock_step scale (OfStock key x) old mid add = add.1
-stock_step scale row old mid add = ap (λ (r : TableRows). r.stocks.items) add.0 ∙ sym (append-nil old.stocks.items)
-
-customer_step : (scale : Scale) (row : TableRow) (old mid : TableRows) → AddsRow scale row old mid → mid.customers.items ≡ old.customers.items ++ told (get_customer row)
-customer_step scale (OfCustomer key x) old mid add = add.1
-customer_step scale row old mid add = ap (λ (r : TableRows). r.customers.items) add.0 ∙ sym (append-nil old.customers.items)
-
-order_step : (scale : Scale) (row : TableRow) (old mid : TableRows) → AddsRow scale row old mid → Inserted order_cmp (get_order row) old.orders.entries mid.orders.entries
-order_step scale (OfOrder key x) old mid add = add.1
-order_step scale row old mid add = ap (λ (r : TableRows). r.orders.entries) add.0
-
-new_order_step : (scale : Scale) (row : TableRow) (old mid : TableRows) → AddsRow scale row old mid → Inserted order_cmp (get_new_order row) old.new_orders.entries mid.new_orders.entries
-new_order_step scale (OfNewOrder key x) old mid add = add.1
-new_order_step scale row old mid add = ap (λ (r : TableRows). r.new_orders.entries) add.0
-
-line_step : (scale : Scale) (row : TableRow) (old mid : TableRows) → AddsRow scale row old mid → Inserted line_cmp (get_line row) old.lines mid.lines
-line_step scale (OfLine key x) old mid add = add.1
-line_step scale row old mid add = ap (λ (r : TableRows). r.lines) add.0
-
-units : {X : Type 0} (xs : List X) → AllByRecursion (λ _. Unit {0}) xs
-units [] = tt
-units (x ∷ xs) = (tt, units xs)
-
-from_header : (rows : List TableRow) → AllByRecursion (λ row. IsTrue (is_le (place_cmp at.Header (row_place row)))) rows
-from_header [] = tt
-from_header (row ∷ rows) = (by row, from_header rows)
-  where
-    by : (row : TableRow) → IsTrue (is_le (place_cmp at.Header (row_place row)))
-    by (OfItem key row) = refl
-    by (OfWarehouse key row) = refl
-    by (OfDistrict key row) = refl
-    by (OfStock key row) = refl
-    by (OfCustomer key row) = refl
-    by (OfHistory key row) = refl
-    by (OfOrder key row) = refl
-    by (OfNewOrder key row) = refl
-    by (OfLine key row) = refl
+-- the rows that were added are those that are kept
+abbrev pub AreKept : Scale → (table : Table) → List (EntryOf table) → Kept table → Type 0
+AreKept scale Histories es lists = payments_of (zip (district_keys scale) lists) ≡ es
+AreKept scale Orders es entries = entries ≡ es
+AreKept scale NewOrders es entries = entries ≡ es
+AreKept scale Lines es entries = entries ≡ es
+AreKept scale table es rows = values_of es ≡ rows
 
 none_placed : (ks : List DistrictKey) → AllByRecursion (λ q. IsTrue (is_le (place_cmp q at.Header))) (places at.History (zip {X = List History} ks []))
 none_placed [] = tt
@@ -185,106 +131,83 @@ no_payments [] = refl
 no_payments (k ∷ ks) = refl
 
 module _ {scale : Scale} {has : TableRows} {last : Place} {records : List (List (List ℕ))} {rows : List TableRow} (h : HasRows scale has last records rows) where
-  dense_has : {K X : Type 0} (get : TableRow → Option (K × X)) (list : TableRows → List X) → ((row : TableRow) (old mid : TableRows) → AddsRow scale row old mid → list mid ≡ list old ++ told (get row)) → list h.none ≡ []
-      → values_of (entries_in get rows) ≡ list has
-  dense_has get list step none = sym (pushed get list scale step rows h.none has h.added ∙ ap (λ l. l ++ values_of (entries_in get rows)) none)
+  dense_has : (table : Table) (list : TableRows → List (RowOf table))
+      → ((row : TableRow) (old mid : TableRows) → AddsRow scale row old mid → PutSome Pushed (get table row) (list old) (list mid))
+      → list h.none ≡ [] → values_of (entries_of table rows) ≡ list has
+  dense_has table list step none = sym (pushed table list scale step rows h.none has h.added ∙ ap (λ l. l ++ values_of (entries_of table rows)) none)
 
-  ordered_has : {K X : Type 0} (make : K → X → TableRow) (get : TableRow → Option (K × X)) (n : ℕ) (cmp : K → K → Ordering) → IsTable make get n → Rises make cmp → IsTotalOrder cmp → (list : TableRows → List (K × X))
-      → ((row : TableRow) (old mid : TableRows) → AddsRow scale row old mid → Inserted cmp (get row) (list old) (list mid)) → list h.none ≡ [] → list has ≡ entries_in get rows
-  ordered_has make get n cmp table rises o list step none =
-      let sorted = keys_ascend make get n cmp table rises rows h.in_order in
-      let below = subst (λ l. AllByRecursion (λ key. AllByRecursion (λ k. cmp k key ≡ Less) (keys_of l)) (keys_of (entries_in get rows))) (sym none) (units (keys_of (entries_in get rows))) in
-      inserted get list cmp o scale step rows h.none has h.added sorted below ∙ ap (λ l. l ++ entries_in get rows) none
+  ordered_has : (table : Table) → IsTrue (is_keyed table) → IsTotalOrder (cmp_of table) → (list : TableRows → List (EntryOf table))
+      → ((row : TableRow) (old mid : TableRows) → AddsRow scale row old mid → PutSome (Inserted (cmp_of table)) (get table row) (list old) (list mid))
+      → list h.none ≡ [] → list has ≡ entries_of table rows
+  ordered_has table key o list step none =
+      let sorted = keys_ascend table key rows h.in_order in
+      let below =
+      subst (λ l. AllByRecursion (λ key. AllByRecursion (λ k. cmp_of table k key ≡ Less) (keys_of l)) (keys_of (entries_of table rows))) (sym none)
+      (all-each _ (λ _. tt) (keys_of (entries_of table rows))) in
+      inserted table list o scale step rows h.none has h.added sorted below ∙ ap (λ l. l ++ entries_of table rows) none
 
-  keyed : {K X : Type 0} (make : K → X → TableRow) (get : TableRow → Option (K × X)) (n : ℕ) (cmp : K → K → Ordering) → IsTable make get n → Rises make cmp → (known : K → Bool) → ((k : K) (x : X) → HasKey scale (make k x) → IsTrue (known k)) → (list : List X)
-      → values_of (entries_in get rows) ≡ list → AreKeyed cmp known list (entries_in get rows)
-  keyed make get n cmp table rises known has_key list are = record {
-    are_rows = are;
-    ascend = keys_ascend make get n cmp table rises rows h.in_order;
-    known = all_keys (λ k. IsTrue (known k)) (entries_in get rows) (all-weaker _ _ (λ e k. has_key e.0 e.1 k) (entries_in get rows) (all_entries make get n table (HasKey scale) rows h.known));
-  }
-
-  pub items_are : values_of (entries_in get_item rows) ≡ has.items.items
-  items_are = dense_has get_item (λ r. r.items.items) (item_step scale) h.are_none.items
-
-  pub warehouses_are : values_of (entries_in get_warehouse rows) ≡ has.warehouses.items
-  warehouses_are = dense_has get_warehouse (λ r. r.warehouses.items) (warehouse_step scale) h.are_none.warehouses
-
-  pub districts_are : values_of (entries_in get_district rows) ≡ has.districts.items
-  districts_are = dense_has get_district (λ r. r.districts.items) (district_step scale) h.are_none.districts
-
-  pub stocks_are : values_of (entries_in get_stock rows) ≡ has.stocks.items
-  stocks_are = dense_has get_stock (λ r. r.stocks.items) (stock_step scale) h.are_none.stocks
-
-  pub customers_are : values_of (entries_in get_customer rows) ≡ has.customers.items
-  customers_are = dense_has get_customer (λ r. r.customers.items) (customer_step scale) h.are_none.customers
-
-  pub orders_are : has.orders.entries ≡ entries_in get_order rows
-  orders_are = ordered_has OfOrder get_order 7 order_cmp is_order orders_rise orders_total (λ r. r.orders.entries) (order_step scale) h.are_none.orders
-
-  pub new_orders_are : has.new_orders.entries ≡ entries_in get_new_order rows
-  new_orders_are = ordered_has OfNewOrder get_new_order 8 order_cmp is_new_order new_orders_rise orders_total (λ r. r.new_orders.entries) (new_order_step scale) h.are_none.new_orders
-
-  pub lines_are : has.lines ≡ entries_in get_line rows
-  lines_are = ordered_has OfLine get_line 9 line_cmp is_line lines_rise lines_total (λ r. r.lines) (line_step scale) h.are_none.lines
+  -- of what the rows of a table are made of which no row is missing
+  no_missing : (table : Table) {known : KeyOf table → Bool} {ks : List (KeyOf table)} {list : List (RowOf table)} → IsTrue (is_keyed table)
+      → AreScaleKeys (cmp_of table) known ks → ((e : EntryOf table) → HasKey scale (make table e) → IsTrue (known e.0))
+      → values_of (entries_of table rows) ≡ list → length list ≡ length ks → entries_of table rows ≡ zip ks list
+  no_missing table {known} {ks} key keys has_key are even =
+      let es = entries_of table rows in
+      let all_known = all-map (λ k. IsTrue (known k)) (λ e. e.0) es (all-weaker _ _ has_key es (all_entries table (HasKey scale) rows h.known)) in
+      let have = all-weaker _ _ (λ k is_known. place_has keys.total ks k keys.exact (keys.placed k ∙ is_known)) (keys_of es) all_known in
+      let many : length (keys_of es) ≡ length ks = length-map es (λ e. e.0) ∙ sym (length-map es (λ e. e.1)) ∙ ap length are ∙ even in
+      let all : keys_of es ≡ ks = same_keys keys.total ks (keys_of es) keys.sorted (keys_ascend table key rows h.in_order) have many in
+      zip-split es ∙ ap (λ l. zip l (values_of es)) all ∙ ap (zip ks) are
 
   pub paid : PaysAll scale rows [] has.histories.items
   paid =
       let none = h.are_none.histories in
       let reached = subst (λ lists. AllByRecursion (λ q. IsTrue (is_le (place_cmp q at.Header))) (places at.History (zip (district_keys scale) lists))) (sym none) (none_placed (district_keys scale)) in
+      let after = all-weaker _ _ (λ row follow. follows_le at.Header (row_place row) follow) rows (after_header rows) in
       let few : length h.none.histories.items ≤ length (district_keys scale) = let e = ap length none in omega (arith, e) in
-      subst (λ lists. PaysAll scale rows lists has.histories.items) none (paid_all scale rows h.none has at.Header h.added h.in_order (from_header rows) reached few)
+      subst (λ lists. PaysAll scale rows lists has.histories.items) none (paid_all scale rows h.none has at.Header h.added h.in_order after reached few)
 
-  pub payments_are : payments_of (zip (district_keys scale) has.histories.items) ≡ entries_in get_history rows
-  payments_are = paid.payments ∙ ap (λ l. l ++ entries_in get_history rows) (no_payments (district_keys scale))
+  pub are_kept : (table : Table) → AreKept scale table (entries_of table rows) (kept table has)
+  are_kept Items = dense_has Items (kept Items) (row_put scale Items) h.are_none.items
+  are_kept Warehouses = dense_has Warehouses (kept Warehouses) (row_put scale Warehouses) h.are_none.warehouses
+  are_kept Districts = dense_has Districts (kept Districts) (row_put scale Districts) h.are_none.districts
+  are_kept Stocks = dense_has Stocks (kept Stocks) (row_put scale Stocks) h.are_none.stocks
+  are_kept Customers = dense_has Customers (kept Customers) (row_put scale Customers) h.are_none.customers
+  are_kept Histories = paid.payments ∙ ap (λ l. l ++ entries_of Histories rows) (no_payments (district_keys scale))
+  are_kept Orders = ordered_has Orders refl orders_total (kept Orders) (row_put scale Orders) h.are_none.orders
+  are_kept NewOrders = ordered_has NewOrders refl orders_total (kept NewOrders) (row_put scale NewOrders) h.are_none.new_orders
+  are_kept Lines = ordered_has Lines refl lines_total (kept Lines) (row_put scale Lines) h.are_none.lines
 
 -- ---- the records of all rows
 
-map-flat_map : {X Y Z : Type 0} (f : Y → Z) (g : X → List Y) (xs : List X) → map f (flat_map g xs) ≡ flat_map (λ part. part) (map (λ x. map f (g x)) xs)
-map-flat_map f g [] = refl
-map-flat_map f g (x ∷ xs) = map-append f (g x) (flat_map g xs) ∙ ap (λ l. map f (g x) ++ l) (map-flat_map f g xs)
-
-part_is : {K X : Type 0} (make : K → X → TableRow) (get : TableRow → Option (K × X)) (n : ℕ) (fields : K → X → List Field) → IsTable make get n → ((k : K) (x : X) → row_fields (make k x) ≡ fields k x) → (rows : List TableRow) (es : List (K × X))
-    → entries_in get rows ≡ es → map row_fields (of_table n rows) ≡ row_records fields es
-part_is make get n fields table same rows es are = ap (map row_fields) (of_entries make get n table rows) ∙ fields_of_rows make fields same (entries_in get rows) ∙ ap (row_records fields) are
+part_recorded : (table : Table) (rows : List TableRow) → map row_fields (of_table (table_number table) rows) ≡ entry_records table (entries_of table rows)
+part_recorded table rows = ap (map row_fields) (of_entries table rows) ∙ fields_of_rows table (entries_of table rows)
 
 module _ (scale : Scale) (has opened : TableRows) (last : Place) (records : List (List (List ℕ))) (rows : List TableRow) (h : HasRows scale has last records rows)
     (opens : Opens (scale.warehouses * 10) has.histories.items opened.histories.items) (counts : HasCounts scale (record has { histories = opened.histories })) where
   rows_recorded : map row_fields rows ≡ flat_map (λ part. part) (rows_by_table scale (record has { histories = opened.histories }))
   rows_recorded =
-      let items = dense_entries nat_cmp_total exact_unsigned (has_item scale) _ (item_ids scale) has.items.items (entries_in get_item rows) (sorted-item_ids scale) (item_place scale) (λ k. some_slot _ _)
-      (keyed h OfItem get_item 1 nat_cmp is_item items_rise (has_item scale) (λ k x known. known) has.items.items (items_are h)) (counts.items ∙ sym (length-item_ids scale)) in
-      let warehouses = dense_entries nat_cmp_total exact_unsigned (has_warehouse scale) _ (warehouse_ids scale) has.warehouses.items (entries_in get_warehouse rows) (sorted-warehouse_ids scale) (warehouse_place scale) (λ k. some_slot _ _)
-      (keyed h OfWarehouse get_warehouse 2 nat_cmp is_warehouse warehouses_rise (has_warehouse scale) (λ k x known. known) has.warehouses.items (warehouses_are h)) (counts.warehouses ∙ sym (length-warehouse_ids scale)) in
-      let districts = dense_entries districts_total districts_exact (has_district scale) _ (district_keys scale) has.districts.items (entries_in get_district rows) (sorted-district_keys scale) (district_place scale) (λ k. some_slot _ _)
-      (keyed h OfDistrict get_district 3 district_cmp is_district districts_rise (has_district scale) (λ k x known. known) has.districts.items (districts_are h)) (counts.districts ∙ sym (length-district_keys scale)) in
-      let stocks = dense_entries stocks_total stocks_exact (has_stock scale) _ (stock_keys scale) has.stocks.items (entries_in get_stock rows) (sorted-stock_keys scale) (stock_place scale) (λ k. some_slot _ _)
-      (keyed h OfStock get_stock 4 stock_cmp is_stock stocks_rise (has_stock scale) (λ k x known. known) has.stocks.items (stocks_are h)) (counts.stocks ∙ sym (length-stock_keys scale)) in
-      let customers = dense_entries customers_total customers_exact (has_customer scale) _ (customer_keys scale) has.customers.items (entries_in get_customer rows) (sorted-customer_keys scale) (customer_place scale) (λ k. some_slot _ _)
-      (keyed h OfCustomer get_customer 5 customer_cmp is_customer customers_rise (has_customer scale) (λ k x known. known) has.customers.items (customers_are h)) (counts.customers ∙ sym (length-customer_keys scale)) in
-      let payments : map row_fields (of_table 6 rows) ≡ payment_records (zip (district_keys scale) opened.histories.items) =
-      part_is OfHistory get_history 6 history_fields is_history (λ k x. refl) rows (payments_of (zip (district_keys scale) has.histories.items)) (sym (payments_are h))
-      ∙ ap (row_records history_fields) (sym (payments-opened (district_keys scale) has.histories.items opens.opened opens.are_empty) ∙ ap (λ lists. payments_of (zip (district_keys scale) lists)) (sym opens.more))
+      let items = no_missing h Items refl (items_of_scale scale) (λ e known. known) (are_kept h Items) (item_count scale _ counts) in
+      let warehouses = no_missing h Warehouses refl (warehouses_of_scale scale) (λ e known. known) (are_kept h Warehouses) (warehouse_count scale _ counts) in
+      let districts = no_missing h Districts refl (districts_of_scale scale) (λ e known. known) (are_kept h Districts) (district_count scale _ counts) in
+      let stocks = no_missing h Stocks refl (stocks_of_scale scale) (λ e known. known) (are_kept h Stocks) (stock_count scale _ counts) in
+      let customers = no_missing h Customers refl (customers_of_scale scale) (λ e known. known) (are_kept h Customers) (customer_count scale _ counts) in
+      let payments : entry_records Histories (entries_of Histories rows) ≡ payment_records (zip (district_keys scale) opened.histories.items) =
+      ap (row_records history_fields) (sym (are_kept h Histories) ∙ sym (payments-opened (district_keys scale) has.histories.items opens.opened opens.are_empty)
+      ∙ ap (λ lists. payments_of (zip (district_keys scale) lists)) (sym opens.more))
       ∙ payments_recorded (zip (district_keys scale) opened.histories.items) in
-      ap (map row_fields) (by_tables rows h.in_order) ∙ map-flat_map row_fields (λ n. of_table n rows) tables
+      ap (map row_fields) (by_tables rows h.in_order) ∙ map-flat_map row_fields (λ table. of_table (table_number table) rows) all_tables
+      ∙ (λ i. flat_map (λ table. part_recorded table rows i) all_tables)
       ∙ ap (flat_map (λ part. part)) (λ i.
-      part_is OfItem get_item 1 item_fields is_item (λ k x. refl) rows (zip (item_ids scale) has.items.items) items i
-      ∷ part_is OfWarehouse get_warehouse 2 warehouse_fields is_warehouse (λ k x. refl) rows (zip (warehouse_ids scale) has.warehouses.items) warehouses i
-      ∷ part_is OfDistrict get_district 3 district_fields is_district (λ k x. refl) rows (zip (district_keys scale) has.districts.items) districts i
-      ∷ part_is OfStock get_stock 4 stock_fields is_stock (λ k x. refl) rows (zip (stock_keys scale) has.stocks.items) stocks i
-      ∷ part_is OfCustomer get_customer 5 customer_fields is_customer (λ k x. refl) rows (zip (customer_keys scale) has.customers.items) customers i
-      ∷ payments i
-      ∷ part_is OfOrder get_order 7 order_fields is_order (λ k x. refl) rows has.orders.entries (sym (orders_are h)) i
-      ∷ part_is OfNewOrder get_new_order 8 new_order_fields is_new_order (λ k x. refl) rows has.new_orders.entries (sym (new_orders_are h)) i
-      ∷ part_is OfLine get_line 9 line_fields is_line (λ k x. refl) rows has.lines (sym (lines_are h)) i ∷ [])
+      entry_records Items (items i) ∷ entry_records Warehouses (warehouses i) ∷ entry_records Districts (districts i)
+      ∷ entry_records Stocks (stocks i) ∷ entry_records Customers (customers i) ∷ payments i
+      ∷ entry_records Orders (sym (are_kept h Orders) i) ∷ entry_records NewOrders (sym (are_kept h NewOrders) i)
+      ∷ entry_records Lines (sym (are_kept h Lines) i) ∷ [])
 
   counts_opened : count_fields has ≡ count_fields (record has { histories = opened.histories })
   counts_opened =
       let paid : sum (map length has.histories.items) ≡ sum (map length opened.histories.items) =
       sym (counts-opened has.histories.items opens.opened opens.are_empty) ∙ ap (λ lists. sum (map length lists)) (sym opens.more) in
-      λ i. Words (codes "END") ∷ Number (length has.items.items) ∷ Number (length has.warehouses.items) ∷ Number (length has.districts.items)
-      ∷ Number (length has.stocks.items) ∷ Number (length has.customers.items) ∷ Number (paid i) ∷ Number (length has.orders.entries)
-      ∷ Number (length has.new_orders.entries) ∷ Number (length has.lines) ∷ []
+      rw paid refl
 
   pub all_recorded : (header end : List (List ℕ)) → AreSpelt (header_fields scale) header → AreSpelt (count_fields has) end
       → AreRecords (database scale (record has { histories = opened.histories })) ((header ∷ records) ++ (end ∷ []))
@@ -294,9 +217,9 @@ module _ (scale : Scale) (has opened : TableRows) (last : Place) (records : List
       let body : AllZip AreSpelt (header_fields scale ∷ flat_map (λ part. part) (rows_by_table scale rows_of_tables)) (header ∷ records) =
       subst (λ fields. AllZip AreSpelt (header_fields scale ∷ fields) (header ∷ records)) rows_recorded (spelt, h.are_spelt) in
       are-records scale rows_of_tables counts
-      (subst (λ es. IsStrictlySortedBy order_cmp (keys_of es)) (sym (orders_are h)) (keys_ascend OfOrder get_order 7 order_cmp is_order orders_rise rows h.in_order))
-      (subst (λ es. IsStrictlySortedBy order_cmp (keys_of es)) (sym (new_orders_are h)) (keys_ascend OfNewOrder get_new_order 8 order_cmp is_new_order new_orders_rise rows h.in_order))
-      (subst (λ es. IsStrictlySortedBy line_cmp (keys_of es)) (sym (lines_are h)) (keys_ascend OfLine get_line 9 line_cmp is_line lines_rise rows h.in_order))
+      (subst (λ es. IsStrictlySortedBy order_cmp (keys_of es)) (sym (are_kept h Orders)) (keys_ascend Orders refl rows h.in_order))
+      (subst (λ es. IsStrictlySortedBy order_cmp (keys_of es)) (sym (are_kept h NewOrders)) (keys_ascend NewOrders refl rows h.in_order))
+      (subst (λ es. IsStrictlySortedBy line_cmp (keys_of es)) (sym (are_kept h Lines)) (keys_ascend Lines refl rows h.in_order))
       ((header ∷ records) ++ (end ∷ []))
       (all_zip-append AreSpelt (header_fields scale ∷ flat_map (λ part. part) (rows_by_table scale rows_of_tables)) (count_fields rows_of_tables ∷ []) (header ∷ records) (end ∷ []) body (last_, tt))
 

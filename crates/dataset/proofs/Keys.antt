@@ -1,20 +1,23 @@
 -- The scale's keys: which one stands at a place, and that they ascend.
-use Rattle.std.proofs.Common.{Bool, true, false, cond, Option, None, ◌≡◌, ℕ, zero, suc, ◌+◌, ◌*◌, ◌/◌, ◌<◌, ◌≤◌, List, [], ◌∷◌, ◌++◌, map, length, Some, refl, sym, ap, subst, ◌∙◌, arith}
-use Rattle.std.specs.List.{range_with_len, slice_get, AllByRecursion}
+use Rattle.std.proofs.Common.{is_some, Bool, true, false, cond, Option, None, ◌≡◌, ℕ, zero, suc, ◌+◌, ◌*◌, ◌/◌, ◌<◌, ◌≤◌, List, [], ◌∷◌, ◌++◌, map, length, Some, refl, sym, ap, subst, ◌∙◌, arith}
+use Rattle.std.specs.Prelude.{if◌then◌else◌}
+use Rattle.std.specs.List.{range_with_len, slice_get, flat_map, AllByRecursion}
 use Rattle.std.specs.List.Sorted.{IsStrictlySortedBy}
 use Rattle.std.specs.declared.cmp.Ordering.{Ordering}
 use Rattle.std.specs.declared.cmp.Ordering.TheVariants.{Less, Equal, Greater}
 use Rattle.std.specs.Ordering.{nat_cmp, ordering_then, eq_by_cmp}
 use Rattle.std.specs.Option.{option_map}
-use Rattle.std.specs.Cmp.{Equal-is}
-use Rattle.std.specs.FinMap.{IsAntisymmetric}
+use Rattle.std.specs.Cmp.{Equal-is, IsTotalOrder, nat_cmp_total}
+use Rattle.std.specs.FinMap.{IsAntisymmetric, nat_cmp-IsAntisymmetric}
 use Rattle.std.proofs.lemmas.Bool.Decides.{nat_tests}
 use Rattle.std.proofs.Math.Nat.{div-lt_iff_lt-mul}
 use Rattle.std.proofs.lemmas.List.FromFn.{length-map-range_with_len}
 use Rattle.rows.specs.Keys.{district_cmp, stock_cmp, customer_cmp}
 use Rattle.schema.specs.declared.scale.Scale.{Scale}
 use Rattle.schema.specs.Dense.{grid, place}
-use Rattle.schema.specs.Scale.{item_ids, warehouse_ids, district_key, district_keys, stock_key, stock_keys, customer_key, customer_keys}
+use Rattle.schema.specs.Scale.{has_customer, has_district, has_item, has_stock, has_warehouse, item_ids, warehouse_ids, district_key, district_keys, stock_key, stock_keys, customer_key, customer_keys}
+use Rattle.schema.proofs.KeyOrders.{districts_total, districts_exact, stocks_total, stocks_exact, customers_total, customers_exact}
+use Rattle.schema.proofs.ScalePlaces.{item_place, warehouse_place, district_place, stock_place, customer_place}
 
 -- ---- the key at a place
 
@@ -69,6 +72,19 @@ all-append P (x ∷ xs) ys h g = (h.0, all-append P xs ys h.1 g)
 pub all-weaker : {X : Type 0} (P Q : X → Type 0) → ((x : X) → P x → Q x) → (xs : List X) → AllByRecursion P xs → AllByRecursion Q xs
 all-weaker P Q f [] h = tt
 all-weaker P Q f (x ∷ xs) h = (f x h.0, all-weaker P Q f xs h.1)
+
+pub all-each : {X : Type 0} (P : X → Type 0) → ((x : X) → P x) → (xs : List X) → AllByRecursion P xs
+all-each P f [] = tt
+all-each P f (x ∷ xs) = (f x, all-each P f xs)
+
+pub all-map : {X Y : Type 0} (P : Y → Type 0) (f : X → Y) (xs : List X) → AllByRecursion (λ x. P (f x)) xs → AllByRecursion P (map f xs)
+all-map P f [] h = tt
+all-map P f (x ∷ xs) h = (h.0, all-map P f xs h.1)
+
+pub all-flat_map : {X Y : Type 0} (P : Y → Type 0) (f : X → List Y) (xs : List X) → AllByRecursion (λ x. AllByRecursion P (f x)) xs
+    → AllByRecursion P (flat_map f xs)
+all-flat_map P f [] h = tt
+all-flat_map P f (x ∷ xs) h = all-append P (f x) (flat_map f xs) h.0 (all-flat_map P f xs h.1)
 
 all-numbers : {X : Type 0} (P : X → Type 0) (f : ℕ → X) (first count : ℕ) → ((n : ℕ) → first ≤ n → P (f n)) → AllByRecursion P (map f (range_with_len first count))
 all-numbers P f first zero h = tt
@@ -155,3 +171,35 @@ get-place {R = R} exact q (k ∷ ks) n e = by (get-place exact q ks) (eq_by_cmp 
     by later false test None rest n e = absurd cc
     by later false test (Some m) rest zero e = absurd cc
     by later false test (Some m) rest (suc n) e = let same : m ≡ n = cc in later n (rest ∙ ap Some same)
+
+-- ---- the keys of the scale
+
+-- in order, these are all the keys that the scale has
+pub record AreScaleKeys {K : Type 0} (cmp : K → K → Ordering) (has : K → Bool) (ks : List K) : Type 0 where
+  pub total : IsTotalOrder cmp
+  pub exact : IsAntisymmetric cmp
+  pub sorted : IsStrictlySortedBy cmp ks
+  pub placed : (k : K) → is_some (place (eq_by_cmp cmp k) ks) ≡ has k
+
+some_if : (b : Bool) (n : ℕ) → is_some (if b then Some n else None) ≡ b
+some_if true n = refl
+some_if false n = refl
+
+scale_keys : {K : Type 0} {cmp : K → K → Ordering} {has : K → Bool} {ks : List K} (slot : K → ℕ) → IsTotalOrder cmp → IsAntisymmetric cmp
+    → IsStrictlySortedBy cmp ks → ((k : K) → place (eq_by_cmp cmp k) ks ≡ (if has k then Some (slot k) else None)) → AreScaleKeys cmp has ks
+scale_keys slot o exact sorted placed = record { total = o; exact = exact; sorted = sorted; placed = λ k. ap is_some (placed k) ∙ some_if _ _ }
+
+pub items_of_scale : (scale : Scale) → AreScaleKeys nat_cmp (has_item scale) (item_ids scale)
+items_of_scale scale = scale_keys _ nat_cmp_total nat_cmp-IsAntisymmetric (sorted-item_ids scale) (item_place scale)
+
+pub warehouses_of_scale : (scale : Scale) → AreScaleKeys nat_cmp (has_warehouse scale) (warehouse_ids scale)
+warehouses_of_scale scale = scale_keys _ nat_cmp_total nat_cmp-IsAntisymmetric (sorted-warehouse_ids scale) (warehouse_place scale)
+
+pub districts_of_scale : (scale : Scale) → AreScaleKeys district_cmp (has_district scale) (district_keys scale)
+districts_of_scale scale = scale_keys _ districts_total districts_exact (sorted-district_keys scale) (district_place scale)
+
+pub stocks_of_scale : (scale : Scale) → AreScaleKeys stock_cmp (has_stock scale) (stock_keys scale)
+stocks_of_scale scale = scale_keys _ stocks_total stocks_exact (sorted-stock_keys scale) (stock_place scale)
+
+pub customers_of_scale : (scale : Scale) → AreScaleKeys customer_cmp (has_customer scale) (customer_keys scale)
+customers_of_scale scale = scale_keys _ customers_total customers_exact (sorted-customer_keys scale) (customer_place scale)

@@ -13,7 +13,7 @@ use Rattle.files.proofs.KindsRead.{word_is, no_word}
 use Rattle.dataset.specs.declared.loader.Loader.{Loader}
 use Rattle.dataset.specs.declared.loader.Taken.TheVariants.{Row, End}
 use Rattle.files.specs.Columns.{Column, Count, at_end, take_columns}
-use Rattle.dataset.specs.Columns.{Of, Table, Items, Warehouses, Districts, Stocks, Customers, Histories, Orders, NewOrders, Lines, fields_fault, kind_fault, kind_of, letter, sizes}
+use Rattle.dataset.specs.Columns.{Of, Table, Items, fields_fault, kind_fault, kind_of, letter, sizes}
 use Rattle.dataset.specs.Order.{place_numbers}
 use Rattle.dataset.specs.Records.{AreSpelt}
 use Rattle.dataset.specs.TakenAs.{HasRow, IsDone, IsRowOf, IsTakenAs}
@@ -48,36 +48,15 @@ some_word letter n word (field ∷ rest) known new some is e = by (is_utf8 field
 
 pub kind_of_letter : (table : Table) → kind_of (letter table) ≡ Some (Of table)
 kind_of_letter Items = refl
-kind_of_letter Warehouses = refl
-kind_of_letter Districts = refl
-kind_of_letter Stocks = refl
-kind_of_letter Customers = refl
-kind_of_letter Histories = refl
-kind_of_letter Orders = refl
-kind_of_letter NewOrders = refl
-kind_of_letter Lines = refl
+kind_of_letter table = refl
 
 pub letter_is_not_end : (table : Table) → bytes_eq (letter table) (codes "END") ≡ false
 letter_is_not_end Items = refl
-letter_is_not_end Warehouses = refl
-letter_is_not_end Districts = refl
-letter_is_not_end Stocks = refl
-letter_is_not_end Customers = refl
-letter_is_not_end Histories = refl
-letter_is_not_end Orders = refl
-letter_is_not_end NewOrders = refl
-letter_is_not_end Lines = refl
+letter_is_not_end table = refl
 
 one_letter : (table : Table) → length (letter table) ≡ 1
 one_letter Items = refl
-one_letter Warehouses = refl
-one_letter Districts = refl
-one_letter Stocks = refl
-one_letter Customers = refl
-one_letter Histories = refl
-one_letter Orders = refl
-one_letter NewOrders = refl
-one_letter Lines = refl
+one_letter table = refl
 
 -- what was taken of a record as the bytes of its first field
 pub record TookBytes (word : List ℕ) (old new : Fields) : Type 0 where

@@ -1,4 +1,5 @@
 pub mod Keys
+pub mod EachTable
 pub mod Texts
 pub mod Lists
 pub mod Written

@@ -101,15 +101,7 @@ FollowsThose p = ((last : Place) → follows p last ≡ is_lt (place_cmp last p)
 
 follows_is : (p : Place) → FollowsThose p
 follows_is (at.History key) = inr (λ last. refl)
-follows_is at.Header = inl (λ last. refl)
-follows_is (at.Item key) = inl (λ last. refl)
-follows_is (at.Warehouse key) = inl (λ last. refl)
-follows_is (at.District key) = inl (λ last. refl)
-follows_is (at.Stock key) = inl (λ last. refl)
-follows_is (at.Customer key) = inl (λ last. refl)
-follows_is (at.Order key) = inl (λ last. refl)
-follows_is (at.NewOrder key) = inl (λ last. refl)
-follows_is (at.Line key) = inl (λ last. refl)
+follows_is place = inl (λ last. refl)
 
 pub follows_less : (p last : Place) → place_cmp last p ≡ Less → IsTrue (follows p last)
 follows_less p last h = by (follows_is p)

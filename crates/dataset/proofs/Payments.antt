@@ -21,7 +21,7 @@ use Rattle.dataset.specs.declared.place.Place.TheVariants as at
 use Rattle.dataset.specs.Order.{place_cmp}
 use Rattle.dataset.specs.Payments.{Pays}
 use Rattle.dataset.specs.Records.{payment_records, history_fields}
-use Rattle.dataset.proofs.Keys.{get-place}
+use Rattle.dataset.proofs.Keys.{all-append, all-each, all-map, get-place}
 use Rattle.dataset.proofs.Order.{same_history, turned}
 
 -- where the records of a table stand
@@ -80,6 +80,12 @@ all_reached (k ∷ ks) (list ∷ lists) (suc n) d sorted get many =
 -- the payments of each district, each with the district
 abbrev pub payments_of : List (DistrictKey × List History) → List (DistrictKey × History)
 payments_of lists = flat_map (λ e. map (λ row. (e.0, row)) e.1) lists
+
+-- what is said of each district is said of its payments
+pub all-payments : (P : DistrictKey → Type 0) (lists : List (DistrictKey × List History)) → AllByRecursion P (keys_of lists)
+    → AllByRecursion (λ (p : DistrictKey × History). P p.0) (payments_of lists)
+all-payments P [] h = tt
+all-payments P (e ∷ lists) h = all-append _ _ (payments_of lists) (all-map _ (λ row. (e.0, row)) e.1 (all-each _ (λ _. h.0) e.1)) (all-payments P lists h.1)
 
 list_records : (home : DistrictKey) (rows : List History) → map (λ (p : DistrictKey × History). history_fields p.0 p.1) (map (λ row. (home, row)) rows) ≡ map (history_fields home) rows
 list_records home [] = refl

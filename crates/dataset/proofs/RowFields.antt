@@ -15,7 +15,7 @@ use Rattle.rows.specs.Keys.{district_of_customer, district_of_order, order_of_li
 use Rattle.schema.specs.declared.scale.Scale.{Scale}
 use Rattle.schema.specs.Scale.{has_district, has_customer}
 use Rattle.files.specs.FieldRead.{Taking}
-use Rattle.files.specs.Columns.{Column, Whole, Words as Texts, Cents, Moment, Credit, MaybeWhole, MaybeMoment, Count, Spelt, at_end, columns_fault}
+use Rattle.files.specs.Columns.{Column, Whole, Words as Texts, Cents, Moment, Credit, at_end, columns_fault}
 use Rattle.dataset.specs.Columns.{Sizes, Table, Items, Warehouses, Districts, Stocks, Customers, Histories, Orders, NewOrders, Lines, address_columns, counter, info_columns, letter, record_columns, sizes}
 use Rattle.dataset.specs.Loading.{HasKey}
 use Rattle.dataset.specs.Ranges.{AddressInRange, IsFrom}
@@ -55,36 +55,15 @@ small_columns scale Lines =
 narrow_columns : (s : Sizes) (table : Table) → list_all is_narrow (record_columns s table) ≡ true
 unfolding is_narrow
 narrow_columns s Items = refl
-narrow_columns s Warehouses = refl
-narrow_columns s Districts = refl
-narrow_columns s Stocks = refl
-narrow_columns s Customers = refl
-narrow_columns s Histories = refl
-narrow_columns s Orders = refl
-narrow_columns s NewOrders = refl
-narrow_columns s Lines = refl
+narrow_columns s table = refl
 
 few_columns : (s : Sizes) (table : Table) → length (record_columns s table) ≤ 100
 few_columns s Items = omega arith
-few_columns s Warehouses = omega arith
-few_columns s Districts = omega arith
-few_columns s Stocks = omega arith
-few_columns s Customers = omega arith
-few_columns s Histories = omega arith
-few_columns s Orders = omega arith
-few_columns s NewOrders = omega arith
-few_columns s Lines = omega arith
+few_columns s table = omega arith
 
 short_letter : (table : Table) → length (letter table) ≤ 500
 short_letter Items = omega arith
-short_letter Warehouses = omega arith
-short_letter Districts = omega arith
-short_letter Stocks = omega arith
-short_letter Customers = omega arith
-short_letter Histories = omega arith
-short_letter Orders = omega arith
-short_letter NewOrders = omega arith
-short_letter Lines = omega arith
+short_letter table = omega arith
 
 -- ---- the row that the columns tell
 
@@ -97,18 +76,11 @@ number_flag false = refl
 
 fields_told : (s : Sizes) (table : Table) (values : Values (record_columns s table)) → AreBetween (record_columns s table) values
     → row_fields (row_of s table values) ≡ Words (letter table) ∷ fields_of (record_columns s table) values
-fields_told s Items values between = refl
-fields_told s Warehouses values between = refl
-fields_told s Districts values between = refl
-fields_told s Stocks values between = refl
-fields_told s Customers values between = refl
-fields_told s Histories values between = refl
 fields_told s Orders values between =
     let flag = flag_number values.1.1.1.1.1.1.1.0 between.1.1.1.1.1.1.1.0.1 in
     λ i. Words (letter Orders) ∷ Number values.0 ∷ Number values.1.0 ∷ Number values.1.1.0 ∷ Number values.1.1.1.0 ∷ Date values.1.1.1.1.0
     ∷ carrier_field values.1.1.1.1.1.0 ∷ Number values.1.1.1.1.1.1.0 ∷ Number (flag i) ∷ []
-fields_told s NewOrders values between = refl
-fields_told s Lines values between = refl
+fields_told s table values between = refl
 
 -- a record whose fields have no fault spells the row that they tell
 pub row_is_spelt : (scale : Scale) (table : Table) (fields : List (List ℕ)) → IsRead (sizes scale) table fields → AreSpelt (row_fields (row_read (sizes scale) table fields)) (letter table ∷ fields)
@@ -275,14 +247,7 @@ in_between (column ∷ columns) values inside = (one column values.0 inside.0, i
   where
     one : (column : Column) (value : Value column) → IsIn column value → IsBetween column value
     one (Whole low high) n from = from
-    one (Texts width) words from = tt
-    one Cents cents from = tt
-    one Moment seconds from = tt
-    one Credit credit from = tt
-    one (MaybeWhole low high) number from = tt
-    one MaybeMoment moment from = tt
-    one (Count count) n from = tt
-    one (Spelt fault) words from = tt
+    one column value from = tt
 
 -- the texts are a record of a table, without a fault but for its order, which tells the row
 pub record RowRead (scale : Scale) (row : TableRow) (texts : List (List ℕ)) : Type 0 where
@@ -338,6 +303,4 @@ known_row scale Districts v b = all_of _ _ (between 1 scale.warehouses v.0 b.0) 
 known_row scale Stocks v b = all_of _ _ (between 1 scale.warehouses v.0 b.0) (between 1 scale.items v.1.0 b.1.0)
 known_row scale Customers v b = all_of _ _ (all_of _ _ (between 1 scale.warehouses v.0 b.0) (between 1 10 v.1.0 b.1.0)) (between 1 scale.customers v.1.1.0 b.1.1.0)
 known_row scale Histories v b = all_of _ _ (between 1 scale.warehouses v.0 b.0) (between 1 10 v.1.0 b.1.0)
-known_row scale Orders v b = tt
-known_row scale NewOrders v b = tt
-known_row scale Lines v b = tt
+known_row scale table v b = tt

@@ -4,14 +4,14 @@ use Rattle.std.specs.Str.Parse.{digits_value}
 use Rattle.std.proofs.lemmas.List.{append-nil}
 use Rattle.files.specs.declared.fault.FaultKind.{FaultKind}
 use Rattle.files.specs.declared.fields.Fields.{Fields}
-use Rattle.files.specs.Columns.{Column, Whole, Words, Cents, Moment, Credit, MaybeWhole, MaybeMoment, Count, Spelt, at_end, columns_fault, take_columns}
+use Rattle.files.specs.Columns.{Column, Whole, at_end, columns_fault, take_columns}
 use Rattle.files.specs.FieldRead.{Taking, taking, is_within, whole_read}
 use Rattle.files.specs.Number.{is_number}
 use Rattle.files.specs.Taken.{fault_of, fields_left}
 use Rattle.schema.specs.declared.table_rows.TableRows.{TableRows}
 use Rattle.dataset.specs.declared.loader.Loader.{Loader}
 use Rattle.dataset.specs.declared.place.Place.{Place}
-use Rattle.dataset.specs.Columns.{Sizes, Table, Items, Warehouses, Districts, Stocks, Customers, Histories, Orders, NewOrders, Lines, comes_after, key_columns, or_order, other_columns, place_in, record_columns, sizes, table_number}
+use Rattle.dataset.specs.Columns.{Sizes, Table, Items, comes_after, key_columns, or_order, other_columns, place_in, record_columns, sizes, table_number}
 use Rattle.dataset.specs.Order.{follows, place_numbers}
 use Rattle.dataset.specs.TableRow.{AddsRow, IsAdded, TableRow, row_of, row_place, row_read}
 use Rattle.dataset.specs.TakenAs.{IsRowOf}
@@ -22,14 +22,7 @@ use Rattle.files.proofs.ColumnValues.{AreRead, ReadsColumns, clean, read-take}
 
 number_in : (column : Column) → Value column → ℕ
 number_in (Whole low high) n = n
-number_in (Words width) v = 0
-number_in Cents v = 0
-number_in Moment v = 0
-number_in Credit v = 0
-number_in (MaybeWhole low high) v = 0
-number_in MaybeMoment v = 0
-number_in (Count count) v = 0
-number_in (Spelt fault) v = 0
+number_in column v = 0
 
 -- those that the first columns tell
 numbers_in : (keys others : List Column) → Values (keys ++ others) → List ℕ
@@ -65,40 +58,19 @@ numbers_read (column ∷ keys) others values texts rest whole read = absurd whol
 whole_keys : (s : Sizes) (table : Table) → AreWhole (key_columns s table)
 unfolding AreWhole
 whole_keys s Items = tt
-whole_keys s Warehouses = tt
-whole_keys s Districts = tt
-whole_keys s Stocks = tt
-whole_keys s Customers = tt
-whole_keys s Histories = tt
-whole_keys s Orders = tt
-whole_keys s NewOrders = tt
-whole_keys s Lines = tt
+whole_keys s table = tt
 
 -- a row's place has its table's number and its key's
 place_told : (s : Sizes) (table : Table) (values : Values (record_columns s table)) → place_numbers (row_place (row_of s table values)) ≡ table_number table ∷ numbers_in (key_columns s table) (other_columns s table) values
 unfolding numbers_in number_in
 place_told s Items values = refl
-place_told s Warehouses values = refl
-place_told s Districts values = refl
-place_told s Stocks values = refl
-place_told s Customers values = refl
-place_told s Histories values = refl
-place_told s Orders values = refl
-place_told s NewOrders values = refl
-place_told s Lines values = refl
+place_told s table values = refl
 
 -- whether it follows is told by the numbers alone
 pub follows_told : (s : Sizes) (table : Table) (values : Values (record_columns s table)) (last : Place)
     → follows (row_place (row_of s table values)) last ≡ comes_after table (place_numbers (row_place (row_of s table values))) (place_numbers last)
 follows_told s Items values last = refl
-follows_told s Warehouses values last = refl
-follows_told s Districts values last = refl
-follows_told s Stocks values last = refl
-follows_told s Customers values last = refl
-follows_told s Histories values last = refl
-follows_told s Orders values last = refl
-follows_told s NewOrders values last = refl
-follows_told s Lines values last = refl
+follows_told s table values last = refl
 
 -- ---- a record whose fields have no fault
 

@@ -25,11 +25,12 @@ use Rattle.dataset.specs.FirstFault.{counts, is_end, is_of, last_place, number_o
 use Rattle.dataset.specs.Loading.{HasLoaded, HasRows}
 use Rattle.dataset.specs.Order.{place_numbers}
 use Rattle.dataset.specs.Records.{AreSpelt, header_fields}
-use Rattle.dataset.specs.TableRow.{TableRow, OfItem, OfWarehouse, OfDistrict, OfStock, OfCustomer, OfHistory, OfOrder, OfNewOrder, OfLine, row_fields, row_letter, rows_read}
+use Rattle.dataset.specs.TableRow.{TableRow, OfItem, row_fields, row_letter, rows_read}
 use Rattle.dataset.specs.TakenAs.{IsDone, ReachesEnd}
 use Rattle.dataset.specs.Writing.{table_counts}
-use Rattle.dataset.proofs.Contents.{IsTable, entries_in, get_item, get_warehouse, get_district, get_stock, get_customer, get_history, get_order, get_new_order, get_line, is_item, is_warehouse, is_district, is_stock, is_customer, is_history, is_order, is_new_order, is_line, number_of_row, of_entries, of_table, with_row}
-use Rattle.dataset.proofs.Finished.{customers_are, districts_are, items_are, lines_are, new_orders_are, orders_are, paid, payments_are, stocks_are, warehouses_are}
+use Rattle.dataset.proofs.Contents.{entries_of, kept, of_entries, of_table, with_row}
+use Rattle.dataset.proofs.EachTable.{RowOf, make, number_of_row}
+use Rattle.dataset.proofs.Finished.{are_kept, paid}
 use Rattle.files.proofs.RecordsLeft.{long_record, next_row, no_row, not_advanced, short_record}
 use Rattle.dataset.proofs.LetterFault.{letter_is_not_end}
 use Rattle.dataset.proofs.Loading.{record_loaded}
@@ -38,36 +39,10 @@ use Rattle.dataset.proofs.Payments.{payments_of}
 -- ---- how many records of each table were read
 
 -- a letter tells its table
-same_letter : (a b : Table) → bytes_eq (letter a) (letter b) ≡ (table_number a == table_number b)
-same_letter Items Items = refl
-same_letter Items b = refl
-same_letter Warehouses Warehouses = refl
-same_letter Warehouses b = refl
-same_letter Districts Districts = refl
-same_letter Districts b = refl
-same_letter Stocks Stocks = refl
-same_letter Stocks b = refl
-same_letter Customers Customers = refl
-same_letter Customers b = refl
-same_letter Histories Histories = refl
-same_letter Histories b = refl
-same_letter Orders Orders = refl
-same_letter Orders b = refl
-same_letter NewOrders NewOrders = refl
-same_letter NewOrders b = refl
-same_letter Lines Lines = refl
-same_letter Lines b = refl
-
 letter_is : (row : TableRow) (table : Table) → bytes_eq (row_letter row) (letter table) ≡ (number_of_row row == table_number table)
-letter_is (OfItem key x) table = same_letter Items table
-letter_is (OfWarehouse key x) table = same_letter Warehouses table
-letter_is (OfDistrict key x) table = same_letter Districts table
-letter_is (OfStock key x) table = same_letter Stocks table
-letter_is (OfCustomer key x) table = same_letter Customers table
-letter_is (OfHistory key x) table = same_letter Histories table
-letter_is (OfOrder key x) table = same_letter Orders table
-letter_is (OfNewOrder key x) table = same_letter NewOrders table
-letter_is (OfLine key x) table = same_letter Lines table
+letter_is (OfItem key x) Items = refl
+letter_is row Items = refl
+letter_is row table = refl
 
 first_letter : (row : TableRow) (texts : List (List ℕ)) (table : Table) → AreSpelt (row_fields row) texts → is_of table texts ≡ (number_of_row row == table_number table)
 first_letter row texts table spelt = by row texts spelt ∙ letter_is row table
@@ -75,22 +50,8 @@ first_letter row texts table spelt = by row texts spelt ∙ letter_is row table
     by : (row : TableRow) (texts : List (List ℕ)) → AreSpelt (row_fields row) texts → is_of table texts ≡ bytes_eq (row_letter row) (letter table)
     by (OfItem key x) [] spelt = absurd spelt
     by (OfItem key x) (text ∷ texts) spelt = ap (λ w. bytes_eq w (letter table)) spelt.0
-    by (OfWarehouse key x) [] spelt = absurd spelt
-    by (OfWarehouse key x) (text ∷ texts) spelt = ap (λ w. bytes_eq w (letter table)) spelt.0
-    by (OfDistrict key x) [] spelt = absurd spelt
-    by (OfDistrict key x) (text ∷ texts) spelt = ap (λ w. bytes_eq w (letter table)) spelt.0
-    by (OfStock key x) [] spelt = absurd spelt
-    by (OfStock key x) (text ∷ texts) spelt = ap (λ w. bytes_eq w (letter table)) spelt.0
-    by (OfCustomer key x) [] spelt = absurd spelt
-    by (OfCustomer key x) (text ∷ texts) spelt = ap (λ w. bytes_eq w (letter table)) spelt.0
-    by (OfHistory key x) [] spelt = absurd spelt
-    by (OfHistory key x) (text ∷ texts) spelt = ap (λ w. bytes_eq w (letter table)) spelt.0
-    by (OfOrder key x) [] spelt = absurd spelt
-    by (OfOrder key x) (text ∷ texts) spelt = ap (λ w. bytes_eq w (letter table)) spelt.0
-    by (OfNewOrder key x) [] spelt = absurd spelt
-    by (OfNewOrder key x) (text ∷ texts) spelt = ap (λ w. bytes_eq w (letter table)) spelt.0
-    by (OfLine key x) [] spelt = absurd spelt
-    by (OfLine key x) (text ∷ texts) spelt = ap (λ w. bytes_eq w (letter table)) spelt.0
+    by row [] spelt = absurd spelt
+    by row (text ∷ texts) spelt = ap (λ w. bytes_eq w (letter table)) spelt.0
 
 counted_first : (b : Bool) (row : TableRow) (rows : List TableRow) → (if b then 1 else 0) + length rows ≡ length (with_row b row rows)
 counted_first true row rows = omega arith
@@ -107,19 +68,12 @@ rows_counted table (row ∷ rows) (record_ ∷ records) spelt =
     ∙ ap (λ n. (if number_of_row row == table_number table then 1 else 0) + n) (rows_counted table rows records spelt.1)
     ∙ counted_first (number_of_row row == table_number table) row (of_table (table_number table) rows)
 
-pub entries_counted : {K X : Type 0} (make : K → X → TableRow) (get : TableRow → Option (K × X)) (n : ℕ) → IsTable make get n → (rows : List TableRow) → length (of_table n rows) ≡ length (entries_in get rows)
-entries_counted make get n table rows = ap length (of_entries make get n table rows) ∙ length-map (entries_in get rows) (λ e. make e.0 e.1)
+pub entries_counted : (table : Table) (rows : List TableRow) → length (of_table (table_number table) rows) ≡ length (entries_of table rows)
+entries_counted table rows = ap length (of_entries table rows) ∙ length-map (entries_of table rows) (make table)
 
 not_of : (table : Table) → bytes_eq (codes "TPCC") (letter table) ≡ false
 not_of Items = refl
-not_of Warehouses = refl
-not_of Districts = refl
-not_of Stocks = refl
-not_of Customers = refl
-not_of Histories = refl
-not_of Orders = refl
-not_of NewOrders = refl
-not_of Lines = refl
+not_of table = refl
 
 pub header_uncounted : (table : Table) (scale : Scale) (header : List (List ℕ)) (rows : List (List (List ℕ))) → AreSpelt (header_fields scale) header → number_of table (header ∷ rows) ≡ number_of table rows
 unfolding number_of
@@ -136,29 +90,27 @@ payments_counted (k ∷ ks) (list ∷ lists) few =
     ∙ ap (λ n. length list + n) (payments_counted ks lists (omega arith) ∙ sum-map length lists) ∙ sym (sum-map length (list ∷ lists) ∙ sum_by-cons length list lists)
 
 module _ (l : Loader) (header : List (List ℕ)) (records : List (List (List ℕ))) (rows : List TableRow) (spelt : AreSpelt (header_fields l.scale) header) (h : HasRows l.scale l.rows l.last records rows) where
-  dense_counted : {K X : Type 0} (make : K → X → TableRow) (get : TableRow → Option (K × X)) (table : Table) → IsTable make get (table_number table) → (list : List X) → values_of (entries_in get rows) ≡ list → length list ≡ number_of table (header ∷ records)
-  dense_counted make get table is list are =
-      ap length (sym are) ∙ length-map (entries_in get rows) (λ e. e.1) ∙ sym (entries_counted make get (table_number table) is rows) ∙ sym (rows_counted table rows records h.are_spelt)
-      ∙ sym (header_uncounted table l.scale header records spelt)
+  table_counted : (table : Table) → length (entries_of table rows) ≡ number_of table (header ∷ records)
+  table_counted table =
+      sym (entries_counted table rows) ∙ sym (rows_counted table rows records h.are_spelt) ∙ sym (header_uncounted table l.scale header records spelt)
 
-  ordered_counted : {K X : Type 0} (make : K → X → TableRow) (get : TableRow → Option (K × X)) (table : Table) → IsTable make get (table_number table) → (list : List (K × X)) → list ≡ entries_in get rows → length list ≡ number_of table (header ∷ records)
-  ordered_counted make get table is list are =
-      ap length are ∙ sym (entries_counted make get (table_number table) is rows) ∙ sym (rows_counted table rows records h.are_spelt) ∙ sym (header_uncounted table l.scale header records spelt)
+  dense_counted : (table : Table) (list : List (RowOf table)) → values_of (entries_of table rows) ≡ list → length list ≡ number_of table (header ∷ records)
+  dense_counted table list are = ap length (sym are) ∙ length-map (entries_of table rows) (λ e. e.1) ∙ table_counted table
 
   -- what the end record has to count
   all_counted : table_counts l.rows ≡ counts (header ∷ records)
   all_counted =
-      let paid_count = sym (payments_counted (district_keys l.scale) l.rows.histories.items (paid h).few)
-      ∙ ordered_counted OfHistory get_history Histories is_history (payments_of (zip (district_keys l.scale) l.rows.histories.items)) (payments_are h) in
-      λ i. dense_counted OfItem get_item Items is_item l.rows.items.items (items_are h) i
-      ∷ dense_counted OfWarehouse get_warehouse Warehouses is_warehouse l.rows.warehouses.items (warehouses_are h) i
-      ∷ dense_counted OfDistrict get_district Districts is_district l.rows.districts.items (districts_are h) i
-      ∷ dense_counted OfStock get_stock Stocks is_stock l.rows.stocks.items (stocks_are h) i
-      ∷ dense_counted OfCustomer get_customer Customers is_customer l.rows.customers.items (customers_are h) i
+      let paid_count =
+      sym (payments_counted (district_keys l.scale) (kept Histories l.rows) (paid h).few) ∙ ap length (are_kept h Histories) ∙ table_counted Histories in
+      λ i. dense_counted Items (kept Items l.rows) (are_kept h Items) i
+      ∷ dense_counted Warehouses (kept Warehouses l.rows) (are_kept h Warehouses) i
+      ∷ dense_counted Districts (kept Districts l.rows) (are_kept h Districts) i
+      ∷ dense_counted Stocks (kept Stocks l.rows) (are_kept h Stocks) i
+      ∷ dense_counted Customers (kept Customers l.rows) (are_kept h Customers) i
       ∷ paid_count i
-      ∷ ordered_counted OfOrder get_order Orders is_order l.rows.orders.entries (orders_are h) i
-      ∷ ordered_counted OfNewOrder get_new_order NewOrders is_new_order l.rows.new_orders.entries (new_orders_are h) i
-      ∷ ordered_counted OfLine get_line Lines is_line l.rows.lines (lines_are h) i ∷ []
+      ∷ (ap length (are_kept h Orders) ∙ table_counted Orders) i
+      ∷ (ap length (are_kept h NewOrders) ∙ table_counted NewOrders) i
+      ∷ (ap length (are_kept h Lines) ∙ table_counted Lines) i ∷ []
 
 pub counts_loaded : (l : Loader) (read : List (List (List ℕ))) → HasLoaded l read → table_counts l.rows ≡ counts read
 counts_loaded l read h = all_counted l h.header h.records (rows_read (sizes l.scale) h.records) h.is_spelt h.rows ∙ ap counts (sym h.are)

@@ -20,15 +20,8 @@ use Rattle.dataset.proofs.ColumnFields.{AreIn, AreSmall, IsIn, IsSmall, field_of
 
 -- a column of texts that are no longer than C_DATA
 unfoldable pub is_narrow : Column → Bool
-is_narrow (Whole low high) = true
 is_narrow (Texts width) = nat_le width 500
-is_narrow Cents = true
-is_narrow Moment = true
-is_narrow Credit = true
-is_narrow (MaybeWhole low high) = true
-is_narrow MaybeMoment = true
-is_narrow (Count count) = true
-is_narrow (Spelt fault) = true
+is_narrow column = true
 
 pub short_number : (n : ℕ) (text : List ℕ) → n < 2 ^ 64 → text ≡ decimal n → length text ≤ 500
 short_number n text small spelt = rw spelt (let long = length-decimal-le 20 n (omega arith) (omega arith) small in omega (arith, long))

@@ -1,19 +1,18 @@
--- The entries of a finite map: they ascend, and what each row of the map passes.
-use Rattle.std.proofs.Common.{◌≡◌, Bool, true, false, ◌&&◌, T, List, [], ◌∷◌, map, IsTrue, is_some, refl, sym, ap, subst, ◌∙◌}
-use Rattle.std.specs.List.{AllByRecursion, list_all}
+-- The entries of a finite map: they ascend, and what holds of each.
+use Rattle.std.proofs.Common.{◌≡◌, Bool, true, false, ◌&&◌, T, List, [], ◌∷◌, map, refl, sym, ◌∙◌, Some}
+use Rattle.std.specs.List.{AllByRecursion}
 use Rattle.std.specs.List.Sorted.{IsStrictlySortedBy}
-use Rattle.std.specs.Map.{keys_of}
+use Rattle.std.specs.Map.{keys_of, values_of}
 use Rattle.std.specs.Ordering.{is_lt}
 use Rattle.std.specs.declared.cmp.Ordering.{Ordering}
 use Rattle.std.specs.declared.cmp.Ordering.TheVariants.{Less, Equal, Greater}
 use Rattle.std.specs.Cmp.{IsTotalOrder}
-use Rattle.std.specs.FinMap.{FinMap, IsAntisymmetric, contains_key, contains_key-keys, entries, entries_sorted, from_entries, get-entries, get-from_entries, same_map}
-use Rattle.std.specs.FinMap.Entries.{is_sorted, below_all}
+use Rattle.std.specs.FinMap.{FinMap, IsAntisymmetric, contains_key, contains_key-keys, entries, entries_sorted, get, get-entries}
+use Rattle.std.specs.FinMap.Entries.{find, is_sorted, below_all}
+use Rattle.std.proofs.lemmas.Cmp.{tied_itself}
 use Rattle.std.proofs.lemmas.Map.Lookups.{btree_set_from_contains}
 use Rattle.std.specs.BTreeSet.{BTreeSet}
-use Rattle.std.proofs.lemmas.Bool.{and_parts}
-use Rattle.schema.specs.EachRow.{EachRow}
-use Rattle.schema.proofs.EachRows.{EachRow-entries}
+use Rattle.dataset.proofs.Order.{turned}
 
 first : (b c : Bool) → T (b && c) → T b
 first true c h = tt
@@ -41,33 +40,33 @@ module _ {K X : Type 0} (R : K → K → Ordering) where
 pub entries_ascend : {K X : Type 0} {R : K → K → Ordering} (m : FinMap R X) → IsStrictlySortedBy R (keys_of (entries m))
 entries_ascend {R = R} m = ascend R (entries m) (entries_sorted m)
 
--- ---- tests of rows
+-- ---- of each entry
 
-module _ {K X : Type 0} {R : K → K → Ordering} (o : IsTotalOrder R) (exact : IsAntisymmetric R) where
-  made_of_entries : (m : FinMap R X) → m ≡ from_entries (entries m)
-  made_of_entries m = same_map o exact m (from_entries (entries m)) (λ q. get-entries m q ∙ sym (get-from_entries o (entries m) q))
-
-  -- a test that each row passes
-  pub rows_pass : (test : K → X → Bool) (m : FinMap R X) → EachRow test m → IsTrue (list_all (λ e. test e.0 e.1) (entries m))
-  rows_pass test m h = (EachRow-entries o exact test (entries m) (entries_ascend m)).1 (subst (EachRow test) (made_of_entries m) h)
-
--- a test of keys that passes where there is a row
-pub keys_pass : {K X : Type 0} {R : K → K → Ordering} (has : K → Bool) (m : FinMap R X) → ((key : K) → contains_key m key ≡ has key) → EachRow (λ key _. has key) m
-keys_pass has m h key row found = sym (h key) ∙ ap is_some found
-
--- ---- of each of a list
-
-pub all-true : {X : Type 0} (test : X → Bool) (xs : List X) → IsTrue (list_all test xs) → AllByRecursion (λ x. IsTrue (test x)) xs
-all-true test [] h = tt
-all-true test (x ∷ xs) h = let parts = and_parts (test x) (list_all test xs) h in (parts.0, all-true test xs parts.1)
-
-pub all-both : {X : Type 0} (P Q S : X → Type 0) → ((x : X) → P x → Q x → S x) → (xs : List X) → AllByRecursion P xs → AllByRecursion Q xs → AllByRecursion S xs
+all-both : {X : Type 0} (P Q S : X → Type 0) → ((x : X) → P x → Q x → S x) → (xs : List X) → AllByRecursion P xs → AllByRecursion Q xs → AllByRecursion S xs
 all-both P Q S f [] h g = tt
 all-both P Q S f (x ∷ xs) h g = (f x h.0 g.0, all-both P Q S f xs h.1 g.1)
 
-pub all-of_values : {K X : Type 0} (P : X → Type 0) (es : List (K × X)) → AllByRecursion P (map (λ e. e.1) es) → AllByRecursion (λ e. P e.1) es
+all-of_values : {K X : Type 0} (P : X → Type 0) (es : List (K × X)) → AllByRecursion P (map (λ e. e.1) es) → AllByRecursion (λ e. P e.1) es
 all-of_values P [] h = tt
 all-of_values P (e ∷ es) h = (h.0, all-of_values P es h.1)
+
+-- the row of an entry is found under its key
+found_in : {K X : Type 0} {R : K → K → Ordering} → IsTotalOrder R → (es : List (K × X)) → IsStrictlySortedBy R (keys_of es)
+    → AllByRecursion (λ e. find R e.0 es ≡ Some e.1) es
+unfolding IsStrictlySortedBy
+found_in o [] sorted = tt
+found_in {K} {X} {R} o (e ∷ es) sorted = (rw (tied_itself o e.0) refl, later es sorted.0 (found_in o es sorted.1))
+  where
+    later : (ds : List (K × X)) → AllByRecursion (λ k. R e.0 k ≡ Less) (keys_of ds) → AllByRecursion (λ d. find R d.0 es ≡ Some d.1) ds
+        → AllByRecursion (λ d. find R d.0 (e ∷ es) ≡ Some d.1) ds
+    later [] above found = tt
+    later (d ∷ ds) above found = (rw (turned o e.0 d.0 above.0) found.0, later ds above.1 found.1)
+
+-- what holds of each row that is found and whose columns are as they are holds of each entry
+pub each_entry : {K X : Type 0} {R : K → K → Ordering} {Q : K × X → Type 0} (P : X → Type 0) → IsTotalOrder R → (m : FinMap R X)
+    → AllByRecursion P (values_of (entries m)) → ((e : K × X) → get m e.0 ≡ Some e.1 → P e.1 → Q e) → AllByRecursion Q (entries m)
+each_entry P o m columns each =
+    all-both _ _ _ (λ e found. each e (get-entries m e.0 ∙ found)) (entries m) (found_in o (entries m) (entries_ascend m)) (all-of_values P (entries m) columns)
 
 -- ---- maps with the same keys
 

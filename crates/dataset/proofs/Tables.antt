@@ -1,11 +1,10 @@
 -- The rows that a loop goes over are those of the tables.
-use Rattle.std.proofs.Common.{◌≡◌, ℕ, ◌+◌, ◌≤◌, List, [], ◌∷◌, ◌++◌, map, length, sum, codes, refl, sym, ap, subst, ◌∙◌, arith}
+use Rattle.std.proofs.Common.{◌≡◌, Bool, ℕ, ◌+◌, ◌≤◌, List, [], ◌∷◌, ◌++◌, map, length, sum, codes, refl, sym, ap, subst, ◌∙◌, arith}
 use Rattle.std.specs.List.{zip, flat_map, AllZip}
 use Rattle.std.specs.List.Sorted.{IsStrictlySortedBy}
 use Rattle.std.specs.Map.{keys_of}
 use Rattle.std.specs.BTreeMap.{IsOrdered}
 use Rattle.std.specs.declared.cmp.Ordering.{Ordering}
-use Rattle.std.specs.Cmp.{IsTotalOrder, nat_cmp_total}
 use Rattle.std.specs.FinMap.{entries, from_entries}
 use Rattle.std.proofs.lemmas.List.{length-append, length-map}
 use Rattle.std.proofs.lemmas.List.Sums.{sum-map, sum_by-cons}
@@ -22,16 +21,17 @@ use Rattle.schema.specs.declared.scale.Scale.{Scale}
 use Rattle.schema.specs.declared.table_rows.TableRows.{TableRows}
 use Rattle.schema.specs.Scale.{item_ids, warehouse_ids, district_keys, stock_keys, customer_keys}
 use Rattle.schema.specs.Rows.{database, HasCounts}
-use Rattle.schema.proofs.KeyOrders.{districts_total, stocks_total, customers_total, orders_total, lines_total}
+use Rattle.schema.proofs.KeyOrders.{orders_total, lines_total}
 use Rattle.schema.proofs.OrderedParts.{entries-ordered}
 use Rattle.schema.proofs.ScalePlaces.{length-item_ids, length-warehouse_ids, length-district_keys, length-stock_keys, length-customer_keys}
 use Rattle.dataset.specs.Records.{Field, Words, Number, AreSpelt, AreRecords, row_records, table_records, payment_records, records, records_by_table, end_fields, header_fields, item_fields, warehouse_fields, district_fields, stock_fields, customer_fields, history_fields, order_fields, new_order_fields, line_fields}
 use Rattle.dataset.specs.Writing.{count_fields}
-use Rattle.dataset.proofs.Keys.{sorted-item_ids, sorted-warehouse_ids, sorted-district_keys, sorted-stock_keys, sorted-customer_keys}
+use Rattle.dataset.proofs.Keys.{AreScaleKeys, customers_of_scale, districts_of_scale, items_of_scale, stocks_of_scale, warehouses_of_scale}
 
 -- the entries of a table whose rows stand in the order of its keys
-pub dense : {K X : Type 0} {R : K → K → Ordering} → IsTotalOrder R → (ks : List K) (xs : List X) → IsStrictlySortedBy R ks → length xs ≡ length ks → entries (from_entries {R = R} (zip ks xs)) ≡ zip ks xs
-dense {R = R} o ks xs sorted even = entries-ordered o (zip ks xs) (subst (IsStrictlySortedBy R) (sym (firsts-zip ks xs even)) sorted)
+pub dense : {K X : Type 0} {R : K → K → Ordering} {has : K → Bool} {ks : List K} → AreScaleKeys R has ks → (xs : List X) → length xs ≡ length ks
+    → entries (from_entries {R = R} (zip ks xs)) ≡ zip ks xs
+dense {R = R} {ks = ks} keys xs even = entries-ordered keys.total (zip ks xs) (subst (IsStrictlySortedBy R) (sym (firsts-zip ks xs even)) keys.sorted)
 
 length-payments : (ks : List DistrictKey) (lists : List (List History)) → length lists ≡ length ks → length (payment_records (zip ks lists)) ≡ sum (map length lists)
 length-payments [] [] even = refl
@@ -125,12 +125,12 @@ module _ (scale : Scale) (rows : TableRows) where
     sorted : records_by_table (database scale rows) ≡ sorted_by_table
     unfolding records_by_table
     sorted i =
-        row_records item_fields (dense nat_cmp_total (item_ids scale) rows.items.items (sorted-item_ids scale) item_count i)
-        ∷ row_records warehouse_fields (dense nat_cmp_total (warehouse_ids scale) rows.warehouses.items (sorted-warehouse_ids scale) warehouse_count i)
-        ∷ row_records district_fields (dense districts_total (district_keys scale) rows.districts.items (sorted-district_keys scale) district_count i)
-        ∷ row_records stock_fields (dense stocks_total (stock_keys scale) rows.stocks.items (sorted-stock_keys scale) stock_count i)
-        ∷ row_records customer_fields (dense customers_total (customer_keys scale) rows.customers.items (sorted-customer_keys scale) customer_count i)
-        ∷ payment_records (dense districts_total (district_keys scale) rows.histories.items (sorted-district_keys scale) history_count i)
+        row_records item_fields (dense (items_of_scale scale) rows.items.items item_count i)
+        ∷ row_records warehouse_fields (dense (warehouses_of_scale scale) rows.warehouses.items warehouse_count i)
+        ∷ row_records district_fields (dense (districts_of_scale scale) rows.districts.items district_count i)
+        ∷ row_records stock_fields (dense (stocks_of_scale scale) rows.stocks.items stock_count i)
+        ∷ row_records customer_fields (dense (customers_of_scale scale) rows.customers.items customer_count i)
+        ∷ payment_records (dense (districts_of_scale scale) rows.histories.items history_count i)
         ∷ ordered_by_table
 
     -- the tables' records are the header, those, and the end

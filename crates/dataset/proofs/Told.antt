@@ -1,5 +1,6 @@
 -- Tables within their scale and the ranges of their columns are told by their records.
-use Rattle.std.proofs.Common.{◌≡◌, ℕ, List, [], ◌∷◌, ◌++◌, map, Option, Some, None, refl, sym, ap, subst, ◌∙◌, arith}
+use Rattle.std.proofs.Common.{◌≡◌, ◌==◌, ℕ, Bool, true, false, List, [], ◌∷◌, ◌++◌, map, refl, sym, ap, subst, ◌∙◌, arith}
+use Rattle.std.specs.Prelude.{if◌then◌else◌}
 use Rattle.std.specs.List.{AllByRecursion, AllZip, flat_map}
 use Rattle.std.specs.List.Sorted.{IsStrictlySortedBy}
 use Rattle.std.specs.Map.{keys_of}
@@ -19,15 +20,17 @@ use Rattle.schema.specs.Limits.{IsScale}
 use Rattle.schema.specs.Scale.{has_district}
 use Rattle.schema.specs.Database.{Database, IsWithinScale}
 use Rattle.schema.proofs.KeyOrders.{districts_total, districts_exact}
-use Rattle.dataset.specs.Columns.{sizes}
+use Rattle.dataset.specs.Columns.{Table, Items, Warehouses, Districts, Stocks, Customers, Histories, Orders, NewOrders, Lines, sizes, table_number}
 use Rattle.dataset.specs.Ranges.{InRange}
 use Rattle.dataset.specs.RecordLaws.{RecordsTellTables}
 use Rattle.dataset.specs.Records.{IsSpelt, AreSpelt, AreRecords, records, records_by_table, header_fields, end_fields}
-use Rattle.dataset.specs.TableRow.{TableRow, OfItem, OfWarehouse, OfDistrict, OfStock, OfCustomer, OfHistory, OfOrder, OfNewOrder, OfLine, RowFits, kind_rows, record_rows, row_fields, rows_read}
-use Rattle.dataset.proofs.AllRows.{all_records, all_rows, records_of_rows, rows_by_table, rows_fit, rows_of, rows_paid}
-use Rattle.dataset.proofs.Contents.{entries_in, get_item, get_warehouse, get_district, get_stock, get_customer, get_history, get_order, get_new_order, get_line, with_entry}
+use Rattle.dataset.specs.TableRow.{TableRow, RowFits, kind_rows, record_rows, row_fields, rows_read}
+use Rattle.dataset.proofs.AllRows.{all_records, all_rows, entries_at, records_of_rows, rows_at, rows_fit, rows_of}
+use Rattle.dataset.proofs.Contents.{entries_of, of_entries, of_table, with_row}
+use Rattle.dataset.proofs.EachTable.{EntryOf, all_tables, get_made, make, number_made, number_of_row}
+use Rattle.dataset.proofs.Keys.{all-weaker}
 use Rattle.dataset.proofs.LetterFault.{kind_of_letter}
-use Rattle.dataset.proofs.Payments.{payments_of}
+use Rattle.dataset.proofs.Payments.{all-payments, payments_of}
 use Rattle.dataset.proofs.RowFields.{row_reads}
 use Rattle.dataset.proofs.TableEntries.{entries_ascend, same_keys}
 
@@ -45,86 +48,47 @@ read_all scale (row ∷ rows) (text ∷ texts) fit spelt =
 
 -- ---- what each table has of all rows
 
-in-append : {K X : Type 0} (get : TableRow → Option (K × X)) (xs ys : List TableRow) → entries_in get (xs ++ ys) ≡ entries_in get xs ++ entries_in get ys
-in-append get [] ys = refl
-in-append {K} {X} get (x ∷ xs) ys = ap (with_entry (get x)) (in-append get xs ys) ∙ front (get x) (entries_in get xs) (entries_in get ys)
+-- the rows of a table are all of it, or none is
+of_part : (n : ℕ) (table : Table) (b : Bool) → (table_number table == n) ≡ b → (es : List (EntryOf table))
+    → of_table n (rows_of table es) ≡ (if b then rows_of table es else [])
+of_part n table true own [] = refl
+of_part n table true own (e ∷ es) = rw (number_made table e, own) (ap (λ l. make table e ∷ l) (of_part n table true own es))
+of_part n table false other [] = refl
+of_part n table false other (e ∷ es) = rw (number_made table e, other) (of_part n table false other es)
+
+of_append : (n : ℕ) (xs ys : List TableRow) → of_table n (xs ++ ys) ≡ of_table n xs ++ of_table n ys
+of_append n [] ys = refl
+of_append n (x ∷ xs) ys = ap (with_row (number_of_row x == n) x) (of_append n xs ys) ∙ front (number_of_row x == n) (of_table n xs)
   where
-    front : (r : Option (K × X)) (es ds : List (K × X)) → with_entry r (es ++ ds) ≡ with_entry r es ++ ds
-    front None es ds = refl
-    front (Some e) es ds = refl
+    front : (b : Bool) (rows : List TableRow) → with_row b x (rows ++ of_table n ys) ≡ with_row b x rows ++ of_table n ys
+    front true rows = refl
+    front false rows = refl
 
-in-flat : {K X : Type 0} (get : TableRow → Option (K × X)) (parts : List (List TableRow)) (all : List (List (K × X))) → AllZip (λ part es. entries_in get part ≡ es) parts all
-    → entries_in get (flat_map (λ part. part) parts) ≡ flat_map (λ es. es) all
-in-flat get [] [] h = refl
-in-flat get [] (es ∷ all) h = absurd h
-in-flat get (part ∷ parts) [] h = absurd h
-in-flat get (part ∷ parts) (es ∷ all) h =
-    in-append get part (flat_map (λ p. p) parts) ∙ ap (λ l. l ++ entries_in get (flat_map (λ p. p) parts)) h.0 ∙ ap (λ l. es ++ l) (in-flat get parts all h.1)
+of_parts : (n : ℕ) (part : Table → List TableRow) (tables : List Table) → of_table n (flat_map part tables) ≡ flat_map (λ table. of_table n (part table)) tables
+of_parts n part [] = refl
+of_parts n part (table ∷ tables) = of_append n (part table) (flat_map part tables) ∙ ap (λ l. of_table n (part table) ++ l) (of_parts n part tables)
 
-module _ {K X : Type 0} (get : TableRow → Option (K × X)) where
-  own : (make : K → X → TableRow) → ((k : K) (x : X) → get (make k x) ≡ Some (k, x)) → (es : List (K × X)) → entries_in get (rows_of make es) ≡ es
-  own make found [] = refl
-  own make found (e ∷ es) = ap (λ r. with_entry r (entries_in get (rows_of make es))) (found e.0 e.1) ∙ ap (λ l. e ∷ l) (own make found es)
-
-  none : {J Y : Type 0} (make : J → Y → TableRow) → ((k : J) (x : Y) → get (make k x) ≡ None) → (es : List (J × Y)) → entries_in get (rows_of make es) ≡ []
-  none make other [] = refl
-  none make other (e ∷ es) = ap (λ r. with_entry r (entries_in get (rows_of make es))) (other e.0 e.1) ∙ none make other es
-
-  none_of_list : (home : DistrictKey) → ((x : History) → get (OfHistory home x) ≡ None) → (rows : List History) → entries_in get (map (OfHistory home) rows) ≡ []
-  none_of_list home other [] = refl
-  none_of_list home other (row ∷ rows) = ap (λ r. with_entry r (entries_in get (map (OfHistory home) rows))) (other row) ∙ none_of_list home other rows
-
-  none_paid : ((k : DistrictKey) (x : History) → get (OfHistory k x) ≡ None) → (es : List (DistrictKey × List History)) → entries_in get (rows_paid es) ≡ []
-  none_paid other [] = refl
-  none_paid other (e ∷ es) =
-      in-append get (map (OfHistory e.0) e.1) (rows_paid es) ∙ ap (λ l. l ++ entries_in get (rows_paid es)) (none_of_list e.0 (other e.0) e.1) ∙ none_paid other es
-
-own_list : (home : DistrictKey) (rows : List History) → entries_in get_history (map (OfHistory home) rows) ≡ map (λ row. (home, row)) rows
-own_list home [] = refl
-own_list home (row ∷ rows) = ap (λ l. (home, row) ∷ l) (own_list home rows)
-
-own_paid : (es : List (DistrictKey × List History)) → entries_in get_history (rows_paid es) ≡ payments_of es
-own_paid [] = refl
-own_paid (e ∷ es) =
-    in-append get_history (map (OfHistory e.0) e.1) (rows_paid es) ∙ ap (λ l. l ++ entries_in get_history (rows_paid es)) (own_list e.0 e.1)
-    ∙ ap (λ l. map (λ row. (e.0, row)) e.1 ++ l) (own_paid es)
+entries_made : (table : Table) (es : List (EntryOf table)) → entries_of table (rows_of table es) ≡ es
+entries_made table [] = refl
+entries_made table (e ∷ es) = rw (get_made table e) (ap (λ l. e ∷ l) (entries_made table es))
 
 module _ (t : Database) where
-  pub all_items : entries_in get_item (all_rows t) ≡ entries t.items
-  unfolding all_rows rows_by_table
-  all_items = in-flat get_item (rows_by_table t) (entries t.items ∷ [] ∷ [] ∷ [] ∷ [] ∷ [] ∷ [] ∷ [] ∷ [] ∷ []) (own get_item OfItem (λ k x. refl) (entries t.items), (none get_item OfWarehouse (λ k x. refl) (entries t.warehouses), (none get_item OfDistrict (λ k x. refl) (entries t.districts), (none get_item OfStock (λ k x. refl) (entries t.stocks), (none get_item OfCustomer (λ k x. refl) (entries t.customers), (none_paid get_item (λ k x. refl) (entries t.histories), (none get_item OfOrder (λ k x. refl) (entries t.orders), (none get_item OfNewOrder (λ k x. refl) (entries t.new_orders), (none get_item OfLine (λ k x. refl) (entries t.lines), tt))))))))) ∙ append-nil (entries t.items)
+  -- among all rows
+  own_rows : (table : Table) → of_table (table_number table) (all_rows t) ≡ rows_at t table
+  unfolding all_rows
+  own_rows table =
+      of_parts (table_number table) (rows_at t) all_tables
+      ∙ (λ i. flat_map (λ other. of_part (table_number table) other (table_number other == table_number table) refl (entries_at other t) i) all_tables)
+      ∙ only_one table
+    where
+      only_one : (table : Table) → flat_map (λ other. if table_number other == table_number table then rows_at t other else []) all_tables ≡ rows_at t table
+      only_one Items = append-nil (rows_at t Items)
+      only_one table = append-nil (rows_at t table)
 
-  pub all_warehouses : entries_in get_warehouse (all_rows t) ≡ entries t.warehouses
-  unfolding all_rows rows_by_table
-  all_warehouses = in-flat get_warehouse (rows_by_table t) ([] ∷ entries t.warehouses ∷ [] ∷ [] ∷ [] ∷ [] ∷ [] ∷ [] ∷ [] ∷ []) (none get_warehouse OfItem (λ k x. refl) (entries t.items), (own get_warehouse OfWarehouse (λ k x. refl) (entries t.warehouses), (none get_warehouse OfDistrict (λ k x. refl) (entries t.districts), (none get_warehouse OfStock (λ k x. refl) (entries t.stocks), (none get_warehouse OfCustomer (λ k x. refl) (entries t.customers), (none_paid get_warehouse (λ k x. refl) (entries t.histories), (none get_warehouse OfOrder (λ k x. refl) (entries t.orders), (none get_warehouse OfNewOrder (λ k x. refl) (entries t.new_orders), (none get_warehouse OfLine (λ k x. refl) (entries t.lines), tt))))))))) ∙ append-nil (entries t.warehouses)
-
-  pub all_districts : entries_in get_district (all_rows t) ≡ entries t.districts
-  unfolding all_rows rows_by_table
-  all_districts = in-flat get_district (rows_by_table t) ([] ∷ [] ∷ entries t.districts ∷ [] ∷ [] ∷ [] ∷ [] ∷ [] ∷ [] ∷ []) (none get_district OfItem (λ k x. refl) (entries t.items), (none get_district OfWarehouse (λ k x. refl) (entries t.warehouses), (own get_district OfDistrict (λ k x. refl) (entries t.districts), (none get_district OfStock (λ k x. refl) (entries t.stocks), (none get_district OfCustomer (λ k x. refl) (entries t.customers), (none_paid get_district (λ k x. refl) (entries t.histories), (none get_district OfOrder (λ k x. refl) (entries t.orders), (none get_district OfNewOrder (λ k x. refl) (entries t.new_orders), (none get_district OfLine (λ k x. refl) (entries t.lines), tt))))))))) ∙ append-nil (entries t.districts)
-
-  pub all_stocks : entries_in get_stock (all_rows t) ≡ entries t.stocks
-  unfolding all_rows rows_by_table
-  all_stocks = in-flat get_stock (rows_by_table t) ([] ∷ [] ∷ [] ∷ entries t.stocks ∷ [] ∷ [] ∷ [] ∷ [] ∷ [] ∷ []) (none get_stock OfItem (λ k x. refl) (entries t.items), (none get_stock OfWarehouse (λ k x. refl) (entries t.warehouses), (none get_stock OfDistrict (λ k x. refl) (entries t.districts), (own get_stock OfStock (λ k x. refl) (entries t.stocks), (none get_stock OfCustomer (λ k x. refl) (entries t.customers), (none_paid get_stock (λ k x. refl) (entries t.histories), (none get_stock OfOrder (λ k x. refl) (entries t.orders), (none get_stock OfNewOrder (λ k x. refl) (entries t.new_orders), (none get_stock OfLine (λ k x. refl) (entries t.lines), tt))))))))) ∙ append-nil (entries t.stocks)
-
-  pub all_customers : entries_in get_customer (all_rows t) ≡ entries t.customers
-  unfolding all_rows rows_by_table
-  all_customers = in-flat get_customer (rows_by_table t) ([] ∷ [] ∷ [] ∷ [] ∷ entries t.customers ∷ [] ∷ [] ∷ [] ∷ [] ∷ []) (none get_customer OfItem (λ k x. refl) (entries t.items), (none get_customer OfWarehouse (λ k x. refl) (entries t.warehouses), (none get_customer OfDistrict (λ k x. refl) (entries t.districts), (none get_customer OfStock (λ k x. refl) (entries t.stocks), (own get_customer OfCustomer (λ k x. refl) (entries t.customers), (none_paid get_customer (λ k x. refl) (entries t.histories), (none get_customer OfOrder (λ k x. refl) (entries t.orders), (none get_customer OfNewOrder (λ k x. refl) (entries t.new_orders), (none get_customer OfLine (λ k x. refl) (entries t.lines), tt))))))))) ∙ append-nil (entries t.customers)
-
-  pub all_histories : entries_in get_history (all_rows t) ≡ payments_of (entries t.histories)
-  unfolding all_rows rows_by_table
-  all_histories = in-flat get_history (rows_by_table t) ([] ∷ [] ∷ [] ∷ [] ∷ [] ∷ payments_of (entries t.histories) ∷ [] ∷ [] ∷ [] ∷ []) (none get_history OfItem (λ k x. refl) (entries t.items), (none get_history OfWarehouse (λ k x. refl) (entries t.warehouses), (none get_history OfDistrict (λ k x. refl) (entries t.districts), (none get_history OfStock (λ k x. refl) (entries t.stocks), (none get_history OfCustomer (λ k x. refl) (entries t.customers), (own_paid (entries t.histories), (none get_history OfOrder (λ k x. refl) (entries t.orders), (none get_history OfNewOrder (λ k x. refl) (entries t.new_orders), (none get_history OfLine (λ k x. refl) (entries t.lines), tt))))))))) ∙ append-nil (payments_of (entries t.histories))
-
-  pub all_orders : entries_in get_order (all_rows t) ≡ entries t.orders
-  unfolding all_rows rows_by_table
-  all_orders = in-flat get_order (rows_by_table t) ([] ∷ [] ∷ [] ∷ [] ∷ [] ∷ [] ∷ entries t.orders ∷ [] ∷ [] ∷ []) (none get_order OfItem (λ k x. refl) (entries t.items), (none get_order OfWarehouse (λ k x. refl) (entries t.warehouses), (none get_order OfDistrict (λ k x. refl) (entries t.districts), (none get_order OfStock (λ k x. refl) (entries t.stocks), (none get_order OfCustomer (λ k x. refl) (entries t.customers), (none_paid get_order (λ k x. refl) (entries t.histories), (own get_order OfOrder (λ k x. refl) (entries t.orders), (none get_order OfNewOrder (λ k x. refl) (entries t.new_orders), (none get_order OfLine (λ k x. refl) (entries t.lines), tt))))))))) ∙ append-nil (entries t.orders)
-
-  pub all_new_orders : entries_in get_new_order (all_rows t) ≡ entries t.new_orders
-  unfolding all_rows rows_by_table
-  all_new_orders = in-flat get_new_order (rows_by_table t) ([] ∷ [] ∷ [] ∷ [] ∷ [] ∷ [] ∷ [] ∷ entries t.new_orders ∷ [] ∷ []) (none get_new_order OfItem (λ k x. refl) (entries t.items), (none get_new_order OfWarehouse (λ k x. refl) (entries t.warehouses), (none get_new_order OfDistrict (λ k x. refl) (entries t.districts), (none get_new_order OfStock (λ k x. refl) (entries t.stocks), (none get_new_order OfCustomer (λ k x. refl) (entries t.customers), (none_paid get_new_order (λ k x. refl) (entries t.histories), (none get_new_order OfOrder (λ k x. refl) (entries t.orders), (own get_new_order OfNewOrder (λ k x. refl) (entries t.new_orders), (none get_new_order OfLine (λ k x. refl) (entries t.lines), tt))))))))) ∙ append-nil (entries t.new_orders)
-
-  pub all_lines : entries_in get_line (all_rows t) ≡ entries t.lines
-  unfolding all_rows rows_by_table
-  all_lines = in-flat get_line (rows_by_table t) ([] ∷ [] ∷ [] ∷ [] ∷ [] ∷ [] ∷ [] ∷ [] ∷ entries t.lines ∷ []) (none get_line OfItem (λ k x. refl) (entries t.items), (none get_line OfWarehouse (λ k x. refl) (entries t.warehouses), (none get_line OfDistrict (λ k x. refl) (entries t.districts), (none get_line OfStock (λ k x. refl) (entries t.stocks), (none get_line OfCustomer (λ k x. refl) (entries t.customers), (none_paid get_line (λ k x. refl) (entries t.histories), (none get_line OfOrder (λ k x. refl) (entries t.orders), (none get_line OfNewOrder (λ k x. refl) (entries t.new_orders), (own get_line OfLine (λ k x. refl) (entries t.lines), tt))))))))) ∙ append-nil (entries t.lines)
+  pub entries_in_all : (table : Table) → entries_of table (all_rows t) ≡ entries_at table t
+  entries_in_all table =
+      sym (entries_made table (entries_of table (all_rows t))) ∙ ap (entries_of table) (sym (of_entries table (all_rows t)) ∙ own_rows table)
+      ∙ entries_made table (entries_at table t)
 
 -- ---- the payments of districts
 
@@ -146,14 +110,9 @@ split_paid home (x ∷ xs) (y ∷ ys) ps qs h g e =
 not_home : (home other : DistrictKey) → district_cmp home other ≡ Less → other ≡ home → ⊥
 not_home home other less e = let same = ap (district_cmp home) e ∙ tied_itself districts_total home in let clash = sym less ∙ same in cc
 
-not_of_list : (home other : DistrictKey) → district_cmp home other ≡ Less → (rows : List History) (ps : List (DistrictKey × History)) → AllByRecursion (λ (p : DistrictKey × History). p.0 ≡ home → ⊥) ps
-    → AllByRecursion (λ (p : DistrictKey × History). p.0 ≡ home → ⊥) (map (λ row. (other, row)) rows ++ ps)
-not_of_list home other less [] ps h = h
-not_of_list home other less (row ∷ rows) ps h = (not_home home other less, not_of_list home other less rows ps h)
-
-not_later : (home : DistrictKey) (es : List (DistrictKey × List History)) → AllByRecursion (λ k. district_cmp home k ≡ Less) (keys_of es) → AllByRecursion (λ (p : DistrictKey × History). p.0 ≡ home → ⊥) (payments_of es)
-not_later home [] h = tt
-not_later home (e ∷ es) h = not_of_list home e.0 h.0 e.1 (payments_of es) (not_later home es h.1)
+not_later : (home : DistrictKey) (es : List (DistrictKey × List History)) → AllByRecursion (λ k. district_cmp home k ≡ Less) (keys_of es)
+    → AllByRecursion (λ (p : DistrictKey × History). p.0 ≡ home → ⊥) (payments_of es)
+not_later home es h = all-payments (λ k. k ≡ home → ⊥) es (all-weaker _ _ (λ k less. not_home home k less) (keys_of es) h)
 
 -- the lists of the same districts are told by their payments
 pub same_lists : (es ds : List (DistrictKey × List History)) → keys_of es ≡ keys_of ds → IsStrictlySortedBy district_cmp (keys_of es) → payments_of es ≡ payments_of ds → es ≡ ds
@@ -227,16 +186,19 @@ records_tell_tables t u w v h g (header ∷ body) s r =
     let other = rows_told u v g header body r in
     let scale = scale_told t.scale u.scale header one.0 other.0 in
     let same : all_rows t ≡ all_rows u = sym one.1 ∙ ap (λ (c : Scale). rows_read (sizes c) (init body)) scale ∙ other.1 in
-    let items = same_entries_map t.items u.items (sym (all_items t) ∙ ap (entries_in get_item) same ∙ all_items u) in
-    let warehouses = same_entries_map t.warehouses u.warehouses (sym (all_warehouses t) ∙ ap (entries_in get_warehouse) same ∙ all_warehouses u) in
-    let districts = same_entries_map t.districts u.districts (sym (all_districts t) ∙ ap (entries_in get_district) same ∙ all_districts u) in
-    let stocks = same_entries_map t.stocks u.stocks (sym (all_stocks t) ∙ ap (entries_in get_stock) same ∙ all_stocks u) in
-    let customers = same_entries_map t.customers u.customers (sym (all_customers t) ∙ ap (entries_in get_customer) same ∙ all_customers u) in
+    let told : (table : Table) → entries_at table t ≡ entries_at table u = λ table.
+    sym (entries_in_all t table) ∙ ap (entries_of table) same ∙ entries_in_all u table in
+    let items = same_entries_map t.items u.items (told Items) in
+    let warehouses = same_entries_map t.warehouses u.warehouses (told Warehouses) in
+    let districts = same_entries_map t.districts u.districts (told Districts) in
+    let stocks = same_entries_map t.stocks u.stocks (told Stocks) in
+    let customers = same_entries_map t.customers u.customers (told Customers) in
     let homes = same_keys districts_total districts_exact t.histories u.histories (λ q. w.histories q ∙ ap (λ (l : Scale). has_district l q) scale ∙ sym (v.histories q)) in
-    let histories = same_entries_map t.histories u.histories (same_lists (entries t.histories) (entries u.histories) homes (entries_ascend t.histories) (sym (all_histories t) ∙ ap (entries_in get_history) same ∙ all_histories u)) in
-    let orders = same_entries_map t.orders u.orders (sym (all_orders t) ∙ ap (entries_in get_order) same ∙ all_orders u) in
-    let new_orders = same_entries_map t.new_orders u.new_orders (sym (all_new_orders t) ∙ ap (entries_in get_new_order) same ∙ all_new_orders u) in
-    let lines = same_entries_map t.lines u.lines (sym (all_lines t) ∙ ap (entries_in get_line) same ∙ all_lines u) in
+    let lists = same_lists (entries t.histories) (entries u.histories) homes (entries_ascend t.histories) (told Histories) in
+    let histories = same_entries_map t.histories u.histories lists in
+    let orders = same_entries_map t.orders u.orders (told Orders) in
+    let new_orders = same_entries_map t.new_orders u.new_orders (told NewOrders) in
+    let lines = same_entries_map t.lines u.lines (told Lines) in
     λ i. record {
       scale = scale i;
       items = items i;

@@ -1,10 +1,7 @@
 -- What was read of a dataset, as far as it was read.
-use Rattle.std.specs.Prelude.{◌≡◌, ℕ, List, [], ◌∷◌, ◌++◌, Option, Bool, map, IsTrue}
+use Rattle.std.specs.Prelude.{◌≡◌, ℕ, List, [], ◌∷◌, ◌++◌, Option, map, IsTrue}
 use Rattle.std.specs.List.{AllByRecursion, AllZip}
-use Rattle.std.specs.List.Sorted.{IsStrictlySortedBy}
-use Rattle.std.specs.Map.{keys_of, values_of}
 use Rattle.std.specs.Ordering.{is_le}
-use Rattle.std.specs.declared.cmp.Ordering.{Ordering}
 use Rattle.schema.specs.declared.scale.Scale.{Scale}
 use Rattle.schema.specs.declared.table_rows.TableRows.{TableRows}
 use Rattle.schema.specs.Rows.{AreNoRows}
@@ -62,12 +59,6 @@ pub record HasLoaded (l : Loader) (read : List (List (List ℕ))) : Type 0 where
   pub is_spelt : AreSpelt (header_fields l.scale) header
   pub rows : HasRows l.scale l.rows l.last records (rows_read (sizes l.scale) records)
   pub last : place_numbers l.last ≡ last_place (sizes l.scale) read
-
--- the entries are these rows, by ascending keys of the scale
-pub record AreKeyed {K X : Type 0} (cmp : K → K → Ordering) (has : K → Bool) (rows : List X) (entries : List (K × X)) : Type 0 where
-  pub are_rows : values_of entries ≡ rows
-  pub ascend : IsStrictlySortedBy cmp (keys_of entries)
-  pub known : AllByRecursion (λ key. IsTrue (has key)) (keys_of entries)
 
 -- the records that were read of a text are those of the loader's rows, and then the end record of these
 pub record HasEnded {R : Type 0} (remaining : R → Option (List ℕ)) (text : List ℕ) (l : Loader) (r : Records R) : Type 0 where
