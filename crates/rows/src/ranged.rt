@@ -9,31 +9,33 @@ pub struct Ranged<const LOW: u32, const HIGH: u32> {
     number: u32,
 }
 
-/// A count that only grows: S_YTD, S_ORDER_CNT, S_REMOTE_CNT, C_PAYMENT_CNT, C_DELIVERY_CNT.
+/// A count that only grows, from 0 to 999,999,999: S_YTD, S_ORDER_CNT, S_REMOTE_CNT, C_PAYMENT_CNT,
+/// C_DELIVERY_CNT (clause 1.3.1).
 pub type Counter = Ranged<0, 999_999_999>;
 
-/// D_NEXT_O_ID: the number that the district's next order gets, or 10,000,000 where all are used.
+/// D_NEXT_O_ID: the number from 1 that the district's next order gets, or 10,000,000 where all are used
+/// (clause 1.3.1).
 pub type NextOrderId = Ranged<1, 10_000_000>;
 
-/// S_QUANTITY: how many of an item a warehouse has.
+/// S_QUANTITY: how many of an item a warehouse has, from 10 to 100 (clause 4.3.3.1).
 pub type StockQuantity = Ranged<10, 100>;
 
-/// I_PRICE, in cents.
+/// I_PRICE, in cents, from 1 to 99,999 (clause 1.3.1).
 pub type Price = Ranged<1, 99_999>;
 
-/// I_IM_ID: the number of the item's picture.
+/// I_IM_ID: the number of the item's picture, from 1 to 10,000 (clause 4.3.3.1).
 pub type ImageId = Ranged<1, 10_000>;
 
-/// O_CARRIER_ID: who delivers.
+/// O_CARRIER_ID: who delivers, from 1 to 10 (clause 2.7.1.2).
 pub type CarrierId = Ranged<1, 10>;
 
-/// O_OL_CNT: how many lines an order has.
+/// O_OL_CNT: how many lines an order has, from 1 to 15 (clause 1.3.1).
 pub type LineCount = Ranged<1, 15>;
 
-/// OL_QUANTITY: how many of an item a line orders.
+/// OL_QUANTITY: how many of an item a line orders, from 1 to 10 (clause 2.4.1.5).
 pub type LineQuantity = Ranged<1, 10>;
 
-/// OL_AMOUNT, in cents.
+/// OL_AMOUNT, in cents, from 0 to 999,999 (clause 1.3.1).
 pub type LineAmount = Ranged<0, 999_999>;
 
 impl<const LOW: u32, const HIGH: u32> Model for Ranged<LOW, HIGH> {
