@@ -13,7 +13,7 @@ use Rattle.rows.specs.declared.records.OrderLine.{OrderLine}
 use Rattle.rows.specs.Keys.{order_cmp}
 use Rattle.schema.specs.declared.scale.Scale.{Scale}
 use Rattle.population.specs.Append.{AreBefore}
-use Rattle.population.specs.Keys.{line_key}
+use Rattle.schema.specs.OrderRows.{line_key}
 use Rattle.population.specs.Book.{is_new_order, line_keys}
 use Rattle.population.proofs.Lists.{each_same, each_kept}
 

@@ -1,5 +1,6 @@
 -- The numbers, the lines and the customers of orders: conditions 2 to 7.
 use Rattle.std.proofs.Common.{◌≡◌, ◌↔◌, ℕ, ◌+◌, ◌-◌, ◌*◌, ◌<◌, ◌≤◌, Bool, true, false, ◌&&◌, ◌==◌, nat_lt, List, [], ◌∷◌, length, map, sum, get_or, IsTrue, is_some, refl, sym, ap, subst, ◌∙◌, arith}
+use Rattle.std.proofs.lemmas.Bool.{and_from}
 use Rattle.std.proofs.lemmas.Bool.Decides.{nat_tests}
 use Rattle.std.proofs.lemmas.List.Elements.{All-from_recursion, All-get_or, filter_agree}
 use Rattle.std.proofs.lemmas.Option.{slice_get-get_or}
@@ -57,9 +58,6 @@ same_order key line =
 -- what is below, by the test
 below_test : (d n : ℕ) → (d < n) ↔ IsTrue (nat_lt d n)
 below_test d n = (λ h. grind (arith, nat_tests), λ h. grind (arith, nat_tests))
-
-both : (b c : Bool) → b ≡ true → c ≡ true → (b && c) ≡ true
-both b c h k = rw (h, k) refl
 
 first : (b c : Bool) → (b && c) ≡ true → b ≡ true
 first true c h = refl
@@ -182,7 +180,7 @@ module _ {seed now : ℕ} (scale : Scale) (rows : TableRows) (h : IsPopulated sc
       let is = order_row scale rows h key row found in
       let there : table.contains_key (database scale rows).orders key ≡ true = ap is_some found in
       let test = below_test (delivered_orders scale) key.o_id in (
-        λ none. new_contained scale rows h key ∙ both _ _ (test.0 (is.carrier.0 none)) there,
+        λ none. new_contained scale rows h key ∙ and_from _ _ (test.0 (is.carrier.0 none)) there,
         λ listed. is.carrier.1 (test.1 (first _ _ (sym (new_contained scale rows h key) ∙ listed))),
       )
 

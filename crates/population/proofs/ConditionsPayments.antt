@@ -24,10 +24,12 @@ use Rattle.schema.specs.Consistency.{amounts_of, is_payer, has_ordered, delivere
 use Rattle.schema.proofs.KeyOrders.{districts_total, districts_exact, customers_total, customers_exact, lines_total}
 use Rattle.schema.proofs.ScaleRules.{district_keys_are, customer_keys_are, history_keys}
 use Rattle.schema.proofs.OrderedParts.{entries-ordered}
+use Rattle.schema.proofs.ScalePlaces.{customer_place, length-customer_keys}
 use Rattle.schema.specs.Sums.{sum_entries}
 use Rattle.consistency.specs.Totals.{sum_of}
 use Rattle.consistency.proofs.BalancesPayments.{paid_in}
-use Rattle.consistency.proofs.BalancesRows.{paid_is}
+use Rattle.consistency.proofs.BalancesRows.{paid_is, customer_at, slot-customer_at}
+use Rattle.consistency.proofs.TotalsDense.{each-dense}
 use Rattle.consistency.proofs.PaymentsRows.{warehouses_add_up, warehouses_paid}
 use Rattle.population.specs.Keys.{district_at}
 use Rattle.population.specs.Rows.{IsOpeningWarehouse, IsOpeningDistrict, IsOpeningCustomer, IsOpeningLine}
@@ -89,7 +91,7 @@ module _ {seed now : ℕ} (scale : Scale) (rows : TableRows) (h : IsPopulated sc
   warehouse_at : (n : ℕ) (row : Warehouse) → slice_get rows.warehouses.items n ≡ Some row → (n < scale.warehouses) × (row.ytd ≡ pos (1000 * scale.customers * 10))
   warehouse_at n row found = (
     omega (arith, slice_get_within rows.warehouses.items n row found, h.warehouses),
-    all_at (IsOpeningWarehouse scale) rows.warehouses.items h.warehouse_rows n row found ∙ ap pos ten_times,
+    (all_at (IsOpeningWarehouse scale) rows.warehouses.items h.warehouse_rows n row found).ytd ∙ ap pos ten_times,
   )
 
   pub sums_of_districts : WarehousesSumDistricts (database scale rows)
@@ -124,8 +126,11 @@ module _ {seed now : ℕ} (scale : Scale) (rows : TableRows) (h : IsPopulated sc
 
   -- ---- 10 and 12
 
-  pub customer_row : (key : CustomerKey) (row : Customer) → table.get (database scale rows).customers key ≡ Some row → IsOpeningCustomer now row
-  customer_row = dense_found customers_total customers_exact (IsOpeningCustomer now) (customer_keys scale) rows.customers.items h.filled.customer_rows
+  pub customer_row : (key : CustomerKey) (row : Customer) → table.get (database scale rows).customers key ≡ Some row → IsOpeningCustomer now key.c_id row
+  customer_row =
+      (each-dense customers_total customers_exact (λ key row. IsOpeningCustomer now key.c_id row) (customer_keys scale) rows.customers.items
+      (h.filled.customers_count ∙ sym (length-customer_keys scale)) (customer_at scale)
+      (λ n below. customer_place scale (customer_at scale n) ∙ slot-customer_at scale n (omega (arith, length-customer_keys scale)))).1 h.filled.customer_rows
 
   customer_known : (key : CustomerKey) (row : Customer) → table.get (database scale rows).customers key ≡ Some row → IsTrue (has_customer scale key)
   customer_known key row found = sym (customer_keys_are scale rows (counts scale rows h) key) ∙ ap is_some found

@@ -1,6 +1,6 @@
 -- The tables with one district more.
-use Rattle.std.proofs.Common.{◌≡◌, ℕ, zero, suc, ◌+◌, ◌*◌, List, [], ◌∷◌, ◌++◌, map, length, Some, refl, sym, ap, subst, ◌∙◌, arith}
-use Rattle.std.specs.List.{All, range_with_len, slice_get}
+use Rattle.std.proofs.Common.{◌≡◌, ℕ, ◌+◌, ◌*◌, List, [], ◌∷◌, ◌++◌, map, length, sym, ap, subst, ◌∙◌, arith}
+use Rattle.std.specs.List.{range_with_len, slice_get}
 use Rattle.std.specs.List.Sorted.{IsPermutation}
 use Rattle.std.specs.BTreeMap.{BTreeMap}
 use Rattle.std.proofs.lemmas.List.{length_push}
@@ -16,38 +16,28 @@ use Rattle.rows.specs.declared.records.NewOrder.{NewOrder}
 use Rattle.rows.specs.declared.records.OrderLine.{OrderLine}
 use Rattle.schema.specs.declared.scale.Scale.{Scale}
 use Rattle.population.specs.Keys.{district_at}
-use Rattle.population.specs.Rows.{IsOpeningDistrict, IsOpeningCustomer, AreOpeningPayments}
+use Rattle.population.specs.Rows.{IsOpeningDistrict, AddsCustomers, AreOpeningPayments}
 use Rattle.population.specs.Book.{IsBook, owned, owned_by, owned_from}
 use Rattle.population.specs.Filled.{IsFilled}
-use Rattle.population.proofs.Lists.{each_both}
+use Rattle.population.proofs.Lists.{each_both, pushed_at}
+use Rattle.population.proofs.MoreCustomers.{customers_more_count, district_more}
 use Rattle.population.proofs.Owned.{owned_from_more}
-
--- what stands at a place after a push
-pushed_at : {X : Type 0} (P : ℕ → X → Type 0) (xs : List X) (x : X) (n : ℕ) → n ≡ length xs → P n x → ((place : ℕ) (y : X) → slice_get xs place ≡ Some y → P place y)
-    → (place : ℕ) (y : X) → slice_get (xs ++ x ∷ []) place ≡ Some y → P place y
-pushed_at P [] x n is here had zero y found =
-    let same : x ≡ y = cc in
-    subst (P 0) same (subst (λ m. P m x) is here)
-pushed_at P [] x n is here had (suc place) y found = absurd cc
-pushed_at P (z ∷ xs) x n is here had zero y found = had zero y found
-pushed_at P (z ∷ xs) x n is here had (suc place) y found =
-    pushed_at (λ m. P (suc m)) xs x (length xs) refl (subst (λ m. P m x) is here) (λ m. had (suc m)) place y found
 
 module _ (scale : Scale) (now count : ℕ) (home : DistrictKey) (at : district_at count ≡ home)
     (districts : List District) (customers : List Customer) (histories : List (List History)) (orders : BTreeMap OrderKey Order) (new_orders : BTreeMap OrderKey NewOrder) (lines : List (OrderLineKey × OrderLine))
     (had : IsFilled scale now count districts customers histories orders new_orders lines)
     (districts' : List District) (customers' : List Customer) (histories' : List (List History)) (orders' : BTreeMap OrderKey Order) (new_orders' : BTreeMap OrderKey NewOrder) (lines' : List (OrderLineKey × OrderLine)) where
   pub filled_more : (row : District) → districts' ≡ districts ++ row ∷ [] → IsOpeningDistrict scale row
-      → All (IsOpeningCustomer now) customers' → length customers' ≡ length customers + scale.customers
+      → AddsCustomers now scale.customers customers customers'
       → (payments : List History) → histories' ≡ histories ++ payments ∷ [] → AreOpeningPayments now home scale.customers payments
       → (owners : List ℕ) → IsPermutation (range_with_len 1 scale.customers) owners → map owned orders'.entries ≡ map owned orders.entries ++ owned_by home 1 owners
       → IsBook scale now orders' new_orders' lines' → (next : ℕ) → next ≡ count + 1 → IsFilled scale now next districts' customers' histories' orders' new_orders' lines'
-  filled_more row pushed_row is_row customer_rows many payments pushed_list are_payments owners shuffled more book next is_next = record {
+  filled_more row pushed_row is_row more_customers payments pushed_list are_payments owners shuffled more book next is_next = record {
     districts_count = omega (arith, ap length pushed_row, length_push districts row, had.districts_count);
     district_rows = All-same (IsOpeningDistrict scale) _ _ pushed_row (All-push (IsOpeningDistrict scale) districts row had.district_rows is_row);
-    customers_count = many ∙ ap (λ n. n + scale.customers) had.customers_count
+    customers_count = customers_more_count now scale.customers customers customers' more_customers ∙ ap (λ n. n + scale.customers) had.customers_count
         ∙ (let e : count * scale.customers + scale.customers ≡ (count + 1) * scale.customers = grind arith in e) ∙ ap (λ n. n * scale.customers) (sym is_next);
-    customer_rows = customer_rows;
+    customer_rows = district_more now scale.customers count customers customers' had.customers_count had.customer_rows more_customers;
     histories_count = omega (arith, ap length pushed_list, length_push histories payments, had.histories_count);
     payments = λ place list found.
         pushed_at (λ n rows. AreOpeningPayments now (district_at n) scale.customers rows) histories payments count (sym had.histories_count)

@@ -4,22 +4,14 @@ use Rattle.std.specs.Prelude.{◌||◌}
 use Rattle.std.specs.List.{All, AllByRecursion, list_any, filter}
 use Rattle.std.specs.Map.{keys_of}
 use Rattle.std.specs.declared.cmp.Ordering.{Ordering}
-use Rattle.std.specs.declared.cmp.Ordering.TheVariants.{Less, Equal, Greater}
-use Rattle.std.specs.Ordering.{eq_by_cmp, is_eq}
+use Rattle.std.specs.Ordering.{eq_by_cmp}
 use Rattle.std.specs.Cmp.{IsTotalOrder, eq_by_cmp_equiv}
 use Rattle.std.specs.FinMap.{get, contains_key, from_entries, get-from_entries, IsAntisymmetric}
 use Rattle.std.specs.FinMap.Entries.{find, is_some-find}
+use Rattle.std.proofs.lemmas.Bool.{or_right}
 use Rattle.std.proofs.lemmas.List.Elements.{recursion_from_All}
+use Rattle.schema.proofs.EachRows.{is_equal}
 use Rattle.population.proofs.Lists.{each_weaker}
-
-is_equal : (r : Ordering) → is_eq r ≡ true → r ≡ Equal
-is_equal Less h = cc
-is_equal Equal h = refl
-is_equal Greater h = cc
-
-or_true : (b : Bool) → (b || true) ≡ true
-or_true true = refl
-or_true false = refl
 
 and_false : (b : Bool) → false ≡ (b && false)
 and_false true = refl
@@ -51,7 +43,7 @@ module _ {K : Type 0} {R : K → K → Ordering} (o : IsTotalOrder R) (a : IsAnt
       let itself : eq_by_cmp R k k ≡ true = (eq_by_cmp_equiv o).refl k in
       let later : AllByRecursion (λ q. (eq_by_cmp R q k || list_any (eq_by_cmp R q) ks) ≡ true) ks =
       each_weaker (λ q. (eq_by_cmp R q k || list_any (eq_by_cmp R q) ks) ≡ true) (λ q. list_any (eq_by_cmp R q) ks ≡ true)
-      (λ q h. ap (λ b. eq_by_cmp R q k || b) h ∙ or_true (eq_by_cmp R q k)) ks (each_any ks) in
+      (λ q h. or_right (eq_by_cmp R q k) (list_any (eq_by_cmp R q) ks) h) ks (each_any ks) in
       (ap (λ b. b || list_any (eq_by_cmp R k) ks) itself, later)
 
 module _ {K X : Type 0} {R : K → K → Ordering} (o : IsTotalOrder R) (a : IsAntisymmetric R) where

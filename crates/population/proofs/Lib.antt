@@ -2,6 +2,7 @@ pub mod Texts
 pub mod Ranges
 pub mod Inserts
 pub mod Lists
+pub mod MoreCustomers
 pub mod Owned
 pub mod Lines
 pub mod Payments

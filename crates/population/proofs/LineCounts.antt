@@ -6,7 +6,7 @@ use Rattle.std.specs.List.{AllByRecursion, filter, flat_map, range_with_len}
 use Rattle.std.specs.List.Sorted.{IsStrictlySortedBy}
 use Rattle.std.specs.Map.{keys_of}
 use Rattle.std.specs.declared.cmp.Ordering.{Ordering}
-use Rattle.std.specs.declared.cmp.Ordering.TheVariants.{Less, Equal, Greater}
+use Rattle.std.specs.declared.cmp.Ordering.TheVariants.{Less}
 use Rattle.std.specs.Ordering.{eq_by_cmp, is_eq}
 use Rattle.std.specs.Cmp.{IsTotalOrder}
 use Rattle.std.specs.FinMap.{IsAntisymmetric}
@@ -16,7 +16,8 @@ use Rattle.rows.specs.declared.keys.OrderKey.{OrderKey}
 use Rattle.rows.specs.declared.keys.OrderLineKey.{OrderLineKey}
 use Rattle.rows.specs.declared.records.Order.{Order}
 use Rattle.rows.specs.Keys.{order_of_line}
-use Rattle.population.specs.Keys.{line_key}
+use Rattle.schema.specs.OrderRows.{line_key}
+use Rattle.schema.proofs.EachRows.{is_equal}
 use Rattle.population.specs.Book.{line_keys}
 
 no_lines : (b : Bool) (n : ℕ) → n ≡ cond b n n
@@ -60,11 +61,6 @@ kept_lines test (e ∷ es) =
       | true ↦ ap (λ n. suc n) (kept_lines test es)
       | false ↦ kept_lines test es
     ]
-
-is_equal : (r : Ordering) → is_eq r ≡ true → r ≡ Equal
-is_equal Less h = cc
-is_equal Equal h = refl
-is_equal Greater h = cc
 
 module _ {K X : Type 0} {R : K → K → Ordering} (o : IsTotalOrder R) (a : IsAntisymmetric R) where
   none_later : (q : K) (es : List (K × X)) → AllByRecursion (λ k. R q k ≡ Less) (keys_of es) → filter (λ e. eq_by_cmp R q e.0) es ≡ []

@@ -13,7 +13,7 @@ use Rattle.rows.specs.declared.records.Order.{Order}
 use Rattle.rows.specs.declared.records.OrderLine.{OrderLine}
 use Rattle.rows.specs.Keys.{order_cmp, line_cmp, order_of_line}
 use Rattle.population.specs.Append.{AreBefore}
-use Rattle.population.specs.Keys.{line_key}
+use Rattle.schema.specs.OrderRows.{line_key}
 use Rattle.population.specs.Book.{line_keys}
 use Rattle.population.specs.Rows.{AreOfEarlierOrders}
 use Rattle.population.proofs.Lists.{each_both, each_same, each_weaker}

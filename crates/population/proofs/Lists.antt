@@ -1,6 +1,6 @@
--- What holds of each element of a list.
-use Rattle.std.proofs.Common.{◌≡◌, Bool, true, false, cond, List, [], ◌∷◌, ◌++◌, map, sym, subst}
-use Rattle.std.specs.List.{AllByRecursion, filter}
+-- What holds of each element of a list, or of each at its place.
+use Rattle.std.proofs.Common.{◌≡◌, ℕ, zero, suc, ◌+◌, Bool, true, false, cond, List, [], ◌∷◌, ◌++◌, map, length, Some, refl, sym, subst, arith}
+use Rattle.std.specs.List.{AllByRecursion, filter, slice_get}
 
 module _ {X : Type 0} (P : X → Type 0) where
   pub each_both : (xs ys : List X) → AllByRecursion P xs → AllByRecursion P ys → AllByRecursion P (xs ++ ys)
@@ -29,3 +29,24 @@ module _ {X : Type 0} (P : X → Type 0) where
   pub each_from_mapped : {Y : Type 0} (f : Y → X) (ys : List Y) → AllByRecursion P (map f ys) → AllByRecursion (λ y. P (f y)) ys
   each_from_mapped f [] h = tt
   each_from_mapped f (y ∷ ys) h = (h.0, each_from_mapped f ys h.1)
+
+-- what stands at a place after a push
+pub pushed_at : {X : Type 0} (P : ℕ → X → Type 0) (xs : List X) (x : X) (n : ℕ) → n ≡ length xs → P n x → ((place : ℕ) (y : X) → slice_get xs place ≡ Some y → P place y)
+    → (place : ℕ) (y : X) → slice_get (xs ++ x ∷ []) place ≡ Some y → P place y
+pushed_at P [] x n is here had zero y found =
+    let same : x ≡ y = cc in
+    subst (P 0) same (subst (λ m. P m x) is here)
+pushed_at P [] x n is here had (suc place) y found = absurd cc
+pushed_at P (z ∷ xs) x n is here had zero y found = had zero y found
+pushed_at P (z ∷ xs) x n is here had (suc place) y found =
+    pushed_at (λ m. P (suc m)) xs x (length xs) refl (subst (λ m. P m x) is here) (λ m. had (suc m)) place y found
+
+-- what stands at a place of two lists, one behind the other
+pub appended_at : {X : Type 0} (P : ℕ → X → Type 0) (xs ys : List X) → ((place : ℕ) (x : X) → slice_get xs place ≡ Some x → P place x)
+    → ((place : ℕ) (y : X) → slice_get ys place ≡ Some y → P (length xs + place) y)
+    → (place : ℕ) (z : X) → slice_get (xs ++ ys) place ≡ Some z → P place z
+appended_at P [] ys before behind place z found = subst (λ n. P n z) (let e : 0 + place ≡ place = omega arith in e) (behind place z found)
+appended_at P (x ∷ xs) ys before behind zero z found = before zero z found
+appended_at P (x ∷ xs) ys before behind (suc place) z found =
+    appended_at (λ n. P (suc n)) xs ys (λ n. before (suc n))
+    (λ n y there. subst (λ m. P m y) (let e : suc (length xs) + n ≡ suc (length xs + n) = omega arith in e) (behind n y there)) place z found

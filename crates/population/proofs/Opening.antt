@@ -13,17 +13,18 @@ use Rattle.rows.specs.declared.records.Order.{Order}
 use Rattle.rows.specs.declared.records.NewOrder.{NewOrder}
 use Rattle.schema.specs.declared.scale.Scale.{Scale}
 use Rattle.schema.specs.declared.table_rows.TableRows.{TableRows}
-use Rattle.schema.specs.Scale.{has_item, item_ids, item_slot, warehouse_ids}
+use Rattle.schema.specs.Scale.{has_item, item_ids, item_slot, warehouse_ids, stock_keys}
 use Rattle.schema.specs.Rows.{database}
 use Rattle.schema.specs.Consistency.{orders_of, new_orders_of, OrdersAreFresh}
+use Rattle.schema.proofs.KeyOrders.{stocks_total, stocks_exact}
 use Rattle.schema.proofs.Places.{get-dense}
 use Rattle.schema.proofs.ScalePlaces.{item_place}
 use Rattle.population.specs.Profile.{delivered_orders}
-use Rattle.population.specs.Rows.{IsOpeningWarehouse}
+use Rattle.population.specs.Rows.{IsOpeningItem, IsOpeningWarehouse, IsOpeningStock}
 use Rattle.population.specs.Drawn.{IsFirstDrawn}
 use Rattle.population.specs.Population.{IsOpening}
 use Rattle.population.specs.Filled.{IsPopulated}
-use Rattle.population.proofs.Populated.{dense_found, list_of, order_row, line_row}
+use Rattle.population.proofs.Populated.{dense_found, fits, list_of, order_row, line_row}
 use Rattle.population.proofs.Consistent.{consistent}
 use Rattle.population.proofs.ConditionsPayments.{district_row, district_known, customer_row, each_paid_once}
 use Rattle.population.proofs.ConditionsOrders.{numbers_here, new_here, each_orders_once}
@@ -53,9 +54,12 @@ module _ {seed now : ℕ} (scale : Scale) (rows : TableRows) (h : IsPopulated sc
   pub opening : IsOpening scale seed now (database scale rows)
   opening = record {
     of_scale = refl;
+    within = (fits scale rows h).within;
     first_item = first_item;
+    items = dense_found nat_cmp_total nat_cmp-IsAntisymmetric IsOpeningItem (item_ids scale) rows.items.items h.item_rows;
     warehouses = dense_found nat_cmp_total nat_cmp-IsAntisymmetric (IsOpeningWarehouse scale) (warehouse_ids scale) rows.warehouses.items h.warehouse_rows;
     districts = district_row scale rows h;
+    stocks = dense_found stocks_total stocks_exact IsOpeningStock (stock_keys scale) rows.stocks.items h.stock_rows;
     customers = customer_row scale rows h;
     payments = list_of scale rows h;
     orders = order_row scale rows h;

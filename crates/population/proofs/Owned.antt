@@ -1,5 +1,5 @@
 -- Whose the orders are, one order after another.
-use Rattle.std.proofs.Common.{◌≡◌, ℕ, zero, suc, ◌+◌, ◌-◌, ◌*◌, ◌/◌, ◌%◌, ◌<◌, ◌≤◌, true, ◌&&◌, IsTrue, List, [], ◌∷◌, ◌++◌, map, length, take, get_or, refl, sym, ap, ◌∙◌, arith, append_assoc}
+use Rattle.std.proofs.Common.{◌≡◌, ℕ, zero, suc, ◌+◌, ◌-◌, ◌*◌, ◌/◌, ◌%◌, ◌<◌, ◌≤◌, true, ◌&&◌, IsTrue, List, [], ◌∷◌, ◌++◌, map, length, take, get_or, refl, sym, ap, ◌∙◌, arith, append_assoc, append-nil}
 use Rattle.std.proofs.lemmas.Bool.Decides.{nat_tests}
 use Rattle.std.proofs.lemmas.List.{take_more, length-take-le}
 use Rattle.std.proofs.lemmas.List.Elements.{All-from_recursion}
@@ -36,11 +36,7 @@ owned_by_more home first (o ∷ owners) owner =
 -- one district more
 pub owned_from_more : (place : ℕ) (owners : List (List ℕ)) (last : List ℕ)
     → owned_from place (owners ++ last ∷ []) ≡ owned_from place owners ++ owned_by (district_at (place + length owners)) 1 last
-owned_from_more place [] last = nothing_more _ ∙ ap (λ n. owned_by (district_at n) 1 last) (let e : place ≡ place + 0 = omega arith in e)
-  where
-    nothing_more : {X : Type 0} (xs : List X) → xs ++ [] ≡ xs
-    nothing_more [] = refl
-    nothing_more (x ∷ xs) = ap (λ l. x ∷ l) (nothing_more xs)
+owned_from_more place [] last = append-nil (owned_by (district_at place) 1 last) ∙ ap (λ n. owned_by (district_at n) 1 last) (let e : place ≡ place + 0 = omega arith in e)
 owned_from_more place (os ∷ owners) last =
     ap (λ l. owned_by (district_at place) 1 os ++ l) (owned_from_more (place + 1) owners last
     ∙ ap (λ n. owned_from (place + 1) owners ++ owned_by (district_at n) 1 last) (let e : place + 1 + length owners ≡ place + suc (length owners) = omega arith in e))

@@ -1,5 +1,5 @@
 -- How often a customer paid in one district.
-use Rattle.std.proofs.Common.{◌≡◌, ℕ, zero, suc, ◌+◌, ◌*◌, ◌<◌, ◌≤◌, Bool, true, false, cond, ◌&&◌, ◌==◌, List, [], ◌∷◌, map, length, IsTrue, refl, sym, ap, ◌∙◌, arith}
+use Rattle.std.proofs.Common.{◌≡◌, ℕ, zero, suc, ◌+◌, ◌*◌, ◌<◌, ◌≤◌, true, false, cond, ◌&&◌, ◌==◌, List, [], ◌∷◌, map, length, IsTrue, refl, sym, ap, ◌∙◌, arith}
 use Rattle.std.proofs.lemmas.Bool.Decides.{nat_tests}
 use Rattle.std.proofs.lemmas.List.{length-map}
 use Rattle.std.proofs.lemmas.List.FromFn.{length-map-range_with_len}
@@ -14,14 +14,11 @@ use Rattle.schema.specs.declared.scale.Scale.{Scale}
 use Rattle.schema.specs.Scale.{has_customer, has_district, customer_key}
 use Rattle.schema.specs.Database.{are_payers_known}
 use Rattle.schema.specs.Consistency.{amounts_of, is_payer}
+use Rattle.consistency.specs.Balances.{is_customer}
 use Rattle.population.specs.Population.{is_home}
 use Rattle.population.specs.Rows.{AreOpeningPayments}
 use Rattle.population.proofs.Lists.{each_kept}
 use Rattle.population.proofs.Weights.{amounts_same}
-
--- whether this is that customer
-abbrev is_customer : CustomerKey → CustomerKey → Bool
-is_customer key other = (other.w_id == key.w_id) && ((other.d_id == key.d_id) && (other.c_id == key.c_id))
 
 payers_kept : (key : CustomerKey) (payments : List History) → length (filter (is_payer key) payments) ≡ length (filter (is_customer key) (map (λ row. row.customer) payments))
 payers_kept key [] = refl

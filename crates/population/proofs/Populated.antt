@@ -22,13 +22,14 @@ use Rattle.schema.specs.declared.table_rows.TableRows.{TableRows}
 use Rattle.schema.specs.Dense.{place}
 use Rattle.schema.specs.Scale.{has_district, district_keys}
 use Rattle.schema.specs.Database.{PayersKnown, NewOrdersHaveOrders, LinesHaveOrders}
+use Rattle.schema.specs.OrderRows.{line_key}
 use Rattle.schema.specs.Rows.{HasCounts, FitsScale, database}
 use Rattle.schema.proofs.Places.{get-dense}
 use Rattle.schema.proofs.KeyOrders.{districts_total, districts_exact, orders_total, orders_exact, lines_total, lines_exact}
 use Rattle.schema.proofs.ScaleRules.{item_keys, warehouse_keys, district_keys_are, stock_keys_are, customer_keys_are, history_keys}
 use Rattle.schema.proofs.ScalePlaces.{length-district_keys, place-district_at}
 use Rattle.consistency.proofs.TotalsDense.{each-dense}
-use Rattle.population.specs.Keys.{line_key, district_at}
+use Rattle.population.specs.Keys.{district_at}
 use Rattle.population.specs.Book.{is_new_order, line_keys}
 use Rattle.population.specs.Rows.{IsOpeningOrder, IsOpeningLine, AreOpeningPayments}
 use Rattle.population.specs.Filled.{IsPopulated}

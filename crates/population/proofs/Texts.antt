@@ -5,7 +5,8 @@ use Rattle.std.specs.List.{list_all, slice_range}
 use Rattle.rows.specs.Text.{is_printable_byte, text_of}
 use Rattle.rows.proofs.Fitting.{list_all-take}
 
-list_all-drop : {X : Type 0} (p : X → Bool) (n : ℕ) (xs : List X) → list_all p xs ≡ true → list_all p (drop n xs) ≡ true
+-- what each character has, each of a part has
+pub list_all-drop : {X : Type 0} (p : X → Bool) (n : ℕ) (xs : List X) → list_all p xs ≡ true → list_all p (drop n xs) ≡ true
 list_all-drop p zero xs h = h
 list_all-drop p (suc n) [] h = refl
 list_all-drop p (suc n) (x ∷ xs) h =
@@ -14,12 +15,8 @@ list_all-drop p (suc n) (x ∷ xs) h =
       | false ↦ λ k. absurd cc
     ] h
 
--- what each character has, each of a part has
 pub list_all-part : {X : Type 0} (p : X → Bool) (low high : ℕ) (xs : List X) → list_all p xs ≡ true → list_all p (slice_range xs low high) ≡ true
 list_all-part p low high xs h = list_all-take p (high - low) (drop low xs) (list_all-drop p low xs h)
-
-pub list_all-rest : {X : Type 0} (p : X → Bool) (low : ℕ) (xs : List X) → list_all p xs ≡ true → list_all p (drop low xs) ≡ true
-list_all-rest p low xs h = list_all-drop p low xs h
 
 -- what is printable and fits is a text
 pub fitting_is_text : (width : ℕ) (bytes : List ℕ) → list_all is_printable_byte bytes ≡ true → length bytes ≤ width → text_of width bytes ≡ Ok bytes

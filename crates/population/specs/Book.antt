@@ -12,8 +12,9 @@ use Rattle.rows.specs.declared.records.NewOrder.{NewOrder}
 use Rattle.rows.specs.declared.records.OrderLine.{OrderLine}
 use Rattle.rows.specs.Keys.{district_cmp, order_cmp, line_cmp, district_of_order}
 use Rattle.schema.specs.declared.scale.Scale.{Scale}
+use Rattle.schema.specs.OrderRows.{line_key}
 use Rattle.population.specs.declared.order_book.OrderBook.{OrderBook}
-use Rattle.population.specs.Keys.{order_key, line_key, district_at}
+use Rattle.population.specs.Keys.{order_key, district_at}
 use Rattle.population.specs.Profile.{delivered_orders}
 use Rattle.population.specs.Rows.{IsOpeningOrder, IsOpeningLine}
 use Rattle.std.specs.declared.cmp.Ordering.TheVariants.{Less}

@@ -15,7 +15,7 @@ use Rattle.schema.specs.declared.scale.Scale.{Scale}
 use Rattle.schema.specs.declared.table_rows.TableRows.{TableRows}
 use Rattle.population.specs.declared.districts.DistrictTables.{DistrictTables}
 use Rattle.population.specs.Keys.{district_at}
-use Rattle.population.specs.Rows.{IsOpeningWarehouse, IsOpeningDistrict, IsOpeningCustomer, AreOpeningPayments}
+use Rattle.population.specs.Rows.{IsOpeningItem, IsOpeningWarehouse, IsOpeningDistrict, IsOpeningStock, AreOpeningCustomers, AreOpeningPayments}
 use Rattle.population.specs.Book.{IsBook, owned, owned_from}
 use Rattle.population.specs.Drawn.{IsFirstDrawn}
 
@@ -25,7 +25,7 @@ pub record IsFilled (scale : Scale) (now count : ℕ) (districts : List District
   pub districts_count : length districts ≡ count
   pub district_rows : All (IsOpeningDistrict scale) districts
   pub customers_count : length customers ≡ count * scale.customers
-  pub customer_rows : All (IsOpeningCustomer now) customers
+  pub customer_rows : AreOpeningCustomers now scale.customers customers
   pub histories_count : length histories ≡ count
   pub payments : (place : ℕ) (list : List History) → slice_get histories place ≡ Some list → AreOpeningPayments now (district_at place) scale.customers list
   -- whose the orders of each district are
@@ -43,8 +43,10 @@ AreFilled scale now count tables =
 -- all rows of a population of that seed and moment
 pub record IsPopulated (scale : Scale) (seed now : ℕ) (rows : TableRows) : Type 0 where
   pub items : length rows.items.items ≡ scale.items
+  pub item_rows : All IsOpeningItem rows.items.items
   pub first_item : IsFirstDrawn seed (slice_get rows.items.items 0)
   pub warehouses : length rows.warehouses.items ≡ scale.warehouses
   pub warehouse_rows : All (IsOpeningWarehouse scale) rows.warehouses.items
   pub stocks : length rows.stocks.items ≡ scale.warehouses * scale.items
+  pub stock_rows : All IsOpeningStock rows.stocks.items
   pub filled : IsFilled scale now (scale.warehouses * 10) rows.districts.items rows.customers.items rows.histories.items rows.orders rows.new_orders rows.lines

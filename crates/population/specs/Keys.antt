@@ -1,8 +1,7 @@
--- The keys of a district's orders and of an order's lines.
+-- The districts in order, and the keys of a district's orders.
 use Rattle.std.specs.Prelude.{ℕ, ◌+◌, ◌/◌, ◌%◌}
 use Rattle.rows.specs.declared.keys.DistrictKey.{DistrictKey}
 use Rattle.rows.specs.declared.keys.OrderKey.{OrderKey}
-use Rattle.rows.specs.declared.keys.OrderLineKey.{OrderLineKey}
 
 -- the district at a place, from 0, among all in the order of their keys
 abbrev pub district_at : ℕ → DistrictKey
@@ -11,7 +10,3 @@ district_at place = record { w_id = place / 10 + 1; d_id = place % 10 + 1 }
 -- the key of an order of the district
 abbrev pub order_key : DistrictKey → ℕ → OrderKey
 order_key home order = record { w_id = home.w_id; d_id = home.d_id; o_id = order }
-
--- the key of a line of the order
-abbrev pub line_key : OrderKey → ℕ → OrderLineKey
-line_key order line = record { w_id = order.w_id; d_id = order.d_id; o_id = order.o_id; number = line }

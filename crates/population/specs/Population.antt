@@ -4,21 +4,24 @@ use Rattle.std.specs.List.{filter, range_with_len}
 use Rattle.std.specs.FinMap as table
 use Rattle.std.specs.List.Sorted.{IsPermutation}
 use Rattle.rows.specs.declared.keys.DistrictKey.{DistrictKey}
+use Rattle.rows.specs.declared.keys.StockKey.{StockKey}
 use Rattle.rows.specs.declared.keys.CustomerKey.{CustomerKey}
 use Rattle.rows.specs.declared.keys.OrderKey.{OrderKey}
 use Rattle.rows.specs.declared.keys.OrderLineKey.{OrderLineKey}
+use Rattle.rows.specs.declared.records.Item.{Item}
 use Rattle.rows.specs.declared.records.Warehouse.{Warehouse}
 use Rattle.rows.specs.declared.records.District.{District}
+use Rattle.rows.specs.declared.records.Stock.{Stock}
 use Rattle.rows.specs.declared.records.Customer.{Customer}
 use Rattle.rows.specs.declared.records.History.{History}
 use Rattle.rows.specs.declared.records.Order.{Order}
 use Rattle.rows.specs.declared.records.OrderLine.{OrderLine}
 use Rattle.schema.specs.declared.scale.Scale.{Scale}
 use Rattle.schema.specs.Scale.{has_district, has_customer}
-use Rattle.schema.specs.Database.{Database, list_at}
+use Rattle.schema.specs.Database.{Database, IsWithinScale, list_at}
 use Rattle.schema.specs.Consistency.{Consistent, OrdersAreFresh, orders_of, new_orders_of, numbers, is_payer}
 use Rattle.population.specs.Profile.{delivered_orders}
-use Rattle.population.specs.Rows.{IsOpeningWarehouse, IsOpeningDistrict, IsOpeningCustomer, AreOpeningPayments, IsOpeningOrder, IsOpeningLine}
+use Rattle.population.specs.Rows.{IsOpeningItem, IsOpeningWarehouse, IsOpeningDistrict, IsOpeningStock, IsOpeningCustomer, AreOpeningPayments, IsOpeningOrder, IsOpeningLine}
 use Rattle.population.specs.Drawn.{IsFirstDrawn}
 
 -- the customers of a district's orders, by O_ID
@@ -51,15 +54,18 @@ EachPaidOnce t = (customer : CustomerKey) → IsTrue (has_customer t.scale custo
 abbrev pub HasNewOrders : Database → DistrictKey → Type 0
 HasNewOrders t home = numbers (new_orders_of t home) ≡ range_with_len (delivered_orders t.scale + 1) (t.scale.customers - delivered_orders t.scale)
 
--- The tables of that scale, drawn from that seed, with that moment as every date and time: the rows of each table are as the
--- benchmark begins with, each customer has ordered and paid once, and all twelve conditions of consistency hold, condition 11 at
+-- The tables of that scale, drawn from that seed, with that moment as every date and time: the rows of each table are there, and as
+-- the benchmark begins with, each customer has ordered and paid once, and all twelve conditions of consistency hold, condition 11 at
 -- full scale.
 pub record IsOpening (scale : Scale) (seed now : ℕ) (t : Database) : Type 0 where
   pub of_scale : t.scale ≡ scale
+  pub within : IsWithinScale t
   pub first_item : IsFirstDrawn seed (table.get t.items 1)
+  pub items : (item : ℕ) (row : Item) → table.get t.items item ≡ Some row → IsOpeningItem row
   pub warehouses : (warehouse : ℕ) (row : Warehouse) → table.get t.warehouses warehouse ≡ Some row → IsOpeningWarehouse scale row
   pub districts : (home : DistrictKey) (row : District) → table.get t.districts home ≡ Some row → IsOpeningDistrict scale row
-  pub customers : (key : CustomerKey) (row : Customer) → table.get t.customers key ≡ Some row → IsOpeningCustomer now row
+  pub stocks : (key : StockKey) (row : Stock) → table.get t.stocks key ≡ Some row → IsOpeningStock row
+  pub customers : (key : CustomerKey) (row : Customer) → table.get t.customers key ≡ Some row → IsOpeningCustomer now key.c_id row
   pub payments : (home : DistrictKey) (rows : List History) → table.get t.histories home ≡ Some rows → AreOpeningPayments now home scale.customers rows
   pub orders : (key : OrderKey) (row : Order) → table.get t.orders key ≡ Some row → IsOpeningOrder scale now key row
   pub lines : (key : OrderLineKey) (row : OrderLine) → table.get t.lines key ≡ Some row → IsOpeningLine scale now key row

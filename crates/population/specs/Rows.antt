@@ -1,67 +1,151 @@
 -- What the rows of a population have in common (clause 4.3.3.1).
-use Rattle.std.specs.Prelude.{◌≡◌, ◌≢◌, ◌↔◌, ℕ, ◌+◌, ◌*◌, ◌<◌, ◌≤◌, true, List, map, pos, negsuc, None, Some, IsTrue}
-use Rattle.std.specs.List.{All, AllByRecursion, range_with_len}
+use Rattle.std.specs.Prelude.{◌≡◌, ◌≢◌, ◌↔◌, ℕ, ◌+◌, ◌-◌, ◌*◌, ◌%◌, ◌<◌, ◌≤◌, true, List, ◌++◌, map, length, codes, pos, negsuc, None, Some, IsTrue}
+use Rattle.std.specs.List.{All, AllByRecursion, range_with_len, slice_get}
 use Rattle.std.specs.Map.{keys_of}
 use Rattle.std.specs.declared.cmp.Ordering.TheVariants.{Less}
 use Rattle.rows.specs.declared.keys.DistrictKey.{DistrictKey}
 use Rattle.rows.specs.declared.keys.OrderKey.{OrderKey}
 use Rattle.rows.specs.declared.keys.OrderLineKey.{OrderLineKey}
+use Rattle.rows.specs.declared.records.Address.{Address}
+use Rattle.rows.specs.declared.records.Item.{Item}
 use Rattle.rows.specs.declared.records.Warehouse.{Warehouse}
+use Rattle.rows.specs.declared.records.Stock.{Stock}
 use Rattle.rows.specs.declared.records.District.{District}
 use Rattle.rows.specs.declared.records.Customer.{Customer}
 use Rattle.rows.specs.declared.records.History.{History}
 use Rattle.rows.specs.declared.records.Order.{Order}
 use Rattle.rows.specs.declared.records.OrderLine.{OrderLine}
 use Rattle.rows.specs.Keys.{order_cmp, order_of_line}
+use Rattle.rows.specs.LastName.{last_name_of}
 use Rattle.schema.specs.declared.scale.Scale.{Scale}
 use Rattle.schema.specs.Scale.{has_item, has_warehouse, has_customer, customer_key}
 use Rattle.schema.specs.Database.{customer_of_order, is_order_id, is_line_number}
 use Rattle.population.specs.Profile.{delivered_orders}
 
--- W_YTD is 10,000 cents for each customer of a district
-abbrev pub IsOpeningWarehouse : Scale → Warehouse → Type 0
-IsOpeningWarehouse scale row = row.ytd ≡ pos (10000 * scale.customers)
+-- the number is from the one to the other, both included
+abbrev pub IsFrom : ℕ → ℕ → ℕ → Type 0
+IsFrom low high number = (low ≤ number) × (number ≤ high)
 
--- D_YTD is 1,000 cents for each customer, and D_NEXT_O_ID 1 more than the number of customers
+-- the text has so many characters, from the one number to the other
+abbrev pub IsOfLength : ℕ → ℕ → List ℕ → Type 0
+IsOfLength low high text = IsFrom low high (length text)
+
+-- a zip code is four characters with 11111 behind them (clause 4.3.2.7)
+abbrev pub IsOpeningZip : List ℕ → Type 0
+IsOpeningZip zip = (four : List ℕ) × (length four ≡ 4) × (zip ≡ four ++ codes "11111")
+
+-- an address is three texts of 10 to 20, a state of two characters, and a zip code
+pub record IsOpeningAddress (address : Address) : Type 0 where
+  pub street_1 : IsOfLength 10 20 address.street_1
+  pub street_2 : IsOfLength 10 20 address.street_2
+  pub city : IsOfLength 10 20 address.city
+  pub state : length address.state ≡ 2
+  pub zip : IsOpeningZip address.zip
+
+-- of ITEM all is drawn: I_IM_ID from 1 to 10,000, I_PRICE from 100 to 10,000 cents, I_NAME of 14 to 24 and I_DATA of 26 to 50
+-- characters (clause 4.3.3.1)
+pub record IsOpeningItem (row : Item) : Type 0 where
+  pub image : IsFrom 1 10000 row.im_id
+  pub name : IsOfLength 14 24 row.name
+  pub price : IsFrom 100 10000 row.price
+  pub text : IsOfLength 26 50 row.«data»
+
+-- W_YTD is 10,000 cents for each customer of a district; W_TAX is drawn, to 2,000, and so are the texts (clause 4.3.3.1)
+pub record IsOpeningWarehouse (scale : Scale) (row : Warehouse) : Type 0 where
+  pub name : IsOfLength 6 10 row.name
+  pub address : IsOpeningAddress row.address
+  pub tax : row.tax ≤ 2000
+  pub ytd : row.ytd ≡ pos (10000 * scale.customers)
+
+-- nothing of a stock has been ordered: S_YTD, S_ORDER_CNT and S_REMOTE_CNT are 0; S_QUANTITY is drawn, from 10 to 100, and so are
+-- S_DIST_01 to S_DIST_10, of 24 characters each, and S_DATA, of 26 to 50 (clause 4.3.3.1)
+pub record IsOpeningStock (row : Stock) : Type 0 where
+  pub quantity : IsFrom 10 100 row.quantity
+  pub dist_count : length row.dist ≡ 10
+  pub dist : AllByRecursion (λ info. length info ≡ 24) row.dist
+  pub ytd : row.ytd ≡ 0
+  pub order_cnt : row.order_cnt ≡ 0
+  pub remote_cnt : row.remote_cnt ≡ 0
+  pub text : IsOfLength 26 50 row.«data»
+
+-- D_YTD is 1,000 cents for each customer, and D_NEXT_O_ID 1 more than the number of customers; D_TAX is drawn, to 2,000, and so are
+-- the texts (clause 4.3.3.1)
 pub record IsOpeningDistrict (scale : Scale) (row : District) : Type 0 where
+  pub name : IsOfLength 6 10 row.name
+  pub address : IsOpeningAddress row.address
+  pub tax : row.tax ≤ 2000
   pub ytd : row.ytd ≡ pos (1000 * scale.customers)
   pub next_o_id : row.next_o_id ≡ scale.customers + 1
 
--- C_BALANCE is -1,000 cents, and C_YTD_PAYMENT 1,000, of one payment; nothing was delivered, and C_SINCE is the moment
-pub record IsOpeningCustomer (now : ℕ) (row : Customer) : Type 0 where
+-- C_LAST: the first 1,000 customers of a district have the names of the numbers 0 to 999 in turn, and the others have some of these
+-- (clause 4.3.3.1)
+pub record IsOpeningName (number : ℕ) (last : List ℕ) : Type 0 where
+  pub in_turn : number ≤ 1000 → last ≡ last_name_of (number - 1)
+  pub drawn : 1000 < number → (of : ℕ) × (of ≤ 999) × (last ≡ last_name_of of)
+
+-- the customer of that number in the district: C_BALANCE is -1,000 cents, and C_YTD_PAYMENT 1,000, of one payment; nothing was
+-- delivered, C_SINCE is the moment, C_MIDDLE is OE, C_CREDIT_LIM 5,000,000 cents, and C_LAST goes by the number; C_DISCOUNT is drawn,
+-- to 5,000, C_CREDIT too, and so are the other texts (clause 4.3.3.1)
+pub record IsOpeningCustomer (now number : ℕ) (row : Customer) : Type 0 where
+  pub first : IsOfLength 8 16 row.first
+  pub middle : row.middle ≡ codes "OE"
+  pub last : IsOpeningName number row.last
+  pub address : IsOpeningAddress row.address
+  pub phone : length row.phone ≡ 16
+  pub since : row.since ≡ now
+  pub credit_lim : row.credit_lim ≡ pos 5000000
+  pub discount : row.discount ≤ 5000
   pub balance : row.balance ≡ negsuc 999
   pub ytd_payment : row.ytd_payment ≡ pos 1000
   pub payment_cnt : row.payment_cnt ≡ 1
   pub delivery_cnt : row.delivery_cnt ≡ 0
-  pub since : row.since ≡ now
+  pub text : IsOfLength 300 500 row.«data»
 
--- each customer of the district paid 1,000 cents at the moment, in the order of their numbers
+-- the customers of one district after another, so many of each
+abbrev pub AreOpeningCustomers : ℕ → ℕ → List Customer → Type 0
+AreOpeningCustomers now customers rows =
+    (place : ℕ) (row : Customer) → slice_get rows place ≡ Some row → IsOpeningCustomer now (place % customers + 1) row
+
+-- so many customers of a district, the first, were added
+pub record AddsCustomers (now count : ℕ) (old new : List Customer) : Type 0 where
+  pub rows : List Customer
+  pub added : new ≡ old ++ rows
+  pub rows_count : length rows ≡ count
+  pub each : (place : ℕ) (row : Customer) → slice_get rows place ≡ Some row → IsOpeningCustomer now (place + 1) row
+
+-- each customer of the district paid 1,000 cents at the moment, in the order of their numbers; H_DATA is drawn, of 12 to 24 characters
+-- (clause 4.3.3.1)
 pub record AreOpeningPayments (now : ℕ) (home : DistrictKey) (customers : ℕ) (payments : List History) : Type 0 where
   pub payers : map (λ row. row.customer) payments ≡ map (customer_key home) (range_with_len 1 customers)
   pub amounts : All (λ row. row.amount ≡ pos 1000) payments
   pub dates : All (λ row. row.date ≡ now) payments
+  pub text : All (λ row. IsOfLength 12 24 row.«data») payments
 
--- an order is of a customer of its district, from the moment on, has 5 to 15 lines, and no carrier just where it is new
+-- an order is of a customer of its district, from the moment on, has 5 to 15 lines, all local, and no carrier just where it is new,
+-- else one from 1 to 10 (clause 4.3.3.1)
 pub record IsOpeningOrder (scale : Scale) (now : ℕ) (key : OrderKey) (row : Order) : Type 0 where
   pub number : IsTrue (is_order_id key.o_id)
   pub customer : IsTrue (has_customer scale (customer_of_order key row))
   pub carrier : (row.carrier_id ≡ None) ↔ (delivered_orders scale < key.o_id)
+  pub carrier_id : (id : ℕ) → row.carrier_id ≡ Some id → IsFrom 1 10 id
   pub entry_d : row.entry_d ≡ now
   pub some_lines : 5 ≤ row.ol_cnt
   pub few_lines : row.ol_cnt ≤ 15
   pub all_local : row.all_local ≡ true
 
--- a line is of five, from the order's own warehouse; it is not delivered just where its order is new, and else was delivered at the
--- moment and cost nothing
+-- a line is of five, from the order's own warehouse; it is not delivered just where its order is new, and cost 1 to 999,999 cents then,
+-- and else was delivered at the moment and cost nothing; OL_DIST_INFO is drawn, of 24 characters (clause 4.3.3.1)
 pub record IsOpeningLine (scale : Scale) (now : ℕ) (key : OrderLineKey) (row : OrderLine) : Type 0 where
   pub number : IsTrue (is_line_number key.number)
   pub item : IsTrue (has_item scale row.i_id)
   pub supplier : IsTrue (has_warehouse scale row.supply_w_id)
   pub delivery : (row.delivery_d ≡ None) ↔ (delivered_orders scale < key.o_id)
   pub amount : row.delivery_d ≢ None → row.amount ≡ 0
+  pub open_amount : row.delivery_d ≡ None → IsFrom 1 999999 row.amount
   pub moment : (moment : ℕ) → row.delivery_d ≡ Some moment → moment ≡ now
   pub home : row.supply_w_id ≡ key.w_id
   pub quantity : row.quantity ≡ 5
+  pub dist_info : length row.dist_info ≡ 24
 
 -- the lines are of orders below this one
 abbrev pub AreOfEarlierOrders : OrderKey → List (OrderLineKey × OrderLine) → Type 0

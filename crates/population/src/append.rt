@@ -3,7 +3,6 @@ ghost use Rattle.std.specs.BTreeMap.{IsOrdered};
 ghost use Rattle.population.specs.Append.{AreBefore};
 
 use schema::NoMemory;
-use std::alloc::Global;
 use std::collections::BTreeMap;
 
 /// Adds a row whose key comes after all others.

@@ -1,6 +1,5 @@
-ghost use Rattle.std.specs.Prelude.{◌≡◌, ◌+◌, ◌≤◌, OnOk, IfOk, length, pos};
-ghost use Rattle.std.specs.List.{All};
-ghost use Rattle.population.specs.Rows.{IsOpeningCustomer, AreOpeningPayments};
+ghost use Rattle.std.specs.Prelude.{◌≡◌, ◌≤◌, OnOk, IfOk, codes, pos};
+ghost use Rattle.population.specs.Rows.{IsOfLength, IsOpeningName, IsOpeningCustomer, AddsCustomers, AreOpeningPayments};
 
 use crate::draws::Draws;
 use amounts::{Cents, Rate};
@@ -19,9 +18,7 @@ pub(crate) fn add_customers(
     scale: Scale,
     now: Moment,
 ) -> Result<HistoryList, NoMemory>
-    requires { All (IsOpeningCustomer now) customers.old.items }
-    ensures rows { OnOk result (All (IsOpeningCustomer now) customers.new.items) }
-    ensures count { OnOk result (length customers.new.items ≡ length customers.old.items + scale.customers) }
+    ensures rows { OnOk result (AddsCustomers now scale.customers customers.old.items customers.new.items) }
     ensures payments { IfOk result (AreOpeningPayments now home scale.customers) }
 {
     let mut payments = HistoryList::new(alloc);
@@ -40,7 +37,7 @@ pub(crate) fn add_customers(
 // The row of a customer, who has paid 1,000 cents once.
 fn customer(draws: &mut Draws, number: u32, now: Moment) -> Customer
     requires { 1 ≤ number }
-    ensures { IsOpeningCustomer now result }
+    ensures { IsOpeningCustomer now number result }
 {
     Customer {
         first: draws.text(8, 16),
@@ -60,15 +57,18 @@ fn customer(draws: &mut Draws, number: u32, now: Moment) -> Customer
     }
 }
 
-fn middle() -> Text<2> {
+fn middle() -> Text<2>
+    ensures { result ≡ codes "OE" }
+{
     let mut middle = Text::new();
     middle.push_fitting("OE");
     middle
 }
 
-/// The first 1,000 customers have the names of the numbers from 0 to 999, and the others random ones.
-pub(crate) fn last(draws: &mut Draws, number: u32) -> Text<16>
+// The first 1,000 customers have the names of the numbers from 0 to 999, and the others random ones.
+fn last(draws: &mut Draws, number: u32) -> Text<16>
     requires { 1 ≤ number }
+    ensures { IsOpeningName number result }
 {
     if number <= 1_000 {
         last_name(number - 1)
@@ -91,6 +91,7 @@ fn payment(draws: &mut Draws, customer: CustomerKey, now: Moment) -> History
     ensures customer { result.customer ≡ customer }
     ensures amount { result.amount ≡ pos 1000 }
     ensures date { result.date ≡ now }
+    ensures text { IsOfLength 12 24 result.«data» }
 {
     History {
         customer,

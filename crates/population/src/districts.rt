@@ -1,4 +1,4 @@
-ghost use Rattle.std.specs.Prelude.{◌≡◌, ℕ, ◌+◌, ◌-◌, ◌*◌, ◌≤◌, IsTrue, OnOk};
+ghost use Rattle.std.specs.Prelude.{ℕ, ◌+◌, ◌-◌, ◌*◌, IsTrue, OnOk};
 ghost use Rattle.schema.specs.declared.scale.Scale as scale_kind;
 ghost use Rattle.schema.specs.Scale.{has_warehouse, has_district};
 ghost use Rattle.population.specs.Rows.{IsOpeningDistrict};

@@ -1,9 +1,10 @@
-ghost use Rattle.std.specs.Prelude.{◌≡◌, ◌+◌, ◌<◌, ◌≤◌, ◌^◌, length, IsTrue};
+ghost use Rattle.std.specs.Prelude.{◌≡◌, ◌<◌, ◌≤◌, ◌^◌, length, IsTrue};
 ghost use Rattle.std.specs.List.{list_all};
 ghost use Rattle.std.specs.List.Sorted.{IsPermutation};
 ghost use Rattle.rows.specs.Text.{is_printable_byte};
 ghost use Rattle.number_draws.specs.Words.{seeded};
 ghost use Rattle.number_draws.specs.Draws.{random_of};
+ghost use Rattle.population.specs.Rows.{IsOpeningZip, IsOpeningAddress};
 
 use number_draws::NumberDraws;
 use schema::{Address, Text};
@@ -70,13 +71,17 @@ impl Draws {
         self.characters(count, DIGITS_AND_LETTERS)
     }
 
-    /// That many capital letters.
-    pub(crate) fn letters<const WIDTH: usize>(&mut self, count: u32) -> Text<WIDTH> {
+    // That many capital letters.
+    fn letters<const WIDTH: usize>(&mut self, count: u32) -> Text<WIDTH>
+        ensures { count ≤ WIDTH → length result ≡ count }
+    {
         self.characters(count, LETTERS)
     }
 
     /// That many digits.
-    pub(crate) fn digits<const WIDTH: usize>(&mut self, count: u32) -> Text<WIDTH> {
+    pub(crate) fn digits<const WIDTH: usize>(&mut self, count: u32) -> Text<WIDTH>
+        ensures { count ≤ WIDTH → length result ≡ count }
+    {
         self.characters(count, DIGITS)
     }
 
@@ -86,6 +91,8 @@ impl Draws {
         requires room { 8 ≤ low }
         requires order { low ≤ high }
         requires fits { high ≤ WIDTH }
+        ensures low { low ≤ length result }
+        ensures high { length result ≤ high }
     {
         let text = self.text(low, high);
         if self.random(1, 10) == 1 {
@@ -96,7 +103,9 @@ impl Draws {
     }
 
     /// A random address (clause 4.3.2.7 for its zip code).
-    pub(crate) fn address(&mut self) -> Address {
+    pub(crate) fn address(&mut self) -> Address
+        ensures { IsOpeningAddress result }
+    {
         Address {
             street_1: self.text(10, 20),
             street_2: self.text(10, 20),
@@ -107,7 +116,9 @@ impl Draws {
     }
 
     // Four digits, and `11111`.
-    fn zip(&mut self) -> Text<9> {
+    fn zip(&mut self) -> Text<9>
+        ensures { IsOpeningZip result }
+    {
         let mut zip = self.digits(4);
         zip.push_fitting("11111");
         zip
@@ -117,6 +128,7 @@ impl Draws {
     fn with_original<const WIDTH: usize>(&mut self, text: &Text<WIDTH>) -> Text<WIDTH>
         requires room { 8 ≤ length text.now }
         requires short { length text.now < 2 ^ 32 }
+        ensures { length result ≡ length text.now }
     {
         let words = text.as_str();
         let place = self.random(0, words.len() as u32 - 8) as usize;

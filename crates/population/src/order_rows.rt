@@ -1,13 +1,13 @@
-ghost use Rattle.std.specs.Prelude.{◌≡◌, ◌↔◌, ◌<◌, false, None, IsTrue, IfOk, OnOk, ◌++◌, map};
+ghost use Rattle.std.specs.Prelude.{◌≡◌, ◌↔◌, ℕ, ◌<◌, false, true, None, Some, IsTrue, OnOk, ◌++◌, map};
 ghost use Rattle.std.specs.List.{All, range_with_len};
 ghost use Rattle.std.specs.List.Sorted.{IsStrictlySortedBy};
 ghost use Rattle.std.specs.Map.{keys_of};
 ghost use Rattle.rows.specs.Keys.{line_cmp};
 ghost use Rattle.schema.specs.Scale.{has_warehouse};
 ghost use Rattle.schema.specs.Database.{is_line_number};
-ghost use Rattle.population.specs.Keys.{line_key};
+ghost use Rattle.schema.specs.OrderRows.{line_key};
 ghost use Rattle.population.specs.Profile.{delivered_orders};
-ghost use Rattle.population.specs.Rows.{IsOpeningLine, AreOfEarlierOrders};
+ghost use Rattle.population.specs.Rows.{IsFrom, IsOpeningLine, AreOfEarlierOrders};
 
 use crate::draws::Draws;
 use crate::profile::is_new;
@@ -18,7 +18,8 @@ use schema::{
 
 /// Who delivered the order; nobody, where it is new.
 pub(crate) fn carrier(draws: &mut Draws, scale: Scale, order: u32) -> Option<CarrierId>
-    ensures { (result ≡ None) ↔ (delivered_orders scale < order) }
+    ensures none { (result ≡ None) ↔ (delivered_orders scale < order) }
+    ensures number { (id : ℕ) → result ≡ Some id → IsFrom 1 10 id }
 {
     if is_new(scale, order) {
         None
@@ -77,7 +78,8 @@ fn line(draws: &mut Draws, scale: Scale, now: Moment, key: OrderLineKey) -> Orde
 
 // OL_AMOUNT of a line of a new order, or of one that was delivered.
 fn amount(draws: &mut Draws, waits: bool) -> LineAmount
-    ensures { waits ≡ false → result ≡ 0 }
+    ensures delivered { waits ≡ false → result ≡ 0 }
+    ensures open { waits ≡ true → IsFrom 1 999999 result }
 {
     if waits {
         LineAmount::new(draws.random(1, 999_999))

@@ -1,4 +1,6 @@
-ghost use Rattle.std.specs.Prelude.{◌≡◌, ◌+◌, ◌*◌, pos, OnOk, length};
+ghost use Rattle.std.specs.Prelude.{◌≡◌, ◌+◌, OnOk, length};
+ghost use Rattle.std.specs.List.{All, AllByRecursion};
+ghost use Rattle.population.specs.Rows.{IsOpeningWarehouse, IsOpeningStock};
 
 use crate::draws::Draws;
 use amounts::{Cents, Rate};
@@ -6,7 +8,7 @@ use schema::{Counter, NoMemory, Scale, Stock, StockQuantity, Text, Warehouse};
 
 /// The row of a warehouse: its ten districts have taken 1,000 cents from each customer.
 pub(crate) fn warehouse(draws: &mut Draws, scale: Scale) -> Warehouse
-    ensures { result.ytd ≡ pos (10000 * scale.customers) }
+    ensures { IsOpeningWarehouse scale result }
 {
     Warehouse {
         name: draws.text(6, 10),
@@ -22,7 +24,8 @@ pub(crate) fn add_stocks(
     stocks: &mut Vec<Stock>,
     items: u32,
 ) -> Result<(), NoMemory>
-    ensures { OnOk result (length stocks.new.items ≡ length stocks.old.items + items) }
+    ensures count { OnOk result (length stocks.new.items ≡ length stocks.old.items + items) }
+    ensures rows { OnOk result (All IsOpeningStock stocks.old.items → All IsOpeningStock stocks.new.items) }
 {
     for _ in 0..items {
         stocks.push(stock(draws))?;
@@ -30,7 +33,10 @@ pub(crate) fn add_stocks(
     Ok(())
 }
 
-fn stock(draws: &mut Draws) -> Stock {
+// The row of a stock of which nothing was ordered.
+fn stock(draws: &mut Draws) -> Stock
+    ensures { IsOpeningStock result }
+{
     Stock {
         quantity: StockQuantity::new(draws.random(10, 100)),
         dist: district_infos(draws),
@@ -42,7 +48,10 @@ fn stock(draws: &mut Draws) -> Stock {
 }
 
 // S_DIST_01 to S_DIST_10.
-fn district_infos(draws: &mut Draws) -> [Text<24>; 10] {
+fn district_infos(draws: &mut Draws) -> [Text<24>; 10]
+    ensures count { length result ≡ 10 }
+    ensures each { AllByRecursion (λ info. length info ≡ 24) result }
+{
     [
         draws.text(24, 24),
         draws.text(24, 24),

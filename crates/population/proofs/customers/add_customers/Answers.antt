@@ -1,17 +1,21 @@
-use Rattle.std.proofs.Common.{◌≡◌, ◌+◌, length, ap, ◌∙◌, subst, sym, arith}
-use Rattle.std.proofs.lemmas.List.{length_push}
-use Rattle.std.proofs.lemmas.List.Elements.{All-same, All-push}
-use Rattle.population.specs.Rows.{IsOpeningCustomer, AreOpeningPayments}
-use Rattle.population.proofs.Payments.{payments_more}
+use Rattle.std.proofs.Common.{◌+◌, subst, sym}
+use Rattle.population.specs.Rows.{AreOpeningPayments}
+use Rattle.population.proofs.MoreCustomers.{no_customers, customers_more}
+use Rattle.population.proofs.Payments.{no_payments, payments_more}
 use Rattle.population.proofs.customers.add_customers.Goals as goal
+
+pub loop-place-init : goal.loop-place-init
+loop-place-init c = record {
+  rows = no_customers c.args.now c.args.customers.now.items;
+  payments = subst (AreOpeningPayments c.args.now c.args.home 0) (sym c.new-payments.ensures) (no_payments c.args.home);
+}
 
 pub loop-place-preserved : goal.loop-place-preserved
 loop-place-preserved c =
     let home = c.args.home in
     let place = c.loop-place.place in
     record {
-      rows = All-same (IsOpeningCustomer c.args.now) _ _ c.in_ok-push.ensures.items (All-push (IsOpeningCustomer c.args.now) c.loop-place.customers.items c.customer.result c.loop-place.invariant.rows c.customer.ensures);
-      count = ap length c.in_ok-push.ensures.items ∙ length_push c.loop-place.customers.items c.customer.result ∙ (let e : length c.loop-place.customers.items + 1 ≡ length c.args.customers.now.items + (place + 1) = omega arith in e);
+      rows = customers_more c.args.now place c.args.customers.now.items c.loop-place.customers.items _ c.customer.result c.in_ok-push.ensures.items c.customer.ensures c.loop-place.invariant.rows;
       payments = subst (AreOpeningPayments c.args.now home (place + 1)) (sym c.in_ok-push-2.ensures.ok)
-          (payments_more home place c.loop-place.payments c.payment.result c.payment.ensures.customer c.payment.ensures.amount c.payment.ensures.date c.loop-place.invariant.payments);
+          (payments_more home place c.loop-place.payments c.payment.result c.payment.ensures.customer c.payment.ensures.amount c.payment.ensures.date c.payment.ensures.text c.loop-place.invariant.payments);
     }

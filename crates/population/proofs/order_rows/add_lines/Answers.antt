@@ -5,7 +5,7 @@ use Rattle.rows.specs.declared.records.OrderLine.{OrderLine}
 use Rattle.rows.specs.Keys.{line_cmp}
 use Rattle.schema.proofs.KeyOrders.{lines_total}
 use Rattle.population.specs.Append.{AreBefore}
-use Rattle.population.specs.Keys.{line_key}
+use Rattle.schema.specs.OrderRows.{line_key}
 use Rattle.population.specs.Rows.{IsOpeningLine}
 use Rattle.population.proofs.Inserts.{insert_last, ordered_last}
 use Rattle.population.proofs.Lines.{earlier_lines, one_line_more}

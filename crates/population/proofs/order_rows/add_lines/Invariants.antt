@@ -3,7 +3,7 @@ use Rattle.std.specs.List.{All, range_with_len}
 use Rattle.std.specs.List.Sorted.{IsStrictlySortedBy}
 use Rattle.std.specs.Map.{keys_of}
 use Rattle.rows.specs.Keys.{line_cmp}
-use Rattle.population.specs.Keys.{line_key}
+use Rattle.schema.specs.OrderRows.{line_key}
 use Rattle.population.specs.Rows.{IsOpeningLine}
 use Rattle.population.proofs.order_rows.add_lines.Given as goal
 

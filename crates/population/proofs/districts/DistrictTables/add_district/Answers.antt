@@ -31,7 +31,7 @@ returns c =
     old.districts.items old.customers.items old.histories.items old.book.orders old.book.new_orders old.book.lines c.requires.filled
     _ _ _ _ _ _
     c.district.result c.in_ok-push.ensures.items c.district.ensures
-    c.in_ok-payments.ensures.rows c.in_ok-payments.ensures.count
+    c.in_ok-payments.ensures.rows
     c.in_ok-payments.payments c.in_ok-push-2.ensures.items c.in_ok-payments.ensures.payments
     owners c.in_ok-owners.ensures (c.in_ok-add_orders.ensures.owned ∙ ap (λ l. all_owned old.book ++ owned_by home 1 l) c.deref.ensures.value)
     c.in_ok-add_orders.ensures.book _ (next_place home c.args.scale.warehouses c.requires.home)

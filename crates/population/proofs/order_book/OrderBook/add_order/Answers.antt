@@ -23,7 +23,7 @@ returns-clause-book c =
     record {
       new_keys = new_keys_more key _ book.orders.entries c.append.new.map.entries c.in_ok-append.ensures.added c.args.scale book.new_orders.entries c.add_if_new.new.new_orders.entries c.requires.book.new_keys c.in_ok-add_if_new.ensures.keys;
       line_keys = line_keys_more key _ book.orders.entries c.append.new.map.entries c.in_ok-append.ensures.added book.lines c.add_lines.new.lines c.requires.book.line_keys c.in_ok-add_lines.ensures.keys;
-      order_rows = All-same P _ _ c.in_ok-append.ensures.added (All-push P book.orders.entries _ c.requires.book.order_rows (record { number = c.requires.number; customer = c.requires.customer; carrier = c.carrier-carrier_id.ensures; entry_d = refl; some_lines = omega (arith, c.random.ensures.low); few_lines = omega (arith, c.random.ensures.high); all_local = refl }));
+      order_rows = All-same P _ _ c.in_ok-append.ensures.added (All-push P book.orders.entries _ c.requires.book.order_rows (record { number = c.requires.number; customer = c.requires.customer; carrier = c.carrier-carrier_id.ensures.none; carrier_id = c.carrier-carrier_id.ensures.number; entry_d = refl; some_lines = omega (arith, c.random.ensures.low); few_lines = omega (arith, c.random.ensures.high); all_local = refl }));
       line_rows = c.in_ok-add_lines.ensures.rows;
       orders_ordered = c.append.ensures.ordered;
       new_orders_ordered = c.add_if_new.ensures.ordered;
