@@ -21,7 +21,7 @@ use Rattle.workload.specs.Requests.{moment_at, order_status_drawn, request_drawn
 use Rattle.workload.specs.Within.{IsCustomer, IsWithin, NameItems}
 use Rattle.workload.proofs.Numbers.{rest_between, random-between, nu_rand-within, nu_rand-between}
 use Rattle.workload.proofs.Accepted.{accepted-new_order, accepted-payment, accepted-order_status, accepted-delivery, accepted-stock_level}
-use Rattle.workload.proofs.OtherWarehouses.{IsThere, IsDistrict, customer_home-there, customer_home-near}
+use Rattle.workload.proofs.OtherWarehouses.{IsDistrict, customer_home-there, customer_home-near}
 use Rattle.workload.proofs.Lines.{lines-count, lines-quantities, lines-suppliers, lines-near, lines-items}
 
 -- the number of a name is one of a customer's
@@ -40,7 +40,7 @@ choice-customer scale generator =
       | false ↦ (name, name_below scale next, refl)
     ]
 
-new_order-accepted : (terminal : Terminal) (moment : ℕ) (generator : Lcg) → IsThere terminal → IsAccepted terminal.scale (request_drawn terminal moment NewOrder generator).0
+new_order-accepted : (terminal : Terminal) (moment : ℕ) (generator : Lcg) → IsDistrict terminal terminal.home → IsAccepted terminal.scale (request_drawn terminal moment NewOrder generator).0
 unfolding request_drawn new_order_drawn
 new_order-accepted terminal moment generator there =
     let back = rolls_back generator in
@@ -67,10 +67,10 @@ new_order-within terminal moment generator =
       lines-near terminal back count (beyond 5 generator),
     )
 
-home-there : (terminal : Terminal) (generator : Lcg) → IsThere terminal → IsDistrict terminal (record { w_id = terminal.home.w_id; d_id = random_of 1 10 generator })
+home-there : (terminal : Terminal) (generator : Lcg) → IsDistrict terminal terminal.home → IsDistrict terminal (record { w_id = terminal.home.w_id; d_id = random_of 1 10 generator })
 home-there terminal generator there = record { warehouse = there.warehouse; district = random-between 1 10 generator (omega arith) }
 
-payment-accepted : (terminal : Terminal) (moment : ℕ) (generator : Lcg) → IsThere terminal → IsAccepted terminal.scale (request_drawn terminal moment Payment generator).0
+payment-accepted : (terminal : Terminal) (moment : ℕ) (generator : Lcg) → IsDistrict terminal terminal.home → IsAccepted terminal.scale (request_drawn terminal moment Payment generator).0
 unfolding request_drawn payment_drawn
 payment-accepted terminal moment generator there =
     let own = home-there terminal generator there in
@@ -83,7 +83,7 @@ payment-within terminal moment generator =
     (refl, choice-customer terminal.scale _, λ none. ap (λ key. key.w_id) (customer_home-near terminal _ (beyond 1 generator) none))
 
 -- whatever the kind
-pub request-accepted : (terminal : Terminal) (moment : ℕ) (kind : Kind) (generator : Lcg) → IsThere terminal → IsAccepted terminal.scale (request_drawn terminal moment kind generator).0
+pub request-accepted : (terminal : Terminal) (moment : ℕ) (kind : Kind) (generator : Lcg) → IsDistrict terminal terminal.home → IsAccepted terminal.scale (request_drawn terminal moment kind generator).0
 unfolding request_drawn order_status_drawn
 request-accepted terminal moment NewOrder generator there = new_order-accepted terminal moment generator there
 request-accepted terminal moment Payment generator there = payment-accepted terminal moment generator there
@@ -109,7 +109,7 @@ request-kind terminal moment StockLevel generator = refl
 
 -- ---- and so all of a script
 
-pub requests-accepted : (terminal : Terminal) (now number : ℕ) (kinds : List Kind) (generator : Lcg) → IsThere terminal → All (IsAccepted terminal.scale) (requests_drawn terminal now number kinds generator)
+pub requests-accepted : (terminal : Terminal) (now number : ℕ) (kinds : List Kind) (generator : Lcg) → IsDistrict terminal terminal.home → All (IsAccepted terminal.scale) (requests_drawn terminal now number kinds generator)
 unfolding requests_drawn
 requests-accepted terminal now number [] generator there = All-nil _
 requests-accepted terminal now number (kind ∷ kinds) generator there =

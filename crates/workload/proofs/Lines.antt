@@ -12,13 +12,13 @@ use Rattle.workload.specs.declared.terminal.Terminal.{Terminal}
 use Rattle.workload.specs.NewOrders.{item_drawn, line_drawn, lines_drawn}
 use Rattle.workload.specs.Within.{IsNear, NameItems}
 use Rattle.workload.proofs.Numbers.{random-between, nu_rand-between}
-use Rattle.workload.proofs.OtherWarehouses.{IsThere, supplier-there, supplier-near}
+use Rattle.workload.proofs.OtherWarehouses.{IsDistrict, supplier-there, supplier-near}
 
 line-quantity : (terminal : Terminal) (unused : Bool) (generator : Lcg) → is_between 1 10 (line_drawn terminal unused generator).0.quantity ≡ true
 unfolding line_drawn
 line-quantity terminal unused generator = random-between 1 10 _ (omega arith)
 
-line-supplier : (terminal : Terminal) (unused : Bool) (generator : Lcg) → IsThere terminal → has_warehouse terminal.scale (line_drawn terminal unused generator).0.supply_w_id ≡ true
+line-supplier : (terminal : Terminal) (unused : Bool) (generator : Lcg) → IsDistrict terminal terminal.home → has_warehouse terminal.scale (line_drawn terminal unused generator).0.supply_w_id ≡ true
 unfolding line_drawn
 line-supplier terminal unused generator there = supplier-there terminal _ there
 
@@ -48,7 +48,7 @@ lines-quantities terminal rolls_back (suc left) generator =
     let unused = rolls_back && nat_eq left 0 in
     rw (line-quantity terminal unused generator) (lines-quantities terminal rolls_back left (line_drawn terminal unused generator).1)
 
-pub lines-suppliers : (terminal : Terminal) (rolls_back : Bool) (count : ℕ) (generator : Lcg) → IsThere terminal
+pub lines-suppliers : (terminal : Terminal) (rolls_back : Bool) (count : ℕ) (generator : Lcg) → IsDistrict terminal terminal.home
     → list_all (λ line. has_warehouse terminal.scale line.supply_w_id) (lines_drawn terminal rolls_back count generator).0 ≡ true
 unfolding lines_drawn
 lines-suppliers terminal rolls_back zero generator there = refl

@@ -1,36 +1,25 @@
 -- The warehouses that take part are there.
-use Rattle.std.proofs.Common.{◌≡◌, ℕ, ◌+◌, ◌-◌, ◌≤◌, Bool, true, false, nat_eq, nat_lt, cond, refl, arith}
-use Rattle.std.specs.Prelude.{IsTrue, ◌&&◌}
+use Rattle.std.proofs.Common.{◌≡◌, ℕ, ◌+◌, ◌-◌, ◌≤◌, true, false, nat_eq, nat_lt, cond, refl, arith}
 use Rattle.std.proofs.lemmas.Bool.Decides.{nat_tests}
 use Rattle.rand_pcg.specs.Lcg.{Lcg}
 use Rattle.rows.specs.declared.keys.DistrictKey.{DistrictKey}
 use Rattle.rows.specs.Ranged.{is_between}
-use Rattle.schema.specs.Scale.{has_warehouse, has_district}
+use Rattle.schema.specs.Scale.{has_warehouse}
 use Rattle.number_draws.specs.Words.{word, beyond}
 use Rattle.number_draws.specs.Draws.{random_of}
 use Rattle.workload.specs.declared.terminal.Terminal.{Terminal}
 use Rattle.workload.specs.Warehouses.{beside, other_drawn, supplier_drawn, other_district_drawn, customer_home_drawn}
 use Rattle.workload.proofs.Numbers.{random-between, rest_between}
 
--- the terminal is in its scale
-pub record IsThere (terminal : Terminal) : Type 0 where
-  pub warehouse : has_warehouse terminal.scale terminal.home.w_id ≡ true
-  pub district : is_between 1 10 terminal.home.d_id ≡ true
-
-both : (a b : Bool) → IsTrue (a && b) → (a ≡ true) × (b ≡ true)
-both true true h = (refl, refl)
-both true false h = absurd (cc)
-both false b h = absurd (cc)
-
-pub is_there : (terminal : Terminal) → IsTrue (has_district terminal.scale terminal.home) → IsThere terminal
-is_there terminal h =
-    let parts = both (has_warehouse terminal.scale terminal.home.w_id) (is_between 1 10 terminal.home.d_id) h in
-    record { warehouse = parts.0; district = parts.1 }
+-- a district of a warehouse that is there
+pub record IsDistrict (terminal : Terminal) (home : DistrictKey) : Type 0 where
+  pub warehouse : has_warehouse terminal.scale home.w_id ≡ true
+  pub district : is_between 1 10 home.d_id ≡ true
 
 beside-between : (home place warehouses : ℕ) → is_between 1 warehouses home ≡ true → 1 ≤ place → place + 1 ≤ warehouses → is_between 1 warehouses (beside home place) ≡ true
 beside-between home place warehouses h a b = grind (arith, nat_tests)
 
-pub other-there : (terminal : Terminal) (generator : Lcg) → IsThere terminal → has_warehouse terminal.scale (other_drawn terminal generator).0 ≡ true
+pub other-there : (terminal : Terminal) (generator : Lcg) → IsDistrict terminal terminal.home → has_warehouse terminal.scale (other_drawn terminal generator).0 ≡ true
 unfolding other_drawn
 other-there terminal generator there =
     let many = terminal.scale.warehouses in
@@ -43,7 +32,7 @@ other-there terminal generator there =
           beside-between home (random_of 1 (many - 1) generator) many there.warehouse drawn.0 (omega arith)
     ] refl
 
-pub supplier-there : (terminal : Terminal) (generator : Lcg) → IsThere terminal → has_warehouse terminal.scale (supplier_drawn terminal generator).0 ≡ true
+pub supplier-there : (terminal : Terminal) (generator : Lcg) → IsDistrict terminal terminal.home → has_warehouse terminal.scale (supplier_drawn terminal generator).0 ≡ true
 unfolding supplier_drawn
 supplier-there terminal generator there =
     let home = terminal.home.w_id in
@@ -60,12 +49,7 @@ pub supplier-near : (terminal : Terminal) (generator : Lcg) → terminal.remote 
 unfolding supplier_drawn
 supplier-near terminal generator none = rw none refl
 
--- a district of a warehouse that is there
-pub record IsDistrict (terminal : Terminal) (home : DistrictKey) : Type 0 where
-  pub warehouse : has_warehouse terminal.scale home.w_id ≡ true
-  pub district : is_between 1 10 home.d_id ≡ true
-
-pub customer_home-there : (terminal : Terminal) (home : DistrictKey) (generator : Lcg) → IsThere terminal → IsDistrict terminal home → IsDistrict terminal (customer_home_drawn terminal home generator).0
+pub customer_home-there : (terminal : Terminal) (home : DistrictKey) (generator : Lcg) → IsDistrict terminal terminal.home → IsDistrict terminal home → IsDistrict terminal (customer_home_drawn terminal home generator).0
 unfolding customer_home_drawn other_district_drawn
 customer_home-there terminal home generator there own =
     let far = beyond 1 generator in

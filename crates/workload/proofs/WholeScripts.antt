@@ -17,7 +17,7 @@ use Rattle.workload.specs.Requests.{moment_at, request_drawn, requests_drawn}
 use Rattle.workload.specs.Sessions.{home_of, terminal_of, script_drawn}
 use Rattle.workload.specs.Within.{IsWithin}
 use Rattle.workload.proofs.Numbers.{between}
-use Rattle.workload.proofs.OtherWarehouses.{IsThere}
+use Rattle.workload.proofs.OtherWarehouses.{IsDistrict}
 use Rattle.workload.proofs.Drawn.{requests-accepted, requests-within, requests-kinds}
 use Rattle.workload.proofs.Dealt.{kinds-count, kinds-dealt}
 
@@ -34,7 +34,7 @@ home-district : (home : Option ℕ) (warehouses session : ℕ) → is_between 1 
 home-district (Some w_id) warehouses session = between 1 10 (session % 10 + 1) (omega arith) (omega arith)
 home-district None warehouses session = let turn = session / warehouses in between 1 10 (turn % 10 + 1) (omega arith) (omega arith)
 
-pub terminal-there : (workload : Workload) (session : ℕ) → IsThere (terminal_of workload session)
+pub terminal-there : (workload : Workload) (session : ℕ) → IsDistrict (terminal_of workload session) (terminal_of workload session).home
 terminal-there workload session = record {
   warehouse = home-warehouse workload.scale workload.home session workload.of_scale;
   district = home-district workload.home workload.scale.warehouses session;

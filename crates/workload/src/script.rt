@@ -16,10 +16,12 @@ use std::alloc::Global;
 // The seeds of the generators are so far apart, which is one more than the greatest seed of a workload.
 const STRIDE: u64 = 4_294_967_296;
 
-/// The script of a session.
+/// The script of a session, from 0 to 63: as many requests as the workload says.
 ///
 /// Two generators draw it (`number_draws`), one the decks and the other the requests, so that a script of
 /// fewer requests is the beginning of a longer one of the same seed.
+///
+/// `NoMemory` comes only where there is none for its kinds or its requests.
 pub fn draw_script(alloc: Global, workload: &Workload, session: u32) -> Result<Script, NoMemory>
     requires { session < 64 }
     ensures drawn { IfOk result (λ script. script ≡ script_drawn workload.now session) }

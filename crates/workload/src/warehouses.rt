@@ -5,9 +5,9 @@ use crate::Terminal;
 use number_draws::NumberDraws;
 use schema::DistrictKey;
 
-/// A warehouse beside the home one, evenly drawn; the home one where there is no other.
+// A warehouse beside the home one, evenly drawn; the home one where there is no other.
 #[tactic(auto, unfolding(crate::specs::Warehouses::other_drawn))]
-pub(crate) fn other_warehouse(draws: &mut NumberDraws, terminal: &Terminal) -> u32
+fn other_warehouse(draws: &mut NumberDraws, terminal: &Terminal) -> u32
     ensures { (result, draws.new) ≡ other_drawn terminal.now draws.old }
 {
     let home = terminal.home.w_id;
