@@ -4,7 +4,8 @@ use Rattle.std.proofs.lemmas.Bool.{and_from}
 use Rattle.std.proofs.lemmas.Bool.Decides.{nat_tests}
 use Rattle.std.proofs.lemmas.List.Elements.{All-from_recursion, All-get_or, filter_agree}
 use Rattle.std.proofs.lemmas.Option.{slice_get-get_or}
-use Rattle.std.specs.List.{filter, range_with_len}
+use Rattle.std.specs.List.{filter, list_any, range_with_len}
+use Rattle.std.specs.Cmp.{eq_by_cmp_equiv}
 use Rattle.std.specs.List.Sorted.{IsPermutation}
 use Rattle.std.specs.Map.{keys_of}
 use Rattle.std.specs.declared.cmp.Ordering.{Ordering}
@@ -18,22 +19,25 @@ use Rattle.rows.specs.declared.keys.OrderLineKey.{OrderLineKey}
 use Rattle.rows.specs.declared.records.Order.{Order}
 use Rattle.rows.specs.declared.records.NewOrder.{NewOrder}
 use Rattle.rows.specs.declared.records.OrderLine.{OrderLine}
-use Rattle.rows.specs.Keys.{order_cmp, order_of_line}
+use Rattle.rows.specs.Keys.{order_cmp, line_cmp, order_of_line}
 use Rattle.schema.specs.declared.scale.Scale.{Scale}
 use Rattle.schema.specs.declared.table_rows.TableRows.{TableRows}
 use Rattle.schema.specs.Scale.{has_district}
 use Rattle.schema.specs.Database.{is_of_district, is_of_order}
+use Rattle.schema.specs.OrderRows.{line_key}
 use Rattle.schema.specs.Rows.{database}
 use Rattle.schema.specs.Consistency.{orders_of, new_orders_of, numbers, greatest, NextOrdersFollow, NewOrdersHaveNoGap, DistrictsCountLines, NewOrdersHaveNoCarrier, OrdersCountLines, LinesComeWithOrders}
-use Rattle.schema.proofs.KeyOrders.{orders_total, orders_exact, lines_total}
+use Rattle.schema.proofs.KeyOrders.{orders_total, orders_exact, lines_total, lines_exact}
 use Rattle.schema.proofs.OrderedParts.{entries-ordered}
 use Rattle.population.specs.Profile.{delivered_orders}
 use Rattle.population.specs.Book.{Owned, owned, owned_by, owned_from}
-use Rattle.population.specs.Population.{EachOrdersOnce}
+use Rattle.population.specs.Population.{EachOrdersOnce, HasLinesInTurn}
 use Rattle.population.proofs.Owned.{home_at, owners_count}
 use Rattle.population.proofs.Blocks.{block, numbers_by, owners_by, kept_mapped}
 use Rattle.population.proofs.Numbers.{no_gap, above, kept_keys, new_of_district, greatest_next, last_next}
+use Rattle.population.proofs.Found.{contains_is}
 use Rattle.population.proofs.LineCounts.{lines_counted, kept_lines, one_kept}
+use Rattle.population.proofs.LineNumbers.{same_number, numbered_in}
 use Rattle.population.specs.Filled.{IsPopulated}
 use Rattle.population.proofs.Populated.{order_row, line_row, new_contained}
 use Rattle.population.proofs.ConditionsPayments.{district_row, district_known}
@@ -42,9 +46,6 @@ then_equal : (x y : Ordering) → is_eq (ordering_then x y) ≡ (is_eq x && is_e
 then_equal Less y = refl
 then_equal Equal y = refl
 then_equal Greater y = refl
-
-same_number : (q j : ℕ) → is_eq (nat_cmp q j) ≡ (j == q)
-same_number q j = grind (arith, nat_tests)
 
 -- a line is of the order whose key it has
 same_order : (key : OrderKey) (line : OrderLineKey) → is_of_order key line ≡ eq_by_cmp order_cmp key (order_of_line line)
@@ -172,6 +173,14 @@ module _ {seed now : ℕ} (scale : Scale) (rows : TableRows) (h : IsPopulated sc
       ∙ sym (counted test)
       ∙ ap length (filter_agree (λ (e : OrderLineKey × OrderLine). eq_by_cmp order_cmp key (order_of_line e.0)) (λ e. is_of_order key e.0) (λ e. sym (same_order key e.0)) rows.lines)
       ∙ ap (λ (l : List (OrderLineKey × OrderLine)). length (filter (λ e. is_of_order key e.0) l)) (sym lines)
+
+  pub lines_numbered : HasLinesInTurn (database scale rows)
+  lines_numbered key row found number =
+      let one : filter (λ (e : OrderKey × Order). eq_by_cmp order_cmp key e.0) rows.orders.entries ≡ (key, row) ∷ [] =
+      one_kept orders_total orders_exact key row rows.orders.entries h.filled.book.orders_ordered (sym (get-from_entries orders_total rows.orders.entries key) ∙ found) in
+      contains_is lines_total lines_exact rows.lines (line_key key number)
+      ∙ ap (list_any (eq_by_cmp line_cmp (line_key key number))) h.filled.book.line_keys
+      ∙ numbered_in key row number rows.orders.entries ((eq_by_cmp_equiv orders_total).refl key) one
 
   -- ---- 5 and 7
 

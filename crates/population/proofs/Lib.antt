@@ -13,6 +13,7 @@ pub mod Weights
 pub mod Blocks
 pub mod Numbers
 pub mod LineCounts
+pub mod LineNumbers
 pub mod Payers
 pub mod Populated
 pub mod ConditionsPayments

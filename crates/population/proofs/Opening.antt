@@ -27,7 +27,7 @@ use Rattle.population.specs.Filled.{IsPopulated}
 use Rattle.population.proofs.Populated.{dense_found, fits, list_of, order_row, line_row}
 use Rattle.population.proofs.Consistent.{consistent}
 use Rattle.population.proofs.ConditionsPayments.{district_row, district_known, customer_row, each_paid_once}
-use Rattle.population.proofs.ConditionsOrders.{numbers_here, new_here, each_orders_once}
+use Rattle.population.proofs.ConditionsOrders.{lines_numbered, numbers_here, new_here, each_orders_once}
 
 module _ {seed now : ℕ} (scale : Scale) (rows : TableRows) (h : IsPopulated scale seed now rows) where
   -- item 1 is the first row
@@ -64,6 +64,7 @@ module _ {seed now : ℕ} (scale : Scale) (rows : TableRows) (h : IsPopulated sc
     payments = list_of scale rows h;
     orders = order_row scale rows h;
     lines = line_row scale rows h;
+    line_numbers = lines_numbered scale rows h;
     new_orders = λ home known. new_here scale rows h home known
         ∙ ap (range_with_len (delivered_orders scale + 1)) (let e : 1 + scale.customers - (delivered_orders scale + 1) ≡ scale.customers - delivered_orders scale = omega arith in e);
     orders_once = each_orders_once scale rows h;

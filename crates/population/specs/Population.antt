@@ -16,8 +16,10 @@ use Rattle.rows.specs.declared.records.Customer.{Customer}
 use Rattle.rows.specs.declared.records.History.{History}
 use Rattle.rows.specs.declared.records.Order.{Order}
 use Rattle.rows.specs.declared.records.OrderLine.{OrderLine}
+use Rattle.rows.specs.Ranged.{is_between}
 use Rattle.schema.specs.declared.scale.Scale.{Scale}
 use Rattle.schema.specs.Scale.{has_district, has_customer}
+use Rattle.schema.specs.OrderRows.{line_key}
 use Rattle.schema.specs.Database.{Database, IsWithinScale, list_at}
 use Rattle.schema.specs.Consistency.{Consistent, OrdersAreFresh, orders_of, new_orders_of, numbers, is_payer}
 use Rattle.population.specs.Profile.{delivered_orders}
@@ -54,6 +56,11 @@ EachPaidOnce t = (customer : CustomerKey) → IsTrue (has_customer t.scale custo
 abbrev pub HasNewOrders : Database → DistrictKey → Type 0
 HasNewOrders t home = numbers (new_orders_of t home) ≡ range_with_len (delivered_orders t.scale + 1) (t.scale.customers - delivered_orders t.scale)
 
+-- the lines of each order are numbered from 1 to its O_OL_CNT (clause 4.3.3.1)
+abbrev pub HasLinesInTurn : Database → Type 0
+HasLinesInTurn t = (key : OrderKey) (row : Order) → table.get t.orders key ≡ Some row
+    → (number : ℕ) → table.contains_key t.lines (line_key key number) ≡ is_between 1 row.ol_cnt number
+
 -- The tables of that scale, drawn from that seed, with that moment as every date and time: the rows of each table are there, and as
 -- the benchmark begins with, each customer has ordered and paid once, and all twelve conditions of consistency hold, condition 11 at
 -- full scale.
@@ -69,6 +76,7 @@ pub record IsOpening (scale : Scale) (seed now : ℕ) (t : Database) : Type 0 wh
   pub payments : (home : DistrictKey) (rows : List History) → table.get t.histories home ≡ Some rows → AreOpeningPayments now home scale.customers rows
   pub orders : (key : OrderKey) (row : Order) → table.get t.orders key ≡ Some row → IsOpeningOrder scale now key row
   pub lines : (key : OrderLineKey) (row : OrderLine) → table.get t.lines key ≡ Some row → IsOpeningLine scale now key row
+  pub line_numbers : HasLinesInTurn t
   pub new_orders : (home : DistrictKey) → IsTrue (has_district scale home) → HasNewOrders t home
   pub orders_once : EachOrdersOnce t
   pub paid_once : EachPaidOnce t
