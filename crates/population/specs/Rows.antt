@@ -1,6 +1,6 @@
 -- What the rows of a population have in common (clause 4.3.3.1).
-use Rattle.std.specs.Prelude.{◌≡◌, ◌≢◌, ◌↔◌, ℕ, ◌+◌, ◌-◌, ◌*◌, ◌%◌, ◌<◌, ◌≤◌, true, List, ◌++◌, map, length, codes, pos, negsuc, None, Some, IsTrue}
-use Rattle.std.specs.List.{All, AllByRecursion, range_with_len, slice_get}
+use Rattle.std.specs.Prelude.{◌≡◌, ◌≢◌, ◌↔◌, ℕ, ◌+◌, ◌-◌, ◌*◌, ◌%◌, ◌<◌, ◌≤◌, Bool, ◌||◌, true, List, ◌++◌, map, length, codes, pos, negsuc, None, Some, IsTrue}
+use Rattle.std.specs.List.{All, AllByRecursion, list_all, range_with_len, slice_get}
 use Rattle.std.specs.Map.{keys_of}
 use Rattle.std.specs.declared.cmp.Ordering.TheVariants.{Less}
 use Rattle.rows.specs.declared.keys.DistrictKey.{DistrictKey}
@@ -17,6 +17,7 @@ use Rattle.rows.specs.declared.records.Order.{Order}
 use Rattle.rows.specs.declared.records.OrderLine.{OrderLine}
 use Rattle.rows.specs.Keys.{order_cmp, order_of_line}
 use Rattle.rows.specs.LastName.{last_name_of}
+use Rattle.rows.specs.Ranged.{is_between}
 use Rattle.schema.specs.declared.scale.Scale.{Scale}
 use Rattle.schema.specs.Scale.{has_item, has_warehouse, has_customer, customer_key}
 use Rattle.schema.specs.Database.{customer_of_order, is_order_id, is_line_number}
@@ -26,33 +27,50 @@ use Rattle.population.specs.Profile.{delivered_orders}
 abbrev pub IsFrom : ℕ → ℕ → ℕ → Type 0
 IsFrom low high number = (low ≤ number) × (number ≤ high)
 
--- the text has so many characters, from the one number to the other
-abbrev pub IsOfLength : ℕ → ℕ → List ℕ → Type 0
-IsOfLength low high text = IsFrom low high (length text)
+-- 0 to 9
+abbrev pub is_digit : ℕ → Bool
+is_digit byte = is_between 48 57 byte
 
--- a zip code is four characters with 11111 behind them (clause 4.3.2.7)
+-- A to Z
+abbrev pub is_capital : ℕ → Bool
+is_capital byte = is_between 65 90 byte
+
+-- a digit, or a letter from A to Z or from a to z
+abbrev pub is_letter_or_digit : ℕ → Bool
+is_letter_or_digit byte = is_digit byte || (is_capital byte || is_between 97 122 byte)
+
+-- the text has so many characters, from the one number to the other, and each is of that kind (clause 4.3.2.2)
+pub record IsTextOf (kind : ℕ → Bool) (low high : ℕ) (text : List ℕ) : Type 0 where
+  pub count : IsFrom low high (length text)
+  pub each : IsTrue (list_all kind text)
+
+-- so many letters and digits, as most texts are drawn
+abbrev pub IsDrawnText : ℕ → ℕ → List ℕ → Type 0
+IsDrawnText low high text = IsTextOf is_letter_or_digit low high text
+
+-- a zip code is four digits with 11111 behind them (clause 4.3.2.7)
 abbrev pub IsOpeningZip : List ℕ → Type 0
-IsOpeningZip zip = (four : List ℕ) × (length four ≡ 4) × (zip ≡ four ++ codes "11111")
+IsOpeningZip zip = (four : List ℕ) × IsTextOf is_digit 4 4 four × (zip ≡ four ++ codes "11111")
 
--- an address is three texts of 10 to 20, a state of two characters, and a zip code
+-- an address is three texts of 10 to 20 characters, a state of two capital letters, and a zip code
 pub record IsOpeningAddress (address : Address) : Type 0 where
-  pub street_1 : IsOfLength 10 20 address.street_1
-  pub street_2 : IsOfLength 10 20 address.street_2
-  pub city : IsOfLength 10 20 address.city
-  pub state : length address.state ≡ 2
+  pub street_1 : IsDrawnText 10 20 address.street_1
+  pub street_2 : IsDrawnText 10 20 address.street_2
+  pub city : IsDrawnText 10 20 address.city
+  pub state : IsTextOf is_capital 2 2 address.state
   pub zip : IsOpeningZip address.zip
 
 -- of ITEM all is drawn: I_IM_ID from 1 to 10,000, I_PRICE from 100 to 10,000 cents, I_NAME of 14 to 24 and I_DATA of 26 to 50
 -- characters (clause 4.3.3.1)
 pub record IsOpeningItem (row : Item) : Type 0 where
   pub image : IsFrom 1 10000 row.im_id
-  pub name : IsOfLength 14 24 row.name
+  pub name : IsDrawnText 14 24 row.name
   pub price : IsFrom 100 10000 row.price
-  pub text : IsOfLength 26 50 row.«data»
+  pub text : IsDrawnText 26 50 row.«data»
 
 -- W_YTD is 10,000 cents for each customer of a district; W_TAX is drawn, to 2,000, and so are the texts (clause 4.3.3.1)
 pub record IsOpeningWarehouse (scale : Scale) (row : Warehouse) : Type 0 where
-  pub name : IsOfLength 6 10 row.name
+  pub name : IsDrawnText 6 10 row.name
   pub address : IsOpeningAddress row.address
   pub tax : row.tax ≤ 2000
   pub ytd : row.ytd ≡ pos (10000 * scale.customers)
@@ -62,16 +80,16 @@ pub record IsOpeningWarehouse (scale : Scale) (row : Warehouse) : Type 0 where
 pub record IsOpeningStock (row : Stock) : Type 0 where
   pub quantity : IsFrom 10 100 row.quantity
   pub dist_count : length row.dist ≡ 10
-  pub dist : AllByRecursion (λ info. length info ≡ 24) row.dist
+  pub dist : AllByRecursion (IsDrawnText 24 24) row.dist
   pub ytd : row.ytd ≡ 0
   pub order_cnt : row.order_cnt ≡ 0
   pub remote_cnt : row.remote_cnt ≡ 0
-  pub text : IsOfLength 26 50 row.«data»
+  pub text : IsDrawnText 26 50 row.«data»
 
 -- D_YTD is 1,000 cents for each customer, and D_NEXT_O_ID 1 more than the number of customers; D_TAX is drawn, to 2,000, and so are
 -- the texts (clause 4.3.3.1)
 pub record IsOpeningDistrict (scale : Scale) (row : District) : Type 0 where
-  pub name : IsOfLength 6 10 row.name
+  pub name : IsDrawnText 6 10 row.name
   pub address : IsOpeningAddress row.address
   pub tax : row.tax ≤ 2000
   pub ytd : row.ytd ≡ pos (1000 * scale.customers)
@@ -87,11 +105,11 @@ pub record IsOpeningName (number : ℕ) (last : List ℕ) : Type 0 where
 -- delivered, C_SINCE is the moment, C_MIDDLE is OE, C_CREDIT_LIM 5,000,000 cents, and C_LAST goes by the number; C_DISCOUNT is drawn,
 -- to 5,000, C_CREDIT too, and so are the other texts (clause 4.3.3.1)
 pub record IsOpeningCustomer (now number : ℕ) (row : Customer) : Type 0 where
-  pub first : IsOfLength 8 16 row.first
+  pub first : IsDrawnText 8 16 row.first
   pub middle : row.middle ≡ codes "OE"
   pub last : IsOpeningName number row.last
   pub address : IsOpeningAddress row.address
-  pub phone : length row.phone ≡ 16
+  pub phone : IsTextOf is_digit 16 16 row.phone
   pub since : row.since ≡ now
   pub credit_lim : row.credit_lim ≡ pos 5000000
   pub discount : row.discount ≤ 5000
@@ -99,7 +117,7 @@ pub record IsOpeningCustomer (now number : ℕ) (row : Customer) : Type 0 where
   pub ytd_payment : row.ytd_payment ≡ pos 1000
   pub payment_cnt : row.payment_cnt ≡ 1
   pub delivery_cnt : row.delivery_cnt ≡ 0
-  pub text : IsOfLength 300 500 row.«data»
+  pub text : IsDrawnText 300 500 row.«data»
 
 -- the customers of one district after another, so many of each
 abbrev pub AreOpeningCustomers : ℕ → ℕ → List Customer → Type 0
@@ -119,7 +137,7 @@ pub record AreOpeningPayments (now : ℕ) (home : DistrictKey) (customers : ℕ)
   pub payers : map (λ row. row.customer) payments ≡ map (customer_key home) (range_with_len 1 customers)
   pub amounts : All (λ row. row.amount ≡ pos 1000) payments
   pub dates : All (λ row. row.date ≡ now) payments
-  pub text : All (λ row. IsOfLength 12 24 row.«data») payments
+  pub text : All (λ row. IsDrawnText 12 24 row.«data») payments
 
 -- an order is of a customer of its district, from the moment on, has 5 to 15 lines, all local, and no carrier just where it is new,
 -- else one from 1 to 10 (clause 4.3.3.1)
@@ -145,7 +163,7 @@ pub record IsOpeningLine (scale : Scale) (now : ℕ) (key : OrderLineKey) (row :
   pub moment : (moment : ℕ) → row.delivery_d ≡ Some moment → moment ≡ now
   pub home : row.supply_w_id ≡ key.w_id
   pub quantity : row.quantity ≡ 5
-  pub dist_info : length row.dist_info ≡ 24
+  pub dist_info : IsDrawnText 24 24 row.dist_info
 
 -- the lines are of orders below this one
 abbrev pub AreOfEarlierOrders : OrderKey → List (OrderLineKey × OrderLine) → Type 0

@@ -1,5 +1,5 @@
 ghost use Rattle.std.specs.Prelude.{◌≡◌, ◌≤◌, OnOk, IfOk, codes, pos};
-ghost use Rattle.population.specs.Rows.{IsOfLength, IsOpeningName, IsOpeningCustomer, AddsCustomers, AreOpeningPayments};
+ghost use Rattle.population.specs.Rows.{IsDrawnText, IsOpeningName, IsOpeningCustomer, AddsCustomers, AreOpeningPayments};
 
 use crate::draws::Draws;
 use amounts::{Cents, Rate};
@@ -91,7 +91,7 @@ fn payment(draws: &mut Draws, customer: CustomerKey, now: Moment) -> History
     ensures customer { result.customer ≡ customer }
     ensures amount { result.amount ≡ pos 1000 }
     ensures date { result.date ≡ now }
-    ensures text { IsOfLength 12 24 result.«data» }
+    ensures text { IsDrawnText 12 24 result.«data» }
 {
     History {
         customer,

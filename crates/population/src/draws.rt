@@ -1,10 +1,10 @@
-ghost use Rattle.std.specs.Prelude.{◌≡◌, ◌<◌, ◌≤◌, ◌^◌, length, IsTrue};
+ghost use Rattle.std.specs.Prelude.{◌≡◌, ℕ, Bool, ◌<◌, ◌≤◌, ◌^◌, length, IsTrue};
 ghost use Rattle.std.specs.List.{list_all};
 ghost use Rattle.std.specs.List.Sorted.{IsPermutation};
 ghost use Rattle.rows.specs.Text.{is_printable_byte};
 ghost use Rattle.number_draws.specs.Words.{seeded};
 ghost use Rattle.number_draws.specs.Draws.{random_of};
-ghost use Rattle.population.specs.Rows.{IsOpeningZip, IsOpeningAddress};
+ghost use Rattle.population.specs.Rows.{is_digit, is_capital, is_letter_or_digit, IsTextOf, IsDrawnText, IsOpeningZip, IsOpeningAddress};
 
 use number_draws::NumberDraws;
 use schema::{Address, Text};
@@ -64,8 +64,7 @@ impl Draws {
     pub(crate) fn text<const WIDTH: usize>(&mut self, low: u32, high: u32) -> Text<WIDTH>
         requires order { low ≤ high }
         requires fits { high ≤ WIDTH }
-        ensures low { low ≤ length result }
-        ensures high { length result ≤ high }
+        ensures { IsDrawnText low high result }
     {
         let count = self.random(low, high);
         self.characters(count, DIGITS_AND_LETTERS)
@@ -73,14 +72,14 @@ impl Draws {
 
     // That many capital letters.
     fn letters<const WIDTH: usize>(&mut self, count: u32) -> Text<WIDTH>
-        ensures { count ≤ WIDTH → length result ≡ count }
+        ensures { count ≤ WIDTH → IsTextOf is_capital count count result }
     {
         self.characters(count, LETTERS)
     }
 
     /// That many digits.
     pub(crate) fn digits<const WIDTH: usize>(&mut self, count: u32) -> Text<WIDTH>
-        ensures { count ≤ WIDTH → length result ≡ count }
+        ensures { count ≤ WIDTH → IsTextOf is_digit count count result }
     {
         self.characters(count, DIGITS)
     }
@@ -91,8 +90,7 @@ impl Draws {
         requires room { 8 ≤ low }
         requires order { low ≤ high }
         requires fits { high ≤ WIDTH }
-        ensures low { low ≤ length result }
-        ensures high { length result ≤ high }
+        ensures { IsDrawnText low high result }
     {
         let text = self.text(low, high);
         if self.random(1, 10) == 1 {
@@ -128,7 +126,8 @@ impl Draws {
     fn with_original<const WIDTH: usize>(&mut self, text: &Text<WIDTH>) -> Text<WIDTH>
         requires room { 8 ≤ length text.now }
         requires short { length text.now < 2 ^ 32 }
-        ensures { length result ≡ length text.now }
+        ensures count { length result ≡ length text.now }
+        ensures each { IsTrue (list_all is_letter_or_digit text.now) → IsTrue (list_all is_letter_or_digit result) }
     {
         let words = text.as_str();
         let place = self.random(0, words.len() as u32 - 8) as usize;
@@ -144,7 +143,8 @@ impl Draws {
         requires some { 0 < length alphabet.now }
         requires short { length alphabet.now < 2 ^ 32 }
         requires printable { IsTrue (list_all is_printable_byte alphabet.now) }
-        ensures { count ≤ WIDTH → length result ≡ count }
+        ensures count { count ≤ WIDTH → length result ≡ count }
+        ensures each { (kind : ℕ → Bool) → IsTrue (list_all kind alphabet.now) → IsTrue (list_all kind result) }
     {
         let count = WIDTH.min(count as usize);
         let mut bytes = [b' '; WIDTH];
@@ -161,8 +161,7 @@ impl Draws {
     fn character(&mut self, alphabet: &[u8]) -> u8
         requires some { 0 < length alphabet.now }
         requires short { length alphabet.now < 2 ^ 32 }
-        requires printable { IsTrue (list_all is_printable_byte alphabet.now) }
-        ensures { IsTrue (is_printable_byte result) }
+        ensures { (kind : ℕ → Bool) → IsTrue (list_all kind alphabet.now) → IsTrue (kind result) }
     {
         alphabet[self.random(0, alphabet.len() as u32 - 1) as usize]
     }

@@ -1,6 +1,6 @@
 ghost use Rattle.std.specs.Prelude.{◌≡◌, ◌+◌, OnOk, length};
 ghost use Rattle.std.specs.List.{All, AllByRecursion};
-ghost use Rattle.population.specs.Rows.{IsOpeningWarehouse, IsOpeningStock};
+ghost use Rattle.population.specs.Rows.{IsDrawnText, IsOpeningWarehouse, IsOpeningStock};
 
 use crate::draws::Draws;
 use amounts::{Cents, Rate};
@@ -50,7 +50,7 @@ fn stock(draws: &mut Draws) -> Stock
 // S_DIST_01 to S_DIST_10.
 fn district_infos(draws: &mut Draws) -> [Text<24>; 10]
     ensures count { length result ≡ 10 }
-    ensures each { AllByRecursion (λ info. length info ≡ 24) result }
+    ensures each { AllByRecursion (IsDrawnText 24 24) result }
 {
     [
         draws.text(24, 24),
