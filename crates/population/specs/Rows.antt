@@ -95,8 +95,8 @@ pub record IsOpeningDistrict (scale : Scale) (row : District) : Type 0 where
   pub ytd : row.ytd ≡ pos (1000 * scale.customers)
   pub next_o_id : row.next_o_id ≡ scale.customers + 1
 
--- C_LAST: the first 1,000 customers of a district have the names of the numbers 0 to 999 in turn, and the others have some of these
--- (clause 4.3.3.1)
+-- C_LAST: the first 1,000 customers of a district have the names of the numbers 0 to 999 in turn, and the others each have one
+-- of these (clause 4.3.3.1)
 pub record IsOpeningName (number : ℕ) (last : List ℕ) : Type 0 where
   pub in_turn : number ≤ 1000 → last ≡ last_name_of (number - 1)
   pub drawn : 1000 < number → (of : ℕ) × (of ≤ 999) × (last ≡ last_name_of of)
@@ -131,16 +131,16 @@ pub record AddsCustomers (now count : ℕ) (old new : List Customer) : Type 0 wh
   pub rows_count : length rows ≡ count
   pub each : (place : ℕ) (row : Customer) → slice_get rows place ≡ Some row → IsOpeningCustomer now (place + 1) row
 
--- each customer of the district paid 1,000 cents at the moment, in the order of their numbers; H_DATA is drawn, of 12 to 24 characters
--- (clause 4.3.3.1)
+-- each customer of the district paid 1,000 cents at the moment, in the order of their numbers; H_DATA is drawn, of 12 to 24
+-- characters (clause 4.3.3.1)
 pub record AreOpeningPayments (now : ℕ) (home : DistrictKey) (customers : ℕ) (payments : List History) : Type 0 where
   pub payers : map (λ row. row.customer) payments ≡ map (customer_key home) (range_with_len 1 customers)
   pub amounts : All (λ row. row.amount ≡ pos 1000) payments
   pub dates : All (λ row. row.date ≡ now) payments
   pub text : All (λ row. IsDrawnText 12 24 row.«data») payments
 
--- an order is of a customer of its district, from the moment on, has 5 to 15 lines, all local, and no carrier just where it is new,
--- else one from 1 to 10 (clause 4.3.3.1)
+-- an order is of a customer of its district, from the moment on, has 5 to 15 lines, all local, and no carrier just where it is
+-- new, else one from 1 to 10 (clause 4.3.3.1)
 pub record IsOpeningOrder (scale : Scale) (now : ℕ) (key : OrderKey) (row : Order) : Type 0 where
   pub number : IsTrue (is_order_id key.o_id)
   pub customer : IsTrue (has_customer scale (customer_of_order key row))
@@ -151,8 +151,8 @@ pub record IsOpeningOrder (scale : Scale) (now : ℕ) (key : OrderKey) (row : Or
   pub few_lines : row.ol_cnt ≤ 15
   pub all_local : row.all_local ≡ true
 
--- a line is of five, from the order's own warehouse; it is not delivered just where its order is new, and cost 1 to 999,999 cents then,
--- and else was delivered at the moment and cost nothing; OL_DIST_INFO is drawn, of 24 characters (clause 4.3.3.1)
+-- a line is of five, from the order's own warehouse; it is not delivered just where its order is new, and costs 1 to 999,999
+-- cents then, and else was delivered at the moment and cost nothing; OL_DIST_INFO is drawn, of 24 characters (clause 4.3.3.1)
 pub record IsOpeningLine (scale : Scale) (now : ℕ) (key : OrderLineKey) (row : OrderLine) : Type 0 where
   pub number : IsTrue (is_line_number key.number)
   pub item : IsTrue (has_item scale row.i_id)
