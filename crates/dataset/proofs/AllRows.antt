@@ -18,6 +18,7 @@ use Rattle.schema.specs.declared.scale.Scale.{Scale}
 use Rattle.schema.specs.Scale.{has_district, has_customer}
 use Rattle.schema.specs.Database.{Database, IsWithinScale, customer_of_order, are_payers_known, is_order_id}
 use Rattle.schema.proofs.KeyOrders.{districts_total, stocks_total, customers_total, orders_total, lines_total}
+use Rattle.schema.proofs.EachRows.{keys_ascend}
 use Rattle.dataset.specs.Columns.{Table, Items, Warehouses, Districts, Stocks, Customers, Histories, Orders, NewOrders, Lines, table_number}
 use Rattle.dataset.specs.Order.{follows}
 use Rattle.dataset.specs.declared.place.Place.TheVariants as at
@@ -30,7 +31,7 @@ use Rattle.dataset.proofs.Keys.{all-append, all-each, all-flat_map, all-map, all
 use Rattle.dataset.proofs.EachTable.{EntryOf, all_tables, cmp_of, make, number_made, number_of_row, same_place}
 use Rattle.dataset.proofs.Order.{earlier_table, follows_less, place_itself, same_history}
 use Rattle.dataset.proofs.Payments.{all-payments, payments_of, payments_recorded}
-use Rattle.dataset.proofs.TableEntries.{each_entry, entries_ascend}
+use Rattle.dataset.proofs.TableEntries.{each_entry}
 
 -- ---- the rows
 
@@ -123,15 +124,15 @@ ascend (table ∷ tables) = come_later (table_number table) tables && ascend tab
 
 module _ (t : Database) where
   table_rows_in_order : (table : Table) → AreInOrder (rows_at t table)
-  table_rows_in_order Items = table_in_order Items (entries t.items) (entries_ascend t.items)
-  table_rows_in_order Warehouses = table_in_order Warehouses (entries t.warehouses) (entries_ascend t.warehouses)
-  table_rows_in_order Districts = table_in_order Districts (entries t.districts) (entries_ascend t.districts)
-  table_rows_in_order Stocks = table_in_order Stocks (entries t.stocks) (entries_ascend t.stocks)
-  table_rows_in_order Customers = table_in_order Customers (entries t.customers) (entries_ascend t.customers)
-  table_rows_in_order Histories = paid_in_order (entries t.histories) (entries_ascend t.histories)
-  table_rows_in_order Orders = table_in_order Orders (entries t.orders) (entries_ascend t.orders)
-  table_rows_in_order NewOrders = table_in_order NewOrders (entries t.new_orders) (entries_ascend t.new_orders)
-  table_rows_in_order Lines = table_in_order Lines (entries t.lines) (entries_ascend t.lines)
+  table_rows_in_order Items = table_in_order Items (entries t.items) (keys_ascend _ t.items)
+  table_rows_in_order Warehouses = table_in_order Warehouses (entries t.warehouses) (keys_ascend _ t.warehouses)
+  table_rows_in_order Districts = table_in_order Districts (entries t.districts) (keys_ascend _ t.districts)
+  table_rows_in_order Stocks = table_in_order Stocks (entries t.stocks) (keys_ascend _ t.stocks)
+  table_rows_in_order Customers = table_in_order Customers (entries t.customers) (keys_ascend _ t.customers)
+  table_rows_in_order Histories = paid_in_order (entries t.histories) (keys_ascend _ t.histories)
+  table_rows_in_order Orders = table_in_order Orders (entries t.orders) (keys_ascend _ t.orders)
+  table_rows_in_order NewOrders = table_in_order NewOrders (entries t.new_orders) (keys_ascend _ t.new_orders)
+  table_rows_in_order Lines = table_in_order Lines (entries t.lines) (keys_ascend _ t.lines)
 
   -- the rows of later tables follow a row
   tables_follow : (row : TableRow) (tables : List Table) → IsTrue (come_later (number_of_row row) tables)

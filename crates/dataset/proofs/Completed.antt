@@ -18,6 +18,7 @@ use Rattle.schema.proofs.KeyOrders.{orders_total, lines_total}
 use Rattle.schema.proofs.OrderedParts.{entries-ordered}
 use Rattle.schema.proofs.Places.{contains-dense}
 use Rattle.schema.proofs.ScalePlaces.{length-item_ids, length-warehouse_ids, length-district_keys, length-stock_keys, length-customer_keys}
+use Rattle.schema.proofs.EachRows.{keys_ascend}
 use Rattle.dataset.specs.declared.loader.Loader.{Loader}
 use Rattle.dataset.specs.declared.place.Place.{Place}
 use Rattle.dataset.specs.Columns.{Table, Items, Warehouses, Districts, Stocks, Customers, Histories, Orders, NewOrders, Lines, sizes}
@@ -31,7 +32,7 @@ use Rattle.dataset.proofs.Contents.{entries_of}
 use Rattle.dataset.proofs.Finished.{are_kept, paid, zip-split}
 use Rattle.dataset.proofs.Keys.{AreScaleKeys, customers_of_scale, districts_of_scale, items_of_scale, sorted-district_keys, stocks_of_scale, warehouses_of_scale}
 use Rattle.dataset.proofs.Payments.{payments_of, payments-opened}
-use Rattle.dataset.proofs.TableEntries.{entries_ascend, same_keys}
+use Rattle.dataset.proofs.TableEntries.{same_keys}
 use Rattle.dataset.proofs.Tables.{dense}
 use Rattle.dataset.proofs.Told.{entries_in_all, init-last, rows_told, same_lists, scale_told}
 
@@ -60,7 +61,7 @@ makes {ks = ks} {m = m} {xs = xs} keys known same are =
 
 ordered_is : {K X : Type 0} {R : K → K → Ordering} → IsTotalOrder R → (m : FinMap R X) (rows : List (K × X)) → rows ≡ entries m → from_entries {R = R} rows ≡ m
 ordered_is {R = R} o m rows same =
-    same_entries_map (from_entries rows) m (entries-ordered o rows (subst (λ l. IsStrictlySortedBy R (keys_of l)) (sym same) (entries_ascend m)) ∙ same)
+    same_entries_map (from_entries rows) m (entries-ordered o rows (subst (λ l. IsStrictlySortedBy R (keys_of l)) (sym same) (keys_ascend _ m)) ∙ same)
 
 -- ---- all tables
 

@@ -1,46 +1,18 @@
--- The entries of a finite map: they ascend, and what holds of each.
-use Rattle.std.proofs.Common.{◌≡◌, Bool, true, false, ◌&&◌, T, List, [], ◌∷◌, map, refl, sym, ◌∙◌, Some}
+-- The entries of a finite map, and what holds of each.
+use Rattle.std.proofs.Common.{◌≡◌, List, [], ◌∷◌, map, refl, sym, ◌∙◌, Some}
 use Rattle.std.specs.List.{AllByRecursion}
 use Rattle.std.specs.List.Sorted.{IsStrictlySortedBy}
 use Rattle.std.specs.Map.{keys_of, values_of}
-use Rattle.std.specs.Ordering.{is_lt}
 use Rattle.std.specs.declared.cmp.Ordering.{Ordering}
-use Rattle.std.specs.declared.cmp.Ordering.TheVariants.{Less, Equal, Greater}
+use Rattle.std.specs.declared.cmp.Ordering.TheVariants.{Less}
 use Rattle.std.specs.Cmp.{IsTotalOrder}
-use Rattle.std.specs.FinMap.{FinMap, IsAntisymmetric, contains_key, contains_key-keys, entries, entries_sorted, get, get-entries}
-use Rattle.std.specs.FinMap.Entries.{find, is_sorted, below_all}
+use Rattle.std.specs.FinMap.{FinMap, IsAntisymmetric, contains_key, contains_key-keys, entries, get, get-entries}
+use Rattle.std.specs.FinMap.Entries.{find}
 use Rattle.std.proofs.lemmas.Cmp.{tied_itself}
 use Rattle.std.proofs.lemmas.Map.Lookups.{btree_set_from_contains}
 use Rattle.std.specs.BTreeSet.{BTreeSet}
+use Rattle.schema.proofs.EachRows.{keys_ascend}
 use Rattle.dataset.proofs.Order.{turned}
-
-first : (b c : Bool) → T (b && c) → T b
-first true c h = tt
-first false c h = h
-
-second : (b c : Bool) → T (b && c) → T c
-second true c h = h
-second false c h = absurd h
-
-less : (r : Ordering) → T (is_lt r) → r ≡ Less
-less Less h = refl
-less Equal h = absurd h
-less Greater h = absurd h
-
-module _ {K X : Type 0} (R : K → K → Ordering) where
-  all_below : (x : K) (es : List (K × X)) → T (below_all R x es) → AllByRecursion (λ y. R x y ≡ Less) (keys_of es)
-  all_below x [] h = tt
-  all_below x (e ∷ es) h = (less _ (first _ _ h), all_below x es (second _ _ h))
-
-  ascend : (es : List (K × X)) → T (is_sorted R es) → IsStrictlySortedBy R (keys_of es)
-  unfolding IsStrictlySortedBy
-  ascend [] h = tt
-  ascend (e ∷ es) h = (all_below e.0 es (first _ _ h), ascend es (second _ _ h))
-
-pub entries_ascend : {K X : Type 0} {R : K → K → Ordering} (m : FinMap R X) → IsStrictlySortedBy R (keys_of (entries m))
-entries_ascend {R = R} m = ascend R (entries m) (entries_sorted m)
-
--- ---- of each entry
 
 all-both : {X : Type 0} (P Q S : X → Type 0) → ((x : X) → P x → Q x → S x) → (xs : List X) → AllByRecursion P xs → AllByRecursion Q xs → AllByRecursion S xs
 all-both P Q S f [] h g = tt
@@ -66,7 +38,7 @@ found_in {K} {X} {R} o (e ∷ es) sorted = (rw (tied_itself o e.0) refl, later e
 pub each_entry : {K X : Type 0} {R : K → K → Ordering} {Q : K × X → Type 0} (P : X → Type 0) → IsTotalOrder R → (m : FinMap R X)
     → AllByRecursion P (values_of (entries m)) → ((e : K × X) → get m e.0 ≡ Some e.1 → P e.1 → Q e) → AllByRecursion Q (entries m)
 each_entry P o m columns each =
-    all-both _ _ _ (λ e found. each e (get-entries m e.0 ∙ found)) (entries m) (found_in o (entries m) (entries_ascend m)) (all-of_values P (entries m) columns)
+    all-both _ _ _ (λ e found. each e (get-entries m e.0 ∙ found)) (entries m) (found_in o (entries m) (keys_ascend _ m)) (all-of_values P (entries m) columns)
 
 -- ---- maps with the same keys
 
@@ -75,4 +47,4 @@ pub same_keys : {K X Y : Type 0} {R : K → K → Ordering} → IsTotalOrder R �
 same_keys {K = K} o exact m n same =
     let ks : BTreeSet K = record { keys = keys_of (entries m) } in
     let ls : BTreeSet K = record { keys = keys_of (entries n) } in
-    btree_set_from_contains o ks ls (entries_ascend m) (entries_ascend n) (λ q. sym (contains_key-keys m q) ∙ same q ∙ contains_key-keys n q) exact
+    btree_set_from_contains o ks ls (keys_ascend _ m) (keys_ascend _ n) (λ q. sym (contains_key-keys m q) ∙ same q ∙ contains_key-keys n q) exact

@@ -20,6 +20,7 @@ use Rattle.schema.specs.Limits.{IsScale}
 use Rattle.schema.specs.Scale.{has_district}
 use Rattle.schema.specs.Database.{Database, IsWithinScale}
 use Rattle.schema.proofs.KeyOrders.{districts_total, districts_exact}
+use Rattle.schema.proofs.EachRows.{keys_ascend}
 use Rattle.dataset.specs.Columns.{Table, Items, Warehouses, Districts, Stocks, Customers, Histories, Orders, NewOrders, Lines, sizes, table_number}
 use Rattle.dataset.specs.Ranges.{InRange}
 use Rattle.dataset.specs.RecordLaws.{RecordsTellTables}
@@ -32,7 +33,7 @@ use Rattle.dataset.proofs.Keys.{all-weaker}
 use Rattle.dataset.proofs.LetterFault.{kind_of_letter}
 use Rattle.dataset.proofs.Payments.{all-payments, payments_of}
 use Rattle.dataset.proofs.RowFields.{row_reads}
-use Rattle.dataset.proofs.TableEntries.{entries_ascend, same_keys}
+use Rattle.dataset.proofs.TableEntries.{same_keys}
 
 -- ---- what the rows of tables are read as
 
@@ -194,7 +195,7 @@ records_tell_tables t u w v h g (header ∷ body) s r =
     let stocks = same_entries_map t.stocks u.stocks (told Stocks) in
     let customers = same_entries_map t.customers u.customers (told Customers) in
     let homes = same_keys districts_total districts_exact t.histories u.histories (λ q. w.histories q ∙ ap (λ (l : Scale). has_district l q) scale ∙ sym (v.histories q)) in
-    let lists = same_lists (entries t.histories) (entries u.histories) homes (entries_ascend t.histories) (told Histories) in
+    let lists = same_lists (entries t.histories) (entries u.histories) homes (keys_ascend _ t.histories) (told Histories) in
     let histories = same_entries_map t.histories u.histories lists in
     let orders = same_entries_map t.orders u.orders (told Orders) in
     let new_orders = same_entries_map t.new_orders u.new_orders (told NewOrders) in
