@@ -10,6 +10,7 @@ use Rattle.std.specs.Cmp.Lexicographic.{slice_cmp}
 use Rattle.std.specs.Cmp.{IsTotalOrder}
 use Rattle.std.specs.declared.cmp.Ordering.{Ordering}
 use Rattle.std.specs.declared.cmp.Ordering.TheVariants.{Less, Greater}
+use Rattle.std.proofs.lemmas.Bool.{and_parts}
 use Rattle.std.proofs.lemmas.Bool.Decides.{nat_tests}
 use Rattle.std.proofs.lemmas.List.{append-nil, map-append}
 use Rattle.rows.specs.declared.keys.DistrictKey.{DistrictKey}
@@ -48,10 +49,6 @@ none_of n (row ∷ rows) h =
     let other : (number_of_row row == n) ≡ false = let first = h.0 in grind (arith, nat_tests, first) in
     ap (λ b. with_row b row (of_table n rows)) other ∙ none_of n rows h.1
 
-all_true : (a b : Bool) → (a && b) ≡ true → (a ≡ true) × (b ≡ true)
-all_true true b e = (refl, e)
-all_true false b e = absurd cc
-
 -- a number stands among ascending numbers
 is_placed : ℕ → List ℕ → Bool
 is_placed k [] = false
@@ -61,7 +58,7 @@ module _ (row : TableRow) (rows : List TableRow) (above : AllByRecursion (λ lat
   others : (ns : List ℕ) → list_all (λ m. nat_lt (number_of_row row) m) ns ≡ true → flat_map (λ n. of_table n (row ∷ rows)) ns ≡ flat_map (λ n. of_table n rows) ns
   others [] apart = refl
   others (n ∷ ns) apart =
-      let tests = all_true (nat_lt (number_of_row row) n) (list_all (λ m. nat_lt (number_of_row row) m) ns) apart in
+      let tests = and_parts (nat_lt (number_of_row row) n) (list_all (λ m. nat_lt (number_of_row row) m) ns) apart in
       let other : (number_of_row row == n) ≡ false = let below = tests.0 in grind (arith, nat_tests, below) in
       ap (λ b. with_row b row (of_table n rows) ++ flat_map (λ m. of_table m (row ∷ rows)) ns) other ∙ ap (λ l. of_table n rows ++ l) (others ns tests.1)
 
@@ -78,7 +75,7 @@ module _ (row : TableRow) (rows : List TableRow) (above : AllByRecursion (λ lat
           ap (λ b. with_row b row (of_table n rows) ++ flat_map (λ m. of_table m (row ∷ rows)) ns) other
           ∙ ap (λ l. l ++ flat_map (λ m. of_table m (row ∷ rows)) ns) none ∙ behind later ∙ ap (λ l. row ∷ (l ++ flat_map (λ m. of_table m rows) ns)) (sym none)
       by behind false below =
-          let tests = all_true (number_of_row row == n) (list_all (λ m. nat_lt (number_of_row row) m) ns) (rw below at h) in
+          let tests = and_parts (number_of_row row == n) (list_all (λ m. nat_lt (number_of_row row) m) ns) (rw below at h) in
           ap (λ b. with_row b row (of_table n rows) ++ flat_map (λ m. of_table m (row ∷ rows)) ns) tests.0 ∙ ap (λ l. row ∷ (of_table n rows ++ l)) (others ns tests.1)
 
 -- ---- rows in order

@@ -1,9 +1,10 @@
 -- The fault of a header.
-use Rattle.std.proofs.Common.{◌≡◌, ◌≢◌, ◌≤◌, ◌==◌, ◌&&◌, ◌+◌, ◌⊎◌, inl, inr, ℕ, List, [], ◌∷◌, ◌++◌, length, not, get_or, Bool, true, false, nat_lt, Option, Some, None, Result, IsUtf8, codes, refl, sym, ap, subst, ◌∙◌, arith}
+use Rattle.std.proofs.Common.{◌≡◌, ◌≢◌, ◌≤◌, ◌==◌, ◌+◌, ◌⊎◌, inl, inr, ℕ, List, [], ◌∷◌, ◌++◌, length, not, get_or, Bool, true, false, nat_lt, Option, Some, None, Result, IsUtf8, codes, refl, sym, ap, subst, ◌∙◌, arith}
 use Rattle.std.specs.Prelude.{IsSome}
 use Rattle.std.specs.Option.{ok_or}
 use Rattle.std.specs.Str.{bytes_eq}
 use Rattle.std.specs.Str.Parse.{digits_value}
+use Rattle.std.proofs.lemmas.Bool.{and_right}
 use Rattle.std.proofs.lemmas.Bool.Decides.{nat_tests}
 use Rattle.std.proofs.lemmas.Fmt.{decimal_is_IsNumeral}
 use Rattle.std.proofs.lemmas.List.{length-append}
@@ -57,22 +58,18 @@ not_word (field ∷ rest) known other_word word after read some utf8 apart = oth
     let is = rw (word_is field (subst IsUtf8 (sym e) utf8)) at read in
     apart (ap (λ (p : List ℕ × Taking). p.0) is ∙ e))
 
-and_false : (a : Bool) → (a && false) ≡ false
-and_false true = refl
-and_false false = refl
-
 pub other_name : (left : List (List ℕ)) (known : Option FaultKind) (word : List ℕ) (after : Taking) → length left ≡ 5
     → ◌≡◌ {A = List ℕ × Taking} (word, after) (next_read word_read [] left known) → (word ≡ codes "TPCC" → ⊥) → is_header left ≡ false
 other_name left known word after five read apart =
     let no = not_word left known (codes "TPCC") word after read (omega arith) (utf8_words (codes "TPCC") refl) apart in
-    rw no (and_false (length left == 5))
+    rw no (and_right (length left == 5) false refl)
 
 pub other_version : (left mid : List (List ℕ)) (known : Option FaultKind) (name word : List ℕ) (after : Taking) → length left ≡ 5 → left ≡ name ∷ mid
     → ◌≡◌ {A = List ℕ × Taking} (word, after) (next_read word_read [] mid known) → (word ≡ codes "1" → ⊥) → is_header left ≡ false
 other_version left mid known name word after five is read apart =
     let some : length mid ≢ 0 = λ none. let all = ap length is in omega (arith, all, five, none) in
     let no = ap (λ l. bytes_eq (get_or l 1 []) (codes "1")) is ∙ not_word mid known (codes "1") word after read some (utf8_words (codes "1") refl) apart in
-    rw (no, and_false (bytes_eq (get_or left 0 []) (codes "TPCC"))) (and_false (length left == 5))
+    rw (no, and_right (bytes_eq (get_or left 0 []) (codes "TPCC")) false refl) (and_right (length left == 5) false refl)
 
 -- a header of five fields
 pub header_told : (old mid next last : Fields) (name version : List ℕ) (end : Option FaultKind) → fault_of old ≡ None → length (fields_left old) ≡ 5

@@ -18,6 +18,7 @@ use Rattle.schema.specs.Dense.{grid, place}
 use Rattle.schema.specs.Scale.{has_customer, has_district, has_item, has_stock, has_warehouse, item_ids, warehouse_ids, district_key, district_keys, stock_key, stock_keys, customer_key, customer_keys}
 use Rattle.schema.proofs.KeyOrders.{districts_total, districts_exact, stocks_total, stocks_exact, customers_total, customers_exact}
 use Rattle.schema.proofs.ScalePlaces.{item_place, warehouse_place, district_place, stock_place, customer_place}
+use Rattle.dataset.proofs.Order.{lower_number}
 
 -- ---- the key at a place
 
@@ -116,9 +117,6 @@ module _ {K : Type 0} (c : K → K → Ordering) where
         (all-numbers (λ x. AllByRecursion (λ y. c x y ≡ Less) (grid key count os)) (key o) 1 count
         (λ i _. all-grid (λ y. c (key o i) y ≡ Less) count os (all-weaker (λ p. outer o p ≡ Less) (λ p. (j : ℕ) → c (key o i) (key p j) ≡ Less) (λ p e j. later o p i j e) os sorted.0)))
 
-less : (i j : ℕ) → i < j → nat_cmp i j ≡ Less
-less i j h = grind (arith, nat_tests)
-
 alike : (i : ℕ) → nat_cmp i i ≡ Equal
 alike i = grind (arith, nat_tests)
 
@@ -130,7 +128,7 @@ then_less Equal Greater z e = absurd cc
 then_less Greater y z e = absurd cc
 
 sorted-range : (first count : ℕ) → IsStrictlySortedBy nat_cmp (range_with_len first count)
-sorted-range first count = subst (IsStrictlySortedBy nat_cmp) (same_numbers (range_with_len first count)) (sorted-numbers nat_cmp (λ i. i) first count less)
+sorted-range first count = subst (IsStrictlySortedBy nat_cmp) (same_numbers (range_with_len first count)) (sorted-numbers nat_cmp (λ i. i) first count lower_number)
 
 pub sorted-item_ids : (scale : Scale) → IsStrictlySortedBy nat_cmp (item_ids scale)
 sorted-item_ids scale = sorted-range 1 scale.items
@@ -141,14 +139,14 @@ sorted-warehouse_ids scale = sorted-range 1 scale.warehouses
 pub sorted-district_keys : (scale : Scale) → IsStrictlySortedBy district_cmp (district_keys scale)
 sorted-district_keys scale =
     sorted-grid district_cmp nat_cmp district_key 10 (warehouse_ids scale)
-    (λ w i j h. ap (λ r. ordering_then r (nat_cmp i j)) (alike w) ∙ less i j h)
+    (λ w i j h. ap (λ r. ordering_then r (nat_cmp i j)) (alike w) ∙ lower_number i j h)
     (λ v w i j e. ap (λ r. ordering_then r (nat_cmp i j)) e)
     (sorted-warehouse_ids scale)
 
 pub sorted-stock_keys : (scale : Scale) → IsStrictlySortedBy stock_cmp (stock_keys scale)
 sorted-stock_keys scale =
     sorted-grid stock_cmp nat_cmp stock_key scale.items (warehouse_ids scale)
-    (λ w i j h. ap (λ r. ordering_then r (nat_cmp i j)) (alike w) ∙ less i j h)
+    (λ w i j h. ap (λ r. ordering_then r (nat_cmp i j)) (alike w) ∙ lower_number i j h)
     (λ v w i j e. ap (λ r. ordering_then r (nat_cmp i j)) e)
     (sorted-warehouse_ids scale)
 
@@ -156,7 +154,7 @@ pub sorted-customer_keys : (scale : Scale) → IsStrictlySortedBy customer_cmp (
 sorted-customer_keys scale =
     sorted-grid customer_cmp district_cmp customer_key scale.customers (district_keys scale)
     (λ home i j h. ap (λ r. ordering_then r (ordering_then (nat_cmp home.d_id home.d_id) (nat_cmp i j))) (alike home.w_id)
-    ∙ ap (λ r. ordering_then r (nat_cmp i j)) (alike home.d_id) ∙ less i j h)
+    ∙ ap (λ r. ordering_then r (nat_cmp i j)) (alike home.d_id) ∙ lower_number i j h)
     (λ a b i j e. then_less (nat_cmp a.w_id b.w_id) (nat_cmp a.d_id b.d_id) (nat_cmp i j) e)
     (sorted-district_keys scale)
 

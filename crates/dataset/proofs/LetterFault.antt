@@ -89,7 +89,7 @@ row_is table l m old mid new word is took taken none =
           subst (IsDone Row l m) (sym read.left) has;
     }
 
-end_none : (left : List (List ℕ)) (known : Option FaultKind) → at_end left known ≡ None → (left ≡ []) × (known ≡ None)
+pub end_none : (left : List (List ℕ)) (known : Option FaultKind) → at_end left known ≡ None → (left ≡ []) × (known ≡ None)
 end_none [] known e = (refl, e)
 end_none (field ∷ fields) known e = absurd cc
 

@@ -150,7 +150,7 @@ numbers_of (at.Order key) = (key.w_id ∷ key.d_id ∷ key.o_id ∷ [], refl)
 numbers_of (at.NewOrder key) = (key.w_id ∷ key.d_id ∷ key.o_id ∷ [], refl)
 numbers_of (at.Line key) = (key.w_id ∷ key.d_id ∷ key.o_id ∷ key.number ∷ [], refl)
 
-lower_number : (m n : ℕ) → m < n → nat_cmp m n ≡ Less
+pub lower_number : (m n : ℕ) → m < n → nat_cmp m n ≡ Less
 lower_number m n h = grind (arith, nat_tests)
 
 pub earlier_table : (last p : Place) → place_number last < place_number p → IsTrue (follows p last)

@@ -17,6 +17,7 @@ use Rattle.dataset.specs.TableRow.{AddsRow, IsAdded, TableRow, row_of, row_place
 use Rattle.dataset.specs.TakenAs.{IsRowOf}
 use Rattle.files.specs.Columns.{Value, Values, read_columns}
 use Rattle.files.proofs.ColumnValues.{AreRead, ReadsColumns, clean, read-take}
+use Rattle.dataset.proofs.LetterFault.{end_none}
 
 -- ---- the numbers of a key
 
@@ -77,10 +78,6 @@ follows_told s table values last = refl
 pub record IsRead (s : Sizes) (table : Table) (fields : List (List ℕ)) : Type 0 where
   pub are_read : AreRead (record_columns s table) (read_columns (record_columns s table) (record { left = fields; fault = None })).0 fields
   pub place : place_numbers (row_place (row_read s table fields)) ≡ place_in s table fields
-
-end_none : (left : List (List ℕ)) (known : Option FaultKind) → at_end left known ≡ None → (left ≡ []) × (known ≡ None)
-end_none [] known e = (refl, e)
-end_none (field ∷ fields) known e = absurd cc
 
 pub is_read : (s : Sizes) (table : Table) (fields : List (List ℕ)) → columns_fault (record_columns s table) fields ≡ None → IsRead s table fields
 is_read s table fields none =

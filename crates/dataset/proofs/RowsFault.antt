@@ -25,7 +25,7 @@ use Rattle.dataset.specs.FirstFault.{counts, is_end, is_of, last_place, number_o
 use Rattle.dataset.specs.Loading.{HasLoaded, HasRows}
 use Rattle.dataset.specs.Order.{place_numbers}
 use Rattle.dataset.specs.Records.{AreSpelt, header_fields}
-use Rattle.dataset.specs.TableRow.{TableRow, OfItem, row_fields, row_letter, rows_read}
+use Rattle.dataset.specs.TableRow.{TableRow, OfItem, OfWarehouse, OfDistrict, OfStock, OfCustomer, OfHistory, OfOrder, OfNewOrder, OfLine, row_fields, rows_read}
 use Rattle.dataset.specs.TakenAs.{IsDone, ReachesEnd}
 use Rattle.dataset.specs.Writing.{table_counts}
 use Rattle.dataset.proofs.Contents.{entries_of, kept, of_entries, of_table, with_row}
@@ -39,19 +39,26 @@ use Rattle.dataset.proofs.Payments.{payments_of}
 -- ---- how many records of each table were read
 
 -- a letter tells its table
-letter_is : (row : TableRow) (table : Table) → bytes_eq (row_letter row) (letter table) ≡ (number_of_row row == table_number table)
-letter_is (OfItem key x) Items = refl
-letter_is row Items = refl
-letter_is row table = refl
+letter_is : (own table : Table) → bytes_eq (letter own) (letter table) ≡ (table_number own == table_number table)
+letter_is Items Items = refl
+letter_is own Items = refl
+letter_is own table = refl
+
+letter_tells : (own table : Table) (text : List ℕ) → text ≡ letter own → bytes_eq text (letter table) ≡ (table_number own == table_number table)
+letter_tells own table text is = ap (λ w. bytes_eq w (letter table)) is ∙ letter_is own table
 
 first_letter : (row : TableRow) (texts : List (List ℕ)) (table : Table) → AreSpelt (row_fields row) texts → is_of table texts ≡ (number_of_row row == table_number table)
-first_letter row texts table spelt = by row texts spelt ∙ letter_is row table
-  where
-    by : (row : TableRow) (texts : List (List ℕ)) → AreSpelt (row_fields row) texts → is_of table texts ≡ bytes_eq (row_letter row) (letter table)
-    by (OfItem key x) [] spelt = absurd spelt
-    by (OfItem key x) (text ∷ texts) spelt = ap (λ w. bytes_eq w (letter table)) spelt.0
-    by row [] spelt = absurd spelt
-    by row (text ∷ texts) spelt = ap (λ w. bytes_eq w (letter table)) spelt.0
+first_letter (OfItem key x) [] table spelt = absurd spelt
+first_letter (OfItem key x) (text ∷ texts) table spelt = letter_tells Items table text spelt.0
+first_letter (OfWarehouse key x) (text ∷ texts) table spelt = letter_tells Warehouses table text spelt.0
+first_letter (OfDistrict key x) (text ∷ texts) table spelt = letter_tells Districts table text spelt.0
+first_letter (OfStock key x) (text ∷ texts) table spelt = letter_tells Stocks table text spelt.0
+first_letter (OfCustomer key x) (text ∷ texts) table spelt = letter_tells Customers table text spelt.0
+first_letter (OfHistory key x) (text ∷ texts) table spelt = letter_tells Histories table text spelt.0
+first_letter (OfOrder key x) (text ∷ texts) table spelt = letter_tells Orders table text spelt.0
+first_letter (OfNewOrder key x) (text ∷ texts) table spelt = letter_tells NewOrders table text spelt.0
+first_letter (OfLine key x) (text ∷ texts) table spelt = letter_tells Lines table text spelt.0
+first_letter row [] table spelt = absurd spelt
 
 counted_first : (b : Bool) (row : TableRow) (rows : List TableRow) → (if b then 1 else 0) + length rows ≡ length (with_row b row rows)
 counted_first true row rows = omega arith

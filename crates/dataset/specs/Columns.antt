@@ -58,8 +58,8 @@ table_number NewOrders = 8
 table_number Lines = 9
 
 -- W_ID and D_ID
-abbrev pub district_columns : Sizes → List Column
-district_columns scale = Whole 1 scale.warehouses ∷ Whole 1 10 ∷ []
+abbrev pub district_key : Sizes → List Column
+district_key scale = Whole 1 scale.warehouses ∷ Whole 1 10 ∷ []
 
 -- W_ID, D_ID and C_ID
 abbrev pub customer_key : Sizes → List Column
@@ -73,10 +73,10 @@ order_key scale = Whole 1 scale.warehouses ∷ Whole 1 10 ∷ Whole 1 9999999 �
 abbrev pub key_columns : Sizes → Table → List Column
 key_columns scale Items = Whole 1 scale.items ∷ []
 key_columns scale Warehouses = Whole 1 scale.warehouses ∷ []
-key_columns scale Districts = district_columns scale
+key_columns scale Districts = district_key scale
 key_columns scale Stocks = Whole 1 scale.warehouses ∷ Whole 1 scale.items ∷ []
 key_columns scale Customers = customer_key scale
-key_columns scale Histories = district_columns scale
+key_columns scale Histories = district_key scale
 key_columns scale Orders = order_key scale
 key_columns scale NewOrders = order_key scale
 key_columns scale Lines = Whole 1 scale.warehouses ∷ Whole 1 10 ∷ Whole 1 9999999 ∷ Whole 1 15 ∷ []

@@ -1,5 +1,5 @@
 -- The rows of all tables, with their keys.
-use Rattle.std.specs.Prelude.{◌≡◌, ℕ, List, [], ◌∷◌, ◌++◌, ◌==◌, Option, None, Some, IsTrue, codes}
+use Rattle.std.specs.Prelude.{◌≡◌, ℕ, List, [], ◌∷◌, ◌++◌, ◌==◌, Option, None, Some, IsTrue}
 use Rattle.std.specs.List.{flat_map}
 use Rattle.std.specs.BTreeMap.{insert_entry}
 use Rattle.rows.specs.Keys.{order_cmp, line_cmp}
@@ -7,7 +7,7 @@ use Rattle.rows.specs.declared.records.Address.{Address}
 use Rattle.schema.specs.declared.table_rows.TableRows.{TableRows}
 use Rattle.schema.specs.Scale.{district_slot}
 use Rattle.dataset.specs.declared.loader.Loader.{Loader}
-use Rattle.dataset.specs.Columns.{Sizes, Table, Items, Warehouses, Districts, Stocks, Customers, Histories, Orders, NewOrders, Lines, Kind, Of, Ending, address_columns, customer_key, district_columns, info_columns, kind_of, order_key, record_columns}
+use Rattle.dataset.specs.Columns.{Sizes, Table, Items, Warehouses, Districts, Stocks, Customers, Histories, Orders, NewOrders, Lines, Kind, Of, Ending, address_columns, customer_key, district_key, info_columns, kind_of, order_key, record_columns}
 use Rattle.dataset.specs.Payments.{Pays}
 use Rattle.files.specs.Columns.{Values, read_columns}
 use Rattle.rows.specs.declared.keys.DistrictKey.{DistrictKey}
@@ -42,18 +42,6 @@ pub data TableRow : Type 0 where
   OfOrder : OrderKey → Order → TableRow
   OfNewOrder : OrderKey → NewOrder → TableRow
   OfLine : OrderLineKey → OrderLine → TableRow
-
--- the letter of its record, and the whole record
-abbrev pub row_letter : TableRow → List ℕ
-row_letter (OfItem key row) = codes "I"
-row_letter (OfWarehouse key row) = codes "W"
-row_letter (OfDistrict key row) = codes "D"
-row_letter (OfStock key row) = codes "S"
-row_letter (OfCustomer key row) = codes "C"
-row_letter (OfHistory key row) = codes "H"
-row_letter (OfOrder key row) = codes "O"
-row_letter (OfNewOrder key row) = codes "N"
-row_letter (OfLine key row) = codes "L"
 
 -- the record of the row: the letter of its table, its key and its columns
 abbrev pub row_fields : TableRow → List Field
@@ -94,7 +82,7 @@ RowFits scale (OfLine key row) = IsLineKey scale key × IsLine scale row
 -- ---- a row that is read
 
 -- W_ID and D_ID
-abbrev pub district_key_of : (scale : Sizes) → Values (district_columns scale) → DistrictKey
+abbrev pub district_key_of : (scale : Sizes) → Values (district_key scale) → DistrictKey
 district_key_of scale v = record { w_id = v.0; d_id = v.1.0 }
 
 -- W_ID, D_ID and C_ID

@@ -2,7 +2,7 @@ ghost use Rattle.std.specs.Prelude.{◌≡◌, None, IsTrue, OnOk};
 ghost use Rattle.schema.specs.Scale.{has_district, district_keys};
 ghost use Rattle.files.specs.Taken.{fault_of};
 ghost use Rattle.dataset.specs.Records.{district_key_fields, district_fields};
-ghost use Rattle.dataset.specs.Columns.{Districts, district_columns, sizes};
+ghost use Rattle.dataset.specs.Columns.{Districts, district_key, sizes};
 ghost use Rattle.dataset.specs.TableRow.{district_key_of};
 ghost use Rattle.dataset.specs.TakenAs.{IsRowOf};
 ghost use Rattle.files.specs.Columns.{Reads};
@@ -37,7 +37,7 @@ pub fn take(loader: &mut Loader, fields: &mut Fields) -> Result<(), NoMemory>
 /// Takes the key of a district, two fields.
 pub fn key(fields: &mut Fields, scale: Scale) -> DistrictKey
     ensures known { IsTrue (has_district scale result) }
-    ensures reads { Reads (district_columns (sizes scale)) (district_key_of (sizes scale)) result fields.old fields.new }
+    ensures reads { Reads (district_key (sizes scale)) (district_key_of (sizes scale)) result fields.old fields.new }
 {
     DistrictKey {
         w_id: fields.whole(1, scale.warehouses),

@@ -1,4 +1,4 @@
-ghost use Rattle.std.specs.Prelude.{◌≡◌, ◌+◌, ◌<◌, ◌≤◌, ◌^◌, length, map, sum, Some, None, IfErr, OnErr, OnOk};
+ghost use Rattle.std.specs.Prelude.{◌≡◌, ◌<◌, ◌≤◌, ◌^◌, length, map, sum, Some, None, IfErr, OnErr, OnOk};
 ghost use Rattle.std.specs.List.{zip};
 ghost use Rattle.schema.specs.Scale.{district_keys};
 ghost use Rattle.files.specs.Taken.{fault_of};

@@ -1,6 +1,6 @@
 //! The ranges of the columns, which the types of rows keep: functions that read each column, and
 //! change nothing.
-ghost use Rattle.std.specs.Prelude.{◌≡◌, ℕ, List, IfSome, map};
+ghost use Rattle.std.specs.Prelude.{List, IfSome};
 ghost use Rattle.std.specs.Iterator.{IsFinite};
 ghost use Rattle.std.specs.List.{AllByRecursion};
 ghost use Rattle.std.specs.Map.{values_of};

@@ -23,8 +23,13 @@ use std::alloc::Global;
 /// A fault comes with its record, and nothing else is given then; it comes only where no tables have the
 /// records of the text. It is the first fault of the text: the first faulty record
 /// decides, and of its faults the least one; a broken rule of the scale is looked for after the whole
-/// file was read, and named at the end record. Memory is taken row by row, never by the numbers of the
-/// header.
+/// file was read, and named at the end record.
+///
+/// `NoMemory` comes where there is none for a record or for the rows; `Failed` comes where a read of `source`
+/// fails, with the number of the record under way, and never where none does. Of the text neither says
+/// anything, and nothing else is given then either. After an error it is not said how far `source` was read.
+/// Memory is taken row by row; by the numbers of the header only for an empty list of payments for each
+/// district, of which there are at most 640.
 pub fn read<R: Input + Drop>(alloc: Global, source: R) -> Result<Tables, FileError>
     ensures tables { IfOk result (λ tables. (text : List ℕ) → R.remaining source ≡ Some text → (rows : List (List (List ℕ))) × IsCsv text rows × AreRecords tables rows) }
     ensures first { (text : List ℕ) (rows : List (List (List ℕ))) → R.remaining source ≡ Some text → IsCsv text rows → length rows < 2 ^ 64 - 1
@@ -44,6 +49,10 @@ pub fn read<R: Input + Drop>(alloc: Global, source: R) -> Result<Tables, FileErr
 ///
 /// A fault is one of the header, which is the first record; it comes only where the text begins with no
 /// header.
+///
+/// `NoMemory` comes where there is none for the record, and `Failed` with its number, 1, where a read of
+/// `source` fails, and never where none does. Of the text neither says anything, and nothing is given then. It
+/// is not said how far `source` was read.
 pub fn read_scale<R: Input + Drop>(alloc: Global, source: R) -> Result<Scale, FileError>
     ensures first { (text : List ℕ) (rows : List (List (List ℕ))) → R.remaining source ≡ Some text → IsCsv text rows → IfErr result (λ error. TellsFault error (first_fault rows)) }
     ensures scale { IfOk result (λ scale. (text : List ℕ) → R.remaining source ≡ Some text → (header : List (List ℕ)) × AreSpelt (header_fields scale) header × BeginsWith text header) }
