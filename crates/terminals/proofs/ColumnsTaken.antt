@@ -36,7 +36,7 @@ value_left : {X : Type 0} (read : Result X FaultKind) (other : X) (rest : List (
 value_left (Ok value) other rest known = refl
 value_left (Err kind) other rest known = refl
 
-next_left : {X : Type 0} (read : List ℕ → Result X FaultKind) (other : X) (left : List (List ℕ)) (known : Option FaultKind) → (next_read read other left known).1.left ≡ drop 1 left
+pub next_left : {X : Type 0} (read : List ℕ → Result X FaultKind) (other : X) (left : List (List ℕ)) (known : Option FaultKind) → (next_read read other left known).1.left ≡ drop 1 left
 next_left read other [] known = refl
 next_left read other (field ∷ rest) known = value_left (read field) other rest known
 

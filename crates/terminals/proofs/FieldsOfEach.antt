@@ -4,7 +4,7 @@ use Rattle.std.proofs.lemmas.Grind.{flat_map-append}
 use Rattle.std.proofs.lemmas.List.{append-nil, map-append, take_more}
 
 -- the elements before the next one, and that one
-next_taken : {X : Type 0} (i : ℕ) (xs : List X) (x : X) → i < length xs → x ≡ get_or xs i x → take (i + 1) xs ≡ take i xs ++ (x ∷ [])
+pub next_taken : {X : Type 0} (i : ℕ) (xs : List X) (x : X) → i < length xs → x ≡ get_or xs i x → take (i + 1) xs ≡ take i xs ++ (x ∷ [])
 next_taken {X} i xs x there is = take_more xs i x there ∙ ap (λ (a : X). take i xs ++ (a ∷ [])) (sym is)
 
 pub fields-push : {X : Type 0} (f : X → List (List ℕ)) (xs : List X) (x : X) (said more : List (List ℕ))

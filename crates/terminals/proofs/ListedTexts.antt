@@ -1,5 +1,5 @@
 -- What the records of a listing tell, where each tells its item.
-use Rattle.std.proofs.Common.{◌≡◌, ℕ, suc, ◌+◌, List, [], ◌∷◌, ◌++◌, length, refl, sym, ap, subst, ◌∙◌, arith, length-append}
+use Rattle.std.proofs.Common.{◌≡◌, ℕ, ◌+◌, List, [], ◌∷◌, ◌++◌, length, refl, sym, ap, subst, ◌∙◌, arith, length-append}
 use Rattle.std.specs.List.{AllByRecursion}
 use Rattle.terminals.specs.Listing.{IsListing, end_fields}
 use Rattle.terminals.specs.Numbered.{AreNumbered}
@@ -14,13 +14,6 @@ same_parts (x ∷ xs) (y ∷ ys) us vs even e =
     let more : xs ++ us ≡ ys ++ vs = cc in
     let rest = same_parts xs ys us vs (omega arith) more in
     (λ i. first i ∷ rest.0 i, rest.1)
-
-numbered-count : {T : Type 0} (R : ℕ → T → List (List ℕ) → Type 0) (number : ℕ) (items : List T) (rows : List (List (List ℕ))) → AreNumbered R number items rows → length rows ≡ length items
-unfolding AreNumbered
-numbered-count R number [] [] are = refl
-numbered-count R number [] (fields ∷ rows) are = absurd are
-numbered-count R number (item ∷ items) [] are = absurd are
-numbered-count R number (item ∷ items) (fields ∷ rows) are = ap suc (numbered-count R (number + 1) items rows are.1)
 
 module _ {T : Type 0} (R : ℕ → T → List (List ℕ) → Type 0) (P : T → Type 0)
     (tells : (number : ℕ) (x y : T) → P x → P y → (fields : List (List ℕ)) → R number x fields → R number y fields → x ≡ y) where

@@ -1,7 +1,8 @@
 -- Numbered records, one more at a time.
-use Rattle.std.proofs.Common.{◌≡◌, ℕ, suc, ◌+◌, ◌<◌, ◌≤◌, List, [], ◌∷◌, ◌++◌, length, take, get_or, sym, ap, subst, ◌∙◌, arith, zero-add}
-use Rattle.std.proofs.lemmas.List.{take_more, length-take-le}
+use Rattle.std.proofs.Common.{◌≡◌, ℕ, suc, ◌+◌, ◌<◌, ◌≤◌, List, [], ◌∷◌, ◌++◌, length, take, get_or, sym, subst, ◌∙◌, arith, zero-add}
+use Rattle.std.proofs.lemmas.List.{length-take-le}
 use Rattle.terminals.specs.Numbered.{AreNumbered}
+use Rattle.terminals.proofs.FieldsOfEach.{next_taken}
 
 pub numbered-none : {T : Type 0} (R : ℕ → T → List (List ℕ) → Type 0) (number : ℕ) → AreNumbered R number [] []
 unfolding AreNumbered
@@ -25,9 +26,8 @@ pub numbered-more : {T : Type 0} (R : ℕ → T → List (List ℕ) → Type 0) 
     → i < length items → item ≡ get_or items i item → AreNumbered R 0 (take i items) rows → R i item fields → AreNumbered R 0 (take (i + 1) items) (rows ++ (fields ∷ []))
 numbered-more {T} R i items rows item fields h e are one =
     let before = take i items in
-    let all : take (i + 1) items ≡ before ++ (item ∷ []) = take_more items i item h ∙ ap (λ (x : T). before ++ (x ∷ [])) (sym e) in
     let up_to : i ≤ length items = omega arith in
     let at : i ≡ 0 + length before = sym (zero-add (length before) ∙ length-take-le i items up_to) in
     let of_number : ℕ → Type 0 = λ n. R n item fields in
     let of_items : List T → Type 0 = λ l. AreNumbered R 0 l (rows ++ (fields ∷ [])) in
-    subst of_items (sym all) (numbered-push R 0 before rows item fields are (subst of_number at one))
+    subst of_items (sym (next_taken i items item h e)) (numbered-push R 0 before rows item fields are (subst of_number at one))

@@ -29,8 +29,11 @@ pub fn answer_record(
 }
 
 /// Writes the records of a session's answers, which stand in the order of their requests, to the sink: `Ok` has
-/// the place of the entry in the log, whose reply is written, and `Err` why the request was refused. After an
-/// error the sink has got a beginning of their text.
+/// the place of the entry in the log, whose reply is written, and `Err` why the request was refused.
+///
+/// `NoMemory` comes where there is none for a record, and `Failed` where the sink fails, with the number of
+/// the record under way, 0 where there is none; since records are gathered before they are sent, what was not
+/// taken may be an earlier one. After an error the sink has got a beginning of their text.
 pub fn write_answers<W: Write>(
     alloc: Global,
     sink: &mut W,

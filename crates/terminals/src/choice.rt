@@ -1,10 +1,9 @@
-ghost use Rattle.std.specs.Prelude.{◌≡◌, ◌⊎◌, ◌≤◌, ◌++◌, ◌∷◌, [], ℕ, List, drop, false, OnOk, IfOk, IfErr};
+ghost use Rattle.std.specs.Prelude.{◌≡◌, ◌++◌, ◌∷◌, [], drop, false, OnOk, IfOk};
 ghost use Rattle.files.specs.Columns.{take_column};
 ghost use Rattle.files.specs.FieldRead.{taking};
 ghost use Rattle.files.specs.Taken.{fields_left, TakesWell};
 ghost use Rattle.files.specs.Word.{text_read};
 ghost use Rattle.requests.specs.LastName.{begins_with_hash};
-ghost use Rattle.rows.specs.Text.{IsText};
 ghost use Rattle.terminals.specs.ChoiceText.{choice_text};
 ghost use Rattle.terminals.specs.RequestColumns.{choice, choice_fault, fault_in};
 
@@ -49,9 +48,6 @@ pub fn put(row: &mut NewRecord, choice: &Choice) -> Result<(), NoMemory>
 
 fn parse(field: &str) -> Result<Choice, FaultKind>
     ensures value { IfOk result (λ choice. choice_text choice ≡ field.now) }
-    ensures number { (number : ℕ) → number ≤ 4294967295 → choice_text (Choice.Number number) ≡ field.now → result ≡ Ok (Choice.Number number) }
-    ensures name { (name : List ℕ) → IsText 16 name → begins_with_hash name ≡ false → choice_text (Choice.LastName name) ≡ field.now → result ≡ Ok (Choice.LastName name) }
-    ensures faults { IfErr result (λ kind. (kind ≡ FaultKind.NotOfKind) ⊎ (kind ≡ FaultKind.OutOfRange)) }
     ensures fault { fault_in result ≡ choice_fault field.now }
 {
     let Some(digits) = field.strip_prefix("#") else {
@@ -65,8 +61,6 @@ fn parse(field: &str) -> Result<Choice, FaultKind>
 
 fn parse_name(field: &str) -> Result<Choice, FaultKind>
     ensures value { IfOk result (λ choice. choice_text choice ≡ field.now) }
-    ensures name { (name : List ℕ) → IsText 16 name → begins_with_hash name ≡ false → name ≡ field.now → result ≡ Ok (Choice.LastName name) }
-    ensures faults { IfErr result (λ kind. (kind ≡ FaultKind.NotOfKind) ⊎ (kind ≡ FaultKind.OutOfRange)) }
     ensures fault { begins_with_hash field.now ≡ false → fault_in result ≡ fault_in (text_read 16 field.now) }
 {
     match LastName::checked_new(parse_text(field)?) {

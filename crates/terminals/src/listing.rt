@@ -37,7 +37,8 @@ pub trait Listed: Drop {
 /// The items that `source` lists, each in its record, before the end record.
 ///
 /// A fault comes with its record, and nothing else is given then. The first faulty record decides, and
-/// of its faults the least one. Memory is taken item by item.
+/// of its faults the least one. Want of memory and a failed read are as `Records` says them. Memory is taken
+/// item by item.
 pub fn read<T: Listed, R: Input + Drop>(alloc: Global, source: R) -> Result<Vec<T>, FileError>
     ensures listed { IfOk result (λ listed. (text : List ℕ) → R.remaining source ≡ Some text → (rows : List (List (List ℕ))) × IsCsv text rows × IsListing T.is_record listed.items rows) }
     ensures first { (text : List ℕ) (rows : List (List (List ℕ))) → R.remaining source ≡ Some text → IsCsv text rows → length rows < 2 ^ 64 - 1
@@ -113,8 +114,8 @@ pub trait Told {
         ensures { OnOk result ((fields : List (List ℕ)) × is_record place self.now fields × (row.new ≡ row.old ++ fields)) };
 }
 
-/// Writes the record of each item, and then the end record, to the sink. After an error the sink has got a
-/// beginning of their text.
+/// Writes the record of each item, and then the end record, to the sink. An error is as `RecordWriter` says it;
+/// after one the sink has got a beginning of their text.
 pub fn write<T: Told, W: Write>(alloc: Global, sink: &mut W, items: &[T]) -> Result<(), FileError>
     ensures written { OnOk result (Writes (W.contents sink.old) (W.contents sink.new) (IsListing T.is_record items.now)) }
     ensures begun { OnErr result (BeginsToWrite (W.contents sink.old) (W.contents sink.new) (BeginsListing T.is_record items.now)) }

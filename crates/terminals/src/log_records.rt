@@ -1,7 +1,7 @@
-ghost use Rattle.std.specs.Prelude.{◌≡◌, ◌≢◌, ◌<◌, ◌-◌, ◌+◌, ◌^◌, ◌==◌, ℕ, List, ◌∷◌, ◌++◌, length, Some, None, IfOk, IfErr, IfSome, IfNone, OnErr, OnOk, MatchResult, if◌then◌else◌};
+ghost use Rattle.std.specs.Prelude.{◌≡◌, ◌≢◌, ◌<◌, ◌-◌, ◌^◌, ℕ, List, ◌++◌, length, Some, None, IfOk, IfErr, IfSome, IfNone, OnErr, OnOk, MatchResult};
 ghost use Rattle.std.specs.Fmt.{decimal};
 ghost use Rattle.csv.specs.Records.{fields_of};
-ghost use Rattle.files.specs.Columns.{found, take_word};
+ghost use Rattle.files.specs.Columns.{found};
 ghost use Rattle.files.specs.FieldRead.{taking, whole_read};
 ghost use Rattle.files.specs.Failure.{IsOfText, IsOfWriting};
 ghost use Rattle.files.specs.FirstFault.{TellsFault};
@@ -27,7 +27,12 @@ use std::io::Write;
 /// A fault comes with its record, and nothing else is given then. The first faulty record decides, and
 /// of its faults the least one. A place is that of its record, from 0, else `OutOfOrder`; another number of
 /// request fields than the kind has is `WrongShape`. Whether a session is one of 64 and the numbers fit a
-/// scale is not looked at, nor whether a reply is of its request's kind. Memory is taken entry by entry.
+/// scale is not looked at, nor whether a reply is of its request's kind.
+///
+/// `NoMemory` comes where there is none for a record or for the entries; `Failed` comes where a read of
+/// `source` fails, with the number of the record under way, and never where none does. Of the text neither
+/// says anything, and nothing else is given then either. After an error it is not said how far `source` was
+/// read. Memory is taken entry by entry.
 pub fn read_log<R: Input + Drop>(alloc: Global, source: R) -> Result<Vec<Entry>, FileError>
     ensures log { IfOk result (λ entries. (text : List ℕ) → R.remaining source ≡ Some text → (rows : List (List (List ℕ))) × IsCsv text rows × IsLog entries.items rows) }
     ensures first { (text : List ℕ) (rows : List (List (List ℕ))) → R.remaining source ≡ Some text → IsCsv text rows → length rows < 2 ^ 64 - 1
@@ -144,7 +149,10 @@ pub fn log_record(alloc: Global, place: u32, entry: &Entry) -> Result<ByteRecord
 }
 
 /// Writes a log to the sink: the record of each entry, whose place is its index, and then the end record.
-/// After an error the sink has got a beginning of their text.
+///
+/// `NoMemory` comes where there is none for a record, and `Failed` where the sink fails, with the number of
+/// the record under way; since records are gathered before they are sent, what was not taken may be an
+/// earlier one. After an error the sink has got a beginning of their text.
 pub fn write_log<W: Write>(alloc: Global, sink: &mut W, entries: &[Entry]) -> Result<(), FileError>
     ensures written { OnOk result (Writes (W.contents sink.old) (W.contents sink.new) (IsLog entries.now)) }
     ensures begun { OnErr result (BeginsToWrite (W.contents sink.old) (W.contents sink.new) (BeginsLog entries.now)) }

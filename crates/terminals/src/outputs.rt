@@ -13,7 +13,11 @@ use std::alloc::Global;
 use std::io::Write;
 
 /// Writes a record for each output of a schedule to the sink, with the replies of the log's entries where their
-/// places answer. After an error the sink has got a beginning of their text.
+/// places answer.
+///
+/// `NoMemory` comes where there is none for a record, and `Failed` where the sink fails, with the number of
+/// the record under way, 0 where there is none; since records are gathered before they are sent, what was not
+/// taken may be an earlier one. After an error the sink has got a beginning of their text.
 pub fn write_outputs<W: Write>(
     alloc: Global,
     sink: &mut W,

@@ -19,7 +19,12 @@ use std::alloc::Global;
 ///
 /// A fault comes with its record, and nothing else is given then. The first faulty record decides, and
 /// of its faults the least one. Whether there are such sessions, warehouses and executors, and whether the
-/// numbers fit a scale, is not looked at. Memory is taken record by record.
+/// numbers fit a scale, is not looked at.
+///
+/// `NoMemory` comes where there is none for a record or for the schedule; `Failed` comes where a read of
+/// `source` fails, with the number of the record under way, and never where none does. Of the text neither
+/// says anything, and nothing else is given then either. After an error it is not said how far `source` was
+/// read. Memory is taken record by record.
 pub fn read_schedule<R: Input + Drop>(alloc: Global, source: R) -> Result<Vec<Scheduled>, FileError>
     ensures schedule { IfOk result (λ schedule. (text : List ℕ) → R.remaining source ≡ Some text → (rows : List (List (List ℕ))) × IsCsv text rows × IsSchedule schedule.items rows) }
     ensures first { (text : List ℕ) (rows : List (List (List ℕ))) → R.remaining source ≡ Some text → IsCsv text rows → length rows < 2 ^ 64 - 1

@@ -15,8 +15,12 @@ use std::io::Write;
 /// The script that `source` gives.
 ///
 /// A fault comes with its record, and nothing else is given then. The first faulty record decides, and
-/// of its faults the least one. Whether the numbers fit a scale is not looked at. Memory is taken
-/// request by request; more requests than a script has are as want of memory.
+/// of its faults the least one. Whether the numbers fit a scale is not looked at.
+///
+/// `NoMemory` comes where there is none for a record or for the requests, and where these are more than 2^32;
+/// `Failed` comes where a read of `source` fails, with the number of the record under way, and never where
+/// none does. Of the text neither says anything, and nothing else is given then either. After an error it is
+/// not said how far `source` was read. Memory is taken request by request.
 pub fn read_script<R: Input + Drop>(alloc: Global, source: R) -> Result<Script, FileError>
     ensures script { IfOk result (λ script. (text : List ℕ) → R.remaining source ≡ Some text → (rows : List (List (List ℕ))) × IsCsv text rows × IsScript script rows) }
     ensures first { (text : List ℕ) (rows : List (List (List ℕ))) → R.remaining source ≡ Some text → IsCsv text rows → length rows < 2 ^ 64 - 1
@@ -30,8 +34,11 @@ pub fn read_script<R: Input + Drop>(alloc: Global, source: R) -> Result<Script, 
     }
 }
 
-/// Writes a script to the sink: the record of each request, and then the end record. After an error the sink
-/// has got a beginning of their text.
+/// Writes a script to the sink: the record of each request, and then the end record.
+///
+/// `NoMemory` comes where there is none for a record, and `Failed` where the sink fails, with the number of
+/// the record under way; since records are gathered before they are sent, what was not taken may be an
+/// earlier one. After an error the sink has got a beginning of their text.
 pub fn write_script<W: Write>(alloc: Global, sink: &mut W, script: &Script) -> Result<(), FileError>
     ensures written { OnOk result (Writes (W.contents sink.old) (W.contents sink.new) (IsScript script.now)) }
     ensures begun { OnErr result (BeginsToWrite (W.contents sink.old) (W.contents sink.new) (BeginsScript script.now)) }
