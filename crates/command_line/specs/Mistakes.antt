@@ -12,6 +12,7 @@ use Rattle.workload.specs.declared.mix.Mix.{Mix}
 use Rattle.command_line.specs.declared.usage.UsageFault.{UsageFault}
 use Rattle.command_line.specs.declared.usage.UsageFault.TheVariants as usage
 use Rattle.command_line.specs.MixText.{IsMixText}
+use Rattle.command_line.specs.Settings.{IsSessionCount}
 use Rattle.command_line.specs.Words.{all_words}
 
 -- ---- of one option
@@ -66,17 +67,15 @@ abbrev pub IsMixWord : Option (List ℕ) → Type 0
 IsMixWord None = Unit {0}
 IsMixWord (Some word) = (mix : Mix) × IsMixText word mix
 
--- there are 1 to 64 files
-abbrev pub IsFileCount : List (List ℕ) → Type 0
-IsFileCount files = (1 ≤ length files) × (length files ≤ 64)
-
 -- there are 1 to 64 files, of different paths
 abbrev pub AreFiles : List (List ℕ) → Type 0
-AreFiles files = IsFileCount files × (HasPathTwice files → ⊥)
+AreFiles files = IsSessionCount (length files) × (HasPathTwice files → ⊥)
 
 -- there are not 1 to 64 files; or there are, and two of them have one path
 abbrev pub IsFilesFault : List (List ℕ) → UsageFault → Type 0
-IsFilesFault files fault = ((fault ≡ usage.FileCount) × (IsFileCount files → ⊥)) ⊎ (IsFileCount files × (fault ≡ usage.SameFile) × HasPathTwice files)
+IsFilesFault files fault =
+    ((fault ≡ usage.FileCount) × (IsSessionCount (length files) → ⊥))
+    ⊎ (IsSessionCount (length files) × (fault ≡ usage.SameFile) × HasPathTwice files)
 
 -- ---- of each command
 
@@ -84,7 +83,7 @@ module _ (found : Found) where
   -- there are not 1 to 64 scripts, the files that are written have one path, or there are not 1 to 16 executors, or else not 1 to 10000 tries
   abbrev pub IsRunFault : UsageFault → Type 0
   IsRunFault (usage.Words error) = kind_of error ≡ OutOfMemory
-  IsRunFault usage.ScriptCount = (1 ≤ length (all_words found (codes "SCRIPT"))) × (length (all_words found (codes "SCRIPT")) ≤ 64) → ⊥
+  IsRunFault usage.ScriptCount = IsSessionCount (length (all_words found (codes "SCRIPT"))) → ⊥
   IsRunFault usage.SameOutput = AreOnePath (first_value found (codes "log")) (first_value found (codes "tables"))
   IsRunFault fault =
       IsNumberFault (codes "--executors") 1 16 (first_value found (codes "executors")) fault

@@ -1,14 +1,18 @@
 -- Settings within their limits.
-use Rattle.std.specs.Prelude.{◌≤◌, length}
+use Rattle.std.specs.Prelude.{◌≤◌, ℕ, length}
 use Rattle.command_line.specs.declared.settings.Settings.{Settings}
 use Rattle.command_line.specs.declared.settings.Settings.TheVariants.{Run, Sim, Populate, Script, Check, Replay, Text}
 use Rattle.command_line.specs.declared.settings.run.RunSettings.{RunSettings}
 use Rattle.command_line.specs.declared.settings.script.ScriptSettings.{ScriptSettings}
 use Rattle.command_line.specs.declared.settings.sim.SimSettings.{SimSettings}
 
+-- there are 1 to 64 sessions, each with a script of its own
+abbrev pub IsSessionCount : ℕ → Type 0
+IsSessionCount count = (1 ≤ count) × (count ≤ 64)
+
 -- a run has 1 to 64 scripts, one for each session
 abbrev pub HasSessions : RunSettings → Type 0
-HasSessions run = (1 ≤ length run.scripts.items) × (length run.scripts.items ≤ 64)
+HasSessions run = IsSessionCount (length run.scripts.items)
 
 -- a run has its sessions, 1 to 16 executors that serve them, and 1 to 10000 tries
 abbrev pub IsRunnable : RunSettings → Type 0
@@ -20,7 +24,7 @@ HasExecutors sim = (1 ≤ sim.executors) × (sim.executors ≤ 16)
 
 -- there are 1 to 64 files for scripts, one for each session
 abbrev pub HasFiles : ScriptSettings → Type 0
-HasFiles script = (1 ≤ length script.files.items) × (length script.files.items ≤ 64)
+HasFiles script = IsSessionCount (length script.files.items)
 
 -- a run has its sessions, executors and tries, a simulation its executors, and scripts that are made their files; of the others
 -- nothing is asked here

@@ -25,6 +25,7 @@ status_of_words _ = status.Usage
 abbrev pub status_of_usage : UsageFault → Status
 status_of_usage (usage.Words error) = status_of_words (kind_of error)
 status_of_usage (usage.NotText place shown) = status.Usage
+status_of_usage usage.LongNotText = status.Usage
 status_of_usage usage.NoCommand = status.Usage
 status_of_usage usage.ScriptCount = status.Usage
 status_of_usage usage.SameOutput = status.Usage

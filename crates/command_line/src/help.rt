@@ -1,5 +1,5 @@
 // The date of the newest changes, and the toolchain. No build can know the commit that it is of.
-pub const VERSION: &str = "2026-11-28, made by rattle-kit-13f logic dac8208d650f15bf";
+pub const VERSION: &str = "2026-11-29, made by rattle-kit-13f logic dac8208d650f15bf";
 
 // What is told after the list of commands by `tpcc --help`.
 pub const PROGRAM: &str = "\
@@ -23,7 +23,8 @@ Exit statuses, with what is told on the standard error:
      without a word there: `check` found a condition broken, or `replay` a log that differs
   4  `tpcc: no memory`
 
-Faults of a file, of which R is the record, counted from 1 (0: it can't be opened or made):
+Faults of a file, of which R is the record, counted from 1 (0: it can't be opened or made, brought to
+the disk or given its name; or help or the version can't be printed):
   1  the header is missing or not of this format
   2  an unknown letter, or a wrong number of fields
   3  a field is no number, moment or text of its kind

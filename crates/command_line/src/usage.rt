@@ -10,12 +10,14 @@ use std::fmt;
 pub enum UsageFault {
     /// The words are not understood, or ask for help.
     Words(Error),
-    /// The word at this place, from 1 after the program's name, is no text in UTF-8. It is shown with its
-    /// other bytes as numbers.
+    /// The word at this place is no text in UTF-8: place 0 is that of the program's name, and the words after
+    /// it are counted from 1. It is shown with its other bytes as numbers.
     NotText {
         place: usize,
         shown: String,
     },
+    /// A word of more than 4,096 bytes is no text in UTF-8, and all shorter ones are texts.
+    LongNotText,
     /// The words name no command.
     NoCommand,
     /// There are not 1 to 64 scripts.
@@ -64,6 +66,9 @@ impl fmt::Display for UsageFault {
             },
             UsageFault::NotText { place, shown } => {
                 writeln!(f, "error: argument {place} is not UTF-8: {shown}")
+            }
+            UsageFault::LongNotText => {
+                f.write_str("error: an argument of more than 4096 bytes is not UTF-8\n")
             }
             UsageFault::NoCommand => f.write_str("error: no command: try `tpcc --help`\n"),
             UsageFault::ScriptCount => f.write_str("error: `tpcc run` takes 1 to 64 scripts\n"),

@@ -16,7 +16,8 @@ pub fn words_of<R: Env + AllocGlobal>(rt: &R) -> Result<Vec<String>, UsageFault>
     }
 }
 
-// The fault of the first word that is no text.
+// The fault of the first word that is no text and not too long to be shown; or else that only longer ones
+// are none.
 fn first_that_is_no_text<R: Env + AllocGlobal>(rt: &R) -> Result<UsageFault, AllocError> {
     let mut room = [0u8; MOST_SHOWN];
     for place in 0..usize::MAX {
@@ -32,8 +33,7 @@ fn first_that_is_no_text<R: Env + AllocGlobal>(rt: &R) -> Result<UsageFault, All
             Err(FillError::NotPresent) => break,
         }
     }
-    let shown = String::from_str(rt.alloc(), "it is too long to be shown")?;
-    Ok(UsageFault::NotText { place: 0, shown })
+    Ok(UsageFault::LongNotText)
 }
 
 // The bytes as they can be shown: each that is no printable ASCII by its number, as `\xff`.

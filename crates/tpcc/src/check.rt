@@ -18,7 +18,7 @@ use std::mem;
 ///
 /// On `found` comes `1 ok` or `1 broken`, and so on to 12, where 11 is `11 skipped` unless the dataset is
 /// said to be fresh; a beginning of these lines at most where a check ends early. Why it does is told to
-/// `errors`: a fault of the file, or no memory.
+/// `errors`: a fault of the file, that not all could be printed, or no memory.
 pub fn check_over<D: Input + Drop, A: Write, E: Report>(
     alloc: Global,
     settings: &CheckSettings,

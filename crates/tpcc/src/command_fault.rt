@@ -18,7 +18,7 @@ pub enum CommandFault<'a> {
     /// The text of the file of that path has a fault.
     File { path: &'a str, fault: FileFault },
     /// Reading or writing the file of that path failed, at this record, from 1; 0 where it can't be opened or
-    /// made.
+    /// made, is not brought to the disk or does not get its name, or help or the version can't be printed.
     Failed { path: &'a str, record: u64 },
     /// The tables of the dataset break this condition of consistency, the least of those that they break.
     NotConsistent(u8),
@@ -31,7 +31,7 @@ pub enum CommandFault<'a> {
     NoThread,
     /// A session, a slice or a claim was not back when all executors had ended.
     Unsettled,
-    /// The tables were asked for while a transaction was active.
+    /// The tables were asked for while a transaction was active, or a move outstanding.
     NotIdle,
 }
 
@@ -39,7 +39,8 @@ impl<'a> CommandFault<'a> {
     ghost use Rattle.std.specs.Prelude.{◌≡◌};
     ghost use Rattle.tpcc.specs.Faults.{status_of, fault_of_file, fault_of_serving};
 
-    /// A file that can't be opened or made.
+    /// A file that can't be opened or made, is not brought to the disk or does not get its name, or the standard
+    /// output where help or the version can't be printed.
     pub fn not_opened(path: &'a str) -> CommandFault<'a>
         ensures { result ≡ CommandFault.Failed path.entry 0 }
     {

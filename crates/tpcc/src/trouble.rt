@@ -49,7 +49,8 @@ impl Trouble {
         }
     }
 
-    /// The fault of a file that can't be opened or made, or does not get its name.
+    /// The fault of a file that can't be opened or made, or of the standard output where help or the version
+    /// can't be printed.
     pub fn not_opened<'a>(&self, path: &'a str, error: &io::Error) -> CommandFault<'a> {
         self.note(error);
         match error.kind() {

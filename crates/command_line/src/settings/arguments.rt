@@ -93,7 +93,7 @@ pub fn summary<'a>(alloc: Global) -> Arg<'a>
     flag(
         alloc,
         "summary",
-        "Tells on the standard error what it came to, as on a terminal in any case",
+        "Tells on the standard error what it came to, as on a terminal, unless --quiet",
     )
 }
 

@@ -50,4 +50,4 @@ const HELP: &str = "\
 Prints a line for each condition of TPC-C 5.11, clause 3.3.2: `1 ok` or `1 broken`, and so on to 12;
 `11 skipped` without --fresh.
 
-Exit statuses: 0 none is broken, 1 a fault of DATA, 2 the words are wrong, 3 one is broken, 4 no memory";
+Exit statuses: 0 none is broken, 1 a fault of a file, 2 the words are wrong, 3 one is broken, 4 no memory";

@@ -18,7 +18,7 @@ pub struct PopulateSettings<'a> {
     pub seed: u32,
     /// The moment of everything that has one.
     pub now: Moment,
-    /// Whether nothing is to be told but the result and faults.
+    /// Whether nothing is to be told but faults.
     pub quiet: bool,
 }
 

@@ -45,8 +45,7 @@ pub fn read<'a>(alloc: Global, matches: &ArgMatches<'a>) -> Result<ScriptSetting
 {
     let files = matches.get_strs("FILE").unwrap_or(&[]);
     check_files(files)?;
-    let settings = with_files(matches, files.to_vec(alloc)?)?;
-    Ok(settings)
+    with_files(matches, files.to_vec(alloc)?)
 }
 
 // Whether there are 1 to 64 files, of different paths.
@@ -167,7 +166,7 @@ pub fn command<'a>(alloc: Global) -> Result<Command<'a>, AllocError>
             alloc,
             "home",
             "W",
-            "The home warehouse of all sessions; each has its own by default",
+            "The home warehouse of all sessions, 1 to 64; each has its own by default",
         ))?
         .arg(option(
             alloc,
@@ -188,9 +187,9 @@ pub fn command<'a>(alloc: Global) -> Result<Command<'a>, AllocError>
 // What is told after the arguments by `tpcc script --help`.
 const HELP: &str = "\
 Of DATA the header is read, which tells the scale, and nothing behind it. The first FILE is session 0's, the
-next session 1's, and so on, as `tpcc run DATA FILE..` takes them. Session s is at home in warehouse s + 1, and
-again from the first on behind the last. Each request comes a second after the one before. The same words and
-the same scale give the same bytes; docs/FORMATS.md tells each draw. Prints nothing.
+next session 1's, and so on, as `tpcc run DATA FILE..` takes them. Without --home session s is at home in
+warehouse s + 1, and again from the first on behind the last. Each request comes a second after the one before.
+The same words and the same scale give the same bytes; docs/FORMATS.md tells each draw. Prints nothing.
 
 The kinds of a script are dealt from a shuffled deck of cards, and again from the deck shuffled anew: N a
 New-Order, P a payment, O an Order-Status, D a Delivery, L a Stock-Level. A kind has 0 to 1,000 cards, none if it

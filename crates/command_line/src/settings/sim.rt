@@ -10,6 +10,7 @@ use crate::settings::arguments::{
 };
 use crate::usage::UsageFault;
 use clap::{ArgMatches, Command};
+use routing::MOST_EXECUTORS;
 use std::alloc::{AllocError, Global};
 
 /// What `tpcc sim` was asked to do: paths of files, and how many executors there are.
@@ -41,7 +42,13 @@ pub fn read<'a>(matches: &ArgMatches<'a>) -> Result<SimSettings<'a>, UsageFault>
     Ok(SimSettings {
         data: word(matches, "DATA"),
         schedule: word(matches, "SCHEDULE"),
-        executors: number(matches.get_str("executors"), 2, 1, 16, "--executors")?,
+        executors: number(
+            matches.get_str("executors"),
+            2,
+            1,
+            MOST_EXECUTORS,
+            "--executors",
+        )?,
         log,
         picture,
         tables,
