@@ -1,5 +1,5 @@
 //! What is told of the twelve conditions of consistency.
-ghost use Rattle.std.specs.Prelude.{◌≡◌, ◌<◌, ◌^◌, length, IfOk};
+ghost use Rattle.std.specs.Prelude.{◌≡◌, IfOk};
 ghost use Rattle.std.specs.List.{list_any};
 ghost use Rattle.tpcc.specs.Verdicts.{is_broken, found_of, verdicts_of};
 
