@@ -48,6 +48,7 @@ pub mod NeverStuck
 pub mod Answered
 pub mod Runs
 pub mod Busy
+pub mod WhoAsked
 pub mod Deaths
 pub mod Dying
 pub mod Keeping

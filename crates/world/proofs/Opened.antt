@@ -176,11 +176,14 @@ module _ {J : Type 0} where
             (subst (λ (p : InFlight). IsPermutation [] (held_at w_id p.claims)) (sym (nothing_flies w inbox outbox active)) (IsPermutation-refl []));
       }
 
-  pub opened_new : (t : Database) (executors : ℕ) (lanes : List (Passing × Seating)) (w : Core J) → AreNewLanes lanes → AreSlicesOf w.parts.catalog (slices_in w.parts) → waiting_in w.parts ≡ [] → joined_in w.parts ≡ all_at_rest t
+  pub opened_new : (t : Database) (executors : ℕ) (lanes : List (Passing × Seating)) (w : Core J) → AreNewLanes lanes → w.parts.catalog ≡ shared_of t → w.parts.stations.items ≡ map station_of (map at_rest (parts_of t))
+      → AreSlicesOf w.parts.catalog (slices_in w.parts) → waiting_in w.parts ≡ [] → joined_in w.parts ≡ all_at_rest t
       → IsOpenedBy (record { warehouses = t.scale.warehouses; executors = executors }) w.houses → w.parked ≡ [] → w.inboxes ≡ replicate executors [] → w.outboxes ≡ replicate executors []
-      → w.parts.log ≡ [] → w.parts.desk.admitted ≡ 0 → w.parts.desk.active ≡ replicate 64 None
+      → w.parts.inbox ≡ [] → w.parts.outbox ≡ [] → w.parts.log ≡ [] → w.parts.desk.admitted ≡ 0 → w.parts.desk.active ≡ replicate 64 None
       → w.parts.desk.sessions.items ≡ map session_with lanes → IsNew t executors w
-  opened_new t executors lanes w new slices none_waits rows houses parked inboxes outboxes log admitted active sessions = record {
+  opened_new t executors lanes w new catalog stations slices none_waits rows houses parked inboxes outboxes inbox outbox log admitted active sessions = record {
+    catalog = catalog;
+    stations = stations;
     slices = slices;
     none_waits = none_waits;
     rows = rows;
@@ -188,6 +191,7 @@ module _ {J : Type 0} where
     parked = parked;
     inboxes = inboxes;
     outboxes = outboxes;
+    in_hand = (inbox, outbox);
     log = log;
     admitted = admitted;
     active = active;

@@ -23,7 +23,7 @@ use Rattle.world.proofs.Fitting.{fits_answer}
 use Rattle.world.proofs.Sessions.{AreInPlace, AreAlone, AreMany, answered_alone, answered_many, still_in_place}
 
 -- the answer is that of the transaction that it tells
-is_answer_to : (age session number : ℕ) (request : _) (answer : Result ℕ Refusal)
+pub is_answer_to : (age session number : ℕ) (request : _) (answer : Result ℕ Refusal)
     → IsAnswerTo (record { age = age; session = session; number = number; request = request; entry = place_answered answer }) answer
 is_answer_to age session number request (Ok place) = refl
 is_answer_to age session number request (Err why) = refl

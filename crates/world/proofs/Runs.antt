@@ -6,8 +6,7 @@ use Rattle.history.specs.History.{Step, step}
 use Rattle.world.specs.declared.world.Parts.{Parts}
 use Rattle.world.specs.declared.world.Core.{Core}
 use Rattle.world.specs.Together.{together}
-use Rattle.world.specs.Worlds.{AllDieOfOlder, TellsOfOlder, Advances, ComeAbout, Fits, HappenInTurn, steps_of}
-use Rattle.world.specs.Happening.{Happens}
+use Rattle.world.specs.Worlds.{Advances, ComeAbout, EventHappens, Fits, HappenInTurn, steps_of}
 
 -- one event and one answer more
 pub steps_of-push : (events : List Event) (answers : List EventAnswer) (event : Event) (answer : EventAnswer) → length events ≡ length answers
@@ -34,8 +33,12 @@ module _ {J : Type 0} where
   happen_after (s ∷ some) more old mid new before after = (before.0, (before.1.0, happen_after some more before.0 mid new before.1.1 after))
 
   -- one event happens
-  pub happens_once : (event : Event) (answer : EventAnswer) (old new : Core J) → Happens event old answer new → TellsOfOlder old answer → AllDieOfOlder event old new → HappenInTurn (step event answer ∷ []) old new
-  happens_once event answer old new happens died dies = (new, ((happens, (died, dies)), refl))
+  pub happens_once : (s : Step) (old new : Core J) → EventHappens s old new → HappenInTurn (s ∷ []) old new
+  happens_once s old new is = (new, (is, refl))
+
+  -- one event came about
+  pub event_comes : (s : Step) (old new : Core J) → EventHappens s old new → ComeAbout (s ∷ []) old new
+  event_comes s old new is = (happens_once s old new is, is.advances)
 
   -- more comes about
   pub comes_after : (some more : List Step) (old mid new : Core J) → ComeAbout some old mid → ComeAbout more mid new → ComeAbout (some ++ more) old new

@@ -31,11 +31,11 @@ use Rattle.world.specs.declared.world.Core.{Core}
 use Rattle.world.specs.Together.{IsSound, together}
 use Rattle.world.specs.Letters.{home_of_message, is_for_slice}
 use Rattle.world.specs.Queues.{all_of, queue_of}
-use Rattle.world.specs.Worlds.{AllDieOfOlder, TellsOfOlder, Advances, ComeAbout, IsAtRest}
+use Rattle.world.specs.Worlds.{ComeAbout, IsAtRest}
 use Rattle.world.specs.Happening.{Delivers, FindsSlice, Happens, Opens, SendsFirst, SendsPosted, TakesFirst, WorksIfHere, has_room}
 use Rattle.world.proofs.Answered.{posted_something}
 use Rattle.world.proofs.Moves.{begun_executors}
-use Rattle.world.proofs.Runs.{comes_after, happens_once}
+use Rattle.world.proofs.Runs.{comes_after}
 
 -- ---- rounds
 
@@ -247,11 +247,6 @@ all_empty {X = X} (queue ∷ queues) each =
     ap (λ (q : List X). q ++ all_of queues) (each 0 (omega arith)) ∙ all_empty queues (λ place below. each (suc place) (omega (arith, below)))
 
 module _ {J : Type 0} where
-  -- an event came about
-  pub event_comes : (event : Event) (answer : EventAnswer) (old new : Core J) → Happens event old answer new → TellsOfOlder old answer → AllDieOfOlder event old new → Advances (together old) (step event answer ∷ []) (together new)
-      → ComeAbout (step event answer ∷ []) old new
-  event_comes event answer old new happens died dies advances = (happens_once event answer old new happens died dies, advances)
-
   -- after some turns a turn more
   pub turn_comes : (turns : List Turn) (count : ℕ) (t : Turn) (first old mid new : Core J) → length turns ≡ count → ComeAbout (steps_of_round turns) first old
       → ComeAbout (step (Take count) t.took ∷ []) old mid → ComeAbout (step (Send count) t.sent ∷ []) mid new

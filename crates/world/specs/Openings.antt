@@ -1,6 +1,7 @@
 -- For what a world is opened, why none was, what its sessions are then, and what a simulation tells.
-use Rattle.std.specs.Prelude.{◌≡◌, ◌⊎◌, ◌<◌, ℕ, zero, suc, List, [], Some, None, Result, Ok, Err, replicate, slice_get, length, ◌≤◌}
+use Rattle.std.specs.Prelude.{◌≡◌, ◌⊎◌, ◌<◌, ℕ, zero, suc, List, [], Some, None, Result, Ok, Err, map, replicate, slice_get, length, ◌≤◌}
 use Rattle.schema.specs.Database.{Database}
+use Rattle.partitions.specs.Parts.{parts_of, shared_of}
 use Rattle.consistency.specs.Broken.{BreaksFirst}
 use Rattle.range_moves.specs.Housing.{IsOpenedBy}
 use Rattle.tickets.specs.declared.group_names.GroupNames.{Ghosts as GroupNames}
@@ -16,13 +17,13 @@ use Rattle.slices.specs.Openings.{AreOpenedFor}
 use Rattle.world.specs.declared.opening.Opening.{Opening}
 use Rattle.world.specs.declared.opening.OpenFault.{OpenFault}
 use Rattle.world.specs.declared.opening.OpenFault.TheVariants.{NoMemory, BadExecutors, NotConsistent}
-use Rattle.slices.specs.Sliced.{AreSlicesOf, all_at_rest}
+use Rattle.slices.specs.Sliced.{AreSlicesOf, all_at_rest, at_rest}
 use Rattle.world.specs.declared.simulating.Simulation.{Simulation}
 use Rattle.world.specs.declared.world.GatherFault.{GatherFault}
 use Rattle.world.specs.declared.world.GatherFault.TheVariants as gather
 use Rattle.world.specs.declared.world.Core.{Core}
 use Rattle.world.specs.Parted.{joined_in}
-use Rattle.world.specs.Stations.{slices_in, waiting_in}
+use Rattle.world.specs.Stations.{slices_in, station_of, waiting_in}
 use Rattle.world.specs.Together.{together}
 use Rattle.world.specs.Worlds.{Fits, HappenInTurn, IsNeverStuck, count_busy, tables_now}
 
@@ -59,10 +60,14 @@ module _ {J : Type 0} where
   abbrev pub session_with : Passing × Seating → SessionDesk J
   session_with lane = record { seat = lane.1; pass = Some lane.0 }
 
-  -- A world of so many executors on these tables in which nothing has happened: it has a slice for each warehouse, all tickets
-  -- are at home, nobody waits, the slices of the warehouses are where they are dealt out to, no move is outstanding and nothing parked, the queues of each and the log are empty, no transaction was
-  -- admitted, and each of 64 sessions has its pass at the desk and has asked nothing.
+  -- A world of so many executors on these tables in which nothing has happened: its stations have the rows of the tables, those of
+  -- each warehouse in a slice of its own, no claim is out, and nobody waits, at a station or in a lock table; the slices of the
+  -- warehouses are where they are dealt out to, no move is outstanding and nothing parked; the queues of each executor and the log are
+  -- empty, and nothing is in hand, neither a message nor a reply nor any other item; no transaction was admitted or is active, and each
+  -- of 64 sessions has its pass at the desk and has asked nothing.
   pub record IsNew (tables : Database) (executors : ℕ) (w : Core J) : Type 0 where
+    pub catalog : w.parts.catalog ≡ shared_of tables
+    pub stations : w.parts.stations.items ≡ map station_of (map at_rest (parts_of tables))
     pub slices : AreSlicesOf w.parts.catalog (slices_in w.parts)
     pub none_waits : waiting_in w.parts ≡ []
     pub rows : joined_in w.parts ≡ all_at_rest tables
@@ -70,6 +75,7 @@ module _ {J : Type 0} where
     pub parked : w.parked ≡ []
     pub inboxes : w.inboxes ≡ replicate executors []
     pub outboxes : w.outboxes ≡ replicate executors []
+    pub in_hand : (w.parts.inbox ≡ []) × (w.parts.outbox ≡ [])
     pub log : w.parts.log ≡ []
     pub admitted : w.parts.desk.admitted ≡ 0
     pub active : w.parts.desk.active ≡ replicate 64 None
@@ -80,14 +86,16 @@ module _ {J : Type 0} where
 abbrev pub CanHave : ℕ → Type 0
 CanHave executors = (1 ≤ executors) × (executors ≤ 16)
 
--- A schedule was simulated on tables with so many executors: in a new world on them its events happened in turn; this is what is
--- printed of them; with their answers they are a history that fits the last world, which is not stuck; the log is that world's; and so are the
--- tables, the machine's last, unless a transaction is active, a move is outstanding, or there is no memory for them.
+-- A schedule was simulated on tables with so many executors: in a new world on them, which a history without events fits, its events
+-- happened in turn; this is what is printed of them; with their answers they are a history that fits the last world, which is not stuck;
+-- the log is that world's; and so are the tables, the machine's last, unless a transaction is active, a move is outstanding, or there is
+-- no memory for them.
 pub record Simulates (J : Type 0) (opening : Database) (executors : ℕ) (schedule : List Scheduled) (s : Simulation) : Type 0 where
   pub first : Core J
   pub last : Core J
   pub steps : List Step
   pub new : IsNew opening executors first
+  pub begins : Fits opening [] (together first)
   pub plays : Plays executors schedule s.outputs.items steps
   pub happen : HappenInTurn steps first last
   pub fits : Fits opening steps (together last)

@@ -1,9 +1,10 @@
 -- What holds of a world and its history.
-use Rattle.std.specs.Prelude.{◌≡◌, ℕ, ◌+◌, Bool, List, [], ◌∷◌, ◌++◌, All, Contains, IsTrue, ◌<◌, ◌≤◌, ◌↔◌, Err, count_by}
+use Rattle.std.specs.Prelude.{◌≡◌, ℕ, ◌+◌, Bool, List, [], ◌∷◌, ◌++◌, All, Contains, IsTrue, ◌<◌, ◌≤◌, ◌↔◌, Result, Err, count_by}
 use Rattle.std.specs.List.{slice_get}
 use Rattle.schema.specs.Database.{Database}
 use Rattle.requests.specs.declared.group.Group.{Group}
 use Rattle.requests.specs.declared.request.Request.{Request}
+use Rattle.requests.specs.declared.refusal.Refusal.{Refusal}
 use Rattle.requests.specs.declared.refusal.Refusal.TheVariants as refusal
 use Rattle.groups.specs.Content.{content}
 use Rattle.groups.specs.Footprint.{footprint, groups_of}
@@ -15,9 +16,10 @@ use Rattle.commit_log.specs.Log.{requests_of}
 use Rattle.history.specs.declared.event.Event.{Event}
 use Rattle.history.specs.declared.event.Event.TheVariants.{Submit, Order, Take, Send}
 use Rattle.history.specs.declared.event.EventAnswer.{EventAnswer}
-use Rattle.history.specs.declared.event.EventAnswer.TheVariants.{Accepted, Answered}
+use Rattle.history.specs.declared.event.EventAnswer.TheVariants.{Accepted, Answered, Nothing}
 use Rattle.history.specs.History.{Step, Unanswered, step, is_of}
 use Rattle.history.specs.Fits.{Fits as HistoryFits}
+use Rattle.history.specs.Laws.{IsAnswerTo}
 use Rattle.history.specs.Schedules.{IsIdle, Round}
 use Rattle.local_locks.specs.Conflicts.{Blocks}
 use Rattle.local_locks.specs.Laws.{Path}
@@ -37,6 +39,7 @@ use Rattle.world.specs.Flights.{InFlight, nothing}
 use Rattle.world.specs.Parted.{joined_in}
 use Rattle.world.specs.Stations.{waiting_in}
 use Rattle.world.specs.Sound.{Courses, IsActiveAt, IsSoundWith, flight}
+use Rattle.world.specs.Changes.{ChangesOnly}
 use Rattle.world.specs.Happening.{CanOrder, CannotSubmit, Happens, begins_at, has_room}
 use Rattle.range_moves.specs.Traffic.{AreOwned}
 use Rattle.world.specs.Letters.{items_in, sent_in}
@@ -83,6 +86,13 @@ steps_of (event ∷ events) (answer ∷ answers) = step event answer ∷ steps_o
 abbrev pub IsIdleExactly : Bool → Round → Type 0
 IsIdleExactly told r = IsTrue told ↔ IsIdle r
 
+-- Of a transaction without an answer: it is the session's, with this number; and what is told is the place of its entry, or, where
+-- it has none, why it is refused.
+pub record IsAnsweredSo (session number : ℕ) (told : Result ℕ Refusal) (u : Unanswered) : Type 0 where
+  pub session_is : u.session ≡ session
+  pub number_is : u.number ≡ number
+  pub answer_is : IsAnswerTo u told
+
 -- of a transaction without an answer: it is the session's, with this number; the group is one of its footprint, and the holder is older
 pub record IsRefusedFor (session number : ℕ) (group : Group) (holder : ℕ) (u : Unanswered) : Type 0 where
   pub session_is : u.session ≡ session
@@ -98,6 +108,18 @@ module _ {J : Type 0} where
   -- a history that fits before these events fits after them, with the events and their answers at its end
   abbrev pub Advances : Parts J → List Step → Parts J → Type 0
   Advances old steps new = (opening : Database) (history : List Step) → Fits opening history old → Fits opening (history ++ steps) new
+
+  -- ---- answers
+
+  -- This was asked. A submission is told at once, by its own number, why it is refused; and who is told anything later has a
+  -- transaction without an answer, with this number, and is told of that one.
+  abbrev pub WasAsked : Event → Core J → ℕ → ℕ → Result ℕ Refusal → Type 0
+  WasAsked (Submit asking mine asked) w session number told = (session ≡ asking) × ((number ≡ mine) × ((why : Refusal) × (told ≡ Err why)))
+  WasAsked event w session number told = (u : Unanswered) × (Contains (flight (together w)).pending u × IsAnsweredSo session number told u)
+
+  -- whoever is answered had asked
+  abbrev pub AnswersWhoAsked : Event → Core J → EventAnswer → Type 0
+  AnswersWhoAsked event w answer = (session number : ℕ) (told : Result ℕ Refusal) → answer ≡ Answered session number told → WasAsked event w session number told
 
   -- ---- deaths
 
@@ -149,17 +171,7 @@ module _ {J : Type 0} where
   abbrev pub AllDieOfOlder : Event → Core J → Core J → Type 0
   AllDieOfOlder event old new = (opening : Database) (history : List Step) → Fits opening history (together new) → DieOfOlder history event old new
 
-  -- ---- several events
-
-  -- Events happen one after another, each with its answer. Who dies, dies of somebody older.
-  abbrev pub HappenInTurn : List Step → Core J → Core J → Type 0
-  HappenInTurn [] old new = new ≡ old
-  HappenInTurn (s ∷ steps) old new =
-      (mid : Core J) × ((Happens s.event old s.answer mid × (TellsOfOlder old s.answer × AllDieOfOlder s.event old mid)) × HappenInTurn steps mid new)
-
-  -- these events came about: they happened in turn, and a history that fits goes on with them
-  abbrev pub ComeAbout : List Step → Core J → Core J → Type 0
-  ComeAbout steps old new = HappenInTurn steps old new × Advances (together old) steps (together new)
+  -- ---- at rest
 
   -- How many transactions are active, and how many reports the move lacks that is outstanding: nothing is where neither is.
   abbrev pub count_busy : Core J → ℕ
@@ -239,3 +251,33 @@ module _ {J : Type 0} where
     pub rises : (t u : ℕ) → WaitsFor w.parts t u → t < u
     pub no_circle : (t : ℕ) (ages : List ℕ) → Path (WaitsFor w.parts) t ages t → ⊥
     pub idle : IsAtRest w → IsIdleAt w
+
+  -- ---- several events
+
+  -- One event happens, with its answer, and this is so of it. Whatever history fitted before fits after, with this event at its end
+  -- (`advances`). What it is answered and what it changes is told (`happens`), and what it may change at most (`changes`); when nothing
+  -- can happen, and when a session is busy. Whoever is answered had asked; who is told of a death, is told of somebody older; and who
+  -- dies, dies of somebody older, and none does while its transaction is the only one active. There are as many executors as before, each
+  -- slice is at one of them or in one parcel, and the world is not stuck.
+  pub record EventHappens (s : Step) (old new : Core J) : Type 0 where
+    pub advances : Advances (together old) (s ∷ []) (together new)
+    pub happens : Happens s.event old s.answer new
+    pub changes : ChangesOnly s.event s.answer old new
+    pub nothing : (s.answer ≡ Nothing) ↔ CannotHappen s.event old
+    pub busy : IsBusyExactly s.event old s.answer
+    pub asked : AnswersWhoAsked s.event old s.answer
+    pub died : TellsOfOlder old s.answer
+    pub dies : AllDieOfOlder s.event old new
+    pub executors : new.houses.executors ≡ old.houses.executors
+    pub owned : IsOwned new
+    pub never_stuck : IsNeverStuck new
+    pub alone : (opening : Database) (history : List Step) → Fits opening history (together old) → count_active old.parts.desk.active ≡ 1 → NoneDies s.event old new
+
+  -- events happen one after another, each with its answer
+  abbrev pub HappenInTurn : List Step → Core J → Core J → Type 0
+  HappenInTurn [] old new = new ≡ old
+  HappenInTurn (s ∷ steps) old new = (mid : Core J) × (EventHappens s old mid × HappenInTurn steps mid new)
+
+  -- these events came about: they happened in turn, and a history that fits goes on with them
+  abbrev pub ComeAbout : List Step → Core J → Core J → Type 0
+  ComeAbout steps old new = HappenInTurn steps old new × Advances (together old) steps (together new)

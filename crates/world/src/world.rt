@@ -7,7 +7,7 @@ ghost use Rattle.world.specs.Openings.{IsGathered};
 ghost use Rattle.world.specs.Happening.{Happens};
 ghost use Rattle.world.specs.Slots.{count_active};
 ghost use Rattle.world.specs.Together.{together};
-ghost use Rattle.world.specs.Worlds.{Advances, AllDieOfOlder, CannotHappen, Fits, HappenInTurn, IsAtRest, IsBusyExactly, IsNeverStuck, IsOwned, NoneDies, TellsOfOlder, count_busy, steps_of, tables_now};
+ghost use Rattle.world.specs.Worlds.{Advances, AllDieOfOlder, AnswersWhoAsked, CannotHappen, Fits, HappenInTurn, IsAtRest, IsBusyExactly, IsNeverStuck, IsOwned, NoneDies, TellsOfOlder, count_busy, steps_of, tables_now};
 
 use crate::desk::Desk;
 use crate::flight::{Carried, Item, Letter, Message, Posted};
@@ -131,6 +131,8 @@ impl<J: Names> World<J> {
     /// inbox; only a Take changes a slice, and of one warehouse alone, that its executor has; and only a commit that is sent changes the
     /// log, by its own entry at the end. An executor works on messages for a slice where it has the slice: that is
     /// at one executor, or in one parcel on its way.
+    /// Whoever is answered had asked: a submission is refused at once by its own number, or else a session is told of its transaction that
+    /// has no answer, by that one's number, and with the place of its entry or, where it has none, why it is refused.
     /// Up to 64 transactions are active at a time: `Busy` exactly where they are. Who is in another's way is waited for where it is
     /// younger, and else the other dies: so nobody waits in a circle, and while anything is active something can be taken or sent.
     /// While a transaction is the only one that is active, no action of it dies. Who dies, dies of somebody older, who is active then and
@@ -142,6 +144,7 @@ impl<J: Names> World<J> {
         ensures changes { ChangesOnly event.now result self.old self.new }
         ensures nothing { (result ≡ EventAnswer.Nothing) ↔ CannotHappen event.now self.old }
         ensures busy { IsBusyExactly event.now self.old result }
+        ensures asked { AnswersWhoAsked event.now self.old result }
         ensures died { TellsOfOlder self.old result }
         ensures dies { AllDieOfOlder event.now self.old self.new }
         ensures executors { self.new.houses.executors ≡ self.old.houses.executors }

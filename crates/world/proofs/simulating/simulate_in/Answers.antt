@@ -16,6 +16,7 @@ returns-clause-simulates g c = λ opening executors new fits.
       last = last;
       steps = played.0;
       new = new;
+      begins = fits;
       plays = subst (λ (n : ℕ). Plays n c.args.schedule.now c.in_ok-outputs.outputs.items played.0) new.houses.executors played.1.0;
       happen = played.1.1.0;
       fits = after;

@@ -1,5 +1,5 @@
-use Rattle.std.proofs.Common.{refl, sym, ap, subst, ◌∙◌, arith, ◌≡◌, ℕ, [], map}
-use Rattle.slices.specs.Sliced.{Joined, holdings_in}
+use Rattle.std.proofs.Common.{refl, sym, ap, subst, ◌∙◌, arith, ◌≡◌, ℕ, List, [], map}
+use Rattle.slices.specs.Sliced.{Joined, Sliced, holdings_in}
 use Rattle.std.specs.Prelude.{All}
 use Rattle.schema.specs.Database.{Database}
 use Rattle.schema.specs.declared.scale.Scale.{Scale}
@@ -10,7 +10,7 @@ use Rattle.tickets.specs.Places.{AreInPlace}
 use Rattle.slices.specs.Openings.{AreBoxesOf}
 use Rattle.slices.proofs.Opened.{opened_groups_have_boxes}
 use Rattle.world.specs.declared.world.Core.{Core}
-use Rattle.world.specs.Stations.{HaveToWait, IsStationOf, NobodyWaitsIn, slice_of}
+use Rattle.world.specs.Stations.{HaveToWait, IsStationOf, NobodyWaitsIn, slice_of, station_of}
 use Rattle.range_moves.specs.Housing.{IsOpenedBy}
 use Rattle.world.proofs.Opened.{cut_slices, cut_waits, have_not_to_wait, opened_core, opened_fits, opened_new, opened_stations, seats_tell}
 use Rattle.world.proofs.world.World.over.Goals as goal
@@ -85,8 +85,8 @@ returns-clause-new g c =
     let set = opened_stations c.args.tables cut.catalog cut.slices.items c.in_ok-stations.stations.items slices c.in_ok-stations.ensures.made in
     opened_new c.args.tables c.args.executors c.in_ok-book.lanes.items core
     (record { many = omega (arith, c.in_ok-book.lanes.ok.0, c.in_ok-book.ensures.count); each = c.in_ok-book.ensures.sessions })
-    set.0 set.1.0 set.1.1 (subst (λ (s : Scale). IsOpenedBy (record { warehouses = s.warehouses; executors = c.args.executors }) c.in_ok-houses.houses) c.scale-scale.ensures.value (subst (λ r. IsOpenedBy r c.in_ok-houses.houses) c.opening.ensures c.in_ok-houses.ensures))
-    c.in_ok-parked.ensures c.in_ok-inboxes.ensures c.in_ok-outboxes.ensures c.new.ensures refl c.in_ok-active.ensures c.in_ok-sessions.ensures
+    cut.ensures.catalog (c.in_ok-stations.ensures.made ∙ ap (λ (l : List Sliced). map station_of l) cut.ensures.slices) set.0 set.1.0 set.1.1 (subst (λ (s : Scale). IsOpenedBy (record { warehouses = s.warehouses; executors = c.args.executors }) c.in_ok-houses.houses) c.scale-scale.ensures.value (subst (λ r. IsOpenedBy r c.in_ok-houses.houses) c.opening.ensures c.in_ok-houses.ensures))
+    c.in_ok-parked.ensures c.in_ok-inboxes.ensures c.in_ok-outboxes.ensures c.in_ok-inbox.ensures c.in_ok-outbox.ensures c.new.ensures refl c.in_ok-active.ensures c.in_ok-sessions.ensures
 
 pub open_stations-requires : goal.open_stations-requires
 open_stations-requires g c = subst (All NobodyWaitsIn) (sym c.in_ok-catalog.ensures.slices) (cut_waits (parts_of c.args.tables))

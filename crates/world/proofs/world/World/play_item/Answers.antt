@@ -4,7 +4,8 @@ use Rattle.history.specs.Schedules.{Begins, Follows}
 use Rattle.history.specs.declared.schedule.Scheduled.TheVariants as scheduled
 use Rattle.history.specs.declared.schedule.Output.TheVariants as output
 use Rattle.world.specs.Worlds.{ComeAbout}
-use Rattle.world.proofs.Schedules.{begins_all, event_comes, on_err}
+use Rattle.world.proofs.Runs.{event_comes}
+use Rattle.world.proofs.Schedules.{begins_all, on_err}
 use Rattle.world.proofs.world.World.play_item.Goals as goal
 
 pub returns-in_err-push-in-Event-clause-err : goal.returns-in_err-push-in-Event-clause-err
@@ -16,7 +17,20 @@ returns-in_err-push-in-Event-clause-err g c =
       steps,
       (
         subst (λ item. Begins c.args.self.now.houses.executors (item ∷ []) steps) (sym c.in-Event.is) (begins_all c.args.self.now.houses.executors (scheduled.Event event) (output.Event answer ∷ []) steps (answer, (refl, refl))),
-        event_comes event answer c.args.self.now c.step-answer.new.self c.step-answer.ensures.happens c.step-answer.ensures.died c.step-answer.ensures.dies c.step-answer.ensures.advances,
+        event_comes (step event answer) c.args.self.now c.step-answer.new.self (record {
+          advances = c.step-answer.ensures.advances;
+          happens = c.step-answer.ensures.happens;
+          changes = c.step-answer.ensures.changes;
+          nothing = c.step-answer.ensures.nothing;
+          busy = c.step-answer.ensures.busy;
+          asked = c.step-answer.ensures.asked;
+          died = c.step-answer.ensures.died;
+          dies = c.step-answer.ensures.dies;
+          executors = c.step-answer.ensures.executors;
+          owned = c.step-answer.ensures.owned;
+          never_stuck = c.step-answer.ensures.never_stuck;
+          alone = c.step-answer.ensures.alone;
+        }),
       ),
     )
 
@@ -33,7 +47,20 @@ returns-in_ok-push-in-Event-clause-follows g c =
           c.in_ok-push-in-Event.ensures.items,
           (
             subst (λ item. Follows c.args.self.now.houses.executors item added steps) (sym c.in-Event.is) (answer, (refl, refl)),
-            event_comes event answer c.args.self.now c.step-answer.new.self c.step-answer.ensures.happens c.step-answer.ensures.died c.step-answer.ensures.dies c.step-answer.ensures.advances,
+            event_comes (step event answer) c.args.self.now c.step-answer.new.self (record {
+              advances = c.step-answer.ensures.advances;
+              happens = c.step-answer.ensures.happens;
+              changes = c.step-answer.ensures.changes;
+              nothing = c.step-answer.ensures.nothing;
+              busy = c.step-answer.ensures.busy;
+              asked = c.step-answer.ensures.asked;
+              died = c.step-answer.ensures.died;
+              dies = c.step-answer.ensures.dies;
+              executors = c.step-answer.ensures.executors;
+              owned = c.step-answer.ensures.owned;
+              never_stuck = c.step-answer.ensures.never_stuck;
+              alone = c.step-answer.ensures.alone;
+            }),
           ),
         ),
       ),

@@ -41,7 +41,20 @@ loop-event-preserved g c =
       room = omega (arith, c.push_reserved.ensures.capacity, c.loop-event.invariant.room);
       happen = subst (λ (ss : List Step). HappenInTurn ss c.args.self.now c.step-answer.new.self) (sym steps)
           (happen_after (steps_of (take i events) answers) (step event answer ∷ []) c.args.self.now c.loop-event.self c.step-answer.new.self c.loop-event.invariant.happen
-          (happens_once event answer c.loop-event.self c.step-answer.new.self c.step-answer.ensures.happens c.step-answer.ensures.died c.step-answer.ensures.dies));
+          (happens_once (step event answer) c.loop-event.self c.step-answer.new.self (record {
+            advances = c.step-answer.ensures.advances;
+            happens = c.step-answer.ensures.happens;
+            changes = c.step-answer.ensures.changes;
+            nothing = c.step-answer.ensures.nothing;
+            busy = c.step-answer.ensures.busy;
+            asked = c.step-answer.ensures.asked;
+            died = c.step-answer.ensures.died;
+            dies = c.step-answer.ensures.dies;
+            executors = c.step-answer.ensures.executors;
+            owned = c.step-answer.ensures.owned;
+            never_stuck = c.step-answer.ensures.never_stuck;
+            alone = c.step-answer.ensures.alone;
+          })));
       advances = subst (λ (ss : List Step). Advances (together c.args.self.now) ss (together c.step-answer.new.self)) (sym steps)
           (one_after_another (together c.args.self.now) (together c.loop-event.self) (together c.step-answer.new.self) (steps_of (take i events) answers) (step event answer ∷ []) c.loop-event.invariant.advances c.step-answer.ensures.advances);
     }

@@ -2,11 +2,12 @@ use Rattle.std.proofs.Common.{◌≡◌, ◌∙◌, ◌++◌, ◌∷◌, [], ap,
 use Rattle.std.proofs.lemmas.List.Elements.{All-nil}
 use Rattle.partitions.specs.Parts.{shared_of}
 use Rattle.history.specs.declared.event.Event.TheVariants.{Take, Send}
+use Rattle.history.specs.History.{step}
 use Rattle.history.specs.Schedules.{IsIdleTurn, Turn, outputs_in_round}
 use Rattle.world.specs.declared.world.Core.{Core}
 use Rattle.world.specs.Together.{IsSound, together}
-use Rattle.world.proofs.Runs.{no_events}
-use Rattle.world.proofs.Schedules.{event_comes, few_outputs, idle_before, idle_more, outputs_turned, rest_more, round_rests, turn_comes}
+use Rattle.world.proofs.Runs.{event_comes, no_events}
+use Rattle.world.proofs.Schedules.{few_outputs, idle_before, idle_more, outputs_turned, rest_more, round_rests, turn_comes}
 use Rattle.world.proofs.world.World.run_round.Goals as goal
 
 pub loop-executor-init : goal.loop-executor-init
@@ -38,8 +39,34 @@ loop-executor-preserved g c =
             outputs_turned turns t c.args.outputs.now.items l.outputs.items c.add_output.new.outputs.items c.add_output-in-loop-executor.new.outputs.items inv.turns.1.1.0 c.add_output.ensures.added c.add_output-in-loop-executor.ensures.added,
             (
               turn_comes turns l.executor t c.args.self.now l.self mid new inv.turns.1.0 inv.turns.1.1.1.0
-                  (event_comes (Take l.executor) t.took l.self mid c.step-took.ensures.happens c.step-took.ensures.died c.step-took.ensures.dies c.step-took.ensures.advances)
-                  (event_comes (Send l.executor) t.sent mid new c.step-sent.ensures.happens c.step-sent.ensures.died c.step-sent.ensures.dies c.step-sent.ensures.advances),
+                  (event_comes (step (Take l.executor) t.took) l.self mid (record {
+                    advances = c.step-took.ensures.advances;
+                    happens = c.step-took.ensures.happens;
+                    changes = c.step-took.ensures.changes;
+                    nothing = c.step-took.ensures.nothing;
+                    busy = c.step-took.ensures.busy;
+                    asked = c.step-took.ensures.asked;
+                    died = c.step-took.ensures.died;
+                    dies = c.step-took.ensures.dies;
+                    executors = c.step-took.ensures.executors;
+                    owned = c.step-took.ensures.owned;
+                    never_stuck = c.step-took.ensures.never_stuck;
+                    alone = c.step-took.ensures.alone;
+                  }))
+                  (event_comes (step (Send l.executor) t.sent) mid new (record {
+                    advances = c.step-sent.ensures.advances;
+                    happens = c.step-sent.ensures.happens;
+                    changes = c.step-sent.ensures.changes;
+                    nothing = c.step-sent.ensures.nothing;
+                    busy = c.step-sent.ensures.busy;
+                    asked = c.step-sent.ensures.asked;
+                    died = c.step-sent.ensures.died;
+                    dies = c.step-sent.ensures.dies;
+                    executors = c.step-sent.ensures.executors;
+                    owned = c.step-sent.ensures.owned;
+                    never_stuck = c.step-sent.ensures.never_stuck;
+                    alone = c.step-sent.ensures.alone;
+                  })),
               (
                 λ is. let both = c.stays_idle-is_idle.ensures.0 is in idle_more turns t (exactly.0 both.0) both.1,
                 λ idle. let both = idle_before turns t idle in c.stays_idle-is_idle.ensures.1 (exactly.1 both.0, both.1),

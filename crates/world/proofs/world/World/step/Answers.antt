@@ -5,12 +5,13 @@ use Rattle.history.specs.History.{Step, step}
 use Rattle.world.specs.declared.world.Core.{Core}
 use Rattle.world.specs.Slots.{count_active}
 use Rattle.world.specs.Together.{together}
-use Rattle.world.specs.Worlds.{Advances, AllDieOfOlder, Fits, IsBusyExactly, NoneDies, TellsOfOlder}
+use Rattle.world.specs.Worlds.{Advances, AllDieOfOlder, AnswersWhoAsked, Fits, IsBusyExactly, NoneDies, TellsOfOlder}
 use Rattle.world.specs.Changes.{ChangesOnly}
 use Rattle.world.specs.Happening.{Happens}
 use Rattle.world.proofs.Alone.{none_dies}
 use Rattle.world.proofs.NeverStuck.{is_owned, never_stuck}
 use Rattle.world.proofs.Busy.{busy_exactly}
+use Rattle.world.proofs.WhoAsked.{answers_who_asked}
 use Rattle.world.proofs.Deaths.{tells_of_older}
 use Rattle.world.proofs.Dying.{die_of_older}
 use Rattle.world.proofs.Answered.{nothing_exactly}
@@ -36,6 +37,11 @@ pub returns-clause-busy : goal.returns-clause-busy
 returns-clause-busy g c =
     subst (λ (old : Core g.row.J.Denot). IsBusyExactly c.args.event.now old c.happen.result) c.self.view_is
     (busy_exactly (shared_of g.J.LogNames.opening) c.args.event.now c.self.inside.core c.happen.new.self c.happen.result c.self.invariant.0 c.happen.ensures.happens)
+
+pub returns-clause-asked : goal.returns-clause-asked
+returns-clause-asked g c =
+    subst (λ (old : Core g.row.J.Denot). AnswersWhoAsked c.args.event.now old c.happen.result) c.self.view_is
+    (answers_who_asked (shared_of g.J.LogNames.opening) c.args.event.now c.self.inside.core c.happen.new.self c.happen.result c.self.invariant.0 c.happen.ensures.happens)
 
 pub returns-clause-died : goal.returns-clause-died
 returns-clause-died g c =
