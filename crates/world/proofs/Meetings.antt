@@ -12,7 +12,6 @@ use Rattle.partitions.specs.Parts.{Shared, shared_of}
 use Rattle.schema.specs.Database.{Database}
 use Rattle.requests.specs.Check.{IsAccepted}
 use Rattle.requests.specs.declared.reply.Reply.{Reply}
-use Rattle.requests.specs.declared.reply.Reply.TheVariants as reply
 use Rattle.requests.specs.declared.refusal.Refusal.{Refusal}
 use Rattle.requests.specs.declared.refusal.Refusal.TheVariants as refusal
 use Rattle.groups.specs.Footprint.{footprint, groups_of}

@@ -28,7 +28,7 @@ use Rattle.world.specs.declared.flight.Posted.{Posted}
 use Rattle.world.specs.declared.flight.Posted.TheVariants as posted
 use Rattle.partitions.specs.Parts.{Shared}
 use Rattle.world.specs.declared.world.Core.{Core}
-use Rattle.world.specs.Together.{IsSound, together}
+use Rattle.world.specs.Together.{IsSound}
 use Rattle.world.specs.Letters.{home_of_message, is_for_slice}
 use Rattle.world.specs.Queues.{all_of, queue_of}
 use Rattle.world.specs.Worlds.{ComeAbout, IsAtRest}

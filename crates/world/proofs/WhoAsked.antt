@@ -1,5 +1,5 @@
 -- Who is answered had asked.
-use Rattle.std.proofs.Common.{◌≡◌, inl, inr, ℕ, ◌≤◌, ◌-◌, zero, suc, Bool, true, false, List, [], ◌∷◌, ◌++◌, Option, Some, None, length, refl, sym, ap, subst, ◌∙◌, ⊎_elim, arith, nat_lt}
+use Rattle.std.proofs.Common.{◌≡◌, inl, inr, ℕ, ◌≤◌, ◌-◌, zero, suc, Bool, true, false, List, [], ◌∷◌, ◌++◌, Option, Some, None, length, refl, sym, ap, subst, ◌∙◌, arith, nat_lt}
 use Rattle.std.specs.Prelude.{Contains, Result, Ok, Err, slice_set}
 use Rattle.std.specs.List.{slice_get}
 use Rattle.std.proofs.lemmas.List.Elements.{All-contains, Contains-append_left, Contains-append_right, Contains-get_or}
@@ -31,7 +31,7 @@ use Rattle.range_moves.specs.declared.order.MoveOrder.{MoveOrder}
 use Rattle.world.specs.declared.flight.Letter.{Letter}
 use Rattle.world.specs.declared.flight.Posted.{Posted}
 use Rattle.world.specs.declared.flight.Posted.TheVariants as posted
-use Rattle.world.specs.Worlds.{AnswersWhoAsked, IsAnsweredSo, WasAsked}
+use Rattle.world.specs.Worlds.{AnswersWhoAsked, IsAnsweredSo}
 use Rattle.world.proofs.Replying.{is_answer_to}
 use Rattle.world.proofs.Shuffles.{has_queue}
 use Rattle.world.proofs.Holders.{in_parts}
