@@ -18,3 +18,7 @@ pub of_scripts : (opening : Database) (scripts : List (List Request)) (served : 
 of_scripts opening scripts (Ok outcome) together none =
     subst (λ (all : List (List Request)). IsOutcome opening all outcome.log.items outcome.tables outcome.answers.items) (ap (λ (rest : List (List Request)). scripts ++ rest) (nothing outcome.asked.items none) ∙ append-nil scripts) together
 of_scripts opening scripts (Err fault) together none = tt
+
+pub none_by_hand : (served : Result Outcome ServeFault) → IfOk served (λ outcome. length outcome.asked.items ≡ 0) → IfOk served (λ outcome. outcome.asked.items ≡ [])
+none_by_hand (Ok outcome) none = nothing outcome.asked.items none
+none_by_hand (Err fault) none = tt

@@ -1,5 +1,5 @@
 -- A session that asks by hand: whoever asks by it has every answer, and knows what came of it all.
-use Rattle.std.specs.Prelude.{◌≡◌, ℕ, ◌+◌, ◌<◌, ◌≤◌, [], ◌∷◌, ◌++◌, length, Result, Ok, Err}
+use Rattle.std.specs.Prelude.{◌≡◌, ℕ, ◌+◌, ◌<◌, ◌≤◌, List, [], ◌∷◌, ◌++◌, length, map, Result, Ok, Err}
 use Rattle.schema.specs.declared.scale.Scale.{Scale}
 use Rattle.requests.specs.declared.request.Request.{Request}
 use Rattle.requests.specs.declared.reply.Reply.{Reply}
@@ -11,6 +11,7 @@ use Rattle.engine.specs.Asking.{IsAway, IsResting, Resting, Waiting}
 use Rattle.engine.specs.Outcome.{IsRefusal}
 use Rattle.engine.specs.declared.session.AskFault.{AskFault}
 use Rattle.engine.specs.declared.session.AskFault.TheVariants.{NoMemory, Stopped}
+use Rattle.engine.specs.declared.session.Left.{Left}
 
 -- What came of a request. It was done: its entry stands behind all that the session had seen; the session has logged this one more, and has seen
 -- the log up to there. Or it was refused, for a reason that holds: the session has logged and seen what it had.
@@ -38,6 +39,20 @@ pub record HasMet (before other after : Resting) : Type 0 where
 abbrev pub IsBackIn : {J : Type 0} → Resting → AskFault J → Type 0
 IsBackIn before (NoMemory session) = session ≡ before
 IsBackIn before Stopped = Unit
+
+-- the session has asked nothing yet
+pub record HasAskedNothing (s : Resting) : Type 0 where
+  pub script : s.script ≡ []
+  pub answers : s.answers ≡ []
+
+module _ {J : Type 0} where
+  -- what each of these sessions has asked
+  abbrev pub asked_by : List (Left J) → List (List Request)
+  asked_by left = map (λ one. one.session.script) left
+
+  -- and what it was answered
+  abbrev pub told_by : List (Left J) → List (List (Result ℕ Refusal))
+  told_by left = map (λ one. one.session.answers) left
 
 -- ---- what the session keeps
 

@@ -1,11 +1,12 @@
 //! The executors have ended: what came of it all.
-ghost use Rattle.std.specs.Prelude.{◌≡◌, ◌<◌, ◌≤◌, ◌+◌, ℕ, List, [], ◌∷◌, ◌++◌, IfOk, IfSome, OnOk, length, map};
+ghost use Rattle.std.specs.Prelude.{◌≡◌, ◌<◌, ◌≤◌, ◌+◌, ℕ, List, [], ◌∷◌, ◌++◌, IfOk, IfSome, OnOk, drop, length};
 ghost use Rattle.partitions.specs.Parts.{shared_of};
 ghost use Rattle.schema.specs.Database.{IsWithinScale};
 ghost use Rattle.commit_log.specs.Items.{items_of};
 ghost use Rattle.commit_log.specs.Log.{requests_of};
 ghost use Rattle.machine.specs.Machine.{tables_after};
 ghost use Rattle.requests.specs.declared.request.Request.{Request};
+ghost use Rattle.engine.specs.ByHand.{asked_by, told_by};
 ghost use Rattle.engine.specs.Closing.{want_of_kind, wants_of_all, AreSettled, IsBackAt, IsSettledAt};
 ghost use Rattle.engine.specs.Outcome.{IsOutcome};
 ghost use Rattle.engine.specs.Served.{ServedEach};
@@ -44,7 +45,8 @@ pub fn close<J: ServeNames, G: Gate + Drop>(
     requires catalog { catalog ≡ shared_of J.opening }
     requires within { IsWithinScale J.opening }
     ensures outcome { IfOk result (λ outcome. IsOutcome J.opening (scripts.now ++ outcome.asked.items) outcome.log.items outcome.tables outcome.answers.items) }
-    ensures asked { IfOk result (λ outcome. outcome.asked.items ≡ map (λ one. one.session.script) left.items) }
+    ensures asked { IfOk result (λ outcome. outcome.asked.items ≡ asked_by left.items) }
+    ensures told { IfOk result (λ outcome. drop (length scripts.now) outcome.answers.items ≡ told_by left.items) }
     ensures all { IfOk result (λ outcome. length scripts.now + length outcome.asked.items ≡ idle.first) }
 {
     if scripts.len() > idle.first || left.len() != idle.first - scripts.len() {
@@ -117,8 +119,8 @@ fn audit_left<J: ServeNames>(
     left: Vec<Left<J>>,
     answers: &mut Vec<Answers>,
 ) -> Result<Vec<Script>, CloseFault>
-    ensures asked { IfOk result (λ asked. asked.items ≡ map (λ one. one.session.script) left.items) }
-    ensures count { IfOk result (λ _. length answers.new.items ≡ length answers.old.items + length left.items) }
+    ensures asked { IfOk result (λ asked. asked.items ≡ asked_by left.items) }
+    ensures told { IfOk result (λ _. answers.new.items ≡ answers.old.items ++ told_by left.items) }
     ensures each { IfOk result (λ _. (scripts : List (List Request)) → AreAskedFrom (length answers.old.items) scripts left.items
         → ServedEach J.opening.scale scripts log.old answers.old.items → ServedEach J.opening.scale scripts log.old answers.new.items) }
     ensures same { log.new ≡ log.old }

@@ -2,6 +2,7 @@
 ghost use Rattle.std.specs.Prelude.{◌≡◌, ◌≤◌, ◌<◌, All, IfOk, vec_len};
 ghost use Rattle.partitions.specs.Parts.{shared_of};
 ghost use Rattle.slices.specs.Openings.{AreOpenedFor};
+ghost use Rattle.engine.specs.ByHand.{HasAskedNothing};
 ghost use Rattle.engine.specs.Opening.{AreCoursesFrom, IsNamedFor, IsToOpen};
 ghost use Rattle.engine.specs.Sessions.{AreNewFrom};
 
@@ -104,6 +105,7 @@ pub fn open<'a, J: ServeNames, G: Gate + Drop>(
     requires most { vec_len opening.courses ≤ 64 }
     ensures catalog { IfOk result (λ opened. opened.catalog ≡ shared_of tables) }
     ensures idle { IfOk result (λ opened. opened.idle.first ≡ vec_len opening.courses) }
+    ensures sessions { IfOk result (λ opened. All HasAskedNothing opened.sessions.items) }
 {
     let Opening {
         groups,
@@ -297,7 +299,8 @@ fn open_places<'a, J: ServeNames>(
     requires all { vec_len lanes ≡ 64 }
     requires courses { AreCoursesFrom J.course 0 courses.items }
     requires most { vec_len courses ≤ 64 }
-    ensures { IfOk result (λ seated. seated.idle.first ≡ vec_len courses) }
+    ensures idle { IfOk result (λ seated. seated.idle.first ≡ vec_len courses) }
+    ensures sessions { IfOk result (λ seated. All HasAskedNothing seated.sessions.items) }
 {
     let count = courses.len();
     let mut lanes = lanes.into_iter();

@@ -1,7 +1,8 @@
 //! Scripts are served by executors, each in a thread of its own.
-ghost use Rattle.std.specs.Prelude.{◌≡◌, ◌≤◌, ◌<◌, ◌+◌, [], ◌++◌, length, vec_len, All, IfOk, OnOk, IfErr, IfSome, IfNone};
+ghost use Rattle.std.specs.Prelude.{◌≡◌, ◌≤◌, ◌<◌, ◌+◌, [], ◌++◌, drop, length, vec_len, All, IfOk, OnOk, IfErr, IfSome, IfNone};
 ghost use Rattle.schema.specs.Consistency.{Consistent};
 ghost use Rattle.range_moves.specs.Orders.{IsWithin};
+ghost use Rattle.engine.specs.ByHand.{HasAskedNothing, asked_by, told_by};
 ghost use Rattle.engine.specs.Faults.{AreWithin, IsFaultOf, IsFirstBad, IsOfServing};
 ghost use Rattle.engine.specs.Opening.{IsNamedFor};
 ghost use Rattle.engine.specs.Outcome.{IsOutcome};
@@ -53,6 +54,7 @@ pub fn serve<R: Threads + Wait + Sync, G: Gate + Send + Sync + Drop>(
     requires most { length scripts.now ≤ MOST_SESSIONS }
     requires executors { 1 ≤ executors }
     ensures outcome { IfOk result (λ outcome. IsOutcome opening scripts.now outcome.log.items outcome.tables outcome.answers.items) }
+    ensures by_hand { IfOk result (λ outcome. outcome.asked.items ≡ []) }
     ensures consistent { OnOk result (Consistent opening) }
     ensures within { OnOk result (AreWithin opening executors moves.now) }
     ensures fault { IfErr result (λ fault. IsFaultOf opening executors moves.now fault) }
@@ -79,6 +81,7 @@ pub fn serve_with_room<R: Threads + Wait + Sync, G: Gate + Send + Sync + Drop>(
     requires executors { 1 ≤ executors }
     requires room { 0 < room }
     ensures outcome { IfOk result (λ outcome. IsOutcome opening scripts.now outcome.log.items outcome.tables outcome.answers.items) }
+    ensures by_hand { IfOk result (λ outcome. outcome.asked.items ≡ []) }
     ensures consistent { OnOk result (Consistent opening) }
     ensures within { OnOk result (AreWithin opening executors moves.now) }
     ensures fault { IfErr result (λ fault. IsFaultOf opening executors moves.now fault) }
@@ -105,6 +108,8 @@ pub fn serve_client<R: Threads + Wait + Sync, C: Client>(
     requires most { sessions ≤ MOST_SESSIONS }
     requires executors { 1 ≤ executors }
     ensures outcome { IfOk result (λ outcome. IsOutcome opening outcome.asked.items outcome.log.items outcome.tables outcome.answers.items) }
+    ensures sessions { IfOk result (λ outcome. length outcome.asked.items ≡ sessions) }
+    ensures promised { IfOk result (λ outcome. C.promises client.now opening outcome.asked.items outcome.answers.items) }
     ensures consistent { OnOk result (Consistent opening) }
     ensures fault { IfErr result (λ fault. IsFaultOf opening executors [] fault) }
 {
@@ -128,6 +133,10 @@ pub fn serve_client<R: Threads + Wait + Sync, C: Client>(
 struct Nobody;
 
 impl Client for Nobody {
+    ghost use Rattle.std.specs.Prelude.{⊤};
+
+    ghost promises = { λ _ _ _ _. ⊤ };
+
     fn ask_all<J: ServeNames + Send + Sync, G: Gate, R: Threads + Wait + Sync>(
         &self,
         _rt: &R,
@@ -158,6 +167,7 @@ fn serve_all<R: Threads + Wait + Sync, G: Gate + Send + Sync + Drop, C: Client>(
     requires room { 0 < room }
     ensures outcome { IfOk result (λ outcome. IsOutcome opening (scripts.now ++ outcome.asked.items) outcome.log.items outcome.tables outcome.answers.items) }
     ensures asked { IfOk result (λ outcome. length outcome.asked.items ≡ sessions) }
+    ensures promised { IfOk result (λ outcome. C.promises client.now opening outcome.asked.items (drop (length scripts.now) outcome.answers.items)) }
     ensures consistent { OnOk result (Consistent opening) }
     ensures within { OnOk result (AreWithin opening executors moves.now) }
     ensures fault { IfErr result (λ fault. IsFaultOf opening executors moves.now fault) }
@@ -212,6 +222,7 @@ fn serve_from<
     requires most { vec_len opening.courses ≤ 64 }
     ensures outcome { IfOk result (λ outcome. IsOutcome tables (scripts.now ++ outcome.asked.items) outcome.log.items outcome.tables outcome.answers.items) }
     ensures asked { IfOk result (λ outcome. length scripts.now + length outcome.asked.items ≡ vec_len opening.courses) }
+    ensures promised { IfOk result (λ outcome. C.promises client.now tables outcome.asked.items (drop (length scripts.now) outcome.answers.items)) }
     ensures fault { IfErr result (λ fault. IsOfServing fault) }
 {
     let Opened {
@@ -246,6 +257,8 @@ fn work_all<
     client: &C,
     sessions: Vec<Session<J>>,
 ) -> Result<(Vec<Executor<J>>, Vec<Left<J>>), ServeFault>
+    requires { All HasAskedNothing sessions.items }
+    ensures promised { IfOk result (λ r. C.promises client.now J.opening (asked_by r.1.items) (told_by r.1.items)) }
     ensures fault { IfErr result (λ fault. IsOfServing fault) }
 {
     let crew = Crew { rt, alloc, engine };
@@ -297,6 +310,13 @@ impl<J: ServeNames, G: Gate, R: Wait> Work<Executor<J>> for Crew<'_, '_, J, G, R
 impl<J: ServeNames + Send + Sync, G: Gate, R: Threads + Wait + Sync, C: Client> Meanwhile<
     Vec<Left<J>>,
 > for Asking<'_, '_, J, G, R, C> {
+    ghost use Rattle.std.specs.Prelude.{All};
+    ghost use Rattle.engine.specs.ByHand.{HasAskedNothing, asked_by, told_by};
+
+    ghost may_run = { λ asking. All HasAskedNothing asking.sessions.items };
+
+    ghost gives = { λ asking left. C.promises asking.client.now J.opening (asked_by left.items) (told_by left.items) };
+
     // The client asks. Where it keeps a session back, the executors are to end without.
     fn run(self) -> Vec<Left<J>> {
         let Asking {

@@ -6,7 +6,7 @@ ghost use Rattle.executor.specs.Answers.{IsToldBy};
 ghost use Rattle.engine.specs.Asking.{known_of};
 ghost use Rattle.engine.specs.Outcome.{IsRefusal};
 ghost use Rattle.engine.specs.Served.{Served};
-ghost use Rattle.engine.specs.ByHand.{Asks, HasMet, IsBackIn};
+ghost use Rattle.engine.specs.ByHand.{Asks, HasAskedNothing, HasMet, IsBackIn};
 
 use crate::asking::says_full;
 use crate::message::Message;
@@ -126,6 +126,7 @@ impl<J: ServeNames> Session<J> {
     ) -> Session<J>
         requires seat { seat.session ≡ pass.session }
         requires nothing { pass.mine ≡ [] }
+        ensures { HasAskedNothing result }
     {
         Session {
             seat,
@@ -235,6 +236,7 @@ impl<J: ServeNames> Session<J> {
     /// Learns that it has logged just what stands of it in the log, which has reached all that it has seen. Both stay as they were.
     pub fn audit(&mut self, log: &mut Log<J>)
         ensures seen { self.old.pass.seen ≤ length log.old }
+        ensures reached { self.old.pass.reached ≤ length log.old }
         ensures mine { self.old.pass.mine ≡ items_of self.old.pass.session log.old }
         ensures same { (self.new ≡ self.old) × (log.new ≡ log.old) }
     {
@@ -390,6 +392,7 @@ impl<J: ServeNames> Left<J> {
     /// where it is another session, or has asked more than a script can have.
     pub(crate) fn audit(self, log: &mut Log<J>, number: usize) -> Option<(Script, Answers)>
         ensures asked { IfSome result (λ r. r.0 ≡ self.session.script) }
+        ensures told { IfSome result (λ r. r.1 ≡ self.session.answers) }
         ensures served { IfSome result (λ r. Served J.opening.scale self.session.script r.1 (items_of number log.old) (length log.old)) }
         ensures same { log.new ≡ log.old }
     {

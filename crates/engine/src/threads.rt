@@ -1,5 +1,5 @@
 //! Threads that work on what is handed to them.
-ghost use Rattle.std.specs.Prelude.{IfErr};
+ghost use Rattle.std.specs.Prelude.{IfErr, IfOk};
 ghost use Rattle.engine.specs.Faults.{IsOfServing};
 
 use crate::ServeFault;
@@ -18,8 +18,16 @@ pub(crate) trait Work<X> {
 
 /// What the thread does meanwhile that has started the others.
 pub(crate) trait Meanwhile<B> {
+    /// What it asks for.
+    ghost may_run: { Self → Type 0 };
+
+    /// What may come of it.
+    ghost gives: { Self → B → Type 0 };
+
     /// Does it, and returns what came of it.
-    fn run(self) -> B;
+    fn run(self) -> B
+        requires { may_run self }
+        ensures { gives self result };
 }
 
 /// Has each worked on in a thread of its own, and gives all back, in order, once all threads have ended; with what came of what was done
@@ -31,12 +39,16 @@ pub(crate) fn work_on_each<
     M: Meanwhile<B> + Drop,
     R: Threads + Wait + Sync,
 >(rt: &R, alloc: Global, work: &W, each: Vec<X>, meanwhile: M) -> Result<(Vec<X>, B), ServeFault>
+    requires { M.may_run meanwhile }
+    ensures done { IfOk result (λ r. M.gives meanwhile r.1) }
     ensures fault { IfErr result (λ fault. IsOfServing fault) }
 {
     thread::scope(
         thread::scope_env(),
         rt,
         |scope| -> Result<(Vec<X>, B), ServeFault>
+            requires { M.may_run meanwhile }
+            ensures done { IfOk result (λ r. M.gives meanwhile r.1) }
             ensures fault { IfErr result (λ fault. IsOfServing fault) }
         {
             match start_all(scope, alloc, work, each) {

@@ -71,6 +71,10 @@ impl ReadsBack {
 }
 
 impl Client for ReadsBack {
+    ghost use Rattle.std.specs.Prelude.{⊤};
+
+    ghost promises = { λ _ _ _ _. ⊤ };
+
     fn ask_all<J: ServeNames + Send + Sync, G: Gate, R: Threads + Wait + Sync>(
         &self,
         rt: &R,

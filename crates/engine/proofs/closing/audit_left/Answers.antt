@@ -1,6 +1,7 @@
-use Rattle.std.proofs.Common.{rules, ◌≡◌, ℕ, ◌+◌, List, [], ◌∷◌, ◌++◌, length, map, slice_get, Some, refl, sym, ap, subst, ◌∙◌, arith, length-append}
-use Rattle.std.proofs.lemmas.List.{append_assoc, map-append}
+use Rattle.std.proofs.Common.{rules, ◌≡◌, ℕ, ◌+◌, List, [], ◌∷◌, ◌++◌, length, map, slice_get, Result, Some, refl, sym, ap, subst, ◌∙◌, arith, length-append}
+use Rattle.std.proofs.lemmas.List.{append_assoc, length-map, map-append}
 use Rattle.requests.specs.declared.request.Request.{Request}
+use Rattle.requests.specs.declared.refusal.Refusal.{Refusal}
 use Rattle.commit_log.specs.declared.entry.Entry.{Entry}
 use Rattle.commit_log.specs.Items.{items_of}
 use Rattle.engine.specs.Served.{Served}
@@ -19,12 +20,13 @@ loop-session-preserved g c =
     let done = known.so_far.0 in
     let first = length c.args.answers.now.items in
     let told = c.in-Some-audit in
+    let before = c.args.answers.now.items in
     let asked = λ (l : Left g.row.J.Denot). l.session.script in
+    let answers = λ (l : Left g.row.J.Denot). l.session.answers in
     let next : c.loop-session.session-iterator.rest.items ≡ one ∷ rest = search rules in
     let all : left ≡ done ++ one ∷ rest = known.so_far.1 ∙ ap (λ (l : List (Left g.row.J.Denot)). done ++ l) next in
-    let more = length-append done (one ∷ []) in
-    let longer = length-append c.loop-session.answers.items (told.told ∷ []) in
-    let pushed = ap length c.in_ok-put-2.ensures in
+    let many : length c.loop-session.answers.items ≡ first + length done =
+    ap length known.so_far.3 ∙ length-append before (map answers done) ∙ ap (λ n. first + n) (length-map done answers) in
     let place = length c.loop-session.answers.items in
     let number : c.len-in-loop-session.result ≡ place = omega (arith, c.len-in-loop-session.ensures, c.loop-session.answers.ok.0) in
     let served = subst (λ (l : List Entry). Served scale told.script told.told (items_of place l) (length l)) known.same
@@ -37,10 +39,11 @@ loop-session-preserved g c =
         done ++ one ∷ [],
         all ∙ sym (append_assoc done (one ∷ []) rest),
         c.in_ok-put.ensures ∙ ap (λ (l : List (List Request)). l ++ told.script ∷ []) known.so_far.2 ∙ ap (λ (s : List Request). map asked done ++ s ∷ []) told.ensures.asked ∙ sym (map-append asked done (one ∷ [])),
-        omega (arith, pushed, longer, more, known.so_far.3),
+        c.in_ok-put-2.ensures ∙ ap (λ (l : List (List (Result ℕ Refusal))). l ++ told.told ∷ []) known.so_far.3 ∙ append_assoc before (map answers done) (told.told ∷ [])
+            ∙ ap (λ (l : List (List (Result ℕ Refusal))). before ++ l) (ap (λ (s : List (Result ℕ Refusal)). map answers done ++ s ∷ []) told.ensures.told ∙ sym (map-append answers done (one ∷ []))),
       );
       each = λ scripts behind before.
           each_next scale scripts c.args.log.now c.loop-session.answers.items c.put-in-loop-session.new.items.items place told.script told.told (known.each scripts behind before) refl
-          (ap (λ (n : ℕ). slice_get scripts n) known.so_far.3 ∙ asked_next first scripts left done rest one all behind ∙ ap Some (sym told.ensures.asked)) served c.in_ok-put-2.ensures;
+          (ap (λ (n : ℕ). slice_get scripts n) many ∙ asked_next first scripts left done rest one all behind ∙ ap Some (sym told.ensures.asked)) served c.in_ok-put-2.ensures;
       same = told.ensures.same ∙ known.same;
     }

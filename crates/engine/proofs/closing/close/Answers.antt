@@ -1,11 +1,12 @@
-use Rattle.std.proofs.Common.{◌≡◌, ◌+◌, List, ◌++◌, length, sym, ap, subst, ◌∙◌, arith, length-append}
-use Rattle.std.proofs.lemmas.List.{length-map}
+use Rattle.std.proofs.Common.{◌≡◌, ◌+◌, List, ◌++◌, drop, length, sym, ap, subst, ◌∙◌, arith, length-append}
+use Rattle.std.proofs.lemmas.List.{drop_at, length-map}
 use Rattle.partitions.specs.Parts.{Shared}
 use Rattle.requests.specs.declared.request.Request.{Request}
 use Rattle.machine.specs.Machine.{tables_after}
 use Rattle.commit_log.specs.declared.entry.Entry.{Entry}
 use Rattle.commit_log.specs.Log.{requests_of}
 use Rattle.slices.specs.Sliced.{AreSlicesOf}
+use Rattle.engine.specs.ByHand.{told_by}
 use Rattle.engine.specs.Served.{ServedEach}
 use Rattle.engine.specs.Sessions.{AreAskedFrom}
 use Rattle.engine.specs.declared.session.Left.{Left}
@@ -36,7 +37,9 @@ returns g c =
     let many : length asked ≡ length by_hand = ap length left.asked ∙ length-map by_hand (λ (one : Left g.row.J.Denot). one.session.script) in
     let all : length scripts + length asked ≡ c.args.idle.first = omega (arith, c.if-scripts-idle.false, c.if-len-idle.false, c.len.ensures, many, c.args.left.ok.0) in
     let both = length-append scripts asked in
-    let count : length c.audit_left.new.answers.items ≡ length (scripts ++ asked) = omega (arith, left.count, served.count, many, both) in
+    let told = ap length left.told ∙ length-append answers (told_by by_hand) in
+    let told_each = length-map by_hand (λ (one : Left g.row.J.Denot). one.session.answers) in
+    let count : length c.audit_left.new.answers.items ≡ length (scripts ++ asked) = omega (arith, told, told_each, served.count, many, both) in
     let behind : AreAskedFrom (length answers) (scripts ++ asked) by_hand =
     subst (λ (rest : List (List Request)). AreAskedFrom (length answers) (scripts ++ rest) by_hand) (sym left.asked) (asked_behind scripts by_hand (length answers) served.count) in
     let among = subst (λ (l : List Entry). ServedEach opening.scale (scripts ++ asked) l answers) (sym served.same) (served_among opening.scale scripts asked c.into_inner-log.result answers served.count served.each) in
@@ -47,5 +50,6 @@ returns g c =
           (left.same ∙ served.same) idle.same settled.same c.into_entries.ensures count each (λ s from low. idle.none s (omega (arith, from, both, all)) low) settled.settled c.in_ok-tables.ensures c.scale.ensures.within
           log.legal log.accepted log.sessions;
       asked = left.asked;
+      told = ap (drop (length scripts)) left.told ∙ drop_at answers (told_by by_hand) (length scripts) served.count;
       all = all;
     }

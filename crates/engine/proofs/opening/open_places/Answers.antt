@@ -1,13 +1,17 @@
-use Rattle.std.proofs.Common.{List, Some, slice_get, refl, sym, ap, subst, ◌∙◌, arith}
+use Rattle.std.proofs.Common.{List, [], ◌∷◌, ◌++◌, Some, slice_get, refl, sym, ap, subst, ◌∙◌, arith}
+use Rattle.std.specs.Prelude.{All}
 use Rattle.std.specs.Vec.Iter.{into_iter_items}
+use Rattle.std.proofs.lemmas.List.Elements.{All-push}
 use Rattle.schema.proofs.RowReads.{copied_item}
 use Rattle.requests.specs.declared.request.Request.{Request}
 use Rattle.commit_log.specs.Passing.{Passing, Seating}
+use Rattle.engine.specs.ByHand.{HasAskedNothing}
 use Rattle.engine.specs.Opening.{AreCoursesFrom}
 use Rattle.engine.specs.Sessions.{AreNewFrom}
 use Rattle.engine.proofs.AtOpening.{courses_next}
 use Rattle.engine.proofs.Sessions.{new_next}
 use Rattle.engine.proofs.opening.open_places.Goals as goal
+use Rattle.engine.proofs.opening.open_places.Goals.{in-Some-get+in_ok-open-in-Some-get, in-None+in_ok-outlets-in-None+in_ok-push-in-None}
 
 -- the pass and the seat are those of this session, which has asked nothing and has this script
 pub open-requires-clause-script : goal.open-requires-clause-script
@@ -63,6 +67,11 @@ loop-slot-preserved g c =
       more = omega (arith, known.more, course.1);
       named = (courses_next g.J.CourseNames.course slot c.in-Some-next.course (into_iter_items c.next-in-loop-slot.new.self)
           (subst (AreCoursesFrom g.J.CourseNames.course slot) course.0 known.named)).1;
+      asked = elim c.match-get.branch [
+        | in-Some-get+in_ok-open-in-Some-get w ↦ rw w.sessions-is known.asked
+        | in-None+in_ok-outlets-in-None+in_ok-push-in-None w ↦
+            rw w.sessions-is (subst (All HasAskedNothing) {x = c.loop-slot.sessions.items ++ w.new.result ∷ []} (sym w.in_ok-push-in-None.ensures.items) (All-push HasAskedNothing c.loop-slot.sessions.items w.new.result known.asked w.new.ensures))
+      ];
     }
 
 -- a session that asks by hand has a pass and a seat of its own, and has asked nothing

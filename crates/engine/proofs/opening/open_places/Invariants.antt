@@ -1,6 +1,8 @@
 -- The places so far are made, and the other sessions and courses wait.
 use Rattle.std.proofs.Common.{◌≡◌, ◌+◌, vec_len}
+use Rattle.std.specs.Prelude.{All}
 use Rattle.std.specs.Vec.Iter.{into_iter_items, into_iter_len}
+use Rattle.engine.specs.ByHand.{HasAskedNothing}
 use Rattle.engine.specs.Opening.{AreCoursesFrom}
 use Rattle.engine.specs.Sessions.{AreNewFrom}
 use Rattle.engine.proofs.opening.open_places.Given as goal
@@ -11,4 +13,5 @@ invariant-loop-slot g l = record {
   new : AreNewFrom l.slot (into_iter_items l.lanes);
   more : into_iter_len l.courses + l.slot ≡ vec_len l.fn.courses;
   named : AreCoursesFrom g.J.CourseNames.course l.slot (into_iter_items l.courses);
+  asked : All HasAskedNothing l.sessions.items;
 }
